@@ -1,0 +1,10 @@
+pub mod Listed
+pub mod SnapshotKind
+pub mod Mark
+pub mod Status
+pub mod ReportKind
+pub mod VoteVariation
+pub mod Rule
+pub mod Device
+pub mod MemorySource
+pub mod MemorySink
