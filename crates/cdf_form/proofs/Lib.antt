@@ -1,0 +1,17 @@
+pub mod Parts
+pub mod PartsOf
+pub mod Pointers
+pub mod FormLaw
+pub mod Whole
+pub mod Merging
+pub mod Walking
+pub mod Ascii
+pub mod Apart
+pub mod Order
+pub mod Appending
+pub mod ReadsBack
+pub mod WasRead
+pub mod Removing
+pub mod PartLaws
+pub mod Lengths
+pub mod Lists

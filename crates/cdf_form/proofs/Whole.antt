@@ -1,0 +1,102 @@
+-- A value with no float, and its parts.
+use Rattle.std.proofs.Common.{◌≡◌, ℕ, zero, suc, ◌+◌, List, [], Bool, true, false, not, ◌||◌, Option, Some, None, option_map, Ordering, Less, Equal, Greater, refl, ap, subst}
+use Rattle.std.specs.Ordering.{nat_cmp, match_ordering}
+use Rattle.std.specs.Cmp.Lexicographic.{slice_cmp}
+use Rattle.serde_json.specs.Data.{Data, null, boolean, number, string, array, object, Items, no_items, item, Members, no_members, member}
+use Rattle.serde_json.specs.Find.{get, get_member, get_item, as_array, is_float}
+use Rattle.serde_json.specs.Written.{has_float, items_have_float, members_have_float}
+use Rattle.std.specs.Prelude.{option_and_then, unwrap_or}
+use Rattle.std.specs.List.{list_any}
+use Rattle.cdf_form.specs.Parts.{list_of, array_at}
+use Rattle.cdf_types.specs.declared.rule.Rule.TheVariants as rule
+use Rattle.cdf_form.specs.Form.{unless, float_faults, items_floats, members_floats}
+use Rattle.cdf_form.proofs.FormLaw.{left_nil, right_nil, under_nil, unless_nil, not_false}
+
+or_false : (a b : Bool) → a ≡ false → b ≡ false → (a || b) ≡ false
+or_false true b p q = p
+or_false false b p q = q
+
+or_left : (a b : Bool) → (a || b) ≡ false → a ≡ false
+or_left true b e = e
+or_left false b e = refl
+
+or_right : (a b : Bool) → (a || b) ≡ false → b ≡ false
+or_right true b e = cc
+or_right false b e = e
+
+mutual
+  pub whole_of : (d : Data) → float_faults d ≡ [] → has_float d ≡ false
+  whole_of null e = refl
+  whole_of (boolean b) e = refl
+  whole_of (number n) e = not_false (is_float n) (unless_nil _ _ e)
+  whole_of (string s) e = refl
+  whole_of (array ds) e = whole_items ds 0 e
+  whole_of (object ms) e = whole_members ms e
+
+  whole_items : (ds : Items) (i : ℕ) → items_floats ds i ≡ [] → items_have_float ds ≡ false
+  whole_items no_items i e = refl
+  whole_items (item d ds) i e = or_false (has_float d) (items_have_float ds) (whole_of d (under_nil _ _ (left_nil _ _ e))) (whole_items ds (i + 1) (right_nil _ _ e))
+
+  whole_members : (ms : Members) → members_floats ms ≡ [] → members_have_float ms ≡ false
+  whole_members no_members e = refl
+  whole_members (member k d ms) e = or_false (has_float d) (members_have_float ms) (whole_of d (under_nil _ _ (left_nil _ _ e))) (whole_members ms (right_nil _ _ e))
+
+mutual
+  pub no_float_faults : (d : Data) → has_float d ≡ false → float_faults d ≡ []
+  no_float_faults null h = refl
+  no_float_faults (boolean b) h = refl
+  no_float_faults (number n) h = ap (λ b. unless (not b) rule.NotWhole) h
+  no_float_faults (string s) h = refl
+  no_float_faults (array ds) h = no_items_floats ds 0 h
+  no_float_faults (object ms) h = no_members_floats ms h
+
+  no_items_floats : (ds : Items) (i : ℕ) → items_have_float ds ≡ false → items_floats ds i ≡ []
+  no_items_floats no_items i h = refl
+  no_items_floats (item d ds) i h =
+      rw (no_float_faults d (or_left (has_float d) (items_have_float ds) h), no_items_floats ds (i + 1) (or_right (has_float d) (items_have_float ds) h)) refl
+
+  no_members_floats : (ms : Members) → members_have_float ms ≡ false → members_floats ms ≡ []
+  no_members_floats no_members h = refl
+  no_members_floats (member k d ms) h =
+      rw (no_float_faults d (or_left (has_float d) (members_have_float ms) h), no_members_floats ms (or_right (has_float d) (members_have_float ms) h)) refl
+
+part_at : (o : Ordering) (d e : Data) (rest : Option Data) → (rest ≡ Some e → has_float e ≡ false) → has_float d ≡ false → match_ordering o rest (Some d) rest ≡ Some e → has_float e ≡ false
+part_at Less d e rest later here is = later is
+part_at Equal d e rest later here is = let same : d ≡ e = cc in subst (λ x. has_float x ≡ false) same here
+part_at Greater d e rest later here is = later is
+
+pub whole_member : (ms : Members) (n : List ℕ) (e : Data) → members_have_float ms ≡ false → get_member n ms ≡ Some e → has_float e ≡ false
+whole_member no_members n e h is = cc
+whole_member (member l d ms) n e h is = part_at (slice_cmp nat_cmp n l) d e (get_member n ms) (whole_member ms n e (or_right (has_float d) (members_have_float ms) h)) (or_left (has_float d) (members_have_float ms) h) is
+
+pub whole_item : (ds : Items) (i : ℕ) (e : Data) → items_have_float ds ≡ false → get_item i ds ≡ Some e → has_float e ≡ false
+whole_item no_items i e h is = cc
+whole_item (item d ds) zero e h is = let same : d ≡ e = cc in subst (λ x. has_float x ≡ false) same (or_left (has_float d) (items_have_float ds) h)
+whole_item (item d ds) (suc i) e h is = whole_item ds i e (or_right (has_float d) (items_have_float ds) h) is
+
+pub whole_get : (d : Data) (n : List ℕ) (e : Data) → has_float d ≡ false → get n d ≡ Some e → has_float e ≡ false
+whole_get null n e h is = cc
+whole_get (boolean b) n e h is = cc
+whole_get (number m) n e h is = cc
+whole_get (string s) n e h is = cc
+whole_get (array ds) n e h is = cc
+whole_get (object ms) n e h is = whole_member ms n e h is
+
+whole_list : (ds : Items) → items_have_float ds ≡ false → list_any has_float (list_of ds) ≡ false
+whole_list no_items e = refl
+whole_list (item d ds) e = or_false (has_float d) (list_any has_float (list_of ds)) (or_left (has_float d) (items_have_float ds) e) (whole_list ds (or_right (has_float d) (items_have_float ds) e))
+
+whole_as_array : (e : Data) → has_float e ≡ false → list_any has_float (unwrap_or (option_map list_of (as_array e)) []) ≡ false
+whole_as_array null h = refl
+whole_as_array (boolean b) h = refl
+whole_as_array (number n) h = refl
+whole_as_array (string s) h = refl
+whole_as_array (array ds) h = whole_list ds h
+whole_as_array (object ms) h = refl
+
+whole_found : (o : Option Data) → ((e : Data) → o ≡ Some e → has_float e ≡ false) → list_any has_float (unwrap_or (option_map list_of (option_and_then as_array o)) []) ≡ false
+whole_found None h = refl
+whole_found (Some e) h = whole_as_array e (h e refl)
+
+pub whole_array : (d : Data) (name : List ℕ) → has_float d ≡ false → list_any has_float (array_at name d) ≡ false
+whole_array d name h = whole_found (get name d) (λ e is. whole_get d name e h is)

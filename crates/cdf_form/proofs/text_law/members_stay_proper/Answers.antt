@@ -1,0 +1,8 @@
+use Rattle.cdf_form.proofs.Removing.{without_proper, put_proper}
+use Rattle.cdf_form.proofs.text_law.members_stay_proper.Goals as goal
+
+pub returns-clause-without : goal.returns-clause-without
+returns-clause-without c = without_proper
+
+pub returns-clause-put : goal.returns-clause-put
+returns-clause-put c = put_proper

@@ -1,0 +1,12 @@
+use Rattle.cdf_form.proofs.PartLaws.{part_of_part, listed_part}
+use Rattle.cdf_form.proofs.Lengths.{part_short}
+use Rattle.cdf_form.proofs.text_law.part_of_part.Goals as goal
+
+pub returns-clause-part : goal.returns-clause-part
+returns-clause-part c = part_of_part
+
+pub returns-clause-listed : goal.returns-clause-listed
+returns-clause-listed c = listed_part
+
+pub returns-clause-shorter : goal.returns-clause-shorter
+returns-clause-shorter c = part_short

@@ -1,0 +1,80 @@
+-- Laws of the form: no fault is found exactly where a value has the form; tables are in order; no fault of numbers, no float.
+use Rattle.std.specs.Prelude.{◌≡◌, ℕ, ◌↔◌, ◌||◌, List, [], ◌∷◌, Bool, true, false, ◌&&◌, Some, bytes_eq, codes}
+use Rattle.std.specs.List.{list_any}
+use Rattle.std.specs.Ordering.{nat_cmp, is_lt}
+use Rattle.std.specs.Cmp.Lexicographic.{slice_cmp}
+use Rattle.serde_json.specs.Data.{Data}
+use Rattle.serde_json.specs.Find.{get}
+use Rattle.serde_json.specs.Written.{has_float}
+use Rattle.cdf_form.specs.declared.table.Class.{Class}
+use Rattle.cdf_form.specs.declared.table.Leaf.{Leaf}
+use Rattle.cdf_form.specs.declared.table.Leaf.TheVariants as leaf
+use Rattle.cdf_form.specs.declared.table.Key.{Key}
+use Rattle.cdf_form.specs.declared.table.Key.TheVariants as key
+use Rattle.cdf_form.specs.declared.table.Kind.{Kind}
+use Rattle.cdf_form.specs.declared.table.Kind.TheVariants.{One, Array}
+use Rattle.cdf_form.specs.Tables.{Entry, table, classes_of}
+use Rattle.cdf_form.specs.Form.{faults, float_faults}
+use Rattle.cdf_form.specs.HasForm.{HasForm}
+use Rattle.cdf_form.specs.Parts.{array_at}
+
+abbrev pub has_row : List ℕ → List Entry → Bool
+has_row n [] = false
+has_row n (r ∷ rs) = bytes_eq n r.name || has_row n rs
+
+abbrev pub all_have_row : List ℕ → List Class → Bool
+all_have_row n [] = true
+all_have_row n (c ∷ cs) = has_row n (table c) && all_have_row n cs
+
+abbrev pub leaf_has_row : List ℕ → Leaf → Bool
+leaf_has_row n leaf.Text = false
+leaf_has_row n leaf.Name = false
+leaf_has_row n leaf.Count = false
+leaf_has_row n leaf.Whole = false
+leaf_has_row n leaf.Truth = false
+leaf_has_row n leaf.Moment = false
+leaf_has_row n leaf.Fractional = false
+leaf_has_row n (leaf.Listed l) = false
+leaf_has_row n (leaf.Object g) = all_have_row n (classes_of g)
+
+abbrev pub key_has_row : Key → Leaf → Bool
+key_has_row key.Free l = true
+key_has_row key.Id l = leaf_has_row (codes "@id") l
+key_has_row key.Contest l = leaf_has_row (codes "ContestId") l
+
+-- the classes below an array with a key have a row for that key
+abbrev pub is_keyed : Kind → Bool
+is_keyed (One l) = true
+is_keyed (Array l least most k) = key_has_row k l
+
+abbrev pub are_keyed : List Entry → Bool
+are_keyed [] = true
+are_keyed (r ∷ rs) = is_keyed r.kind && are_keyed rs
+
+-- no fault is found exactly where the value fits
+abbrev pub FormLaw : Type 0
+FormLaw = (k : Kind) (d : Data) → is_keyed k ≡ true → (faults d k key.Free ≡ []) ↔ HasForm k d
+
+-- the rows of a table stand in byte order of their names, each name once
+abbrev pub is_below_all : List ℕ → List Entry → Bool
+is_below_all n [] = true
+is_below_all n (r ∷ rs) = is_lt (slice_cmp nat_cmp n r.name) && is_below_all n rs
+
+abbrev pub is_in_order : List Entry → Bool
+is_in_order [] = true
+is_in_order (r ∷ rs) = is_below_all r.name rs && is_in_order rs
+
+abbrev pub TablesInOrder : Type 0
+TablesInOrder = (c : Class) → is_in_order (table c) ≡ true
+
+-- with no fault of numbers there is no float
+abbrev pub WholeLaw : Type 0
+WholeLaw = (d : Data) → float_faults d ≡ [] → has_float d ≡ false
+
+-- a member of a value with no float has none
+abbrev pub WholeMembers : Type 0
+WholeMembers = (d : Data) (name : List ℕ) (e : Data) → has_float d ≡ false → get name d ≡ Some e → has_float e ≡ false
+
+-- nor has an item of the array under a name
+abbrev pub WholeItems : Type 0
+WholeItems = (d : Data) (name : List ℕ) → has_float d ≡ false → list_any has_float (array_at name d) ≡ false

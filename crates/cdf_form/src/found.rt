@@ -1,0 +1,86 @@
+use cdf_types::Rule;
+use std::alloc::{AllocError, Global};
+
+/// A step from a value into one of its parts: a member by name, or an item by place from 0.
+#[derive(Clone, Copy)]
+pub enum Step<'a> {
+    /// The member of this name.
+    Member(&'a str),
+    /// The item at this place.
+    Item(usize),
+}
+
+/// A fault that was found, with the steps to it, the innermost first.
+#[derive(Drop)]
+pub struct Found<'a> {
+    /// The rule that is broken.
+    pub rule: Rule,
+    /// The steps to the place, the innermost first.
+    pub steps: Vec<Step<'a>>,
+}
+
+/// Why a walk stops: at a fault, or for want of memory.
+#[derive(Drop)]
+pub enum Stop<'a> {
+    /// The first fault.
+    Fault(Found<'a>),
+    /// Want of memory.
+    Memory,
+}
+
+impl<'a> From<AllocError> for Stop<'a> {
+    ghost use Rattle.std.specs.Prelude.{◌≡◌};
+    ghost use Rattle.cdf_form.specs.declared.found.Stop.TheVariants.{Memory};
+
+    ghost from_gives = { λ _ s. s ≡ Memory };
+
+    fn from(_refused: AllocError) -> Stop<'a> {
+        Stop::Memory
+    }
+}
+
+impl<'a> Found<'a> {
+    ghost use Rattle.std.specs.Prelude.{◌≡◌, IfOk};
+    ghost use Rattle.cdf_form.specs.Form.{deeper};
+    ghost use Rattle.cdf_form.specs.Found.{fault_of, step_of};
+
+    // The same fault, told from the value that the step leads out of.
+    fn under(self, step: Step<'a>) -> Result<Found<'a>, AllocError>
+        ensures { IfOk result (λ f. fault_of f ≡ deeper (step_of step.entry) (fault_of self.entry)) }
+    {
+        let Found { rule, mut steps } = self;
+        steps.push(step)?;
+        Ok(Found { rule, steps })
+    }
+}
+
+impl<'a> Stop<'a> {
+    ghost use Rattle.std.specs.Prelude.{Some, option_map, Option};
+    ghost use Rattle.cdf_form.specs.Form.{Fault, here, deeper};
+    ghost use Rattle.cdf_form.specs.Found.{Tells, step_of};
+
+    /// A fault at the value itself. Takes no memory.
+    pub fn at(alloc: Global, rule: Rule) -> Stop<'a>
+        ensures { Tells result (Some (here rule)) }
+    {
+        Stop::Fault(Found {
+            rule,
+            steps: Vec::new(alloc),
+        })
+    }
+
+    /// The same cause, told from the value that the step leads out of; want of memory where the
+    /// path can't grow.
+    pub fn under(self, step: Step<'a>) -> Stop<'a>
+        ensures { (o : Option Fault) → Tells self.entry o
+            → Tells result (option_map (deeper (step_of step.entry)) o) }
+    {
+        match self {
+            Stop::Memory => Stop::Memory,
+            Stop::Fault(found) => match found.under(step) {
+                Ok(found) => Stop::Fault(found),
+                Err(_) => Stop::Memory,
+            },
+        }
+    }
+}
