@@ -1,0 +1,20 @@
+-- What was read of a source.
+use Rattle.std.proofs.Common.{◌≡◌, ℕ, ◌≤◌, List, [], ◌++◌, length, take, Option, Some, None, IfSome, sym, ap, ◌∙◌, subst, append-nil}
+use Rattle.std.proofs.lemmas.List.{take_all}
+use Rattle.std.proofs.Math.Seq.{take-append_seam}
+use Rattle.cdf_types.specs.Device.{Gives}
+
+-- what was left at first is what was read and what is left now
+abbrev pub Reads : Option (List ℕ) → Option (List ℕ) → List ℕ → Type 0
+Reads first now bytes = IfSome first (λ xs. (rest : List ℕ) × (now ≡ Some rest) × (xs ≡ bytes ++ rest))
+
+pub read_to_end : (first now after : Option (List ℕ)) (bytes old new : List ℕ) (n most : ℕ) → Reads first now bytes → Gives now after old new n → n ≡ 0 → length bytes ≤ most
+    → IfSome first (λ xs. bytes ≡ take most xs)
+read_to_end None now after bytes old new n most h g z l = tt
+read_to_end (Some xs) now after bytes old new n most h g z l =
+    let none : h.0 ≡ [] = (subst (λ o. Gives o after old new n) h.1 g).3 z in
+    sym (ap (take most) (h.2 ∙ ap (λ r. bytes ++ r) none ∙ append-nil bytes) ∙ take_all most bytes l)
+
+pub read_most : (first now : Option (List ℕ)) (bytes : List ℕ) (most : ℕ) → Reads first now bytes → length bytes ≡ most → IfSome first (λ xs. bytes ≡ take most xs)
+read_most None now bytes most h l = tt
+read_most (Some xs) now bytes most h l = sym (ap (take most) h.2 ∙ ap (λ n. take n (bytes ++ h.0)) (sym l) ∙ take-append_seam bytes h.0)

@@ -1,0 +1,14 @@
+pub mod Greatest
+pub mod SameLists
+pub mod Ordered
+pub mod Groups
+pub mod Sorted
+pub mod CurrentLines
+pub mod Files
+pub mod KindNames
+pub mod Moments
+pub mod NoFloat
+pub mod Accepted
+pub mod Held
+pub mod Lines
+pub mod SameFiles

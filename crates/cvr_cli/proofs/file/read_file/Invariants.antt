@@ -1,0 +1,13 @@
+use Rattle.std.proofs.Common.{◌≡◌, ◌≤◌, ◌-◌, List, ◌++◌, ℕ, Some, false, IfSome, length, vec_len}
+use Rattle.cvr_cli.proofs.file.read_file.Given as goal
+
+abbrev pub invariant-reads : goal.invariant-reads
+invariant-reads g l = record {
+  working : g.R.Source.has_failed l.source ≡ false;
+  held : vec_len l.bytes ≤ 67108865;
+  piece : length l.piece ≡ 4096;
+  all : IfSome (g.R.Source.left l.initial.source) (λ xs. (rest : List ℕ) × (g.R.Source.left l.source ≡ Some rest) × (xs ≡ l.bytes.items ++ rest));
+}
+
+abbrev pub decreases-reads : goal.decreases-reads
+decreases-reads g l = 67108865 - vec_len l.bytes

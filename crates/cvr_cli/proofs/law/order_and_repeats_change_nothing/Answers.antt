@@ -1,0 +1,7 @@
+use Rattle.std.proofs.Common.{ap}
+use Rattle.cvr_cli.specs.Currents.{currents}
+use Rattle.cvr_cli.proofs.SameFiles.{same_held}
+use Rattle.cvr_cli.proofs.law.order_and_repeats_change_nothing.Goals as goal
+
+pub returns : goal.returns
+returns c = record { facts = same_held; currents = λ files others same. ap currents (same_held files others same) }

@@ -1,0 +1,17 @@
+-- Neither the order of files nor a file that comes again changes what is held of them. (This project's own.)
+use Rattle.std.specs.Prelude.{◌≡◌, ◌↔◌, ℕ, List}
+use Rattle.std.specs.List.{Contains}
+use Rattle.cvr_cli.specs.Currents.{currents}
+use Rattle.cvr_cli.specs.Outcome.{held}
+
+-- the two lists have the same files, in any order and however often
+abbrev pub HaveSameFiles : List (List ℕ) → List (List ℕ) → Type 0
+HaveSameFiles files others = (file : List ℕ) → Contains files file ↔ Contains others file
+
+-- they hold the same facts
+abbrev pub SameFactsLaw : Type 0
+SameFactsLaw = (files others : List (List ℕ)) → HaveSameFiles files others → held files ≡ held others
+
+-- and have the same current snapshots
+abbrev pub SameCurrentsLaw : Type 0
+SameCurrentsLaw = (files others : List (List ℕ)) → HaveSameFiles files others → currents (held files) ≡ currents (held others)

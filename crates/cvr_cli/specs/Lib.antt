@@ -1,0 +1,16 @@
+pub mod File
+pub mod Accepted
+pub mod Ordered
+pub mod Greatest
+pub mod Snapshot
+pub mod Choice
+pub mod Currents
+pub mod Sort
+pub mod Lasts
+pub mod Typed
+pub mod Outcome
+pub mod Log
+pub mod Status
+pub mod Refusals
+pub mod Ends
+pub mod Laws

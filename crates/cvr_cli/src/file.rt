@@ -1,0 +1,67 @@
+ghost use Rattle.std.specs.Prelude.{◌≡◌, ◌≤◌, false, length, take, vec_len, IfOk, IfErr, OnOk, IfSome};
+ghost use Rattle.cvr_cli.specs.declared.file.FileFault.TheVariants.{Device, Memory as NoMemory};
+ghost use Rattle.cvr_cli.specs.File.{is_device, held_bytes};
+
+use cdf_types::{DeviceFault, Source};
+use std::alloc::{AllocError, Global};
+use thiserror::Error;
+
+/// The most bytes that are held of a file: one more than a file may have.
+pub const HELD: usize = 67_108_865;
+
+// The bytes of one read at most.
+const PIECE: usize = 4096;
+
+/// Why a file was not read.
+#[derive(Clone, Copy, Debug, PartialEq, Eq, Error)]
+pub enum FileFault {
+    /// The device failed.
+    #[error("the device failed")]
+    Device,
+    /// Want of memory.
+    #[error("out of memory")]
+    Memory,
+}
+
+impl From<DeviceFault> for FileFault {
+    ghost from_gives = { λ _ e. e ≡ Device };
+
+    fn from(_fault: DeviceFault) -> FileFault {
+        FileFault::Device
+    }
+}
+
+impl From<AllocError> for FileFault {
+    ghost from_gives = { λ _ e. e ≡ NoMemory };
+
+    fn from(_refused: AllocError) -> FileFault {
+        FileFault::Memory
+    }
+}
+
+/// The bytes of a source up to its end, or the first 67,108,865 of them, so that a longer file can be
+/// told from one that is as long as it may be.
+///
+/// # Errors
+/// `Device` exactly where the source has failed at the return; `Memory` where a growth was refused.
+/// What was read is lost in both.
+pub fn read_file<R: Source>(alloc: Global, source: &mut R) -> Result<Vec<u8>, FileFault>
+    requires { R.has_failed source.old ≡ false }
+    ensures bytes { IfOk result (λ v. IfSome (R.left source.old) (λ left. v.items ≡ take held_bytes left)) }
+    ensures fits { IfOk result (λ v. vec_len v ≤ held_bytes) }
+    ensures working { OnOk result (R.has_failed source.new ≡ false) }
+    ensures fault { IfErr result (λ e. R.has_failed source.new ≡ is_device e) }
+{
+    let mut bytes = Vec::new(alloc);
+    let mut piece = [0u8; PIECE];
+    'reads: while bytes.len() < HELD {
+        let room = (HELD - bytes.len()).min(PIECE);
+        let (part, _) = piece.split_at_mut(room);
+        let count = source.read(part)?;
+        if count == 0 {
+            return Ok(bytes);
+        }
+        bytes.extend_from_slice(&piece[..count])?;
+    }
+    Ok(bytes)
+}

@@ -1,0 +1,24 @@
+//! The commands of `cvr`: what is printed of a definition and files, and the devices it goes through.
+#![tactic(auto)]
+
+mod check;
+mod currents;
+mod file;
+pub mod law;
+mod log;
+mod over;
+mod reading;
+mod refusals;
+mod request;
+mod snapshot_fact;
+mod status;
+mod tasks;
+#[cfg(test)]
+mod tests;
+mod text;
+
+pub use file::{FileFault, HELD, read_file};
+pub use over::{OverRead, OverWrite};
+pub use request::{Request, Task};
+pub use status::Status;
+pub use tasks::run;

@@ -1,0 +1,179 @@
+ghost use Rattle.std.specs.Prelude.{◌≡◌, ◌≢◌, ◌⊎◌, ◌++◌, length, map, true, false, IfOk, string_bytes};
+ghost use Rattle.std.specs.List.{flat_map, list_any};
+ghost use Rattle.cdf_types.specs.Device.{appended, AppendsFront};
+ghost use Rattle.cvr_cli.specs.Accepted.{is_refused};
+ghost use Rattle.cvr_cli.specs.Outcome.{held, check_lines, run_text, any_refused, bytes_of, IsWhole};
+ghost use Rattle.cvr_cli.specs.Currents.{currents};
+ghost use Rattle.cvr_cli.specs.Typed.{typed_in_file};
+ghost use Rattle.cvr_cli.specs.declared.status.Status.TheVariants.{Done, Refused, CommandLine, Device, Memory as NoMemory};
+ghost use Rattle.cvr_cli.specs.Ends.{Ends};
+
+use crate::check::push_count;
+use crate::currents::currents_text;
+use crate::log::say;
+use crate::reading::read_facts;
+use crate::refusals::Refusals;
+use crate::request::{Request, Task};
+use crate::snapshot_fact::SnapshotFact;
+use crate::status::Status;
+use cdf_form::read::check_form;
+use cdf_types::{Body, DeviceFault, Memory, Sink, write_all};
+use std::alloc::Global;
+
+// Takes in the facts of each accepted file.
+fn read_files<L: Sink>(
+    alloc: Global,
+    paths: &[Body],
+    files: &[Vec<u8>],
+    facts: &mut Vec<SnapshotFact>,
+    log: &mut L,
+) -> Refusals
+    requires { length paths.now ≡ length files.now }
+    ensures some { result.lacking ≡ false → result.some ≡ list_any is_refused (bytes_of files.now) }
+    ensures facts { result.lacking ≡ false → facts.new.items ≡ facts.old.items ++ flat_map typed_in_file (bytes_of files.now) }
+{
+    let mut refusals = Refusals::none();
+    for (place, file) in files.iter().enumerate() {
+        match read_facts(alloc, file.as_slice(), facts) {
+            Ok(()) => {}
+            Err(fault) => refusals.note(alloc, log, paths[place].as_str(), &fault),
+        }
+    }
+    refusals
+}
+
+// Counts the cast vote records of each accepted file.
+fn count_files<L: Sink>(
+    alloc: Global,
+    paths: &[Body],
+    files: &[Vec<u8>],
+    text: &mut String,
+    log: &mut L,
+) -> Result<Refusals, Memory>
+    requires { length paths.now ≡ length files.now }
+    ensures some { IfOk result (λ r. r.lacking ≡ false → r.some ≡ list_any is_refused (bytes_of files.now)) }
+    ensures text { IfOk result (λ r. r.lacking ≡ false
+        → string_bytes text.new ≡ string_bytes text.old ++ check_lines paths.now (bytes_of files.now)) }
+{
+    let mut refusals = Refusals::none();
+    for (place, file) in files.iter().enumerate() {
+        let path = paths[place].as_str();
+        match check_form(alloc, file.as_slice()) {
+            Ok(records) => push_count(text, path, records)?,
+            Err(fault) => refusals.note(alloc, log, path, &fault),
+        }
+    }
+    Ok(refusals)
+}
+
+// Ends a run with no text, for want of memory.
+fn end_in_memory<L: Sink>(log: &mut L) -> Status
+    ensures { result ≡ NoMemory }
+{
+    say(log, b"memory\n");
+    Status::Memory
+}
+
+// Hands the text to the output, and ends the run. No text lacks a file.
+fn end_with<W: Sink, L: Sink>(text: &str, refusals: Refusals, out: &mut W, log: &mut L) -> Status
+    requires working { W.has_failed out.old ≡ false }
+    requires whole { refusals.lacking ≡ false }
+    ensures { Ends (W.taken out.old) (W.taken out.new) (W.has_failed out.new) text.now refusals.some result }
+{
+    match write_all(out, text.as_bytes()) {
+        Ok(()) => refusals.status(),
+        Err(DeviceFault) => {
+            say(log, b"out: X1\n");
+            if refusals.unlogged {
+                Status::Memory
+            } else {
+                Status::Device
+            }
+        }
+    }
+}
+
+// Prints the current snapshots.
+fn run_currents<W: Sink, L: Sink>(
+    alloc: Global,
+    paths: &[Body],
+    files: &[Vec<u8>],
+    out: &mut W,
+    log: &mut L,
+) -> Status
+    requires working { W.has_failed out.old ≡ false }
+    requires named { length paths.now ≡ length files.now }
+    ensures { Ends (W.taken out.old) (W.taken out.new) (W.has_failed out.new)
+        (currents (held (bytes_of files.now))) (list_any is_refused (bytes_of files.now)) result }
+{
+    let mut facts = Vec::new(alloc);
+    let refusals = read_files(alloc, paths, files, &mut facts, log);
+    if refusals.lacking {
+        return Status::Memory;
+    }
+    match currents_text(alloc, facts) {
+        Ok(text) => end_with(text.as_str(), refusals, out, log),
+        Err(Memory) => end_in_memory(log),
+    }
+}
+
+// Prints the number of cast vote records of each accepted file.
+fn run_check<W: Sink, L: Sink>(
+    alloc: Global,
+    paths: &[Body],
+    files: &[Vec<u8>],
+    out: &mut W,
+    log: &mut L,
+) -> Status
+    requires working { W.has_failed out.old ≡ false }
+    requires named { length paths.now ≡ length files.now }
+    ensures { Ends (W.taken out.old) (W.taken out.new) (W.has_failed out.new)
+        (check_lines paths.now (bytes_of files.now)) (list_any is_refused (bytes_of files.now)) result }
+{
+    let mut text = String::new(alloc);
+    match count_files(alloc, paths, files, &mut text, log) {
+        Ok(refusals) => if refusals.lacking {
+            Status::Memory
+        } else {
+            end_with(text.as_str(), refusals, out, log)
+        },
+        Err(Memory) => end_in_memory(log),
+    }
+}
+
+/// Runs a request over the bytes of its definition and of its files, in the order of its paths.
+/// A refused file is told to the log, and the rest is done. Where the definition is refused nothing
+/// else is done, and where a file was refused for want of memory nothing is printed.
+pub fn run<W: Sink, L: Sink>(
+    alloc: Global,
+    request: &Request,
+    def: &[u8],
+    files: &[Vec<u8>],
+    out: &mut W,
+    log: &mut L,
+) -> Status
+    requires working { W.has_failed out.old ≡ false }
+    requires log_working { L.has_failed log.old ≡ false }
+    requires named { length request.now.paths ≡ length files.now }
+    ensures text { IsWhole result → W.taken out.new
+        ≡ appended (W.taken out.old) (run_text request.now.task def.now request.now.paths (bytes_of files.now)) }
+    ensures front { AppendsFront (W.taken out.old) (W.taken out.new)
+        (run_text request.now.task def.now request.now.paths (bytes_of files.now)) }
+    ensures done { result ≡ Done → any_refused def.now (bytes_of files.now) ≡ false }
+    ensures refused { result ≡ Refused → any_refused def.now (bytes_of files.now) ≡ true }
+    ensures device { result ≡ Device → W.has_failed out.new ≡ true }
+    ensures failed { W.has_failed out.new ≡ true → (result ≡ Device) ⊎ (result ≡ NoMemory) }
+    ensures no_words { result ≢ CommandLine }
+{
+    match check_form(alloc, def) {
+        Err(fault) => {
+            let mut refusals = Refusals::none();
+            refusals.note(alloc, log, request.def.as_str(), &fault);
+            refusals.status()
+        }
+        Ok(_) => match request.task {
+            Task::Currents => run_currents(alloc, request.paths.as_slice(), files, out, log),
+            Task::Check => run_check(alloc, request.paths.as_slice(), files, out, log),
+        },
+    }
+}

@@ -1,0 +1,104 @@
+#!/usr/bin/env python3
+"""commands.py --cvr PATH [FILE..]
+
+Runs the commands that README.md and examples/README.md show, and compares what they print. A command stands in a
+fenced block whose first line begins with `$ `: each line that begins so is a command for `sh`, run at the top of the
+repository, and the lines up to the next one are what it prints on both outputs together. `./cvr` in a command is the
+program given, so that nothing is built here. A command ends with status 0, unless the next command is `echo $?`,
+which prints the status. Other blocks are not run. Each file must have a command; the last line is
+`commands: N right, M wrong`, and the status is 0 only where M is 0."""
+import argparse
+import os
+import re
+import shlex
+import subprocess
+import sys
+
+TOP = os.path.dirname(os.path.dirname(os.path.abspath(__file__)))
+FILES = ['README.md', 'examples/README.md']
+STATUS = 'echo $?'
+SECONDS = 300
+
+
+def fenced(text):
+    """The lines of each fenced block of a text."""
+    block, fence = None, ''
+    for line in text.splitlines():
+        mark = re.match(r'\s*(```+|~~~+)', line)
+        if block is None and mark:
+            block, fence = [], mark.group(1)
+        elif block is not None and line.strip() == fence:
+            yield block
+            block = None
+        elif block is not None:
+            block.append(line)
+
+
+def commands(text):
+    """(command, expected output, whether its status is shown) for each command of a text."""
+    for block in fenced(text):
+        if not block or not block[0].startswith('$ '):
+            continue
+        held = []
+        for line in block:
+            if line.startswith('$ '):
+                held.append([line[2:], ''])
+            else:
+                held[-1][1] += line + '\n'
+        for place, (command, expected) in enumerate(held):
+            is_shown = place + 1 < len(held) and held[place + 1][0].strip() == STATUS
+            yield command, expected, is_shown
+
+
+def run(command, cvr, status):
+    """(output, status) of a command, run with `$?` as the command before left it."""
+    words = re.sub(r'(?<![^\s;|&(])\./cvr(?![^\s;|&)])', lambda _: shlex.quote(cvr), command)
+    done = subprocess.run(['sh', '-c', '(exit %d)\n%s' % (status, words)], cwd=TOP, stdin=subprocess.DEVNULL,
+                          stdout=subprocess.PIPE, stderr=subprocess.STDOUT, timeout=SECONDS)
+    return done.stdout.decode('utf-8', 'replace'), done.returncode
+
+
+def differences(command, cvr, expected, is_shown, before):
+    """What is wrong with one command, as lines, and its status."""
+    try:
+        output, status = run(command, cvr, before)
+    except subprocess.TimeoutExpired:
+        return ['no end within %d s' % SECONDS], 1
+    found = []
+    if output != expected:
+        found.append('prints   %r' % output)
+        found.append('expected %r' % expected)
+    if status and not is_shown:
+        found.append('status %d, and no `%s` after it' % (status, STATUS))
+    return found, status
+
+
+def main():
+    words = argparse.ArgumentParser()
+    words.add_argument('--cvr', required=True, help='the built program')
+    words.add_argument('files', nargs='*', default=FILES, help='texts below the top of the repository')
+    words = words.parse_args()
+    cvr = os.path.abspath(words.cvr)
+    right = wrong = 0
+    for name in words.files or FILES:
+        with open(os.path.join(TOP, name), encoding='utf-8') as file:
+            shown = list(commands(file.read()))
+        if not shown:
+            wrong += 1
+            print('WRONG %s: no command found' % name)
+        status = 0
+        for command, expected, is_shown in shown:
+            found, status = differences(command, cvr, expected, is_shown, status)
+            if found:
+                wrong += 1
+                print('WRONG %s: $ %s' % (name, command))
+                for line in found:
+                    print('    ' + line)
+            else:
+                right += 1
+    print('commands: %d right, %d wrong' % (right, wrong))
+    sys.exit(0 if right and not wrong else 1)
+
+
+if __name__ == '__main__':
+    main()
