@@ -1,0 +1,44 @@
+//! Scripts in each of which one allocation is refused. Standard input is `SCRIPT BLOCKS`: what the
+//! script needs is built, BLOCKS blocks are taken and given back, and then the script makes its calls.
+//! `tools/refuse` has one allocation refused, always the same by number, and counts BLOCKS down, so that
+//! each allocation of the calls is the refused one in turn. The program prints `accepted` (no call
+//! met a refusal), `refused` (a call did, and changed nothing, and the same call again was right),
+//! `before` (a block met it), or what is wrong. On `list` it prints each script with its calls.
+#![tactic(auto)]
+
+mod files;
+mod forms;
+mod reports;
+mod runs;
+mod scenes;
+mod script;
+mod table;
+mod values;
+
+use std::process::ExitCode;
+use table::{SCRIPTS, play_named};
+
+// Prints a line for each script: its name, and its calls.
+fn list(rt: &HostRuntime) {
+    for (name, action) in &SCRIPTS {
+        let _ = println!(rt; "{name} {}", action.calls());
+    }
+}
+
+fn main(rt: HostRuntime) -> ExitCode {
+    let mut line = String::new(rt.alloc());
+    let words = match rt.read_line(&mut line) {
+        Ok(_) => line.as_str().trim_ascii(),
+        Err(_) => return ExitCode::FAILURE,
+    };
+    let Some((name, blocks)) = words.split_once(' ') else {
+        list(&rt);
+        return ExitCode::SUCCESS;
+    };
+    let Ok(blocks) = blocks.parse::<u32>() else {
+        return ExitCode::FAILURE;
+    };
+    let answer = play_named(rt.alloc(), name, blocks);
+    let _ = println!(rt; "{answer}");
+    ExitCode::SUCCESS
+}

@@ -1,0 +1,119 @@
+use crate::reports::{ADJUDICATED, DEFINED, OTHER_VERSION, SCANNED, Sample, UNNAMED};
+use cvr_cli::{Status, Task};
+
+/// A file of a run, and its path.
+#[derive(Clone, Copy)]
+pub struct Named {
+    pub path: &'static str,
+    pub sample: Sample,
+}
+
+/// A run, and what it says where memory is ample and where one growth is refused.
+#[derive(Clone, Copy)]
+pub struct Scene {
+    pub task: Task,
+    pub definition: Named,
+    pub files: &'static [Named],
+    /// What it prints.
+    pub text: &'static str,
+    /// Its log.
+    pub log: &'static str,
+    pub status: Status,
+    /// The log, where want of memory keeps the whole text back.
+    pub kept_back: &'static [&'static str],
+    /// The log, where want of memory takes a line out of it.
+    pub unlogged: &'static [&'static str],
+}
+
+const DEFINITION: Named = Named {
+    path: "d",
+    sample: DEFINED,
+};
+
+const SCAN: Named = Named {
+    path: "scan",
+    sample: SCANNED,
+};
+
+const DESK: Named = Named {
+    path: "desk",
+    sample: ADJUDICATED,
+};
+
+const BAD: Named = Named {
+    path: "bad",
+    sample: UNNAMED,
+};
+
+/// The current snapshots of two accepted files.
+pub const CURRENTS: Scene = Scene {
+    task: Task::Currents,
+    definition: DEFINITION,
+    files: &[SCAN, DESK],
+    text: "\"s1\" \"u1\" \"m\" modified\n",
+    log: "",
+    status: Status::Done,
+    kept_back: &["d: E6\n", "scan: E6\n", "desk: E6\n", "memory\n"],
+    unlogged: &[],
+};
+
+/// The counts of two accepted files.
+pub const COUNTS: Scene = Scene {
+    task: Task::Check,
+    definition: DEFINITION,
+    files: &[SCAN, DESK],
+    text: "scan 1\ndesk 1\n",
+    log: "",
+    status: Status::Done,
+    kept_back: &["d: E6\n", "scan: E6\n", "desk: E6\n", "memory\n"],
+    unlogged: &[],
+};
+
+/// The current snapshots of two files, the first of them refused.
+pub const CURRENTS_REFUSED: Scene = Scene {
+    task: Task::Currents,
+    definition: DEFINITION,
+    files: &[BAD, SCAN],
+    text: "\"s1\" \"u1\" \"a\" original\n",
+    log: "bad: E3 /CVR/0/UniqueId 2\n",
+    status: Status::Refused,
+    kept_back: &[
+        "d: E6\n",
+        "bad: E6\n",
+        "bad: E3 /CVR/0/UniqueId 2\nscan: E6\n",
+        "bad: E3 /CVR/0/UniqueId 2\nmemory\n",
+    ],
+    unlogged: &[""],
+};
+
+/// The counts of two files, the first of them refused.
+pub const COUNTS_REFUSED: Scene = Scene {
+    task: Task::Check,
+    definition: DEFINITION,
+    files: &[BAD, SCAN],
+    text: "scan 1\n",
+    log: "bad: E3 /CVR/0/UniqueId 2\n",
+    status: Status::Refused,
+    kept_back: &[
+        "d: E6\n",
+        "bad: E6\n",
+        "bad: E3 /CVR/0/UniqueId 2\nscan: E6\n",
+        "bad: E3 /CVR/0/UniqueId 2\nmemory\n",
+    ],
+    unlogged: &[""],
+};
+
+/// A definition that is refused.
+pub const DEFINITION_REFUSED: Scene = Scene {
+    task: Task::Currents,
+    definition: Named {
+        path: "d",
+        sample: OTHER_VERSION,
+    },
+    files: &[SCAN, DESK],
+    text: "",
+    log: "d: E3 /Version 4\n",
+    status: Status::Refused,
+    kept_back: &["d: E6\n"],
+    unlogged: &[""],
+};
