@@ -28,10 +28,15 @@ def listing(name, items):
     return '"%s":[%s]' % (name, ','.join(items))
 
 
-def election():
-    def choice(kind, name, *more):
-        return item(kind, text('@id', name), *more)
+def naming(name, *ids):
+    return listing(name, ['"%s"' % one for one in ids])
 
+
+def choice(kind, name, *more):
+    return item(kind, text('@id', name), *more)
+
+
+def election():
     mayor = item('CandidateContest', text('@id', 'mayor'), listing('ContestSelection', [
         choice('CandidateSelection', 'ann'),
         choice('CandidateSelection', 'bob'),
@@ -42,16 +47,42 @@ def election():
     return item('Election', text('@id', 'e'), listing('Contest', [mayor, question]), text('ElectionScopeId', 'p1'))
 
 
-def report(*cvrs):
+def election_with_parties():
+    """An election with every member that names something: candidates of parties, and contests of both."""
+    candidates = [
+        choice('Candidate', 'cora', text('PartyId', 'red')),
+        choice('Candidate', 'dan', text('PartyId', 'blue')),
+        choice('Candidate', 'eve')]
+    judge = item('CandidateContest', text('@id', 'judge'), listing('ContestSelection', [
+        choice('CandidateSelection', 'for-cora', naming('CandidateIds', 'cora')),
+        choice('CandidateSelection', 'for-team', naming('CandidateIds', 'dan', 'eve'))]))
+    board = item('PartyContest', text('@id', 'board'), listing('ContestSelection', [
+        choice('PartySelection', 'red-list', naming('PartyIds', 'red')),
+        choice('PartySelection', 'joint-list', naming('PartyIds', 'red', 'blue'))]))
+    return item('Election', text('@id', 'e'), listing('Candidate', candidates), listing('Contest', [judge, board]),
+                text('ElectionScopeId', 'p1'))
+
+
+def report_on(held, parties, cvrs):
+    """A report of an election, the parties being given as the member Party, or not at all."""
     return item(
         'CastVoteRecordReport',
         listing('CVR', cvrs),
-        listing('Election', [election()]),
+        listing('Election', [held]),
         text('GeneratedDate', '2024-11-05T20:00:00Z'),
         listing('GpUnit', [item('GpUnit', text('@id', unit), text('Type', 'precinct')) for unit in ('p1', 'p2')]),
-        listing('ReportGeneratingDeviceIds', ['"s1"']),
+        *parties,
+        naming('ReportGeneratingDeviceIds', 's1'),
         listing('ReportingDevice', [item('ReportingDevice', text('@id', d)) for d in ('desk', 's1', 's2')]),
         text('Version', '1.0.0'))
+
+
+def report(*cvrs):
+    return report_on(election(), [], cvrs)
+
+
+def report_with_parties(*cvrs):
+    return report_on(election_with_parties(), [listing('Party', [choice('Party', 'red'), choice('Party', 'blue')])], cvrs)
 
 
 def position(indication='yes', votes=1, allocable=None, metric=None):
@@ -124,6 +155,17 @@ def with_image():
         text('CreatingDeviceId', 's1'), text('CurrentSnapshotId', 'o'), text('ElectionId', 'e'), text('UniqueId', 'u2'))
 
 
+def of_a_party():
+    """A record of a party's ballot, with two snapshots."""
+    scan = snapshot('o', 'original', [
+        contest('judge', [selection('for-cora', position())]),
+        contest('board', [selection('joint-list', position())])])
+    decided = snapshot('m', 'modified', [contest('board', [selection('red-list', position())])])
+    return item(
+        'CVR', text('BallotStyleUnitId', 'p1'), listing('CVRSnapshot', [scan, decided]), text('CreatingDeviceId', 's1'),
+        text('CurrentSnapshotId', 'm'), text('ElectionId', 'e'), naming('PartyIds', 'blue'), text('UniqueId', 'u1'))
+
+
 def with_unknown_members(whole):
     """The first scan with one unknown member in its snapshot and one at the top."""
     return (whole.replace('"Type":"original"', '"Type":"original","vxNote":"x"')
@@ -152,6 +194,8 @@ def vectors():
         'f10d.json': adjudicated('m4', 'bob', '2024-11-06T04:30:00Z'),
         'f11.json': report(every_kind()),
         'f20.json': report(with_image()),
+        'parties-def.json': report_with_parties(),
+        'parties.json': report_with_parties(of_a_party()),
     }
     return {name: content.encode('utf-8') for name, content in texts.items()}
 

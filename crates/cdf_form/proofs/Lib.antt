@@ -5,7 +5,6 @@ pub mod FormLaw
 pub mod Whole
 pub mod Merging
 pub mod Walking
-pub mod Ascii
 pub mod Apart
 pub mod Order
 pub mod Appending
@@ -15,3 +14,6 @@ pub mod Removing
 pub mod PartLaws
 pub mod Lengths
 pub mod Lists
+pub mod Places
+pub mod ContestLists
+pub mod FormParts

@@ -1,15 +1,18 @@
 -- A value with no float, and its parts.
-use Rattle.std.proofs.Common.{◌≡◌, ℕ, zero, suc, ◌+◌, List, [], Bool, true, false, not, ◌||◌, Option, Some, None, option_map, Ordering, Less, Equal, Greater, refl, ap, subst}
+use Rattle.std.proofs.Common.{◌≡◌, ℕ, zero, suc, ◌+◌, ◌<◌, List, [], ◌∷◌, length, get_or, map, Bool, true, false, not, ◌||◌, Option, Some, None, option_map, Ordering, Less, Equal, Greater, refl, ap, ◌∙◌, subst, arith}
 use Rattle.std.specs.Ordering.{nat_cmp, match_ordering}
 use Rattle.std.specs.Cmp.Lexicographic.{slice_cmp}
 use Rattle.serde_json.specs.Data.{Data, null, boolean, number, string, array, object, Items, no_items, item, Members, no_members, member}
 use Rattle.serde_json.specs.Find.{get, get_member, get_item, as_array, is_float}
+use Rattle.serde_json.specs.View.{view}
+use Rattle.serde_json.specs.declared.value.Value.{Value}
 use Rattle.serde_json.specs.Written.{has_float, items_have_float, members_have_float}
 use Rattle.std.specs.Prelude.{option_and_then, unwrap_or}
 use Rattle.std.specs.List.{list_any}
 use Rattle.cdf_form.specs.Parts.{list_of, array_at}
 use Rattle.cdf_types.specs.declared.rule.Rule.TheVariants as rule
-use Rattle.cdf_form.specs.Form.{unless, float_faults, items_floats, members_floats}
+use Rattle.cdf_form.specs.Reading.{document_faults}
+use Rattle.cdf_form.specs.Form.{Fault, first, unless, float_faults, items_floats, members_floats}
 use Rattle.cdf_form.proofs.FormLaw.{left_nil, right_nil, under_nil, unless_nil, not_false}
 
 or_false : (a b : Bool) → a ≡ false → b ≡ false → (a || b) ≡ false
@@ -100,3 +103,21 @@ whole_found (Some e) h = whole_as_array e (h e refl)
 
 pub whole_array : (d : Data) (name : List ℕ) → has_float d ≡ false → list_any has_float (array_at name d) ≡ false
 whole_array d name h = whole_found (get name d) (λ e is. whole_get d name e h is)
+
+-- an item of a list of values with no float
+pub whole_value : (vs : List Value) (i : ℕ) (v : Value) → i < length vs → list_any has_float (map view vs) ≡ false → has_float (view (get_or vs i v)) ≡ false
+whole_value [] i v lt h = absurd (omega arith)
+whole_value (w ∷ vs) zero v lt h = or_left (has_float (view w)) (list_any has_float (map view vs)) h
+whole_value (w ∷ vs) (suc i) v lt h = whole_value vs i v (omega arith) (or_right (has_float (view w)) (list_any has_float (map view vs)) h)
+
+pub whole_there : (vs : List Value) (i : ℕ) (v : Value) → i < length vs → v ≡ get_or vs i v → list_any has_float (map view vs) ≡ false → has_float (view v) ≡ false
+whole_there vs i v lt is h = ap (λ w. has_float (view w)) is ∙ whole_value vs i v lt h
+
+-- ---- a document with no fault
+
+pub no_fault : (fs : List Fault) → first fs ≡ None → fs ≡ []
+no_fault [] e = refl
+no_fault (f ∷ fs) e = cc
+
+pub whole_document : (d : Data) → document_faults d ≡ [] → has_float d ≡ false
+whole_document d e = whole_of d (left_nil _ _ e)

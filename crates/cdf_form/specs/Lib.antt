@@ -6,9 +6,10 @@ pub mod Seen
 pub mod Path
 pub mod Reading
 pub mod Parts
+pub mod Places
+pub mod Kept
 pub mod Laws
 pub mod Merge
-pub mod Rows
 pub mod Proper
 pub mod TextLaws
 pub mod Removing

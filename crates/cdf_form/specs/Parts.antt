@@ -1,6 +1,6 @@
 -- The parts of a value, with a default where one is absent or of another kind.
-use Rattle.std.specs.Prelude.{ℕ, ℤ, List, [], ◌∷◌, length, Option, Some, None, option_map, option_and_then, unwrap_or, Result, Ok, Err, codes}
-use Rattle.serde_json.specs.Data.{Data, Items, no_items, item}
+use Rattle.std.specs.Prelude.{ℕ, ℤ, List, [], ◌∷◌, length, map, Option, Some, None, option_map, option_and_then, unwrap_or, Result, Ok, Err, codes}
+use Rattle.serde_json.specs.Data.{Data, null, Items, no_items, item}
 use Rattle.serde_json.specs.Find.{get, as_str, as_array}
 use Rattle.jiff.specs.Words.{parse_timestamp}
 
@@ -24,6 +24,19 @@ text_at name d = unwrap_or (text_in name d) []
 -- the text at `@id`, or the empty one
 abbrev pub id_of : Data → List ℕ
 id_of d = text_at (codes "@id") d
+
+-- the ids of the items of the array under a name
+abbrev pub ids_at : List ℕ → Data → List (List ℕ)
+ids_at name d = map id_of (array_at name d)
+
+-- the first of a list of values, or null
+abbrev pub first_or_null : List Data → Data
+first_or_null [] = null
+first_or_null (d ∷ ds) = d
+
+-- a report's election
+abbrev pub the_election : Data → Data
+the_election d = first_or_null (array_at (codes "Election") d)
 
 -- how many cast vote records a report has
 abbrev pub record_count : Data → ℕ

@@ -1,15 +1,15 @@
--- The value that a file holds, and why its form is refused. (JSON: RFC 8259. Order of causes: this project's own.)
-use Rattle.std.specs.Prelude.{◌≡◌, ℕ, List, ◌++◌, length, if◌then◌else◌, nat_le, Option, Some, None, option_map}
+-- The value that a file holds, its faults of numbers and form, and the answer that tells one. (JSON: RFC 8259. Order of causes: this project's own.)
+use Rattle.std.specs.Prelude.{◌≡◌, ℕ, List, ◌++◌, if◌then◌else◌, Option, None}
 use Rattle.std.specs.Str.{is_utf8}
 use Rattle.serde_json.specs.Data.{Data}
 use Rattle.serde_json.specs.Read.{read}
 use Rattle.cdf_types.specs.declared.fault.ReadFault.{ReadFault}
-use Rattle.cdf_types.specs.declared.fault.ReadFault.TheVariants.{TooLong, NotJson, Schema, Memory}
+use Rattle.cdf_types.specs.declared.fault.ReadFault.TheVariants.{Schema, Memory}
 use Rattle.cdf_form.specs.declared.table.Group.TheVariants as group
 use Rattle.cdf_form.specs.declared.table.Leaf.TheVariants as leaf
 use Rattle.cdf_form.specs.declared.table.Key.TheVariants as key
 use Rattle.cdf_form.specs.declared.table.Kind.TheVariants.{One}
-use Rattle.cdf_form.specs.Form.{Fault, first, faults, float_faults}
+use Rattle.cdf_form.specs.Form.{Fault, faults, float_faults}
 use Rattle.cdf_form.specs.Path.{path_text}
 
 -- the most bytes that a file may have
@@ -27,15 +27,6 @@ document_faults d = float_faults d ++ faults d (One (leaf.Object group.Reports))
 -- the answer that tells a fault of form
 abbrev pub refusal_of : Fault → ReadFault
 refusal_of f = Schema (path_text f.path) f.rule
-
--- why a value, or the lack of one, is refused
-abbrev pub value_refusal : Option Data → Option ReadFault
-value_refusal None = Some NotJson
-value_refusal (Some d) = option_map refusal_of (first (document_faults d))
-
--- why a file is refused by its form, or none: too long, no JSON, or the first fault
-abbrev pub form_refusal : List ℕ → Option ReadFault
-form_refusal bytes = if nat_le (length bytes) max_file then value_refusal (value_of bytes) else Some TooLong
 
 -- the answer is want of memory, and says nothing of the file
 abbrev pub IsMemory : ReadFault → Type 0

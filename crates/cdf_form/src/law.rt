@@ -1,5 +1,4 @@
 ghost use Rattle.cdf_form.specs.Laws.{FormLaw, TablesInOrder, WholeLaw, WholeMembers, WholeItems};
-ghost use Rattle.cdf_form.specs.Rows.{OneFile, FirstFault, FractionalVotes, FractionFirst, EscapedPath, RepeatedSnapshot};
 
 /// A value has no fault exactly where it has the form of its kind.
 pub fn form_law()
@@ -16,14 +15,4 @@ pub fn whole_law()
     ensures all { WholeLaw }
     ensures members { WholeMembers }
     ensures items { WholeItems }
-{}
-
-/// Worked examples.
-pub fn worked_rows()
-    ensures one_file { OneFile }
-    ensures first_fault { FirstFault }
-    ensures fractional_votes { FractionalVotes }
-    ensures fraction_first { FractionFirst }
-    ensures escaped_path { EscapedPath }
-    ensures repeated_snapshot { RepeatedSnapshot }
 {}

@@ -2,12 +2,15 @@
 //! fault of a file against them, and the parts of a value.
 #![tactic(auto)]
 
-mod float;
-mod found;
+pub mod contests;
+pub mod float;
+pub mod found;
+pub mod ids;
 pub mod law;
-mod leaf;
+pub mod leaf;
+mod noting;
 pub mod part;
-mod path;
+pub mod path;
 pub mod read;
 pub mod table;
 #[cfg(test)]
@@ -15,5 +18,4 @@ mod tests;
 pub mod text_law;
 mod walk;
 
-pub use part::{instant, items_at, take_items, text_at, text_in};
-pub use read::{check_form, read_form};
+pub use part::{election_items, instant, items_at, take_items, text_at, text_in};

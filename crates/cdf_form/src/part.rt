@@ -1,8 +1,10 @@
-ghost use Rattle.std.specs.Prelude.{◌≡◌, map, option_map, option_and_then, unwrap_or, []};
+ghost use Rattle.std.specs.Prelude.{◌≡◌, map, option_map, option_and_then, unwrap_or, [], IfOk};
 ghost use Rattle.serde_json.specs.Find.{as_array};
 ghost use Rattle.serde_json.specs.View.{view};
-ghost use Rattle.cdf_form.specs.Parts.{text_at, text_in, array_at, list_of, instant_of};
+ghost use Rattle.cdf_form.specs.Parts.{text_at, text_in, array_at, list_of, instant_of, the_election};
+ghost use Rattle.cdf_form.specs.Kept.{bytes_of};
 
+use cdf_types::Memory;
 use jiff::Timestamp;
 use serde_json::Value;
 use std::alloc::Global;
@@ -34,6 +36,16 @@ pub fn items_at<'a>(name: &str, value: &'a Value) -> &'a [Value]
             None => &[],
             Some(items) => items.as_slice(),
         },
+    }
+}
+
+/// The items of the array under a name of a report's election, or none. Takes no memory.
+pub fn election_items<'a>(name: &str, report: &'a Value) -> &'a [Value]
+    ensures { map view result.now ≡ array_at name.now (the_election (view report.entry.now)) }
+{
+    match items_at("Election", report).first() {
+        None => &[],
+        Some(election) => items_at(name, election),
     }
 }
 
@@ -78,4 +90,18 @@ pub fn instant(text: &str) -> Option<i128>
         Ok(moment) => Some(moment.as_nanosecond()),
         Err(_) => None,
     }
+}
+
+/// Equal texts, in order.
+///
+/// # Errors
+/// `Memory` where a growth was refused.
+pub fn copy_texts(alloc: Global, texts: &[String]) -> Result<Vec<String>, Memory>
+    ensures { IfOk result (λ copies. bytes_of copies.items ≡ bytes_of texts.now) }
+{
+    let mut copies = Vec::with_capacity(alloc, texts.len())?;
+    for text in texts {
+        copies.push(String::from_str(alloc, text.as_str())?)?;
+    }
+    Ok(copies)
 }

@@ -1,45 +1,53 @@
 -- Accepted and refused files.
-use Rattle.std.proofs.Common.{◌≡◌, ℕ, List, [], ◌∷◌, ◌++◌, length, Bool, true, false, Option, Some, None, option_map, if◌then◌else◌, nat_le, refl, sym, ap, ◌∙◌}
+use Rattle.std.proofs.Common.{◌≡◌, ℕ, List, Bool, true, false, Option, Some, None, if◌then◌else◌, refl, sym, ap, ◌∙◌, subst}
+use Rattle.std.specs.List.{list_any}
 use Rattle.std.specs.Str.{is_utf8}
 use Rattle.serde_json.specs.Data.{Data}
 use Rattle.serde_json.specs.Read.{read}
 use Rattle.serde_json.specs.Written.{has_float}
 use Rattle.cdf_types.specs.declared.fault.ReadFault.{ReadFault}
-use Rattle.cdf_types.specs.declared.fault.ReadFault.TheVariants.{TooLong}
-use Rattle.cdf_form.specs.Form.{Fault, first, float_faults}
-use Rattle.cdf_form.specs.Reading.{value_of, form_refusal, value_refusal, refusal_of, document_faults, max_file}
-use Rattle.cdf_form.proofs.Whole.{whole_of}
-use Rattle.cvr_cli.specs.Accepted.{is_refused, accepted}
+use Rattle.cdf_form.specs.Reading.{value_of}
+use Rattle.cdf_check.specs.Frame.{Frame}
+use Rattle.cdf_check.specs.Acceptance.{Sound, Valid, first_refusal, first_unsound, value_in, frame_in, report_in}
+use Rattle.cdf_check.proofs.Accepting.{sound_file, valid_file}
+use Rattle.cvr_cli.specs.declared.request.Task.{Task}
+use Rattle.cvr_cli.specs.Accepted.{is_unsound, is_refused, accepted}
+use Rattle.cvr_cli.specs.Outcome.{task_text, run_text, any_refused}
+use Rattle.cvr_cli.specs.Typed.{typed_in_report, typed_in_file}
 
-pub not_refused : (bytes : List ℕ) → form_refusal bytes ≡ None → is_refused bytes ≡ false
-not_refused bytes h = rw h refl
+pub not_unsound : (bytes : List ℕ) → first_unsound bytes ≡ None → is_unsound bytes ≡ false
+not_unsound bytes h = rw h refl
 
-pub refused : (bytes : List ℕ) (e : ReadFault) → form_refusal bytes ≡ Some e → is_refused bytes ≡ true
-refused bytes e h = rw h refl
+pub unsound : (bytes : List ℕ) (e : ReadFault) → first_unsound bytes ≡ Some e → is_unsound bytes ≡ true
+unsound bytes e h = rw h refl
 
-pub accepted_value : (bytes : List ℕ) (d : Data) → form_refusal bytes ≡ None → value_of bytes ≡ Some d → accepted bytes ≡ Some d
-accepted_value bytes d h v = rw (not_refused bytes h, v) refl
+pub not_refused : (definition : Frame) (bytes : List ℕ) → first_refusal definition bytes ≡ None → is_refused definition bytes ≡ false
+not_refused definition bytes h = rw h refl
 
-pub refused_value : (bytes : List ℕ) (e : ReadFault) → form_refusal bytes ≡ Some e → accepted bytes ≡ None
-refused_value bytes e h = rw (refused bytes e h) refl
+pub refused : (definition : Frame) (bytes : List ℕ) (e : ReadFault) → first_refusal definition bytes ≡ Some e → is_refused definition bytes ≡ true
+refused definition bytes e h = rw h refl
 
-taken_at : (b : Bool) (d : Data) (v : Option Data) → v ≡ Some d → (if b then value_refusal v else Some TooLong) ≡ None → value_refusal (Some d) ≡ None
-taken_at true d v is h = sym (ap value_refusal is) ∙ h
-taken_at false d v is h = Prim.cc h
+pub is_valid : (definition : Frame) (bytes : List ℕ) → Valid definition bytes → is_refused definition bytes ≡ false
+is_valid definition bytes v = not_refused definition bytes ((valid_file definition bytes).1 v)
 
-none_first : (fs : List Fault) → option_map refusal_of (first fs) ≡ None → fs ≡ []
-none_first [] h = refl
-none_first (f ∷ fs) h = Prim.cc h
+-- what is kept of an accepted file
+pub typed_when_accepted : (definition : Frame) (bytes : List ℕ) → first_refusal definition bytes ≡ None → typed_in_file definition bytes ≡ typed_in_report (report_in definition.contests bytes)
+typed_when_accepted definition bytes h = rw (not_refused definition bytes h) refl
 
-no_front : (fs gs : List Fault) → fs ++ gs ≡ [] → fs ≡ []
-no_front [] gs h = refl
-no_front (f ∷ fs) gs h = Prim.cc h
+pub accepted_value : (definition : Frame) (bytes : List ℕ) (d : Data) → first_refusal definition bytes ≡ None → value_of bytes ≡ Some d → accepted definition bytes ≡ Some d
+accepted_value definition bytes d h v = rw (not_refused definition bytes h, v) refl
+
+pub refused_value : (definition : Frame) (bytes : List ℕ) (e : ReadFault) → first_refusal definition bytes ≡ Some e → accepted definition bytes ≡ None
+refused_value definition bytes e h = rw (refused definition bytes e h) refl
+
+same_some : {A : Type 0} (o : Option A) (a b : A) → o ≡ Some a → o ≡ Some b → a ≡ b
+same_some o a b p q = let e : Some a ≡ Some b = sym p ∙ q in Prim.cc e
 
 -- an accepted file has no float
-pub accepted_whole : (bytes : List ℕ) (d : Data) → form_refusal bytes ≡ None → value_of bytes ≡ Some d → has_float d ≡ false
-accepted_whole bytes d h v =
-    let none : document_faults d ≡ [] = none_first (document_faults d) (taken_at (nat_le (length bytes) max_file) d (value_of bytes) v h) in
-    whole_of d (no_front (float_faults d) _ none)
+pub accepted_whole : (definition : Frame) (bytes : List ℕ) (d : Data) → first_refusal definition bytes ≡ None → value_of bytes ≡ Some d → has_float d ≡ false
+accepted_whole definition bytes d h is =
+    let v = (valid_file definition bytes).0 h in
+    subst (λ x. has_float x ≡ false) (same_some (value_of bytes) v.0 d v.1.1 is) v.2.whole
 
 read_at : (b : Bool) (d : Data) (v : Option Data) → (if b then v else None) ≡ Some d → v ≡ Some d
 read_at true d v h = h
@@ -48,3 +56,16 @@ read_at false d v h = Prim.cc h
 -- its value is the one that its text spells
 pub value_read : (bytes : List ℕ) (d : Data) → value_of bytes ≡ Some d → read bytes ≡ Some d
 value_read bytes d h = read_at (is_utf8 bytes) d (read bytes) h
+
+-- ---- a run beside a sound definition
+
+pub is_sound : (def : List ℕ) → Sound def → is_unsound def ≡ false
+is_sound def s = not_unsound def ((sound_file def).1 s)
+
+pub text_beside : (task : Task) (def : List ℕ) (definition : Frame) (paths files : List (List ℕ)) → Sound def → definition ≡ frame_in def
+    → task_text definition task paths files ≡ run_text task def paths files
+text_beside task def definition paths files s is = ap (λ d. task_text d task paths files) is ∙ rw (is_sound def s) refl
+
+pub none_refused_beside : (def : List ℕ) (definition : Frame) (files : List (List ℕ)) → Sound def → definition ≡ frame_in def
+    → list_any (is_refused definition) files ≡ false → any_refused def files ≡ false
+none_refused_beside def definition files s is none = rw (is_sound def s) (ap (λ d. list_any (is_refused d) files) (sym is) ∙ none)

@@ -9,7 +9,7 @@ use Rattle.std.specs.declared.cmp.Ordering.TheVariants.{Less, Equal, Greater}
 use Rattle.std.specs.Ordering.{eq_by_cmp, is_eq, is_gt, ordering_reverse}
 use Rattle.std.specs.Cmp.{IsTotalOrder, Equal-is, tied_itself, upto}
 use Rattle.std.specs.FinMap.{IsAntisymmetric}
-use Rattle.cvr_cli.specs.Greatest.{greater, greatest}
+use Rattle.cdf_typed.specs.Greatest.{greater, greatest}
 
 -- f is in the list, and nothing in it is greater
 pub record IsGreatest {K : Type 0} (R : K → K → Ordering) (xs : List K) (f : K) : Type 0 where

@@ -10,8 +10,13 @@ use Rattle.std.proofs.lemmas.List.Folds.{list_any-append}
 use Rattle.serde_json.specs.Data.{Data}
 use Rattle.serde_json.specs.Read.{read}
 use Rattle.serde_json.specs.Written.{compact_text, has_float}
-use Rattle.cdf_form.specs.Reading.{value_of, form_refusal}
+use Rattle.cdf_form.specs.Reading.{value_of}
 use Rattle.cdf_form.specs.Parts.{array_at}
+use Rattle.cdf_form.specs.Places.{Contest}
+use Rattle.cdf_typed.specs.Typed.{snapshot_of, cvr_of, report_of}
+use Rattle.cdf_check.specs.Frame.{Frame}
+use Rattle.cdf_check.specs.Acceptance.{first_refusal, value_in, report_in}
+use Rattle.cdf_check.proofs.Accepting.{valid_file}
 use Rattle.cdf_form.proofs.PartLaws.{listed_reads_back}
 use Rattle.cvr_cli.specs.declared.snapshot_fact.SnapshotFact.{SnapshotFact}
 use Rattle.cvr_cli.specs.Ordered.{Among}
@@ -19,7 +24,7 @@ use Rattle.cvr_cli.specs.Accepted.{accepted}
 use Rattle.cvr_cli.specs.Snapshot.{fact_cmp, fact_of, cvr_facts, report_facts}
 use Rattle.cvr_cli.specs.Outcome.{file_facts, held}
 use Rattle.cvr_cli.specs.Typed.{IsTyped, AreHeld, fact_in, typed_of, typed_in_cvr, typed_in_report, typed_in_file}
-use Rattle.cvr_cli.proofs.Accepted.{accepted_whole, value_read}
+use Rattle.cvr_cli.proofs.Accepted.{value_read}
 use Rattle.cvr_cli.proofs.Sorted.{fact_total}
 
 -- ---- lists
@@ -58,51 +63,59 @@ all_at P (x ∷ xs) h (suc k) d lt = all_at P xs (λ y a. h y (inr a)) k d (omeg
 
 -- ---- each fact is what its body spells
 
-spelled : (cvr snapshot : Data) → read (compact_text snapshot) ≡ Some snapshot → IsTyped (typed_of cvr snapshot)
-spelled cvr snapshot back = record { kind = rw back refl; moment = rw back refl; id = rw back refl }
+spelled : (contests : List Contest) (c s : Data) → read (compact_text s) ≡ Some s → IsTyped (typed_of (cvr_of contests c) (snapshot_of contests s))
+spelled contests c s back = record { kind = rw back refl; moment = rw back refl; id = rw back refl }
 
-typed_report : (bytes : List ℕ) (d : Data) → read bytes ≡ Some d → has_float d ≡ false → (f : SnapshotFact) → Among f (typed_in_report d) → IsTyped f
-typed_report bytes d back whole f a =
-    let c = from_flat typed_in_cvr f (array_at (codes "CVR") d) a in
-    let s = from_map (typed_of c.0) f (array_at (codes "CVRSnapshot") c.0) c.2 in
+typed_report : (contests : List Contest) (bytes : List ℕ) (d : Data) → read bytes ≡ Some d → has_float d ≡ false → (f : SnapshotFact) → Among f (typed_in_report (report_of contests d)) → IsTyped f
+typed_report contests bytes d back whole f a =
+    let t = from_flat typed_in_cvr f (map (cvr_of contests) (array_at (codes "CVR") d)) a in
+    let c = from_map (cvr_of contests) t.0 (array_at (codes "CVR") d) t.1 in
+    let in_cvr : Among f (typed_in_cvr (cvr_of contests c.0)) = subst (λ x. Among f (typed_in_cvr x)) c.2 t.2 in
+    let u = from_map (typed_of (cvr_of contests c.0)) f (map (snapshot_of contests) (array_at (codes "CVRSnapshot") c.0)) in_cvr in
+    let s = from_map (snapshot_of contests) u.0 (array_at (codes "CVRSnapshot") c.0) u.1 in
     let own = listed_reads_back bytes (codes "CVR") (codes "CVRSnapshot") d c.0 s.0 back whole
     (contains_among c.0 (array_at (codes "CVR") d) c.1) (contains_among s.0 (array_at (codes "CVRSnapshot") c.0) s.1) in
-    subst IsTyped (sym s.2) (spelled c.0 s.0 own)
+    subst IsTyped (sym (u.2 ∙ ap (typed_of (cvr_of contests c.0)) s.2)) (spelled contests c.0 s.0 own)
 
-typed_at : (bytes : List ℕ) (r : Option ReadFault) (v : Option Data) → form_refusal bytes ≡ r → value_of bytes ≡ v
-    → (f : SnapshotFact) → Among f (option_map_or typed_in_report (if is_some r then None else v) []) → IsTyped f
-typed_at bytes (Some e) v is of f a = absurd a
-typed_at bytes None None is of f a = absurd a
-typed_at bytes None (Some d) is of f a = typed_report bytes d (value_read bytes d of) (accepted_whole bytes d is of) f a
+typed_at : (definition : Frame) (bytes : List ℕ) (r : Option ReadFault) → first_refusal definition bytes ≡ r
+    → (f : SnapshotFact) → Among f (if is_some r then [] else typed_in_report (report_in definition.contests bytes)) → IsTyped f
+typed_at definition bytes (Some e) is f a = absurd a
+typed_at definition bytes None is f a =
+    let v = (valid_file definition bytes).0 is in
+    let same : value_in bytes ≡ v.0 = rw v.1.1 refl in
+    typed_report definition.contests bytes v.0 (value_read bytes v.0 v.1.1) v.2.whole f (subst (λ d. Among f (typed_in_report (report_of definition.contests d))) same a)
 
-typed_file : (bytes : List ℕ) (f : SnapshotFact) → Among f (typed_in_file bytes) → IsTyped f
-typed_file bytes f a = typed_at bytes (form_refusal bytes) (value_of bytes) refl refl f a
+typed_file : (definition : Frame) (bytes : List ℕ) (f : SnapshotFact) → Among f (typed_in_file definition bytes) → IsTyped f
+typed_file definition bytes f a = typed_at definition bytes (first_refusal definition bytes) refl f a
 
-pub all_typed : (files : List (List ℕ)) → All IsTyped (flat_map typed_in_file files)
-all_typed files = all_at IsTyped (flat_map typed_in_file files) (λ f a. let r = from_flat typed_in_file f files a in typed_file r.0 f r.2)
+pub all_typed : (definition : Frame) (files : List (List ℕ)) → All IsTyped (flat_map (typed_in_file definition) files)
+all_typed definition files = all_at IsTyped (flat_map (typed_in_file definition) files) (λ f a. let r = from_flat (typed_in_file definition) f files a in typed_file definition r.0 f r.2)
 
 -- ---- they are the facts of the accepted files
 
-facts_of_cvr : (cvr : Data) (ss : List Data) → map fact_in (map (typed_of cvr) ss) ≡ map (fact_of cvr) ss
-facts_of_cvr cvr [] = refl
-facts_of_cvr cvr (s ∷ ss) = ap (λ fs. fact_of cvr s ∷ fs) (facts_of_cvr cvr ss)
+facts_of_cvr : (contests : List Contest) (c : Data) (ss : List Data) → map fact_in (map (typed_of (cvr_of contests c)) (map (snapshot_of contests) ss)) ≡ map (fact_of c) ss
+facts_of_cvr contests c [] = refl
+facts_of_cvr contests c (s ∷ ss) = ap (λ fs. fact_of c s ∷ fs) (facts_of_cvr contests c ss)
 
-facts_of_cvrs : (cs : List Data) → map fact_in (flat_map typed_in_cvr cs) ≡ flat_map cvr_facts cs
-facts_of_cvrs [] = refl
-facts_of_cvrs (c ∷ cs) =
-    map-append fact_in (typed_in_cvr c) (flat_map typed_in_cvr cs)
-    ∙ rw (facts_of_cvr c (array_at (codes "CVRSnapshot") c), facts_of_cvrs cs) refl
+facts_of_cvrs : (contests : List Contest) (cs : List Data) → map fact_in (flat_map typed_in_cvr (map (cvr_of contests) cs)) ≡ flat_map cvr_facts cs
+facts_of_cvrs contests [] = refl
+facts_of_cvrs contests (c ∷ cs) =
+    map-append fact_in (typed_in_cvr (cvr_of contests c)) (flat_map typed_in_cvr (map (cvr_of contests) cs))
+    ∙ rw (facts_of_cvr contests c (array_at (codes "CVRSnapshot") c), facts_of_cvrs contests cs) refl
 
-facts_at : (v : Option Data) → map fact_in (option_map_or typed_in_report v []) ≡ option_map_or report_facts v []
-facts_at None = refl
-facts_at (Some d) = facts_of_cvrs (array_at (codes "CVR") d)
+facts_at : (definition : Frame) (bytes : List ℕ) (r : Option ReadFault) → first_refusal definition bytes ≡ r
+    → map fact_in (if is_some r then [] else typed_in_report (report_in definition.contests bytes)) ≡ option_map_or report_facts (if is_some r then None else value_of bytes) []
+facts_at definition bytes (Some e) is = refl
+facts_at definition bytes None is =
+    let v = (valid_file definition bytes).0 is in
+    rw v.1.1 (facts_of_cvrs definition.contests (array_at (codes "CVR") v.0))
 
-pub all_held : (files : List (List ℕ)) → AreHeld (flat_map typed_in_file files) (held files)
-all_held [] q = sym (contains-empty fact_cmp q)
-all_held (file ∷ files) q =
+pub all_held : (definition : Frame) (files : List (List ℕ)) → AreHeld (flat_map (typed_in_file definition) files) (held definition files)
+all_held definition [] q = sym (contains-empty fact_cmp q)
+all_held definition (file ∷ files) q =
     let p = eq_by_cmp fact_cmp q in
-    ap (list_any p) (map-append fact_in (typed_in_file file) (flat_map typed_in_file files))
-    ∙ list_any-append p (map fact_in (typed_in_file file)) (map fact_in (flat_map typed_in_file files))
-    ∙ rw (facts_at (accepted file), all_held files q) refl
-    ∙ ap (λ b. b || contains (held files) q) (sym (contains-from_list fact_total (option_map_or report_facts (accepted file) []) q))
-    ∙ sym (contains-union fact_total (file_facts file) (held files) q)
+    ap (list_any p) (map-append fact_in (typed_in_file definition file) (flat_map (typed_in_file definition) files))
+    ∙ list_any-append p (map fact_in (typed_in_file definition file)) (map fact_in (flat_map (typed_in_file definition) files))
+    ∙ rw (facts_at definition file (first_refusal definition file) refl, all_held definition files q) refl
+    ∙ ap (λ b. b || contains (held definition files) q) (sym (contains-from_list fact_total (option_map_or report_facts (accepted definition file) []) q))
+    ∙ sym (contains-union fact_total (file_facts definition file) (held definition files) q)

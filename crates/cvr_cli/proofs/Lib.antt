@@ -5,9 +5,6 @@ pub mod Groups
 pub mod Sorted
 pub mod CurrentLines
 pub mod Files
-pub mod KindNames
-pub mod Moments
-pub mod NoFloat
 pub mod Accepted
 pub mod Held
 pub mod Lines

@@ -4,14 +4,15 @@ use Rattle.std.specs.List.{Contains, list_any}
 use Rattle.std.specs.Cmp.{both_ways}
 use Rattle.std.specs.FinSet.{contains, contains-empty, contains-union, same_set}
 use Rattle.cvr_cli.specs.Snapshot.{Fact, fact_cmp}
+use Rattle.cdf_check.specs.Frame.{Frame}
 use Rattle.cvr_cli.specs.Laws.{HaveSameFiles}
 use Rattle.cvr_cli.specs.Outcome.{file_facts, held}
 use Rattle.cvr_cli.proofs.Sorted.{fact_total, fact_exact}
 
 -- a fact is held where it is one of some file
-held_by : (files : List (List ℕ)) (q : Fact) → contains (held files) q ≡ list_any (λ file. contains (file_facts file) q) files
-held_by [] q = contains-empty fact_cmp q
-held_by (file ∷ files) q = contains-union fact_total (file_facts file) (held files) q ∙ ap (λ b. contains (file_facts file) q || b) (held_by files q)
+held_by : (definition : Frame) (files : List (List ℕ)) (q : Fact) → contains (held definition files) q ≡ list_any (λ file. contains (file_facts definition file) q) files
+held_by definition [] q = contains-empty fact_cmp q
+held_by definition (file ∷ files) q = contains-union fact_total (file_facts definition file) (held definition files) q ∙ ap (λ b. contains (file_facts definition file) q || b) (held_by definition files q)
 
 found_at : (b : Bool) (p : List ℕ → Bool) (file : List ℕ) (files : List (List ℕ)) → p file ≡ b → (list_any p files ≡ true → (f : List ℕ) × Contains files f × (p f ≡ true))
     → (b || list_any p files) ≡ true → (f : List ℕ) × Contains (file ∷ files) f × (p f ≡ true)
@@ -30,14 +31,14 @@ passes_at p f (file ∷ files) (suc k) lt is h = later (p file) (passes_at p f f
   later true e = refl
   later false e = e
 
-also_held : (files others : List (List ℕ)) → HaveSameFiles files others → (q : Fact) → contains (held files) q ≡ true → contains (held others) q ≡ true
-also_held files others same q h =
-    let p : List ℕ → Bool = λ file. contains (file_facts file) q in
-    let f = found p files (sym (held_by files q) ∙ h) in
+also_held : (definition : Frame) (files others : List (List ℕ)) → HaveSameFiles files others → (q : Fact) → contains (held definition files) q ≡ true → contains (held definition others) q ≡ true
+also_held definition files others same q h =
+    let p : List ℕ → Bool = λ file. contains (file_facts definition file) q in
+    let f = found p files (sym (held_by definition files q) ∙ h) in
     let there = (same f.0).0 f.1 in
-    held_by others q ∙ passes_at p f.0 others there.0 there.1 there.2 f.2
+    held_by definition others q ∙ passes_at p f.0 others there.0 there.1 there.2 f.2
 
-pub same_held : (files others : List (List ℕ)) → HaveSameFiles files others → held files ≡ held others
-same_held files others same =
-    same_set fact_total fact_exact (held files) (held others)
-    (λ q. both_ways (contains (held files) q) (contains (held others) q) (also_held files others same q) (also_held others files (λ f. ((same f).1, (same f).0)) q))
+pub same_held : (definition : Frame) (files others : List (List ℕ)) → HaveSameFiles files others → held definition files ≡ held definition others
+same_held definition files others same =
+    same_set fact_total fact_exact (held definition files) (held definition others)
+    (λ q. both_ways (contains (held definition files) q) (contains (held definition others) q) (also_held definition files others same q) (also_held definition others files (λ f. ((same f).1, (same f).0)) q))

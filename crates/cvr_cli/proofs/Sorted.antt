@@ -11,7 +11,8 @@ use Rattle.cdf_types.specs.SnapshotKind.{snapshot_kind_rank}
 use Rattle.cvr_cli.specs.declared.snapshot_fact.SnapshotFact.{SnapshotFact}
 use Rattle.cvr_cli.specs.Ordered.{Among}
 use Rattle.cvr_cli.specs.Snapshot.{Name, Fact, text_cmp, name_cmp, name_texts, fact_cmp, fact_texts}
-use Rattle.cvr_cli.specs.Choice.{choice_cmp, moment_cmp, data_of, kind_of, moment_of}
+use Rattle.cdf_typed.specs.Typed.{kind_of, moment_of}
+use Rattle.cvr_cli.specs.Choice.{choice_cmp, moment_cmp, data_of}
 use Rattle.cvr_cli.specs.Sort.{cmp}
 use Rattle.cvr_cli.specs.Typed.{IsTyped, record_in}
 use Rattle.cvr_cli.proofs.Groups as groups

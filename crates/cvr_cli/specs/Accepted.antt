@@ -1,12 +1,18 @@
--- Files that are accepted, and files that are refused. (This project's own.)
+-- Files that are accepted beside a definition, and files that are refused. (This project's own.)
 use Rattle.std.specs.Prelude.{ℕ, List, Bool, if◌then◌else◌, is_some, Option, None}
 use Rattle.serde_json.specs.Data.{Data}
-use Rattle.cdf_form.specs.Reading.{value_of, form_refusal}
+use Rattle.cdf_form.specs.Reading.{value_of}
+use Rattle.cdf_check.specs.Frame.{Frame}
+use Rattle.cdf_check.specs.Acceptance.{first_unsound, first_refusal}
 
--- whether a file is refused by its form
-abbrev pub is_refused : List ℕ → Bool
-is_refused bytes = is_some (form_refusal bytes)
+-- whether a file is refused as a definition
+abbrev pub is_unsound : List ℕ → Bool
+is_unsound bytes = is_some (first_unsound bytes)
+
+-- whether a file is refused beside a definition
+abbrev pub is_refused : Frame → List ℕ → Bool
+is_refused definition bytes = is_some (first_refusal definition bytes)
 
 -- the value of an accepted file
-abbrev pub accepted : List ℕ → Option Data
-accepted bytes = if is_refused bytes then None else value_of bytes
+abbrev pub accepted : Frame → List ℕ → Option Data
+accepted definition bytes = if is_refused definition bytes then None else value_of bytes

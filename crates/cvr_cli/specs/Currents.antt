@@ -6,9 +6,10 @@ use Rattle.json.specs.Print.{quoted}
 use Rattle.cdf_types.specs.SnapshotKind.{snapshot_kind_text}
 use Rattle.cdf_form.specs.Parts.{id_of}
 use Rattle.cvr_cli.specs.Ordered.{ordered}
-use Rattle.cvr_cli.specs.Greatest.{greatest}
+use Rattle.cdf_typed.specs.Greatest.{greatest}
+use Rattle.cdf_typed.specs.Typed.{kind_of}
 use Rattle.cvr_cli.specs.Snapshot.{Name, Fact, Facts, name_of, name_cmp}
-use Rattle.cvr_cli.specs.Choice.{choice_cmp, data_of, kind_of}
+use Rattle.cvr_cli.specs.Choice.{choice_cmp, data_of}
 
 -- whether a fact is of the record of this name
 abbrev pub is_of : Name → Fact → Bool

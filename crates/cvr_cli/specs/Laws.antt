@@ -1,6 +1,7 @@
 -- Neither the order of files nor a file that comes again changes what is held of them. (This project's own.)
 use Rattle.std.specs.Prelude.{◌≡◌, ◌↔◌, ℕ, List}
 use Rattle.std.specs.List.{Contains}
+use Rattle.cdf_check.specs.Frame.{Frame}
 use Rattle.cvr_cli.specs.Currents.{currents}
 use Rattle.cvr_cli.specs.Outcome.{held}
 
@@ -8,10 +9,10 @@ use Rattle.cvr_cli.specs.Outcome.{held}
 abbrev pub HaveSameFiles : List (List ℕ) → List (List ℕ) → Type 0
 HaveSameFiles files others = (file : List ℕ) → Contains files file ↔ Contains others file
 
--- they hold the same facts
+-- beside one definition they hold the same facts
 abbrev pub SameFactsLaw : Type 0
-SameFactsLaw = (files others : List (List ℕ)) → HaveSameFiles files others → held files ≡ held others
+SameFactsLaw = (definition : Frame) (files others : List (List ℕ)) → HaveSameFiles files others → held definition files ≡ held definition others
 
 -- and have the same current snapshots
 abbrev pub SameCurrentsLaw : Type 0
-SameCurrentsLaw = (files others : List (List ℕ)) → HaveSameFiles files others → currents (held files) ≡ currents (held others)
+SameCurrentsLaw = (definition : Frame) (files others : List (List ℕ)) → HaveSameFiles files others → currents (held definition files) ≡ currents (held definition others)

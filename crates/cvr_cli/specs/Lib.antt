@@ -1,7 +1,6 @@
 pub mod File
 pub mod Accepted
 pub mod Ordered
-pub mod Greatest
 pub mod Snapshot
 pub mod Choice
 pub mod Currents

@@ -1,19 +1,22 @@
 -- What the program keeps of a fact beside its texts, and what a list of facts stands for.
-use Rattle.std.specs.Prelude.{◌≡◌, ℕ, List, [], ◌∷◌, ◌++◌, map, codes, Bool, ◌&&◌, bytes_eq}
+use Rattle.std.specs.Prelude.{◌≡◌, ℕ, List, [], ◌∷◌, ◌++◌, map, Bool, ◌&&◌, if◌then◌else◌, bytes_eq}
 use Rattle.std.specs.List.{list_any, flat_map}
 use Rattle.std.specs.Ordering.{eq_by_cmp}
-use Rattle.std.specs.Option.{option_map_or}
 use Rattle.std.specs.FinSet.{contains}
-use Rattle.serde_json.specs.Data.{Data}
-use Rattle.serde_json.specs.Written.{compact_text}
 use Rattle.cdf_types.specs.SnapshotKind.{snapshot_kind_text}
-use Rattle.cdf_form.specs.Parts.{array_at, text_at, id_of}
+use Rattle.cdf_types.specs.declared.report.Cvr.{Cvr}
+use Rattle.cdf_types.specs.declared.report.Snapshot.{Snapshot}
+use Rattle.cdf_types.specs.declared.report.Report.{Report}
+use Rattle.cdf_form.specs.Parts.{id_of}
+use Rattle.cdf_typed.specs.Typed.{kind_of, moment_of}
+use Rattle.cdf_check.specs.Frame.{Frame}
+use Rattle.cdf_check.specs.Acceptance.{report_in}
 use Rattle.cvr_cli.specs.declared.snapshot_fact.SnapshotFact.{SnapshotFact}
 use Rattle.cvr_cli.specs.Snapshot.{Name, Fact, Facts, fact_cmp}
-use Rattle.cvr_cli.specs.Choice.{data_of, kind_of, moment_of}
+use Rattle.cvr_cli.specs.Choice.{data_of}
 use Rattle.cvr_cli.specs.Currents.{word}
 use Rattle.cvr_cli.specs.Lasts.{lasts}
-use Rattle.cvr_cli.specs.Accepted.{accepted}
+use Rattle.cvr_cli.specs.Accepted.{is_refused}
 
 -- the fact, and its record's name
 abbrev pub fact_in : SnapshotFact → Fact
@@ -33,24 +36,25 @@ abbrev pub AreHeld : List SnapshotFact → Facts → Type 0
 AreHeld fs facts = (q : Fact) → list_any (eq_by_cmp fact_cmp q) (map fact_in fs) ≡ contains facts q
 
 -- what is kept of a snapshot of a cast vote record
-abbrev pub typed_of : Data → Data → SnapshotFact
+abbrev pub typed_of : Cvr → Snapshot → SnapshotFact
 typed_of cvr snapshot = record {
-  device = text_at (codes "CreatingDeviceId") cvr;
-  unique = text_at (codes "UniqueId") cvr;
-  kind = kind_of snapshot;
-  moment = moment_of snapshot;
-  body = compact_text snapshot;
-  id = id_of snapshot;
+  device = cvr.device;
+  unique = cvr.unique;
+  kind = snapshot.kind;
+  moment = snapshot.moment;
+  body = snapshot.body;
+  id = snapshot.id;
 }
 
-abbrev pub typed_in_cvr : Data → List SnapshotFact
-typed_in_cvr cvr = map (typed_of cvr) (array_at (codes "CVRSnapshot") cvr)
+abbrev pub typed_in_cvr : Cvr → List SnapshotFact
+typed_in_cvr cvr = map (typed_of cvr) cvr.snapshots
 
-abbrev pub typed_in_report : Data → List SnapshotFact
-typed_in_report report = flat_map typed_in_cvr (array_at (codes "CVR") report)
+abbrev pub typed_in_report : Report → List SnapshotFact
+typed_in_report report = flat_map typed_in_cvr report.cvrs
 
-abbrev pub typed_in_file : List ℕ → List SnapshotFact
-typed_in_file bytes = option_map_or typed_in_report (accepted bytes) []
+-- what is kept of a file: nothing where it is refused
+abbrev pub typed_in_file : Frame → List ℕ → List SnapshotFact
+typed_in_file definition bytes = if is_refused definition bytes then [] else typed_in_report (report_in definition.contests bytes)
 
 -- whether two facts are of one record
 abbrev pub is_same_record : SnapshotFact → SnapshotFact → Bool

@@ -2,7 +2,7 @@ ghost use Rattle.std.specs.Prelude.{◌≡◌, ◌≢◌, ◌⊎◌, ◌++◌, l
 ghost use Rattle.std.specs.List.{flat_map, list_any};
 ghost use Rattle.cdf_types.specs.Device.{appended, AppendsFront};
 ghost use Rattle.cvr_cli.specs.Accepted.{is_refused};
-ghost use Rattle.cvr_cli.specs.Outcome.{held, check_lines, run_text, any_refused, bytes_of, IsWhole};
+ghost use Rattle.cvr_cli.specs.Outcome.{held, check_lines, task_text, run_text, any_refused, bytes_of, IsWhole};
 ghost use Rattle.cvr_cli.specs.Currents.{currents};
 ghost use Rattle.cvr_cli.specs.Typed.{typed_in_file};
 ghost use Rattle.cvr_cli.specs.declared.status.Status.TheVariants.{Done, Refused, CommandLine, Device, Memory as NoMemory};
@@ -11,30 +11,31 @@ ghost use Rattle.cvr_cli.specs.Ends.{Ends};
 use crate::check::push_count;
 use crate::currents::currents_text;
 use crate::log::say;
-use crate::reading::read_facts;
+use crate::reading::{count_records, read_facts};
 use crate::refusals::Refusals;
 use crate::request::{Request, Task};
 use crate::snapshot_fact::SnapshotFact;
 use crate::status::Status;
-use cdf_form::read::check_form;
+use cdf_check::Definition;
 use cdf_types::{Body, DeviceFault, Memory, Sink, write_all};
 use std::alloc::Global;
 
 // Takes in the facts of each accepted file.
 fn read_files<L: Sink>(
     alloc: Global,
+    definition: &Definition,
     paths: &[Body],
     files: &[Vec<u8>],
     facts: &mut Vec<SnapshotFact>,
     log: &mut L,
 ) -> Refusals
     requires { length paths.now ≡ length files.now }
-    ensures some { result.lacking ≡ false → result.some ≡ list_any is_refused (bytes_of files.now) }
-    ensures facts { result.lacking ≡ false → facts.new.items ≡ facts.old.items ++ flat_map typed_in_file (bytes_of files.now) }
+    ensures some { result.lacking ≡ false → result.some ≡ list_any (is_refused definition.now) (bytes_of files.now) }
+    ensures facts { result.lacking ≡ false → facts.new.items ≡ facts.old.items ++ flat_map (typed_in_file definition.now) (bytes_of files.now) }
 {
     let mut refusals = Refusals::none();
     for (place, file) in files.iter().enumerate() {
-        match read_facts(alloc, file.as_slice(), facts) {
+        match read_facts(alloc, definition, file.as_slice(), facts) {
             Ok(()) => {}
             Err(fault) => refusals.note(alloc, log, paths[place].as_str(), &fault),
         }
@@ -45,20 +46,21 @@ fn read_files<L: Sink>(
 // Counts the cast vote records of each accepted file.
 fn count_files<L: Sink>(
     alloc: Global,
+    definition: &Definition,
     paths: &[Body],
     files: &[Vec<u8>],
     text: &mut String,
     log: &mut L,
 ) -> Result<Refusals, Memory>
     requires { length paths.now ≡ length files.now }
-    ensures some { IfOk result (λ r. r.lacking ≡ false → r.some ≡ list_any is_refused (bytes_of files.now)) }
+    ensures some { IfOk result (λ r. r.lacking ≡ false → r.some ≡ list_any (is_refused definition.now) (bytes_of files.now)) }
     ensures text { IfOk result (λ r. r.lacking ≡ false
-        → string_bytes text.new ≡ string_bytes text.old ++ check_lines paths.now (bytes_of files.now)) }
+        → string_bytes text.new ≡ string_bytes text.old ++ check_lines definition.now paths.now (bytes_of files.now)) }
 {
     let mut refusals = Refusals::none();
     for (place, file) in files.iter().enumerate() {
         let path = paths[place].as_str();
-        match check_form(alloc, file.as_slice()) {
+        match count_records(alloc, definition, file.as_slice()) {
             Ok(records) => push_count(text, path, records)?,
             Err(fault) => refusals.note(alloc, log, path, &fault),
         }
@@ -96,6 +98,7 @@ fn end_with<W: Sink, L: Sink>(text: &str, refusals: Refusals, out: &mut W, log: 
 // Prints the current snapshots.
 fn run_currents<W: Sink, L: Sink>(
     alloc: Global,
+    definition: &Definition,
     paths: &[Body],
     files: &[Vec<u8>],
     out: &mut W,
@@ -104,10 +107,10 @@ fn run_currents<W: Sink, L: Sink>(
     requires working { W.has_failed out.old ≡ false }
     requires named { length paths.now ≡ length files.now }
     ensures { Ends (W.taken out.old) (W.taken out.new) (W.has_failed out.new)
-        (currents (held (bytes_of files.now))) (list_any is_refused (bytes_of files.now)) result }
+        (currents (held definition.now (bytes_of files.now))) (list_any (is_refused definition.now) (bytes_of files.now)) result }
 {
     let mut facts = Vec::new(alloc);
-    let refusals = read_files(alloc, paths, files, &mut facts, log);
+    let refusals = read_files(alloc, definition, paths, files, &mut facts, log);
     if refusals.lacking {
         return Status::Memory;
     }
@@ -120,6 +123,7 @@ fn run_currents<W: Sink, L: Sink>(
 // Prints the number of cast vote records of each accepted file.
 fn run_check<W: Sink, L: Sink>(
     alloc: Global,
+    definition: &Definition,
     paths: &[Body],
     files: &[Vec<u8>],
     out: &mut W,
@@ -128,16 +132,38 @@ fn run_check<W: Sink, L: Sink>(
     requires working { W.has_failed out.old ≡ false }
     requires named { length paths.now ≡ length files.now }
     ensures { Ends (W.taken out.old) (W.taken out.new) (W.has_failed out.new)
-        (check_lines paths.now (bytes_of files.now)) (list_any is_refused (bytes_of files.now)) result }
+        (check_lines definition.now paths.now (bytes_of files.now)) (list_any (is_refused definition.now) (bytes_of files.now)) result }
 {
     let mut text = String::new(alloc);
-    match count_files(alloc, paths, files, &mut text, log) {
+    match count_files(alloc, definition, paths, files, &mut text, log) {
         Ok(refusals) => if refusals.lacking {
             Status::Memory
         } else {
             end_with(text.as_str(), refusals, out, log)
         },
         Err(Memory) => end_in_memory(log),
+    }
+}
+
+// Does the task of a request beside its definition.
+fn run_task<W: Sink, L: Sink>(
+    alloc: Global,
+    definition: &Definition,
+    request: &Request,
+    files: &[Vec<u8>],
+    out: &mut W,
+    log: &mut L,
+) -> Status
+    requires working { W.has_failed out.old ≡ false }
+    requires named { length request.now.paths ≡ length files.now }
+    ensures { Ends (W.taken out.old) (W.taken out.new) (W.has_failed out.new)
+        (task_text definition.now request.now.task request.now.paths (bytes_of files.now))
+        (list_any (is_refused definition.now) (bytes_of files.now)) result }
+{
+    let paths = request.paths.as_slice();
+    match request.task {
+        Task::Currents => run_currents(alloc, definition, paths, files, out, log),
+        Task::Check => run_check(alloc, definition, paths, files, out, log),
     }
 }
 
@@ -165,15 +191,12 @@ pub fn run<W: Sink, L: Sink>(
     ensures failed { W.has_failed out.new ≡ true → (result ≡ Device) ⊎ (result ≡ NoMemory) }
     ensures no_words { result ≢ CommandLine }
 {
-    match check_form(alloc, def) {
+    match Definition::read(alloc, def) {
         Err(fault) => {
             let mut refusals = Refusals::none();
             refusals.note(alloc, log, request.def.as_str(), &fault);
             refusals.status()
         }
-        Ok(_) => match request.task {
-            Task::Currents => run_currents(alloc, request.paths.as_slice(), files, out, log),
-            Task::Check => run_check(alloc, request.paths.as_slice(), files, out, log),
-        },
+        Ok(definition) => run_task(alloc, &definition, request, files, out, log),
     }
 }

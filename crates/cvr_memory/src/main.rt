@@ -6,8 +6,9 @@
 //! `before` (a block met it), or what is wrong. On `list` it prints each script with its calls.
 #![tactic(auto)]
 
+mod checks;
+mod contents;
 mod files;
-mod forms;
 mod reports;
 mod runs;
 mod scenes;
@@ -16,12 +17,18 @@ mod table;
 mod values;
 
 use std::process::ExitCode;
-use table::{SCRIPTS, play_named};
+use table::{Script, play_named, scripts};
 
 // Prints a line for each script: its name, and its calls.
-fn list(rt: &HostRuntime) {
-    for (name, action) in &SCRIPTS {
+fn print_list(rt: &HostRuntime, list: &[Script]) {
+    for (name, action) in list {
         let _ = println!(rt; "{name} {}", action.calls());
+    }
+}
+
+fn list(rt: &HostRuntime) {
+    for list in scripts() {
+        print_list(rt, list);
     }
 }
 

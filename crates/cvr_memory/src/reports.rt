@@ -1,4 +1,5 @@
-use cdf_types::Rule;
+use crate::contents::{Contents, Record, Stage};
+use cdf_types::{Rule, SnapshotKind};
 use std::alloc::{AllocError, Global};
 
 // A scan of one ballot with a vote for Ann.
@@ -48,15 +49,43 @@ const DEFINITION: &str = r#"{
   "Version": "1.0.0"
 }"#;
 
+// The definition of an election with several of everything, in no order.
+const COUNTY: &str = r#"{
+  "@type": "CVR.CastVoteRecordReport",
+  "Election": [{
+    "@id": "e", "@type": "CVR.Election", "ElectionScopeId": "p2",
+    "Candidate": [
+      {"@id": "cora", "@type": "CVR.Candidate", "PartyId": "red"}, {"@id": "dan", "@type": "CVR.Candidate"}
+    ],
+    "Contest": [
+      {"@id": "mayor", "@type": "CVR.CandidateContest", "ContestSelection": [
+        {"@id": "team", "@type": "CVR.CandidateSelection", "CandidateIds": ["cora", "dan"]},
+        {"@id": "bob", "@type": "CVR.CandidateSelection"}]},
+      {"@id": "board", "@type": "CVR.PartyContest", "ContestSelection": [
+        {"@id": "list", "@type": "CVR.PartySelection", "PartyIds": ["red", "blue"]}]}
+    ]
+  }],
+  "GeneratedDate": "2024-11-05T20:00:00Z",
+  "GpUnit": [{"@id": "p3", "@type": "CVR.GpUnit"}, {"@id": "p1", "@type": "CVR.GpUnit"}, {"@id": "p2", "@type": "CVR.GpUnit"}],
+  "Party": [{"@id": "red", "@type": "CVR.Party"}, {"@id": "blue", "@type": "CVR.Party"}],
+  "ReportGeneratingDeviceIds": ["s1"],
+  "ReportingDevice": [{"@id": "s2", "@type": "CVR.ReportingDevice"}, {"@id": "s1", "@type": "CVR.ReportingDevice"}],
+  "Version": "1.0.0"
+}"#;
+
 /// What a report is answered.
 #[derive(Clone, Copy)]
 pub enum Told {
-    /// It is accepted, with so many cast vote records.
-    Records(usize),
+    /// It is accepted, and has this.
+    Accepted(Contents),
     /// It is no JSON.
     NotJson,
     /// The value at the path breaks the rule.
     Broken(&'static str, Rule),
+    /// The text at the path names nothing.
+    Unknown(&'static str),
+    /// The object at the path isn't the definition's.
+    Differing(&'static str),
 }
 
 /// A report: another one with a text changed, and what it is answered.
@@ -78,12 +107,38 @@ impl Sample {
     }
 }
 
+// What the scan and its definition have, but for records.
+const LISTED: Contents = Contents {
+    contests: &["mayor"],
+    units: &["p1"],
+    parties: &[],
+    devices: &["s1"],
+    records: &[],
+};
+
+const SCAN_HEADER: &str =
+    r#"{"@type":"CVR.CVR","CreatingDeviceId":"s1","ElectionId":"e","UniqueId":"u1"}"#;
+
+const SCAN_RECORDS: &[Record] = &[Record {
+    unique: "u1",
+    body: SCAN_HEADER,
+    snapshots: &[Stage {
+        id: "a",
+        kind: SnapshotKind::Original,
+        contests: &[0],
+        body: r#"{"@id":"a","@type":"CVR.CVRSnapshot","CVRContest":[{"@type":"CVR.CVRContest","CVRContestSelection":[{"@type":"CVR.CVRContestSelection","ContestSelectionId":"ann","SelectionPosition":[{"@type":"CVR.SelectionPosition","HasIndication":"yes","NumberVotes":1}]}],"ContestId":"mayor"}],"Type":"original"}"#,
+    }],
+}];
+
 /// The scan itself.
 pub const SCANNED: Sample = Sample {
     base: SCAN,
     old: "UniqueId",
     new: "UniqueId",
-    told: Told::Records(1),
+    told: Told::Accepted(Contents {
+        records: SCAN_RECORDS,
+        ..LISTED
+    }),
 };
 
 /// An election definition: a report with no records.
@@ -91,7 +146,7 @@ pub const DEFINED: Sample = Sample {
     base: DEFINITION,
     old: "GpUnit",
     new: "GpUnit",
-    told: Told::Records(0),
+    told: Told::Accepted(LISTED),
 };
 
 /// A definition of another version of the format.
@@ -107,7 +162,19 @@ pub const ADJUDICATED: Sample = Sample {
     base: SCAN,
     old: r#""CurrentSnapshotId": "a", "CVRSnapshot": [{"@id": "a", "@type": "CVR.CVRSnapshot", "Type": "original","#,
     new: r#""CurrentSnapshotId": "m", "CVRSnapshot": [{"@id": "m", "@type": "CVR.CVRSnapshot", "Type": "modified","#,
-    told: Told::Records(1),
+    told: Told::Accepted(Contents {
+        records: &[Record {
+            unique: "u1",
+            body: SCAN_HEADER,
+            snapshots: &[Stage {
+                id: "m",
+                kind: SnapshotKind::Modified,
+                contests: &[0],
+                body: r#"{"@id":"m","@type":"CVR.CVRSnapshot","CVRContest":[{"@type":"CVR.CVRContest","CVRContestSelection":[{"@type":"CVR.CVRContestSelection","ContestSelectionId":"ann","SelectionPosition":[{"@type":"CVR.SelectionPosition","HasIndication":"yes","NumberVotes":1}]}],"ContestId":"mayor"}],"Type":"modified"}"#,
+            }],
+        }],
+        ..LISTED
+    }),
 };
 
 /// Many devices beside the first, so that the set of their ids has to grow.
@@ -121,7 +188,13 @@ pub const MANY_DEVICES: Sample = Sample {
       {"@id": "t7", "@type": "CVR.ReportingDevice"}, {"@id": "t8", "@type": "CVR.ReportingDevice"},
       {"@id": "t9", "@type": "CVR.ReportingDevice"}, {"@id": "u1", "@type": "CVR.ReportingDevice"},
       {"@id": "u2", "@type": "CVR.ReportingDevice"}, {"@id": "u3", "@type": "CVR.ReportingDevice"},"#,
-    told: Told::Records(1),
+    told: Told::Accepted(Contents {
+        devices: &[
+            "t1", "t2", "t3", "t4", "t5", "t6", "t7", "t8", "t9", "u1", "u2", "u3", "s1",
+        ],
+        records: SCAN_RECORDS,
+        ..LISTED
+    }),
 };
 
 /// No last brace.
@@ -184,4 +257,131 @@ pub const CONTEST_TWICE: Sample = Sample {
         "/CVR/0/CVRSnapshot/0/CVRContest/1/ContestId",
         Rule::RepeatedContest,
     ),
+};
+
+/// A vote for a selection that its contest hasn't.
+pub const SELECTION_UNKNOWN: Sample = Sample {
+    base: SCAN,
+    old: r#""ContestSelectionId": "ann""#,
+    new: r#""ContestSelectionId": "bob""#,
+    told: Told::Unknown(
+        "/CVR/0/CVRSnapshot/0/CVRContest/0/CVRContestSelection/0/ContestSelectionId",
+    ),
+};
+
+/// A current snapshot that the record hasn't.
+pub const SNAPSHOT_UNKNOWN: Sample = Sample {
+    base: SCAN,
+    old: r#""CurrentSnapshotId": "a""#,
+    new: r#""CurrentSnapshotId": "b""#,
+    told: Told::Unknown("/CVR/0/CurrentSnapshotId"),
+};
+
+/// An Election with another text.
+pub const ELECTION_DIFFERING: Sample = Sample {
+    base: SCAN,
+    old: r#""@type": "CVR.Election","#,
+    new: r#""@type": "CVR.Election", "Name": "another","#,
+    told: Told::Differing("/Election/0"),
+};
+
+// What the county has, but for records. Units, parties and devices are in order of their ids.
+const COUNTY_LISTED: Contents = Contents {
+    contests: &["mayor", "board"],
+    units: &["p1", "p2", "p3"],
+    parties: &["blue", "red"],
+    devices: &["s1", "s2"],
+    records: &[],
+};
+
+/// The definition of the county.
+pub const COUNTY_DEFINED: Sample = Sample {
+    base: COUNTY,
+    old: "GpUnit",
+    new: "GpUnit",
+    told: Told::Accepted(COUNTY_LISTED),
+};
+
+/// Two records of the county, the first with two snapshots.
+pub const COUNTY_SCANNED: Sample = Sample {
+    base: COUNTY,
+    old: r#""Election": [{"#,
+    new: r#""CVR": [{
+      "@type": "CVR.CVR", "BallotStyleUnitId": "p3", "BatchId": "b1", "CreatingDeviceId": "s1", "CurrentSnapshotId": "m",
+      "CVRSnapshot": [{"@id": "o", "@type": "CVR.CVRSnapshot", "Type": "original",
+          "CVRContest": [{"@type": "CVR.CVRContest", "ContestId": "board"}, {"@type": "CVR.CVRContest", "ContestId": "mayor"}]},
+        {"@id": "m", "@type": "CVR.CVRSnapshot", "Type": "modified",
+          "Annotation": [{"@type": "CVR.Annotation", "TimeStamp": "2024-11-05T21:00:00Z"}]}],
+      "ElectionId": "e", "PartyIds": ["blue", "red"], "UniqueId": "u1"
+    }, {
+      "@type": "CVR.CVR", "CreatingDeviceId": "s2", "CurrentSnapshotId": "o",
+      "CVRSnapshot": [{"@id": "o", "@type": "CVR.CVRSnapshot", "Type": "interpreted"}], "ElectionId": "e", "UniqueId": "u2"
+    }],
+    "Election": [{"#,
+    told: Told::Accepted(Contents {
+        devices: &["s2", "s1"],
+        records: &[
+            Record {
+                unique: "u1",
+                body: r#"{"@type":"CVR.CVR","BallotStyleUnitId":"p3","BatchId":"b1","CreatingDeviceId":"s1","ElectionId":"e","PartyIds":["blue","red"],"UniqueId":"u1"}"#,
+                snapshots: &[
+                    Stage {
+                        id: "o",
+                        kind: SnapshotKind::Original,
+                        contests: &[1, 0],
+                        body: r#"{"@id":"o","@type":"CVR.CVRSnapshot","CVRContest":[{"@type":"CVR.CVRContest","ContestId":"board"},{"@type":"CVR.CVRContest","ContestId":"mayor"}],"Type":"original"}"#,
+                    },
+                    Stage {
+                        id: "m",
+                        kind: SnapshotKind::Modified,
+                        contests: &[],
+                        body: r#"{"@id":"m","@type":"CVR.CVRSnapshot","Annotation":[{"@type":"CVR.Annotation","TimeStamp":"2024-11-05T21:00:00Z"}],"Type":"modified"}"#,
+                    },
+                ],
+            },
+            Record {
+                unique: "u2",
+                body: r#"{"@type":"CVR.CVR","CreatingDeviceId":"s2","ElectionId":"e","UniqueId":"u2"}"#,
+                snapshots: &[Stage {
+                    id: "o",
+                    kind: SnapshotKind::Interpreted,
+                    contests: &[],
+                    body: r#"{"@id":"o","@type":"CVR.CVRSnapshot","Type":"interpreted"}"#,
+                }],
+            },
+        ],
+        ..COUNTY_LISTED
+    }),
+};
+
+/// A contest selection of a candidate that the election hasn't.
+pub const CANDIDATE_UNKNOWN: Sample = Sample {
+    base: COUNTY,
+    old: r#"["cora", "dan"]"#,
+    new: r#"["cora", "bob"]"#,
+    told: Told::Unknown("/Election/0/Contest/0/ContestSelection/0/CandidateIds/1"),
+};
+
+/// A report of the county made by a device that it hasn't.
+pub const DEVICE_UNKNOWN: Sample = Sample {
+    base: COUNTY,
+    old: r#""ReportGeneratingDeviceIds": ["#,
+    new: r#""ReportGeneratingDeviceIds": ["s3", "#,
+    told: Told::Unknown("/ReportGeneratingDeviceIds/0"),
+};
+
+/// A GpUnit of the county with another text.
+pub const UNIT_DIFFERING: Sample = Sample {
+    base: COUNTY,
+    old: r#"{"@id": "p2", "@type": "CVR.GpUnit"}"#,
+    new: r#"{"@id": "p2", "@type": "CVR.GpUnit", "Name": "another"}"#,
+    told: Told::Differing("/GpUnit/2"),
+};
+
+/// A Party that the county hasn't.
+pub const PARTY_DIFFERING: Sample = Sample {
+    base: COUNTY,
+    old: r#"{"@id": "blue", "@type": "CVR.Party"}"#,
+    new: r#"{"@id": "blue", "@type": "CVR.Party"}, {"@id": "green", "@type": "CVR.Party"}"#,
+    told: Told::Differing("/Party/2"),
 };

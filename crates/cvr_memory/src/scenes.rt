@@ -1,4 +1,7 @@
-use crate::reports::{ADJUDICATED, DEFINED, OTHER_VERSION, SCANNED, Sample, UNNAMED};
+use crate::reports::{
+    ADJUDICATED, DEFINED, ELECTION_DIFFERING, OTHER_VERSION, SCANNED, SNAPSHOT_UNKNOWN, Sample,
+    UNNAMED,
+};
 use cvr_cli::{Status, Task};
 
 /// A file of a run, and its path.
@@ -45,8 +48,18 @@ const BAD: Named = Named {
     sample: UNNAMED,
 };
 
+const LOST: Named = Named {
+    path: "lost",
+    sample: SNAPSHOT_UNKNOWN,
+};
+
+const OTHER: Named = Named {
+    path: "other",
+    sample: ELECTION_DIFFERING,
+};
+
 /// The current snapshots of two accepted files.
-pub const CURRENTS: Scene = Scene {
+const CURRENTS: Scene = Scene {
     task: Task::Currents,
     definition: DEFINITION,
     files: &[SCAN, DESK],
@@ -58,7 +71,7 @@ pub const CURRENTS: Scene = Scene {
 };
 
 /// The counts of two accepted files.
-pub const COUNTS: Scene = Scene {
+const COUNTS: Scene = Scene {
     task: Task::Check,
     definition: DEFINITION,
     files: &[SCAN, DESK],
@@ -70,7 +83,7 @@ pub const COUNTS: Scene = Scene {
 };
 
 /// The current snapshots of two files, the first of them refused.
-pub const CURRENTS_REFUSED: Scene = Scene {
+const CURRENTS_REFUSED: Scene = Scene {
     task: Task::Currents,
     definition: DEFINITION,
     files: &[BAD, SCAN],
@@ -87,7 +100,7 @@ pub const CURRENTS_REFUSED: Scene = Scene {
 };
 
 /// The counts of two files, the first of them refused.
-pub const COUNTS_REFUSED: Scene = Scene {
+const COUNTS_REFUSED: Scene = Scene {
     task: Task::Check,
     definition: DEFINITION,
     files: &[BAD, SCAN],
@@ -103,8 +116,29 @@ pub const COUNTS_REFUSED: Scene = Scene {
     unlogged: &[""],
 };
 
+/// The counts of three files, the first of which names nothing, and the second another election.
+const COUNTS_BESIDE: Scene = Scene {
+    task: Task::Check,
+    definition: DEFINITION,
+    files: &[LOST, OTHER, SCAN],
+    text: "scan 1\n",
+    log: "lost: E4 /CVR/0/CurrentSnapshotId\nother: E5 /Election/0\n",
+    status: Status::Refused,
+    kept_back: &[
+        "d: E6\n",
+        "lost: E6\nother: E5 /Election/0\n",
+        "lost: E4 /CVR/0/CurrentSnapshotId\nother: E6\n",
+        "lost: E4 /CVR/0/CurrentSnapshotId\nother: E5 /Election/0\nscan: E6\n",
+        "lost: E4 /CVR/0/CurrentSnapshotId\nother: E5 /Election/0\nmemory\n",
+    ],
+    unlogged: &[
+        "other: E5 /Election/0\n",
+        "lost: E4 /CVR/0/CurrentSnapshotId\n",
+    ],
+};
+
 /// A definition that is refused.
-pub const DEFINITION_REFUSED: Scene = Scene {
+const DEFINITION_REFUSED: Scene = Scene {
     task: Task::Currents,
     definition: Named {
         path: "d",
@@ -117,3 +151,53 @@ pub const DEFINITION_REFUSED: Scene = Scene {
     kept_back: &["d: E6\n"],
     unlogged: &[""],
 };
+
+// Each scene by itself, since a check takes in one at a time.
+fn currents() -> Scene {
+    CURRENTS
+}
+
+fn counts() -> Scene {
+    COUNTS
+}
+
+fn counts_beside() -> Scene {
+    COUNTS_BESIDE
+}
+
+fn currents_refused() -> Scene {
+    CURRENTS_REFUSED
+}
+
+fn counts_refused() -> Scene {
+    COUNTS_REFUSED
+}
+
+fn definition_refused() -> Scene {
+    DEFINITION_REFUSED
+}
+
+/// A scene by its name.
+#[derive(Clone, Copy)]
+pub enum Show {
+    Currents,
+    Counts,
+    CountsBeside,
+    CurrentsRefused,
+    CountsRefused,
+    DefinitionRefused,
+}
+
+impl Show {
+    /// The scene.
+    pub fn scene(&self) -> Scene {
+        match self {
+            Show::Currents => currents(),
+            Show::Counts => counts(),
+            Show::CountsBeside => counts_beside(),
+            Show::CurrentsRefused => currents_refused(),
+            Show::CountsRefused => counts_refused(),
+            Show::DefinitionRefused => definition_refused(),
+        }
+    }
+}

@@ -1,13 +1,13 @@
+use crate::checks::{play_checking, play_definition, play_definition_copy};
 use crate::files::play_file_reading;
-use crate::forms::{play_counting, play_reading};
 use crate::reports::{
-    CONTEST_TWICE, CUT, FRACTION, FRACTION_LATER, MANY_DEVICES, NEGATIVE, SCANNED, SNAPSHOT_TWICE,
-    Sample, UNNAMED,
+    CANDIDATE_UNKNOWN, CONTEST_TWICE, COUNTY_DEFINED, COUNTY_SCANNED, CUT, DEFINED, DEVICE_UNKNOWN,
+    ELECTION_DIFFERING, FRACTION, FRACTION_LATER, MANY_DEVICES, NEGATIVE, OTHER_VERSION,
+    PARTY_DIFFERING, SCANNED, SELECTION_UNKNOWN, SNAPSHOT_TWICE, SNAPSHOT_UNKNOWN, Sample,
+    UNIT_DIFFERING, UNNAMED,
 };
 use crate::runs::play_running;
-use crate::scenes::{
-    COUNTS, COUNTS_REFUSED, CURRENTS, CURRENTS_REFUSED, DEFINITION_REFUSED, Scene,
-};
+use crate::scenes::Show;
 use crate::values::{play_body_copy, play_list_growth, play_sink_growth};
 use cdf_types::Memory;
 use std::alloc::Global;
@@ -19,9 +19,12 @@ pub enum Action {
     GrowList,
     GrowSink,
     ReadFile,
-    ReadForm(Sample),
-    CheckForm(Sample),
-    Run(Scene),
+    ReadDefinition(Sample),
+    CopyDefinition(Sample),
+    /// The report, beside the definition of the one election or of the county.
+    Check(Sample),
+    CheckInCounty(Sample),
+    Run(Show),
 }
 
 impl Action {
@@ -32,37 +35,107 @@ impl Action {
             Action::GrowList => "Seq::push",
             Action::GrowSink => "MemorySink::write",
             Action::ReadFile => "read_file",
-            Action::ReadForm(_) => "read_form",
-            Action::CheckForm(_) => "check_form",
+            Action::ReadDefinition(_) => "Definition::read",
+            Action::CopyDefinition(_) => "Definition::copy",
+            Action::Check(_) | Action::CheckInCounty(_) => "check_report",
             Action::Run(_) => "run",
         }
     }
 }
 
-/// Each script: its name, and what it does.
-pub static SCRIPTS: [(&'static str, Action); 21] = [
+/// A script: its name, and what it does.
+pub type Script = (&'static str, Action);
+
+static VALUES: [Script; 4] = [
     ("copy", Action::CopyBody),
     ("push", Action::GrowList),
     ("write", Action::GrowSink),
     ("read_file", Action::ReadFile),
-    ("read_form", Action::ReadForm(SCANNED)),
-    ("read_form_cut", Action::ReadForm(CUT)),
-    ("read_form_unnamed", Action::ReadForm(UNNAMED)),
-    ("read_form_negative", Action::ReadForm(NEGATIVE)),
-    ("read_form_fraction", Action::ReadForm(FRACTION)),
-    ("read_form_fraction_later", Action::ReadForm(FRACTION_LATER)),
-    ("read_form_snapshot_twice", Action::ReadForm(SNAPSHOT_TWICE)),
-    ("read_form_contest_twice", Action::ReadForm(CONTEST_TWICE)),
-    ("check_form", Action::CheckForm(SCANNED)),
-    ("check_form_many_devices", Action::CheckForm(MANY_DEVICES)),
-    ("check_form_unnamed", Action::CheckForm(UNNAMED)),
-    ("check_form_fraction", Action::CheckForm(FRACTION)),
-    ("run_currents", Action::Run(CURRENTS)),
-    ("run_check", Action::Run(COUNTS)),
-    ("run_currents_refused", Action::Run(CURRENTS_REFUSED)),
-    ("run_check_refused", Action::Run(COUNTS_REFUSED)),
-    ("run_definition_refused", Action::Run(DEFINITION_REFUSED)),
 ];
+
+static DEFINITIONS: [Script; 8] = [
+    ("definition", Action::ReadDefinition(DEFINED)),
+    ("definition_county", Action::ReadDefinition(COUNTY_DEFINED)),
+    ("definition_cut", Action::ReadDefinition(CUT)),
+    ("definition_version", Action::ReadDefinition(OTHER_VERSION)),
+    (
+        "definition_candidate",
+        Action::ReadDefinition(CANDIDATE_UNKNOWN),
+    ),
+    (
+        "definition_selection",
+        Action::ReadDefinition(SELECTION_UNKNOWN),
+    ),
+    ("definition_copy", Action::CopyDefinition(DEFINED)),
+    (
+        "definition_copy_county",
+        Action::CopyDefinition(COUNTY_DEFINED),
+    ),
+];
+
+static REPORTS: [Script; 8] = [
+    ("report", Action::Check(SCANNED)),
+    ("report_many_devices", Action::Check(MANY_DEVICES)),
+    ("report_cut", Action::Check(CUT)),
+    ("report_unnamed", Action::Check(UNNAMED)),
+    ("report_negative", Action::Check(NEGATIVE)),
+    ("report_fraction", Action::Check(FRACTION)),
+    ("report_fraction_later", Action::Check(FRACTION_LATER)),
+    ("report_snapshot_twice", Action::Check(SNAPSHOT_TWICE)),
+];
+
+static MORE_REPORTS: [Script; 8] = [
+    ("report_contest_twice", Action::Check(CONTEST_TWICE)),
+    ("report_selection", Action::Check(SELECTION_UNKNOWN)),
+    ("report_snapshot", Action::Check(SNAPSHOT_UNKNOWN)),
+    ("report_election", Action::Check(ELECTION_DIFFERING)),
+    ("report_county", Action::CheckInCounty(COUNTY_SCANNED)),
+    ("report_device", Action::CheckInCounty(DEVICE_UNKNOWN)),
+    ("report_unit", Action::CheckInCounty(UNIT_DIFFERING)),
+    ("report_party", Action::CheckInCounty(PARTY_DIFFERING)),
+];
+
+static RUNS: [Script; 6] = [
+    ("run_currents", Action::Run(Show::Currents)),
+    ("run_check", Action::Run(Show::Counts)),
+    ("run_check_beside", Action::Run(Show::CountsBeside)),
+    ("run_currents_refused", Action::Run(Show::CurrentsRefused)),
+    ("run_check_refused", Action::Run(Show::CountsRefused)),
+    (
+        "run_definition_refused",
+        Action::Run(Show::DefinitionRefused),
+    ),
+];
+
+// Those of small values and a file.
+fn values() -> &'static [Script] {
+    &VALUES
+}
+
+// Those of definitions.
+fn definitions() -> &'static [Script] {
+    &DEFINITIONS
+}
+
+// Those of reports.
+fn reports() -> &'static [Script] {
+    &REPORTS
+}
+
+// Those of more reports.
+fn more_reports() -> &'static [Script] {
+    &MORE_REPORTS
+}
+
+// Those of runs.
+fn runs() -> &'static [Script] {
+    &RUNS
+}
+
+/// All scripts, in lists by what they are of.
+pub fn scripts() -> [&'static [Script]; 5] {
+    [values(), definitions(), reports(), more_reports(), runs()]
+}
 
 // Builds what an action needs, burns blocks, and does it.
 fn play_action(alloc: Global, action: Action, blocks: u32) -> Result<&'static str, Memory> {
@@ -71,21 +144,42 @@ fn play_action(alloc: Global, action: Action, blocks: u32) -> Result<&'static st
         Action::GrowList => Ok(play_list_growth(alloc, blocks)),
         Action::GrowSink => Ok(play_sink_growth(alloc, blocks)),
         Action::ReadFile => play_file_reading(alloc, blocks),
-        Action::ReadForm(sample) => play_reading(alloc, sample, blocks),
-        Action::CheckForm(sample) => play_counting(alloc, sample, blocks),
-        Action::Run(scene) => play_running(alloc, scene, blocks),
+        Action::ReadDefinition(sample) => play_definition(alloc, sample, blocks),
+        Action::CopyDefinition(sample) => play_definition_copy(alloc, sample, blocks),
+        Action::Check(sample) => play_checking(alloc, DEFINED, sample, blocks),
+        Action::CheckInCounty(sample) => play_checking(alloc, COUNTY_DEFINED, sample, blocks),
+        Action::Run(show) => play_running(alloc, show.scene(), blocks),
     }
+}
+
+// What the script of a name does, if it is one of the list.
+fn action_in(scripts: &[Script], name: &str) -> Option<Action> {
+    for (known, action) in scripts {
+        if *known == name {
+            return Some(*action);
+        }
+    }
+    None
+}
+
+// What the script of a name does.
+fn action_of(name: &str) -> Option<Action> {
+    for list in scripts() {
+        match action_in(list, name) {
+            None => {}
+            Some(action) => return Some(action),
+        }
+    }
+    None
 }
 
 /// Plays the script of a name.
 pub fn play_named(alloc: Global, name: &str, blocks: u32) -> &'static str {
-    for (known, action) in &SCRIPTS {
-        if *known == name {
-            return match play_action(alloc, *action, blocks) {
-                Ok(answer) => answer,
-                Err(Memory) => "refused while it was built",
-            };
-        }
+    match action_of(name) {
+        None => "no such script",
+        Some(action) => match play_action(alloc, action, blocks) {
+            Ok(answer) => answer,
+            Err(Memory) => "not built",
+        },
     }
-    "no such script"
 }

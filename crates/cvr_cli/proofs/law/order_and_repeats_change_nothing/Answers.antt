@@ -4,4 +4,4 @@ use Rattle.cvr_cli.proofs.SameFiles.{same_held}
 use Rattle.cvr_cli.proofs.law.order_and_repeats_change_nothing.Goals as goal
 
 pub returns : goal.returns
-returns c = record { facts = same_held; currents = λ files others same. ap currents (same_held files others same) }
+returns c = record { facts = same_held; currents = λ definition files others same. ap currents (same_held definition files others same) }

@@ -1,7 +1,10 @@
-use Rattle.std.proofs.Common.{rules}
-use Rattle.serde_json.specs.View.{view}
-use Rattle.cvr_cli.proofs.Accepted.{accepted_whole}
+use Rattle.std.proofs.Common.{◌≡◌, ◌++◌, ap, sym, ◌∙◌, rules}
+use Rattle.cvr_cli.specs.Typed.{typed_in_report}
+use Rattle.cvr_cli.proofs.Accepted.{typed_when_accepted}
 use Rattle.cvr_cli.proofs.reading.read_facts.Goals as goal
 
-pub read_report-requires : goal.read_report-requires
-read_report-requires c = accepted_whole c.args.bytes.now (view c.in_ok-report.report) (search rules) (search rules)
+pub returns-clause-facts : goal.returns-clause-facts
+returns-clause-facts c =
+    let all : c.append.new.self.items ≡ c.args.facts.now.items ++ c.in_ok-found.found.items = search rules in
+    let kept = typed_when_accepted c.args.definition.now c.args.bytes.now c.in_ok-report.ensures.accepted in
+    all ∙ ap (λ fs. c.args.facts.now.items ++ fs) (c.in_ok-found.ensures ∙ ap typed_in_report c.in_ok-report.ensures.report ∙ sym kept)

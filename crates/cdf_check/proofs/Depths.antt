@@ -1,0 +1,54 @@
+-- How deep the parts of a file's value nest.
+use Rattle.std.proofs.Common.{◌≡◌, ◌≤◌, ◌<◌, ℕ, zero, suc, List, [], length, slice_index_or, Contains, Bool, true, false, cond}
+use Rattle.std.proofs.Common.{Option, Some, None, option_map, option_and_then, unwrap_or, refl, ap, arith}
+use Rattle.std.specs.Str.{is_utf8}
+use Rattle.serde_json.specs.Data.{Data, null, boolean, number, string, array, object, Items, no_items, item}
+use Rattle.serde_json.specs.Find.{get, get_item, as_array}
+use Rattle.serde_json.specs.Read.{read, max_depth}
+use Rattle.serde_json.specs.Written.{compact_text}
+use Rattle.cdf_form.specs.Parts.{list_of, array_at}
+use Rattle.cdf_form.specs.Proper.{IsProper}
+use Rattle.cdf_form.specs.Reading.{value_of}
+use Rattle.cdf_form.proofs.PartLaws.{member_proper, item_proper, proper_deeper}
+use Rattle.cdf_form.proofs.ReadsBack.{read-proper}
+use Rattle.cdf_form.proofs.WasRead.{proper_read}
+use Rattle.cdf_check.specs.Acceptance.{IsReport}
+
+-- ---- files
+
+if_some : (b : Bool) (o : Option Data) (d : Data) → cond b o None ≡ Some d → o ≡ Some d
+if_some true o d e = e
+if_some false o d e = absurd (cc)
+
+-- a file's value was read from its bytes
+pub was_read : (bytes : List ℕ) (d : Data) → value_of bytes ≡ Some d → read bytes ≡ Some d
+was_read bytes d e = if_some (is_utf8 bytes) (read bytes) d e
+
+-- a report's value nests at most 127 deep
+pub report_proper : (bytes : List ℕ) (d : Data) → value_of bytes ≡ Some d → IsReport d → IsProper 127 d
+report_proper bytes d e r = proper_read bytes d (was_read bytes d e) r.whole
+
+-- ---- items
+
+item_in : (ds : Items) (i : ℕ) (e : Data) → i < length (list_of ds) → slice_index_or (list_of ds) i e ≡ e → get_item i ds ≡ Some e
+item_in no_items i e h is = absurd (omega arith)
+item_in (item d ds) zero e h is = ap Some is
+item_in (item d ds) (suc i) e h is = item_in ds i e (omega arith) is
+
+proper_in : (n : ℕ) (o : Option Data) (e : Data) → ((f : Data) → o ≡ Some f → IsProper (suc n) f)
+    → Contains (unwrap_or (option_map list_of (option_and_then as_array o)) []) e → IsProper n e
+proper_in n None e h a = absurd (omega (arith, a.1))
+proper_in n (Some null) e h a = absurd (omega (arith, a.1))
+proper_in n (Some (boolean b)) e h a = absurd (omega (arith, a.1))
+proper_in n (Some (number x)) e h a = absurd (omega (arith, a.1))
+proper_in n (Some (string s)) e h a = absurd (omega (arith, a.1))
+proper_in n (Some (object ms)) e h a = absurd (omega (arith, a.1))
+proper_in n (Some (array ds)) e h a = item_proper n a.0 (array ds) e (item_in ds a.0 e a.1 a.2) (h (array ds) refl)
+
+-- an item of the array under a name nests two less deep
+pub listed_proper : (n : ℕ) (name : List ℕ) (d e : Data) → Contains (array_at name d) e → IsProper (suc (suc n)) d → IsProper n e
+listed_proper n name d e a h = proper_in n (get name d) e (λ f is. member_proper (suc n) name d f is h) a
+
+-- what nests no deeper than what can be read is read back
+pub reads_back : (n : ℕ) (d : Data) → n ≤ max_depth → IsProper n d → read (compact_text d) ≡ Some d
+reads_back n d h p = read-proper d (proper_deeper n max_depth d h p)

@@ -1,0 +1,138 @@
+-- The lists of a definition, and the places of its ids.
+use Rattle.std.proofs.Common.{◌≡◌, ◌<◌, ◌+◌, ℕ, zero, suc, List, [], ◌∷◌, length, slice_index_or, map, Bool, true, false, cond, Option, Some, Contains, codes, bytes_eq, inl, inr, refl, sym, ap, ◌∙◌, subst, arith}
+use Rattle.std.specs.List.{position_from}
+use Rattle.std.proofs.lemmas.Slice.Eq.{bytes_eq-Decides}
+use Rattle.serde_json.specs.Data.{Data}
+use Rattle.cdf_form.specs.declared.table.Group.{Group}
+use Rattle.cdf_form.specs.declared.table.Group.TheVariants as group
+use Rattle.cdf_form.specs.declared.table.Leaf.TheVariants as leaf
+use Rattle.cdf_form.specs.declared.table.Key.TheVariants as key
+use Rattle.cdf_form.specs.declared.table.Kind.TheVariants.{Array}
+use Rattle.cdf_form.specs.Tables as tables
+use Rattle.cdf_form.specs.Tables.{table, classes_of, any, required, optional}
+use Rattle.cdf_form.specs.Form.{key_text}
+use Rattle.cdf_form.specs.Parts.{array_at, id_of, the_election}
+use Rattle.cdf_form.proofs.FormParts.{AllClasses, find_row, HasRow, ListApart, row_of, items_have_form, items_are_apart}
+use Rattle.cdf_check.specs.Named.{Entry, named}
+use Rattle.cdf_check.specs.Frame.{entries_at}
+use Rattle.cdf_check.specs.Acceptance.{IsReport}
+use Rattle.cdf_check.specs.Laws.{IsListOf, ListsLaw, AreFoundByIds, PlacesLaw}
+use Rattle.cdf_check.proofs.Empty.{at_head, at_tail}
+use Rattle.cdf_check.proofs.Entries.{IsAmong, AreAlone, sorted_rises, sorted_same}
+use Rattle.cdf_check.proofs.Reports.{contest_row, id_row, report_row, has_id, one_election, election_form}
+
+-- each value has an id
+abbrev HaveIds : List Data → Type 0
+HaveIds ds = (e : Data) → Contains ds e → key_text key.Id e ≡ Some (id_of e)
+
+rest_have : (d : Data) (ds : List Data) → HaveIds (d ∷ ds) → HaveIds ds
+rest_have d ds h e c = h e (at_tail d e ds c)
+
+rest_apart : (d : Data) (ds : List Data) → ListApart key.Id (d ∷ ds) → ListApart key.Id ds
+rest_apart d ds apart i j x y s p q u v =
+    let h = apart (suc i) (suc j) x y s (omega (arith, p)) (omega (arith, q)) u v in
+    omega (arith, h)
+
+-- the first id is no later one
+first_differs : (d e : Data) (ds : List Data) (i : ℕ) → HaveIds (d ∷ ds) → ListApart key.Id (d ∷ ds) → i < length ds → slice_index_or ds i e ≡ e → id_of e ≡ id_of d → ⊥
+first_differs d e ds i h apart lt is same =
+    let later : key_text key.Id (slice_index_or ds i e) ≡ Some (id_of d) = ap (key_text key.Id) is ∙ h e (at_tail d e ds (i, lt, is)) ∙ ap Some same in
+    let p : 0 ≡ suc i = apart 0 (suc i) d e (id_of d) (omega arith) (omega (arith, lt)) (h d (at_head d ds)) later in
+    omega (arith, p)
+
+-- ---- lists
+
+named_in : (ds : List Data) (x : Entry) → IsAmong (map named ds) x → (e : Data) × Contains ds e × (named e ≡ x)
+named_in [] x a = absurd a
+named_in (d ∷ ds) x (inl is) = (d, at_head d ds, is)
+named_in (d ∷ ds) x (inr a) = let p = named_in ds x a in (p.0, at_tail d p.0 ds p.1, p.2)
+
+alone : (ds : List Data) → HaveIds ds → ListApart key.Id ds → AreAlone (map named ds)
+alone [] h apart = tt
+alone (d ∷ ds) h apart = (
+  (λ x a same. let p = named_in ds x a in first_differs d p.0 ds p.1.0 h apart p.1.1 p.1.2 (ap (λ y. y.0) p.2 ∙ same)),
+  alone ds (rest_have d ds h) (rest_apart d ds apart),
+)
+
+listed : (name : List ℕ) (d : Data) → AreAlone (map named (array_at name d)) → IsListOf (entries_at name d) name d
+listed name d h = record {
+  rises = sorted_rises (map named (array_at name d));
+  members = sorted_same (map named (array_at name d)) h;
+}
+
+-- ---- places
+
+id_at : (ds : List Data) (i : ℕ) → i < length ds → (e : Data) × (slice_index_or ds i e ≡ e) × (slice_index_or (map id_of ds) i [] ≡ id_of e)
+id_at [] i lt = absurd (omega arith)
+id_at (d ∷ ds) zero lt = (d, refl, refl)
+id_at (d ∷ ds) (suc i) lt = id_at ds i (omega arith)
+
+own_head : (t : Bool) (j : ℕ) (rest : Option ℕ) → t ≡ true → cond t (Some j) rest ≡ Some (j + 0)
+own_head true j rest is = ap Some (omega arith)
+own_head false j rest is = absurd (cc)
+
+past_head : (t : Bool) (j p : ℕ) (rest : Option ℕ) → (t ≡ true → ⊥) → rest ≡ Some p → cond t (Some j) rest ≡ Some p
+past_head true j p rest never is = absurd (never refl)
+past_head false j p rest never is = is
+
+found_from : (ds : List Data) (j i : ℕ) → HaveIds ds → ListApart key.Id ds → i < length ds
+    → position_from (bytes_eq (slice_index_or (map id_of ds) i [])) j (map id_of ds) ≡ Some (j + i)
+found_from [] j i h apart lt = absurd (omega arith)
+found_from (d ∷ ds) j zero h apart lt = own_head (bytes_eq (id_of d) (id_of d)) j _ ((bytes_eq-Decides (id_of d) (id_of d)).1 refl)
+found_from (d ∷ ds) j (suc i) h apart lt =
+    let s = slice_index_or (map id_of ds) i [] in
+    let p = id_at ds i (omega arith) in
+    let z : (j + 1) + i ≡ j + suc i = omega arith in
+    past_head (bytes_eq s (id_of d)) j (j + suc i) _
+    (λ e. first_differs d p.0 ds i h apart (omega arith) p.1 (sym p.2 ∙ (bytes_eq-Decides s (id_of d)).0 e))
+    (found_from ds (j + 1) i (rest_have d ds h) (rest_apart d ds apart) (omega arith) ∙ ap Some z)
+
+found : (name : List ℕ) (d : Data) → HaveIds (array_at name d) → ListApart key.Id (array_at name d) → AreFoundByIds name d
+found name d h apart place lt =
+    let z : 0 + place ≡ place = omega arith in
+    found_from (array_at name d) 0 place h apart lt ∙ ap Some z
+
+-- ---- arrays of objects with ids
+
+module _ {b : Bool} {n : List ℕ} {g : Group} {d : Data} (each : AllClasses (λ c. find_row (codes "@id") (table c) ≡ Some id_row) (classes_of g)) (row : HasRow b n (Array (leaf.Object g) 0 any key.Id) d) where
+  have_ids : HaveIds (array_at n d)
+  have_ids e c = has_id g e each (items_have_form row e c)
+
+  list_of_row : IsListOf (entries_at n d) n d
+  list_of_row = listed n d (alone (array_at n d) have_ids (items_are_apart row))
+
+  found_of_row : AreFoundByIds n d
+  found_of_row = found n d have_ids (items_are_apart row)
+
+abbrev units_row : tables.Entry
+units_row = required (codes "GpUnit") (Array (leaf.Object group.GpUnits) 0 any key.Id)
+
+abbrev parties_row : tables.Entry
+parties_row = optional (codes "Party") (Array (leaf.Object group.Parties) 0 any key.Id)
+
+abbrev devices_row : tables.Entry
+devices_row = required (codes "ReportingDevice") (Array (leaf.Object group.ReportingDevices) 0 any key.Id)
+
+abbrev selections_row : tables.Entry
+selections_row = optional (codes "ContestSelection") (Array (leaf.Object group.ContestSelections) 0 any key.Id)
+
+one_alone : (d : Data) → IsReport d → AreAlone (map named (array_at (codes "Election") d))
+one_alone d h =
+    let one = one_election d h in
+    subst (λ ds. AreAlone (map named ds)) (sym one.1) ((λ x a same. a), tt)
+
+pub lists : ListsLaw
+lists d h = (
+  listed (codes "Election") d (one_alone d h),
+  list_of_row (refl, tt) (report_row units_row d refl h),
+  list_of_row (refl, tt) (report_row parties_row d refl h),
+  list_of_row (refl, tt) (report_row devices_row d refl h),
+)
+
+pub found_by_ids : PlacesLaw
+found_by_ids d h =
+    let row = row_of group.Elections contest_row (the_election d) (refl, tt) (election_form d h) in (
+      found_of_row (refl, (refl, (refl, (refl, (refl, tt))))) row,
+      λ c a. found_of_row (refl, (refl, (refl, (refl, tt))))
+          (row_of group.Contests selections_row c (refl, (refl, (refl, (refl, (refl, tt))))) (items_have_form row c a)),
+    )

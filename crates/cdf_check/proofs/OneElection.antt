@@ -1,0 +1,35 @@
+-- What a sound report has: one Election, and no fractional number in an array.
+use Rattle.std.proofs.Common.{◌≡◌, ℕ, List, [], ◌∷◌, length, get_or, map, false, ap, ◌∙◌, refl, arith}
+use Rattle.std.specs.Prelude.{codes}
+use Rattle.std.specs.List.{list_any}
+use Rattle.std.specs.Coded.{Coded-set, coded_ℕ}
+use Rattle.std.proofs.Math.Logic.{∥∥₁_elim}
+use Rattle.serde_json.specs.Data.{Data}
+use Rattle.serde_json.specs.Written.{has_float}
+use Rattle.cdf_form.specs.Parts.{array_at}
+use Rattle.cdf_form.specs.Places.{Texts}
+use Rattle.cdf_form.specs.Reading.{document_faults}
+use Rattle.cdf_form.proofs.FormLaw.{left_nil}
+use Rattle.cdf_form.proofs.Whole.{whole_of, whole_array}
+use Rattle.cdf_check.specs.Named.{named, sorted, texts_of}
+use Rattle.cdf_check.specs.Frame.{Frame, frame_of}
+use Rattle.cdf_check.specs.Sound.{IsSound, IsFrame}
+use Rattle.cdf_check.proofs.Sounding.{sound}
+use Rattle.cdf_check.proofs.Reports.{one_election}
+
+pub whole_at : (name : List ℕ) (d : Data) → document_faults d ≡ [] → list_any has_float (array_at name d) ≡ false
+whole_at name d h = whole_array d name (whole_of d (left_nil _ _ h))
+
+one_of : (d : Data) → IsSound d → length (texts_of (frame_of d).elections) ≡ 1
+one_of d h =
+    let one = one_election d ((sound d).0 h) in
+    ap (λ ds. length (texts_of (sorted (map named ds)))) one.1
+
+-- a definition has the text of one Election
+pub one_text : (f : Frame) → IsFrame f → length (texts_of f.elections) ≡ 1
+one_text f is = ∥∥₁_elim is (Coded-set coded_ℕ _ _) (λ h. ap (λ g. length (texts_of g.elections)) h.3 ∙ one_of h.0 h.2)
+
+pub only_text : (texts : Texts) (d : List ℕ) → length texts ≡ 1 → texts ≡ get_or texts 0 d ∷ []
+only_text [] d e = absurd (omega arith)
+only_text (t ∷ []) d e = refl
+only_text (t ∷ (u ∷ texts)) d e = absurd (omega arith)

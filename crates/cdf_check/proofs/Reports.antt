@@ -1,0 +1,59 @@
+-- What the form of a report says of its arrays.
+use Rattle.std.proofs.Common.{◌≡◌, ◌≤◌, List, [], ◌∷◌, length, Contains, Some, codes, refl, sym, subst, arith}
+use Rattle.serde_json.specs.Data.{Data}
+use Rattle.cdf_form.specs.declared.table.Class.TheVariants as class
+use Rattle.cdf_form.specs.declared.table.Group.{Group}
+use Rattle.cdf_form.specs.declared.table.Group.TheVariants as group
+use Rattle.cdf_form.specs.declared.table.Leaf.TheVariants as leaf
+use Rattle.cdf_form.specs.declared.table.Key.TheVariants as key
+use Rattle.cdf_form.specs.declared.table.Kind.TheVariants.{One, Array}
+use Rattle.cdf_form.specs.Tables.{Entry, table, classes_of, any, required}
+use Rattle.cdf_form.specs.HasForm.{HasForm}
+use Rattle.cdf_form.specs.Form.{key_text}
+use Rattle.cdf_form.specs.Parts.{array_at, id_of, the_election}
+use Rattle.cdf_form.proofs.FormParts.{AllClasses, find_row, HasRow, row_of, items_are_some, items_are_few, items_have_form, must_text_in}
+use Rattle.cdf_check.specs.Acceptance.{IsReport}
+use Rattle.cdf_check.specs.Laws.{OneElectionLaw}
+use Rattle.cdf_check.proofs.Empty.{at_head}
+
+abbrev pub election_row : Entry
+election_row = required (codes "Election") (Array (leaf.Object group.Elections) 1 1 key.Free)
+
+abbrev pub contest_row : Entry
+contest_row = required (codes "Contest") (Array (leaf.Object group.Contests) 0 any key.Id)
+
+abbrev pub id_row : Entry
+id_row = required (codes "@id") (One leaf.Name)
+
+-- a row of reports
+pub report_row : (r : Entry) (d : Data) → find_row r.name (table class.CastVoteRecordReport) ≡ Some r → IsReport d → HasRow r.required r.name r.kind d
+report_row r d is h = row_of group.Reports r d (is, tt) h.form
+
+-- where each class of a group has an id, an object of the group has one
+pub has_id : (g : Group) (d : Data) → AllClasses (λ c. find_row (codes "@id") (table c) ≡ Some id_row) (classes_of g)
+    → HasForm (One (leaf.Object g)) d → key_text key.Id d ≡ Some (id_of d)
+has_id g d each f = must_text_in (row_of g id_row d each f) tt
+
+-- ---- the election
+
+one_of : (ds : List Data) → 1 ≤ length ds → length ds ≤ 1 → (e : Data) × (ds ≡ e ∷ [])
+one_of [] lo hi = absurd (omega arith)
+one_of (d ∷ []) lo hi = (d, refl)
+one_of (d ∷ e ∷ ds) lo hi = absurd (omega arith)
+
+pub one_election : OneElectionLaw
+one_election d h =
+    let row = report_row election_row d refl h in
+    one_of (array_at (codes "Election") d) (items_are_some row) (items_are_few row)
+
+pub election_is : (d e : Data) → array_at (codes "Election") d ≡ e ∷ [] → the_election d ≡ e
+election_is d e is = rw is refl
+
+pub election_listed : (d e : Data) → array_at (codes "Election") d ≡ e ∷ [] → Contains (array_at (codes "Election") d) e
+election_listed d e is = subst (λ xs. Contains xs e) (sym is) (at_head e [])
+
+pub election_form : (d : Data) → IsReport d → HasForm (One (leaf.Object group.Elections)) (the_election d)
+election_form d h =
+    let one = one_election d h in
+    subst (λ e. HasForm (One (leaf.Object group.Elections)) e) (sym (election_is d one.0 one.1))
+    (items_have_form (report_row election_row d refl h) one.0 (election_listed d one.0 one.1))

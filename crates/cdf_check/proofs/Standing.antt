@@ -1,0 +1,258 @@
+-- The bodies of an accepted file stand.
+use Rattle.std.proofs.Common.{◌≡◌, ◌≤◌, ℕ, suc, List, [], ◌∷◌, map, Contains, Bool, true, false, Option, Some, None, IsSome}
+use Rattle.std.proofs.Common.{option_and_then, unwrap_or, codes, refl, sym, ap, ◌∙◌, subst, arith}
+use Rattle.std.specs.Prelude.{⊤}
+use Rattle.serde_json.specs.Data.{Data, null, string, object, Members}
+use Rattle.serde_json.specs.Find.{get, get_member, as_str}
+use Rattle.serde_json.specs.Read.{read, max_depth}
+use Rattle.serde_json.specs.Written.{compact_text}
+use Rattle.cdf_form.specs.declared.table.Class.{Class}
+use Rattle.cdf_form.specs.declared.table.Class.TheVariants as class
+use Rattle.cdf_form.specs.declared.table.Group.{Group}
+use Rattle.cdf_form.specs.declared.table.Group.TheVariants as group
+use Rattle.cdf_form.specs.declared.table.Leaf.TheVariants as leaf
+use Rattle.cdf_form.specs.declared.table.Key.TheVariants as key
+use Rattle.cdf_form.specs.declared.table.Kind.TheVariants.{One, Array}
+use Rattle.cdf_form.specs.Tables.{Entry, table, required, optional, any, classes_of}
+use Rattle.cdf_form.specs.Form.{class_in, find_class}
+use Rattle.cdf_form.specs.HasForm.{HasForm, IsRow}
+use Rattle.cdf_form.specs.Parts.{array_at, ids_at, id_of, text_at, the_election}
+use Rattle.cdf_form.specs.Places.{Texts, contest_of}
+use Rattle.cdf_form.specs.Proper.{MembersAreWell, IsProper}
+use Rattle.cdf_form.specs.Removing.{without}
+use Rattle.cdf_form.specs.Reading.{value_of}
+use Rattle.cdf_form.proofs.FormParts.{AllClasses, find_row, HasRow, has_class, class_of_group, only_class, row_of, is_object, must_be_text, items_have_form}
+use Rattle.cdf_form.proofs.Removing.{gone, others_stay, without_well, without_proper}
+use Rattle.cdf_typed.specs.Typed.{header_of}
+use Rattle.cdf_check.specs.References.{Scope, scope_of, missing, in_cvr, in_snapshot}
+use Rattle.cdf_check.specs.Paths.{each}
+use Rattle.cdf_check.specs.Frame.{Frame, scope_in}
+use Rattle.cdf_check.specs.Agreement.{Agrees}
+use Rattle.cdf_check.specs.Sound.{IsFrame}
+use Rattle.cdf_check.specs.Acceptance.{IsReport, Valid, value_in}
+use Rattle.cdf_check.specs.Bodies.{IsKept, HasHeaderForm, DeviceStands, HeaderStands, SnapshotStands}
+use Rattle.cdf_check.specs.Laws.{ReferencesLaw, SameElectionLaw, DevicesStandLaw, HeadersStandLaw, SnapshotsStandLaw}
+use Rattle.cdf_check.proofs.Empty.{left_nil}
+use Rattle.cdf_check.proofs.Wider.{Includes, Wider, IsHeaderOf, cvr_parts, differ, is_kept, each_at, snapshot_wider, header_wider, agreed_wider}
+use Rattle.cdf_check.proofs.Depths.{report_proper, listed_proper, reads_back}
+
+-- ---- rows
+
+abbrev id_row : Entry
+id_row = required (codes "@id") (One leaf.Name)
+
+abbrev cvrs_row : Entry
+cvrs_row = optional (codes "CVR") (Array (leaf.Object group.Cvrs) 0 any key.Free)
+
+abbrev devices_row : Entry
+devices_row = required (codes "ReportingDevice") (Array (leaf.Object group.ReportingDevices) 0 any key.Id)
+
+abbrev snapshots_row : Entry
+snapshots_row = required (codes "CVRSnapshot") (Array (leaf.Object group.Snapshots) 1 any key.Id)
+
+abbrev device_row : Entry
+device_row = required (codes "CreatingDeviceId") (One leaf.Name)
+
+abbrev unique_row : Entry
+unique_row = required (codes "UniqueId") (One leaf.Name)
+
+device_form : (d e : Data) → HasForm (One (leaf.Object group.Reports)) d → Contains (array_at (codes "ReportingDevice") d) e
+    → HasForm (One (leaf.Object group.ReportingDevices)) e
+device_form d e f a = items_have_form (row_of group.Reports devices_row d (refl, tt) f) e a
+
+cvr_form : (d e : Data) → HasForm (One (leaf.Object group.Reports)) d → Contains (array_at (codes "CVR") d) e
+    → HasForm (One (leaf.Object group.Cvrs)) e
+cvr_form d e f a = items_have_form (row_of group.Reports cvrs_row d (refl, tt) f) e a
+
+snapshot_form : (d e : Data) → HasForm (One (leaf.Object group.Cvrs)) d → Contains (array_at (codes "CVRSnapshot") d) e
+    → HasForm (One (leaf.Object group.Snapshots)) e
+snapshot_form d e f a = items_have_form (row_of group.Cvrs snapshots_row d (refl, tt) f) e a
+
+-- ---- headers
+
+-- the members of a header are those of the CVR but for two
+header_is : (ms : Members) → MembersAreWell ms → IsHeaderOf (object ms) (header_of (object ms))
+header_is ms well = record {
+  others = λ name kept.
+      others_stay name (codes "CurrentSnapshotId") (without (codes "CVRSnapshot") ms) kept.1
+      ∙ others_stay name (codes "CVRSnapshot") ms kept.0;
+  no_snapshots =
+      others_stay (codes "CVRSnapshot") (codes "CurrentSnapshotId") (without (codes "CVRSnapshot") ms)
+      (differ (codes "CVRSnapshot") (codes "CurrentSnapshotId") refl)
+      ∙ gone (codes "CVRSnapshot") ms well;
+  no_current =
+      gone (codes "CurrentSnapshotId") (without (codes "CVRSnapshot") ms) (without_well (codes "CVRSnapshot") ms well);
+}
+
+header_proper : (n : ℕ) (ms : Members) → IsProper n (object ms) → IsProper n (header_of (object ms))
+header_proper n ms h =
+    without_proper n (codes "CurrentSnapshotId") (without (codes "CVRSnapshot") ms) (without_proper n (codes "CVRSnapshot") ms h)
+
+module _ (d h : Data) (f : HasForm (One (leaf.Object group.Cvrs)) d) (of : IsHeaderOf d h) where
+  cvr_row : (r : Entry) → IsRow (table class.Cvr) r → HasRow r.required r.name r.kind d
+  cvr_row r i =
+      let c = has_class f in
+      let same : c.its ≡ class.Cvr = class_of_group (λ x. x ≡ class.Cvr) group.Cvrs d c.its (refl, tt) c.its_is in
+      c.row r (subst (λ x. IsRow (table x) r) (sym same) i)
+
+  pub header_form : HasHeaderForm h
+  header_form = record {
+    class_is =
+        ap (λ o. option_and_then (find_class (classes_of group.Cvrs)) (option_and_then as_str o))
+        (of.others (codes "@type") (is_kept (codes "@type") refl refl))
+        ∙ only_class group.Cvrs class.Cvr d (refl, tt) f;
+    needed = λ r i kept must. subst IsSome (sym (of.others r.name kept)) ((cvr_row r i).there must);
+    member = λ r e i kept at. (cvr_row r i).part e (sym (of.others r.name kept) ∙ at);
+    no_snapshots = of.no_snapshots;
+    no_current = of.no_current;
+  }
+
+  pub header_device : get (codes "CreatingDeviceId") h ≡ Some (string (text_at (codes "CreatingDeviceId") d))
+  header_device =
+      of.others (codes "CreatingDeviceId") (is_kept (codes "CreatingDeviceId") refl refl)
+      ∙ must_be_text (row_of group.Cvrs device_row d (refl, tt) f) tt
+
+  pub header_unique : get (codes "UniqueId") h ≡ Some (string (text_at (codes "UniqueId") d))
+  header_unique =
+      of.others (codes "UniqueId") (is_kept (codes "UniqueId") refl refl)
+      ∙ must_be_text (row_of group.Cvrs unique_row d (refl, tt) f) tt
+
+-- what is to hold of a header, told of its CVR
+abbrev Stands : Scope → Data → Type 0
+Stands scope c =
+    HeaderStands scope (text_at (codes "CreatingDeviceId") c) (text_at (codes "UniqueId") c) (header_of c)
+    × (read (compact_text (header_of c)) ≡ Some (header_of c))
+
+object_stands : (a b : Scope) → Wider a b → (ms : Members) → IsProper 125 (object ms)
+    → HasForm (One (leaf.Object group.Cvrs)) (object ms) → in_cvr a (object ms) ≡ [] → Stands b (object ms)
+object_stands a b w ms p f e =
+    let of = header_is ms p.well in
+    let q = header_proper 125 ms p in (
+      record {
+        proper = q;
+        form = header_form (object ms) (header_of (object ms)) f of;
+        references = header_wider a b w (object ms) (header_of (object ms)) of e;
+        device_is = header_device (object ms) (header_of (object ms)) f of;
+        unique_is = header_unique (object ms) (header_of (object ms)) f of;
+      },
+      reads_back 125 (header_of (object ms)) (omega arith) q,
+    )
+
+cvr_stands : (a b : Scope) → Wider a b → (c : Data) → IsProper 125 c
+    → HasForm (One (leaf.Object group.Cvrs)) c → in_cvr a c ≡ [] → Stands b c
+cvr_stands a b w c p f e =
+    let o = is_object group.Cvrs c f in
+    subst (Stands b) (sym o.1)
+    (object_stands a b w o.0 (subst (IsProper 125) o.1 p) (subst (HasForm (One (leaf.Object group.Cvrs))) o.1 f)
+    (subst (λ x. in_cvr a x ≡ []) o.1 e))
+
+-- ---- reports
+
+-- a report that was read
+module _ (bytes : List ℕ) (d : Data) (is : value_of bytes ≡ Some d) (r : IsReport d) where
+  device_stands : (e : Data) → Contains (array_at (codes "ReportingDevice") d) e
+      → DeviceStands (id_of e) e × (read (compact_text e) ≡ Some e)
+  device_stands e a =
+      let p = listed_proper 125 (codes "ReportingDevice") d e a (report_proper bytes d is r) in
+      let f = device_form d e r.form a in (
+        record {
+          proper = p;
+          form = f;
+          id_is = must_be_text (row_of group.ReportingDevices id_row e (refl, tt) f) tt;
+        },
+        reads_back 125 e (omega arith) p,
+      )
+
+  cvr_proper : (c : Data) → Contains (array_at (codes "CVR") d) c → IsProper 125 c
+  cvr_proper c a = listed_proper 125 (codes "CVR") d c a (report_proper bytes d is r)
+
+  -- given that where each reference names something no path is missing
+  cvr_refers : ReferencesLaw → (c : Data) → Contains (array_at (codes "CVR") d) c → in_cvr (scope_of d) c ≡ []
+  cvr_refers law c a =
+      each_at (in_cvr (scope_of d)) (codes "CVR") d c
+      (left_nil (each (in_cvr (scope_of d)) (codes "CVR") d) _ ((law d).1 r.references)) a
+
+  header_stands : ReferencesLaw → (wide : Scope) → Wider (scope_of d) wide
+      → (c : Data) → Contains (array_at (codes "CVR") d) c → Stands wide c
+  header_stands law wide w c a = cvr_stands (scope_of d) wide w c (cvr_proper c a) (cvr_form d c r.form a) (cvr_refers law c a)
+
+  snapshot_stands : ReferencesLaw → (wide : Scope) → Wider (scope_of d) wide
+      → (c s : Data) → Contains (array_at (codes "CVR") d) c → Contains (array_at (codes "CVRSnapshot") c) s
+      → SnapshotStands wide (id_of s) s × (read (compact_text s) ≡ Some s)
+  snapshot_stands law wide w c s a b =
+      let p = listed_proper 123 (codes "CVRSnapshot") c s b (cvr_proper c a) in
+      let f = snapshot_form c s (cvr_form d c r.form a) b in
+      let e = each_at (in_snapshot (scope_of d)) (codes "CVRSnapshot") c s (cvr_parts (scope_of d) c (cvr_refers law c a)).snapshots b in (
+        record {
+          proper = p;
+          form = f;
+          references = snapshot_wider (scope_of d) wide w.contests s e;
+          id_is = must_be_text (row_of group.Snapshots id_row s (refl, tt) f) tt;
+        },
+        reads_back 123 s (omega arith) p,
+      )
+
+-- ---- accepted files
+
+value_is : (bytes : List ℕ) (d : Data) → value_of bytes ≡ Some d → value_in bytes ≡ d
+value_is bytes d is = ap (λ o. unwrap_or o null) is
+
+pub devices_stand : DevicesStandLaw
+devices_stand frame bytes e v =
+    subst (λ x. Contains (array_at (codes "ReportingDevice") x) e → DeviceStands (id_of e) e × (read (compact_text e) ≡ Some e))
+    (sym (value_is bytes v.0 v.1.1)) (device_stands bytes v.0 v.1.1 v.2 e)
+
+-- the scope of an accepted report, and that of the definition with its devices
+valid_wider : SameElectionLaw → (frame : Frame) (bytes : List ℕ) → IsFrame frame → (v : Valid frame bytes)
+    → Wider (scope_of v.0) (scope_in frame (ids_at (codes "ReportingDevice") v.0))
+valid_wider law frame bytes f v =
+    agreed_wider frame v.0 v.3
+    (sym (law frame bytes f v ∙ ap (λ x. map contest_of (array_at (codes "Contest") (the_election x))) (value_is bytes v.0 v.1.1)))
+
+pub headers_stand : ReferencesLaw → SameElectionLaw → HeadersStandLaw
+headers_stand refer same frame bytes c f v =
+    subst (λ x. Contains (array_at (codes "CVR") x) c → Stands (scope_in frame (ids_at (codes "ReportingDevice") x)) c)
+    (sym (value_is bytes v.0 v.1.1))
+    (header_stands bytes v.0 v.1.1 v.2 refer (scope_in frame (ids_at (codes "ReportingDevice") v.0)) (valid_wider same frame bytes f v) c)
+
+pub snapshots_stand : ReferencesLaw → SameElectionLaw → SnapshotsStandLaw
+snapshots_stand refer same frame bytes c s f v =
+    subst (λ x. Contains (array_at (codes "CVR") x) c → Contains (array_at (codes "CVRSnapshot") c) s
+    → SnapshotStands (scope_in frame (ids_at (codes "ReportingDevice") x)) (id_of s) s × (read (compact_text s) ≡ Some s))
+    (sym (value_is bytes v.0 v.1.1))
+    (snapshot_stands bytes v.0 v.1.1 v.2 refer (scope_in frame (ids_at (codes "ReportingDevice") v.0)) (valid_wider same frame bytes f v) c s)
+
+-- ---- more devices
+
+-- the same definition, and devices that are among more
+pub more_devices : (frame : Frame) (xs ys : Texts) → Includes xs ys → Wider (scope_in frame xs) (scope_in frame ys)
+more_devices frame xs ys h = record {
+  elections = λ s e. e;
+  units = λ s e. e;
+  parties = λ s e. e;
+  devices = h;
+  contests = refl;
+}
+
+-- what stands still does where more can be named
+pub header_stays : (a b : Scope) → Wider a b → (device unique : List ℕ) (d : Data)
+    → HeaderStands a device unique d → HeaderStands b device unique d
+header_stays a b w device unique d h = record {
+  proper = h.proper;
+  form = h.form;
+  references = header_wider a b w d d (record {
+    others = λ name kept. refl;
+    no_snapshots = h.form.no_snapshots;
+    no_current = h.form.no_current;
+  }) h.references;
+  device_is = h.device_is;
+  unique_is = h.unique_is;
+}
+
+pub snapshot_stays : (a b : Scope) → Wider a b → (id : List ℕ) (d : Data) → SnapshotStands a id d → SnapshotStands b id d
+snapshot_stays a b w id d h = record {
+  proper = h.proper;
+  form = h.form;
+  references = snapshot_wider a b w.contests d h.references;
+  id_is = h.id_is;
+}

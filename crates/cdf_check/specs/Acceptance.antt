@@ -1,0 +1,82 @@
+-- Which files are accepted, and what is told of the others: the first cause that applies. (This project's own; JSON: RFC 8259.)
+use Rattle.std.specs.Prelude.{◌≡◌, ℕ, ◌≤◌, List, length, if◌then◌else◌, nat_le, Option, Some, None, option_map, unwrap_or, false}
+use Rattle.std.specs.Option.{option_or}
+use Rattle.serde_json.specs.Data.{Data, null}
+use Rattle.serde_json.specs.Written.{has_float}
+use Rattle.cdf_types.specs.declared.fault.ReadFault.{ReadFault}
+use Rattle.cdf_types.specs.declared.fault.ReadFault.TheVariants.{TooLong, NotJson, Reference, Disagrees}
+use Rattle.cdf_types.specs.declared.report.Report.{Report}
+use Rattle.cdf_form.specs.declared.table.Group.TheVariants as group
+use Rattle.cdf_form.specs.declared.table.Leaf.TheVariants as leaf
+use Rattle.cdf_form.specs.declared.table.Kind.TheVariants.{One}
+use Rattle.cdf_form.specs.HasForm.{HasForm}
+use Rattle.cdf_form.specs.Form as form
+use Rattle.cdf_form.specs.Path.{path_text}
+use Rattle.cdf_form.specs.Reading.{value_of, max_file, document_faults, refusal_of}
+use Rattle.cdf_form.specs.Places.{Contest}
+use Rattle.cdf_typed.specs.Typed.{report_of}
+use Rattle.cdf_check.specs.Paths.{first}
+use Rattle.cdf_check.specs.References.{missing}
+use Rattle.cdf_check.specs.Resolves.{Resolves}
+use Rattle.cdf_check.specs.Frame.{Frame, frame_of}
+use Rattle.cdf_check.specs.Agreement.{disagreements, Agrees}
+
+-- ---- acceptance
+
+-- the file is short enough, and this is its value
+abbrev pub Holds : List ℕ → Data → Type 0
+Holds bytes d = (length bytes ≤ max_file) × (value_of bytes ≡ Some d)
+
+-- no number is fractional, it has the form of a report, and every reference names something
+pub record IsReport (d : Data) : Type 0 where
+  pub whole : has_float d ≡ false
+  pub form : HasForm (One (leaf.Object group.Reports)) d
+  pub references : Resolves d
+
+-- a file that can serve as a definition
+abbrev pub Sound : List ℕ → Type 0
+Sound bytes = (d : Data) × Holds bytes d × IsReport d
+
+-- a file that is accepted beside a definition: its objects are also the definition's
+abbrev pub Valid : Frame → List ℕ → Type 0
+Valid frame bytes = (d : Data) × Holds bytes d × IsReport d × Agrees frame d
+
+-- ---- the first cause to refuse
+
+-- of a value by itself: its numbers and form, then its references
+abbrev pub own_refusal : Data → Option ReadFault
+own_refusal d = option_or (option_map refusal_of (form.first (document_faults d)))
+    (option_map (λ p. Reference (path_text p)) (first (missing d)))
+
+-- of a value beside a definition
+abbrev pub value_refusal : Frame → Data → Option ReadFault
+value_refusal frame d = option_or (own_refusal d) (option_map (λ p. Disagrees (path_text p)) (first (disagreements frame d)))
+
+-- of a file's value, if it has one
+abbrev pub of_value : (Data → Option ReadFault) → Option Data → Option ReadFault
+of_value refusal None = Some NotJson
+of_value refusal (Some d) = refusal d
+
+-- of a file, whose value is refused so
+abbrev pub of_file : (Data → Option ReadFault) → List ℕ → Option ReadFault
+of_file refusal bytes = if nat_le (length bytes) max_file then of_value refusal (value_of bytes) else Some TooLong
+
+-- why a file is refused as a definition, if it is
+abbrev pub first_unsound : List ℕ → Option ReadFault
+first_unsound bytes = of_file own_refusal bytes
+
+-- why a file is refused beside a definition, if it is
+abbrev pub first_refusal : Frame → List ℕ → Option ReadFault
+first_refusal frame bytes = of_file (value_refusal frame) bytes
+
+-- ---- what an accepted file gives
+
+-- the value of a file, or null
+abbrev pub value_in : List ℕ → Data
+value_in bytes = unwrap_or (value_of bytes) null
+
+abbrev pub frame_in : List ℕ → Frame
+frame_in bytes = frame_of (value_in bytes)
+
+abbrev pub report_in : List Contest → List ℕ → Report
+report_in contests bytes = report_of contests (value_in bytes)

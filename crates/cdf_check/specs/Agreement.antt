@@ -1,0 +1,33 @@
+-- The objects of a report that are not the definition's. (This project's own.)
+use Rattle.std.specs.Prelude.{◌≡◌, ℕ, List, ◌++◌, Bool, false, Some, option_map, unwrap_or, codes, bytes_eq}
+use Rattle.std.specs.List.{Contains}
+use Rattle.serde_json.specs.Data.{Data}
+use Rattle.serde_json.specs.Written.{compact_text}
+use Rattle.cdf_form.specs.Parts.{array_at, id_of}
+use Rattle.cdf_check.specs.Paths.{Path, unless, each}
+use Rattle.cdf_check.specs.Named.{Entry, text_of}
+use Rattle.cdf_check.specs.Frame.{Frame}
+
+-- whether an object has the text that stands beside its id
+abbrev pub agrees : List Entry → Data → Bool
+agrees entries d = unwrap_or (option_map (bytes_eq (compact_text d)) (text_of entries (id_of d))) false
+
+abbrev pub differing : List Entry → Data → List Path
+differing entries d = unless (agrees entries d)
+
+-- the paths of the objects that are not the definition's, in the order of Election, GpUnit, Party, by place
+abbrev pub disagreements : Frame → Data → List Path
+disagreements frame d = each (differing frame.elections) (codes "Election") d
+    ++ (each (differing frame.units) (codes "GpUnit") d
+    ++ each (differing frame.parties) (codes "Party") d)
+
+-- ---- the same with no paths and no order
+
+-- each object in the array under a name has the text that stands beside its id
+abbrev pub AreListed : List Entry → List ℕ → Data → Type 0
+AreListed entries name d = (e : Data) → Contains (array_at name d) e → text_of entries (id_of e) ≡ Some (compact_text e)
+
+pub record Agrees (frame : Frame) (d : Data) : Type 0 where
+  pub elections : AreListed frame.elections (codes "Election") d
+  pub units : AreListed frame.units (codes "GpUnit") d
+  pub parties : AreListed frame.parties (codes "Party") d

@@ -1,0 +1,15 @@
+pub mod Paths
+pub mod Placed
+pub mod References
+pub mod Scoped
+pub mod Resolves
+pub mod Named
+pub mod Frame
+pub mod Agreement
+pub mod Sound
+pub mod Acceptance
+pub mod Bodies
+pub mod Laws
+pub mod Defaults
+pub mod Rows
+pub mod Utf8

@@ -1,0 +1,48 @@
+-- Objects by their ids: lists of id and text, in byte order of id. (This project's own.)
+use Rattle.std.specs.Prelude.{ℕ, List, [], ◌∷◌, map, Option, bytes_eq, string_bytes, String}
+use Rattle.std.specs.Map.{lookup}
+use Rattle.std.specs.Ordering.{nat_cmp}
+use Rattle.std.specs.Cmp.Lexicographic.{slice_cmp}
+use Rattle.std.specs.BTreeMap.{insert_entry}
+use Rattle.std.specs.declared.alloc.Global.{Global}
+use Rattle.serde_json.specs.Data.{Data}
+use Rattle.serde_json.specs.Written.{compact_text}
+use Rattle.cdf_form.specs.Parts.{id_of}
+use Rattle.cdf_form.specs.Places.{Texts}
+
+-- an object's id and compact text
+abbrev pub Entry : Type 0
+Entry = List ℕ × List ℕ
+
+abbrev pub named : Data → Entry
+named d = (id_of d, compact_text d)
+
+-- the ids, and the texts
+abbrev pub ids_of : List Entry → Texts
+ids_of entries = map (λ e. e.0) entries
+
+abbrev pub texts_of : List Entry → Texts
+texts_of entries = map (λ e. e.1) entries
+
+-- the text that stands beside an id
+abbrev pub text_of : List Entry → List ℕ → Option (List ℕ)
+text_of entries id = lookup (bytes_eq id) entries
+
+-- entries put in at their places
+abbrev pub put_all : List Entry → List Entry → List Entry
+put_all done [] = done
+put_all done (e ∷ es) = put_all (insert_entry (slice_cmp nat_cmp) done e.0 e.1) es
+
+-- in byte order of their ids
+abbrev pub sorted : List Entry → List Entry
+sorted entries = put_all [] entries
+
+-- two lists, pair by pair
+abbrev pub pairs : Texts → Texts → List Entry
+pairs [] texts = []
+pairs (id ∷ ids) [] = []
+pairs (id ∷ ids) (text ∷ texts) = (id, text) ∷ pairs ids texts
+
+-- the entries of a map
+abbrev pub entries_of : List (String Global × List ℕ) → List Entry
+entries_of es = map (λ e. (string_bytes e.0, e.1)) es

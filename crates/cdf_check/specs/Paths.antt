@@ -1,0 +1,31 @@
+-- Paths of texts and objects in a report, in lists. (Paths: RFC 6901.)
+use Rattle.std.specs.Prelude.{ℕ, ◌+◌, List, [], ◌∷◌, ◌++◌, map, Bool, if◌then◌else◌, Option, Some, None}
+use Rattle.serde_json.specs.Data.{Data}
+use Rattle.cdf_form.specs.Form.{Step, at_member, at_item}
+use Rattle.cdf_form.specs.Parts.{array_at}
+
+-- the steps from a value, outermost first
+abbrev pub Path : Type 0
+Path = List Step
+
+-- the first of a list, if there is one
+abbrev pub first : List Path → Option Path
+first [] = None
+first (p ∷ ps) = Some p
+
+-- those of a part, told from the value that the step leads out of
+abbrev pub below : Step → List Path → List Path
+below s ps = map (λ p. s ∷ p) ps
+
+-- none where the test holds, and else the value itself
+abbrev pub unless : Bool → List Path
+unless b = if b then [] else [] ∷ []
+
+-- those of the items from place i on
+abbrev pub places : (Data → List Path) → List Data → ℕ → List Path
+places f [] i = []
+places f (d ∷ ds) i = below (at_item i) (f d) ++ places f ds (i + 1)
+
+-- those of the items of the array under a name
+abbrev pub each : (Data → List Path) → List ℕ → Data → List Path
+each f name d = below (at_member name) (places f (array_at name d) 0)

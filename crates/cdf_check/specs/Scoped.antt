@@ -1,0 +1,13 @@
+-- What the ids that are kept of a report stand for.
+use Rattle.cdf_check.specs.References.{Scope}
+use Rattle.cdf_check.specs.declared.scope.Scope.{Scope as Held}
+
+-- the ids that can be named
+abbrev pub scope_view : Held → Scope
+scope_view s = record {
+  elections = s.elections;
+  units = s.units;
+  parties = s.parties;
+  devices = s.devices;
+  contests = s.contests;
+}

@@ -1,0 +1,183 @@
+ghost use Rattle.std.specs.Prelude.{◌≡◌, [], Some, IfOk, IfErr, OnOk, false, option_map, codes};
+ghost use Rattle.serde_json.specs.View.{view};
+ghost use Rattle.serde_json.specs.Written.{has_float};
+ghost use Rattle.cdf_types.specs.declared.fault.ReadFault.TheVariants.{Reference, Disagrees};
+ghost use Rattle.cdf_form.specs.Form as form;
+ghost use Rattle.cdf_form.specs.Found.{fault_of};
+ghost use Rattle.cdf_form.specs.Path.{path_text};
+ghost use Rattle.cdf_form.specs.Reading.{IsMemory, refusal_of, document_faults};
+ghost use Rattle.cdf_check.specs.Paths.{first, each};
+ghost use Rattle.cdf_check.specs.Placed.{path_of};
+ghost use Rattle.cdf_check.specs.References.{missing};
+ghost use Rattle.cdf_check.specs.Agreement.{differing, disagreements};
+ghost use Rattle.cdf_check.specs.Sound.{IsSound};
+ghost use Rattle.cdf_check.specs.Acceptance.{own_refusal, value_refusal};
+
+use crate::agreement::first_differing;
+use crate::definition::Definition;
+use crate::place::Place;
+use crate::references::first_missing;
+use cdf_form::found::{Found, Stop};
+use cdf_form::path::path_text;
+use cdf_form::read::document_fault;
+use cdf_types::{Body, Memory, ReadFault};
+use serde_json::Value;
+use std::alloc::Global;
+
+// The answer that tells a fault of form.
+fn told_fault(alloc: Global, found: Found<'_>) -> Result<ReadFault, Memory>
+    ensures { IfOk result (λ e. e ≡ refusal_of (fault_of found.entry)) }
+{
+    let path = Body::new(path_text(alloc, &found.steps)?);
+    Ok(ReadFault::Schema {
+        path,
+        rule: found.rule,
+    })
+}
+
+// The JSON Pointer of a place.
+fn pointer(alloc: Global, place: &Place) -> Result<Body, Memory>
+    ensures { IfOk result (λ b. b ≡ path_text (path_of place.now)) }
+{
+    Ok(Body::new(path_text(alloc, &place.steps)?))
+}
+
+// Whether the numbers and the form of a report are right.
+fn check_form(alloc: Global, value: &Value) -> Result<(), ReadFault>
+    ensures ok { OnOk result (document_faults (view value.now) ≡ []) }
+    ensures err { IfErr result (λ e. ¬ IsMemory e
+        → option_map refusal_of (form.first (document_faults (view value.now))) ≡ Some e) }
+{
+    match document_fault(alloc, value) {
+        Ok(()) => Ok(()),
+        Err(Stop::Memory) => Err(ReadFault::Memory),
+        Err(Stop::Fault(found)) => Err(told_fault(alloc, found)?),
+    }
+}
+
+// Whether every text of a report that has to name something does.
+fn check_references(alloc: Global, value: &Value) -> Result<(), ReadFault>
+    ensures ok { OnOk result (missing (view value.now) ≡ []) }
+    ensures err { IfErr result (λ e. ¬ IsMemory e
+        → option_map (λ p. Reference (path_text p)) (first (missing (view value.now))) ≡ Some e) }
+{
+    match first_missing(alloc, value)? {
+        None => Ok(()),
+        Some(place) => Err(ReadFault::Reference {
+            path: pointer(alloc, &place)?,
+        }),
+    }
+}
+
+/// Whether a value can serve as a definition.
+///
+/// # Errors
+/// `Schema` at the first fault of numbers or of form; else `Reference` at the first text that names
+/// nothing. `Memory` in place of either where a growth was refused.
+pub fn check_own(alloc: Global, value: &Value) -> Result<(), ReadFault>
+    ensures ok { OnOk result (IsSound (view value.now)) }
+    ensures err { IfErr result (λ e. ¬ IsMemory e → own_refusal (view value.now) ≡ Some e) }
+{
+    check_form(alloc, value)?;
+    check_references(alloc, value)?;
+    Ok(())
+}
+
+fn differing_election(
+    alloc: Global,
+    definition: &Definition,
+    value: &Value,
+) -> Result<Option<Place>, Memory>
+    requires { has_float (view value.now) ≡ false }
+    ensures { IfOk result (λ o. option_map path_of o
+        ≡ first (each (differing definition.now.elections) (codes "Election") (view value.now))) }
+{
+    match first_differing(alloc, definition.elections(), "Election", value)? {
+        None => Ok(None),
+        Some(place) => Ok(Some(place)),
+    }
+}
+
+fn differing_unit(
+    alloc: Global,
+    definition: &Definition,
+    value: &Value,
+) -> Result<Option<Place>, Memory>
+    requires { has_float (view value.now) ≡ false }
+    ensures { IfOk result (λ o. option_map path_of o
+        ≡ first (each (differing definition.now.units) (codes "GpUnit") (view value.now))) }
+{
+    match first_differing(alloc, definition.named_units(), "GpUnit", value)? {
+        None => Ok(None),
+        Some(place) => Ok(Some(place)),
+    }
+}
+
+fn differing_party(
+    alloc: Global,
+    definition: &Definition,
+    value: &Value,
+) -> Result<Option<Place>, Memory>
+    requires { has_float (view value.now) ≡ false }
+    ensures { IfOk result (λ o. option_map path_of o
+        ≡ first (each (differing definition.now.parties) (codes "Party") (view value.now))) }
+{
+    match first_differing(alloc, definition.named_parties(), "Party", value)? {
+        None => Ok(None),
+        Some(place) => Ok(Some(place)),
+    }
+}
+
+// The first object of a report that isn't the definition's.
+#[tactic(auto, using(crate::proofs::Items::first_or))]
+fn disagreement(
+    alloc: Global,
+    definition: &Definition,
+    value: &Value,
+) -> Result<Option<Place>, Memory>
+    requires { has_float (view value.now) ≡ false }
+    ensures { IfOk result (λ o. option_map path_of o
+        ≡ first (disagreements definition.now (view value.now))) }
+{
+    match differing_election(alloc, definition, value)? {
+        None => {}
+        Some(place) => return Ok(Some(place)),
+    }
+    match differing_unit(alloc, definition, value)? {
+        None => {}
+        Some(place) => return Ok(Some(place)),
+    }
+    differing_party(alloc, definition, value)
+}
+
+// Whether every object of a report that has to be the definition's is.
+fn check_agreement(alloc: Global, definition: &Definition, value: &Value) -> Result<(), ReadFault>
+    requires { has_float (view value.now) ≡ false }
+    ensures ok { OnOk result (disagreements definition.now (view value.now) ≡ []) }
+    ensures err { IfErr result (λ e. ¬ IsMemory e
+        → option_map (λ p. Disagrees (path_text p))
+        (first (disagreements definition.now (view value.now))) ≡ Some e) }
+{
+    match disagreement(alloc, definition, value)? {
+        None => Ok(()),
+        Some(place) => Err(ReadFault::Disagrees {
+            path: pointer(alloc, &place)?,
+        }),
+    }
+}
+
+/// Whether a value is accepted beside a definition.
+///
+/// # Errors
+/// As `check_own`; else `Disagrees` at the first object that isn't the definition's.
+#[tactic(auto, using(cdf_form::proofs::Whole::whole_document))]
+pub fn check_value(alloc: Global, definition: &Definition, value: &Value) -> Result<(), ReadFault>
+    ensures sound { OnOk result (IsSound (view value.now)) }
+    ensures agrees { OnOk result (disagreements definition.now (view value.now) ≡ []) }
+    ensures err { IfErr result (λ e. ¬ IsMemory e
+        → value_refusal definition.now (view value.now) ≡ Some e) }
+{
+    check_own(alloc, value)?;
+    check_agreement(alloc, definition, value)?;
+    Ok(())
+}

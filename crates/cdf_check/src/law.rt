@@ -1,0 +1,31 @@
+ghost use Rattle.cdf_check.specs.Laws.{ReferencesLaw, AgreementLaw, SoundLaw, SoundFileLaw, ValidFileLaw, OneElectionLaw, SameElectionLaw, ListsLaw, PlacesLaw};
+
+/// A list of faults is empty exactly where what the faults tell of holds: of references, of
+/// agreement, of a value, and of a file alone and beside a definition.
+pub fn acceptance()
+    ensures references { ReferencesLaw }
+    ensures agreement { AgreementLaw }
+    ensures sound { SoundLaw }
+    ensures sound_file { SoundFileLaw }
+    ensures valid_file { ValidFileLaw }
+{}
+
+/// A report has one election.
+pub fn one_election()
+    ensures { OneElectionLaw }
+{}
+
+/// What agrees with a definition has its election, and so its contests.
+pub fn same_election()
+    ensures { SameElectionLaw }
+{}
+
+/// Each list of a definition has the objects of its array, and rises strictly by id.
+pub fn lists_rise()
+    ensures { ListsLaw }
+{}
+
+/// Each contest, and each selection of a contest, is found by its id at its own place.
+pub fn found_by_ids()
+    ensures { PlacesLaw }
+{}

@@ -1,0 +1,25 @@
+//! Which files are accepted as cast vote record reports (NIST SP 1500-103), and what is told of the
+//! others: form, references, and agreement with an election definition.
+#![tactic(auto)]
+
+mod agreement;
+pub mod bodies;
+mod check;
+pub mod defaults;
+mod definition;
+mod gather;
+pub mod law;
+mod look;
+mod named;
+mod place;
+mod read;
+mod references;
+pub mod rows;
+mod scope;
+#[cfg(test)]
+mod tests;
+#[cfg(test)]
+mod tests_definition;
+
+pub use definition::Definition;
+pub use read::check_report;

@@ -1,0 +1,93 @@
+ghost use Rattle.std.specs.Prelude.{◌≡◌, Option, Some, [], IfOk, IfErr, OnOk};
+ghost use Rattle.serde_json.specs.Data.{Data};
+ghost use Rattle.serde_json.specs.View.{view};
+ghost use Rattle.cdf_types.specs.declared.fault.ReadFault.{ReadFault};
+ghost use Rattle.cdf_form.specs.Reading.{IsMemory};
+ghost use Rattle.cdf_typed.specs.Range.{ReportInRange};
+ghost use Rattle.cdf_check.specs.Agreement.{disagreements};
+ghost use Rattle.cdf_check.specs.Sound.{IsSound};
+ghost use Rattle.cdf_check.specs.Acceptance.{Holds, Sound, Valid, first_unsound, first_refusal, of_file, frame_in, report_in};
+
+use crate::check::{check_own, check_value};
+use crate::definition::Definition;
+use cdf_form::read::{MAX_FILE, read_value};
+use cdf_typed::read_report;
+use cdf_types::{ReadFault, Report};
+use serde_json::Value;
+use std::alloc::Global;
+
+// The value of a file.
+fn read_file(alloc: Global, bytes: &[u8]) -> Result<Value, ReadFault>
+    ensures ok { IfOk result (λ v. Holds bytes.now (view v)) }
+    ensures err { IfErr result (λ e. ¬ IsMemory e
+        → (refusal : Data → Option ReadFault) → of_file refusal bytes.now ≡ Some e) }
+{
+    if bytes.len() > MAX_FILE {
+        return Err(ReadFault::TooLong);
+    }
+    read_value(alloc, bytes)
+}
+
+// The value of a file that can serve as a definition.
+fn sound_value(alloc: Global, bytes: &[u8]) -> Result<Value, ReadFault>
+    ensures value { IfOk result (λ v. Holds bytes.now (view v)) }
+    ensures sound { IfOk result (λ v. IsSound (view v)) }
+    ensures first { IfErr result (λ e. ¬ IsMemory e → first_unsound bytes.now ≡ Some e) }
+{
+    let value = read_file(alloc, bytes)?;
+    check_own(alloc, &value)?;
+    Ok(value)
+}
+
+// The value of a file that is accepted beside a definition.
+fn accepted_value(alloc: Global, definition: &Definition, bytes: &[u8]) -> Result<Value, ReadFault>
+    ensures value { IfOk result (λ v. Holds bytes.now (view v)) }
+    ensures sound { IfOk result (λ v. IsSound (view v)) }
+    ensures agrees { IfOk result (λ v. disagreements definition.now (view v) ≡ []) }
+    ensures first { IfErr result (λ e. ¬ IsMemory e → first_refusal definition.now bytes.now ≡ Some e) }
+{
+    let value = read_file(alloc, bytes)?;
+    check_value(alloc, definition, &value)?;
+    Ok(value)
+}
+
+impl Definition {
+    /// The definition that a file holds: any report that has no fault by itself, with or without
+    /// cast vote records.
+    ///
+    /// # Errors
+    /// The first of these that applies, and no definition: `TooLong` above 67,108,864 bytes;
+    /// `NotJson` where the file is no JSON text (RFC 8259) or nests deeper than 127; `Schema` with
+    /// rule `NotWhole` at the first number that isn't a whole one; `Schema` at the first fault of
+    /// form; `Reference` at the first text that names nothing in the file. `Memory` in place of any
+    /// answer where a growth was refused.
+    pub fn read(alloc: Global, bytes: &[u8]) -> Result<Definition, ReadFault>
+        ensures sound { OnOk result (Sound bytes.now) }
+        ensures frame { IfOk result (λ def. def ≡ frame_in bytes.now) }
+        ensures first { IfErr result (λ e. ¬ IsMemory e → first_unsound bytes.now ≡ Some e) }
+    {
+        let value = sound_value(alloc, bytes)?;
+        Ok(Definition::of_report(alloc, &value)?)
+    }
+}
+
+/// The typed report of a file that is accepted beside a definition: its records in order, contests
+/// and selections told by their places in the definition, each in range.
+///
+/// # Errors
+/// As `Definition::read`; else `Disagrees` at the first Election, GpUnit or Party, in this order,
+/// that isn't the definition's.
+pub fn check_report(
+    alloc: Global,
+    definition: &Definition,
+    bytes: &[u8],
+) -> Result<Report, ReadFault>
+    ensures valid { OnOk result (Valid definition.now bytes.now) }
+    ensures report { IfOk result (λ r. r ≡ report_in definition.now.contests bytes.now) }
+    ensures range { IfOk result (λ r. ReportInRange definition.now.contests r) }
+    ensures first { IfErr result (λ e. ¬ IsMemory e → first_refusal definition.now bytes.now ≡ Some e) }
+{
+    definition.made_of_a_report();
+    let value = accepted_value(alloc, definition, bytes)?;
+    Ok(read_report(alloc, definition.contests(), value)?)
+}

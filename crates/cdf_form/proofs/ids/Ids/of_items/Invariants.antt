@@ -1,0 +1,11 @@
+use Rattle.std.proofs.Common.{◌≡◌, take, map}
+use Rattle.serde_json.specs.View.{view}
+use Rattle.cdf_form.specs.Parts.{id_of}
+use Rattle.cdf_form.specs.Kept.{bytes_of, HasPlaces}
+use Rattle.cdf_form.proofs.ids.Ids.of_items.Given as goal
+
+abbrev pub invariant-loop-place : goal.invariant-loop-place
+invariant-loop-place l = record {
+  ids : bytes_of l.ids.items ≡ map id_of (map view (take l.place l.items));
+  places : HasPlaces l.places (bytes_of l.ids.items);
+}

@@ -1,0 +1,91 @@
+use crate::ids::Ids;
+use crate::part::items_at;
+use cdf_types::Memory;
+use serde_json::Value;
+use std::alloc::Global;
+use std::marker::Model;
+
+/// Contests by id and place, each with the ids of its selections (NIST SP 1500-103, classes Contest
+/// and ContestSelection). Contracts see them as a list of an id beside ids.
+#[derive(Drop)]
+pub struct Contests {
+    ids: Ids,
+    selections: Vec<Ids>,
+}
+
+impl Model for Contests {
+    ghost use Rattle.std.specs.Prelude.{List, ◌≡◌, length};
+    ghost use Rattle.cdf_form.specs.Places.{Contest};
+    ghost use Rattle.cdf_form.specs.Kept.{contests_of};
+
+    ghost Value = { List Contest };
+
+    ghost view = { λ n. contests_of n.ids n.selections.items };
+
+    ghost invariant = { λ n. length n.ids ≡ length n.selections.items };
+}
+
+impl Contests {
+    ghost use Rattle.std.specs.Prelude.{◌≡◌, ◌<◌, length, map, IfOk, option_map};
+    ghost use Rattle.serde_json.specs.View.{view};
+    ghost use Rattle.cdf_form.specs.Places.{contest_of, contest_ids, selections_at, selections_of};
+
+    /// The contests of an Election's array, in order.
+    ///
+    /// # Errors
+    /// `Memory` where a growth was refused.
+    pub fn of_items(alloc: Global, items: &[Value]) -> Result<Contests, Memory>
+        ensures { IfOk result (λ n. n ≡ map contest_of (map view items.now)) }
+    {
+        let mut selections = Vec::with_capacity(alloc, items.len())?;
+        for item in items {
+            selections.push(Ids::of_items(alloc, items_at("ContestSelection", item))?)?;
+        }
+        Ok(Contests {
+            ids: Ids::of_items(alloc, items)?,
+            selections,
+        })
+    }
+
+    /// The same contests.
+    ///
+    /// # Errors
+    /// `Memory` where a growth was refused.
+    pub fn copy(&self, alloc: Global) -> Result<Contests, Memory>
+        ensures { IfOk result (λ n. n ≡ self.now) }
+    {
+        let mut selections = Vec::with_capacity(alloc, self.selections.len())?;
+        for ids in &self.selections {
+            selections.push(ids.copy(alloc)?)?;
+        }
+        Ok(Contests {
+            ids: self.ids.copy(alloc)?,
+            selections,
+        })
+    }
+
+    /// The ids of the contests, in order. Takes no memory.
+    pub fn ids(&self) -> &Ids
+        ensures { result.now ≡ contest_ids self.now }
+    {
+        &self.ids
+    }
+
+    /// The ids of the selections of the contest at a place, from 0. Takes no memory.
+    pub fn selections(&self, place: usize) -> &Ids
+        requires { place < length self.now }
+        ensures { result.now ≡ selections_at self.now place }
+    {
+        &self.selections[place]
+    }
+
+    /// The ids of the selections of the contest that is named, if there is one. Takes no memory.
+    pub fn selections_of(&self, contest: &str) -> Option<&Ids>
+        ensures { option_map (λ i. i.now) result ≡ selections_of self.now contest.now }
+    {
+        match self.ids.find(contest) {
+            None => None,
+            Some(place) => Some(&self.selections[place]),
+        }
+    }
+}

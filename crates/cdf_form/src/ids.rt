@@ -1,0 +1,106 @@
+use crate::noting::note_place;
+use crate::part::{copy_texts, text_at};
+use cdf_types::Memory;
+use serde_json::Value;
+use std::alloc::Global;
+use std::collections::BTreeMap;
+use std::marker::Model;
+
+/// Ids (member @id) in order, which are found by place and by text. Contracts see them as the list
+/// of their texts.
+#[derive(Drop)]
+pub struct Ids {
+    ids: Vec<String>,
+    places: BTreeMap<String, usize>,
+}
+
+impl Model for Ids {
+    ghost use Rattle.cdf_form.specs.Places.{Texts};
+    ghost use Rattle.cdf_form.specs.Kept.{bytes_of, HasPlaces};
+
+    ghost Value = { Texts };
+
+    ghost view = { λ n. bytes_of n.ids.items };
+
+    ghost invariant = { λ n. HasPlaces n.places (bytes_of n.ids.items) };
+}
+
+impl Ids {
+    ghost use Rattle.std.specs.Prelude.{◌≡◌, ◌<◌, length, slice_index_or, map, IfOk, [], bytes_eq};
+    ghost use Rattle.std.specs.List.{list_any};
+    ghost use Rattle.serde_json.specs.View.{view};
+    ghost use Rattle.cdf_form.specs.Parts.{id_of};
+    ghost use Rattle.cdf_form.specs.Places.{place_in};
+    ghost use Rattle.cdf_form.specs.Kept.{bytes_of};
+
+    /// The ids in the order that is given.
+    ///
+    /// # Errors
+    /// `Memory` where a growth was refused.
+    pub fn of(alloc: Global, ids: Vec<String>) -> Result<Ids, Memory>
+        ensures { IfOk result (λ n. n ≡ bytes_of ids.items) }
+    {
+        let mut places = BTreeMap::new(alloc);
+        for (place, id) in ids.iter().enumerate() {
+            note_place(alloc, &mut places, id.as_str(), place)?;
+        }
+        Ok(Ids { ids, places })
+    }
+
+    /// The ids of objects, in order; the empty text where one has none.
+    ///
+    /// # Errors
+    /// `Memory` where a growth was refused.
+    pub fn of_items(alloc: Global, items: &[Value]) -> Result<Ids, Memory>
+        ensures { IfOk result (λ n. n ≡ map id_of (map view items.now)) }
+    {
+        let mut ids = Vec::with_capacity(alloc, items.len())?;
+        let mut places = BTreeMap::new(alloc);
+        for (place, item) in items.iter().enumerate() {
+            let id = text_at("@id", item);
+            note_place(alloc, &mut places, id, place)?;
+            ids.push(String::from_str(alloc, id)?)?;
+        }
+        Ok(Ids { ids, places })
+    }
+
+    /// The same ids.
+    ///
+    /// # Errors
+    /// `Memory` where a growth was refused.
+    pub fn copy(&self, alloc: Global) -> Result<Ids, Memory>
+        ensures { IfOk result (λ n. n ≡ self.now) }
+    {
+        Ids::of(alloc, copy_texts(alloc, &self.ids)?)
+    }
+
+    /// How many there are. Takes no memory.
+    pub fn len(&self) -> usize
+        ensures { result ≡ length self.now }
+    {
+        self.ids.len()
+    }
+
+    /// The id at a place, from 0. Takes no memory.
+    pub fn get(&self, place: usize) -> &str
+        requires { place < length self.now }
+        ensures { result.now ≡ slice_index_or self.now place [] }
+    {
+        self.ids[place].as_str()
+    }
+
+    /// The first place of an id, from 0. Takes no memory.
+    pub fn find(&self, id: &str) -> Option<usize>
+        ensures { result ≡ place_in self.now id.now }
+    {
+        self.places.get(id).copied()
+    }
+
+    /// Whether a text is one of the ids. Takes no memory.
+    #[tactic(auto, using(crate::proofs::Places::known_place))]
+    pub fn contains(&self, id: &str) -> bool
+        ensures { result ≡ list_any (bytes_eq id.now) self.now }
+    {
+        self.find(id).is_some()
+    }
+}

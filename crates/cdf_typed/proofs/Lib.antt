@@ -1,0 +1,3 @@
+pub mod ListedTexts
+pub mod Moments
+pub mod Headers

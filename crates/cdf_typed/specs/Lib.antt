@@ -1,0 +1,4 @@
+pub mod Greatest
+pub mod Instants
+pub mod Typed
+pub mod Range

@@ -1,0 +1,10 @@
+//! The typed report of a value that has the form of a report (NIST SP 1500-103).
+#![tactic(auto)]
+
+mod listed;
+mod records;
+#[cfg(test)]
+mod tests;
+mod votes;
+
+pub use records::read_report;
