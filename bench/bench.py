@@ -1,9 +1,10 @@
 #!/usr/bin/env python3
-"""bench.py [--sizes 10000,100000] [--rounds 5] [--jq-rounds 3] [--keep NAME]
+"""bench.py [--sizes 10000,100000] [--rounds 5] [--jq-rounds 3] [--stages-only] [--keep NAME]
 
-Times `cvr currents` beside jq and beside reading the files alone, at two sizes or more, and the reading of one report
-beside the JSON reader alone; compares what is printed with jq byte by byte. README.md says what the figures mean. The
-status is 1 where a command fails or a text differs. With --keep the raw figures are appended to runs/DATE-NAME.md."""
+Times `cvr currents` beside jq and beside reading the files alone, at two sizes or more, and the check of one report, or
+the reading of one definition, beside the JSON reader alone; compares what is printed with jq byte by byte. README.md says
+what the figures mean. The status is 1 where a command fails or a text differs. With --keep the raw figures are appended to
+runs/DATE-NAME.md. With --stages-only there are no runs of `cvr`."""
 import argparse
 import datetime
 import glob
@@ -20,9 +21,11 @@ import time
 HERE = os.path.dirname(os.path.abspath(__file__))
 TOP = os.path.dirname(HERE)
 SEED = 1
+MANY = 150000               # the records of one file of short records
+CONTESTS, SELECTIONS, UNITS, RECORDS = 2000, 50, 20000, 20000
 JQ_HINT = 'jq is missing: install it, as by `apt-get install jq`, `brew install jq` or `dnf install jq`'
 CVR_HINT = '%s is missing: `./cvr currents examples/county/definition.json` builds it'
-STAGES_HINT = '%s is missing, so the stages are left out: `cd crates/cvr_bench && rt run -- FILE 1` builds it'
+STAGES_HINT = '%s is missing, so the stages are left out: `cd crates/cvr_bench && rt run` builds it'
 
 
 class Failed(Exception):
@@ -143,33 +146,67 @@ def size(report, words, amount):
     return middle['cvr'], is_right
 
 
-def stages(program, path, rounds):
-    """(microseconds of the JSON reader, microseconds of the reader with the check of form) per round."""
-    done = subprocess.run([program, path, str(rounds)], stdin=subprocess.DEVNULL, stdout=subprocess.PIPE)
+def stages(words, task, definition, report):
+    """(microseconds of the JSON reader, microseconds of the check) per round."""
+    command = [words.stages, task, definition, report, str(words.rounds)]
+    done = subprocess.run(command, stdin=subprocess.DEVNULL, stdout=subprocess.PIPE)
     if done.returncode:
-        raise Failed('%s %s ended with status %d' % (program, path, done.returncode))
+        raise Failed('%s .. ended with status %d' % (' '.join(command[:4]), done.returncode))
     lines = done.stdout.decode('ascii').splitlines()
-    found = [re.match(r'read (\d+) form (\d+)$', line) for line in lines]
-    if len(found) != rounds or None in found:
-        raise Failed('%s %s printed %r' % (program, path, lines[:3]))
+    found = [re.match(r'read (\d+) check (\d+)$', line) for line in lines]
+    if len(found) != words.rounds or None in found:
+        raise Failed('%s .. printed %r' % (' '.join(command[:4]), lines[:3]))
     return [(int(one.group(1)), int(one.group(2))) for one in found]
 
 
-def form(report, words):
-    """Times the check of form beside the JSON reader alone, on the special reports."""
+def stage(report, words, name, task, definition, path):
+    """A line of the table of stages: a check beside the JSON reader alone, over one file."""
+    runs = stages(words, task, definition, path)
+    reads, checks = [run[0] / 1e6 for run in runs], [run[1] / 1e6 for run in runs]
+    ratios = [run[1] / max(run[0], 1) for run in runs]
+    report.say('%-22s %6.1f   %9.3f   %9.3f   %8.3f to %8.3f   %8.3f   %5.2f to %5.2f'
+               % (name, os.path.getsize(path) / 1e6, statistics.median(reads), statistics.median(checks),
+                  min(checks), max(checks), statistics.median(ratios), min(ratios), max(ratios)))
+    report.raw(name + ' read/check microseconds', ['%d/%d' % run for run in runs])
+
+
+def lists_made(words, name, contests, selections, units, records):
+    """(definition, report) with so many of each."""
+    data = made(words.data, name, ['lists', '--contests', str(contests), '--selections', str(selections),
+                                   '--units', str(units), '--records', str(records)])
+    return os.path.join(data, 'definition.json'), os.path.join(data, 'report.json')
+
+
+def check(report, words):
+    """Times the check of reports, and the reading of a definition, beside the JSON reader alone."""
     data = made(words.data, 'special', ['special'])
+    county = os.path.join(data, 'definition.json')
+    many_definition, many = lists_made(words, 'many', 10, 5, 100, MANY)
+    wide_definition, wide = lists_made(words, 'wide', CONTESTS, SELECTIONS, UNITS, RECORDS)
     report.say()
     report.say('stages, from the bytes to the freed tree')
-    report.say('%-16s %6s   %9s   %9s   %20s %11s' % ('', 'MB', 'read s', 'form s', 'spread of form', 'form / read'))
+    report.say('%-22s %6s   %9s   %9s   %20s   %8s   %14s'
+               % ('', 'MB', 'read s', 'check s', 'spread of check', 'c / r', 'spread of c / r'))
     for name in ('large', 'snapshots', 'devices'):
-        path = os.path.join(data, name + '.json')
-        runs = stages(words.stages, path, words.rounds)
-        reads, forms = [run[0] / 1e6 for run in runs], [run[1] / 1e6 for run in runs]
-        ratio = statistics.median(run[1] / max(run[0], 1) for run in runs)
-        report.say('%-16s %6.1f   %9.3f   %9.3f   %8.3f to %8.3f %11.3f'
-                   % (name + '.json', os.path.getsize(path) / 1e6, statistics.median(reads), statistics.median(forms),
-                      min(forms), max(forms), ratio))
-        report.raw(name + ' read/form microseconds', ['%d/%d' % run for run in runs])
+        stage(report, words, name, 'report', county, os.path.join(data, name + '.json'))
+    stage(report, words, '%d records' % MANY, 'report', many_definition, many)
+    stage(report, words, 'definition with lists', 'definition', wide_definition, wide_definition)
+    stage(report, words, 'report with lists', 'report', wide_definition, wide)
+    report.say('lists: %d contests of %d selections each, %d units; %d records'
+               % (CONTESTS, SELECTIONS, UNITS, RECORDS))
+    peaks(report, words, county, os.path.join(data, 'large.json'))
+
+
+def peaks(report, words, definition, path):
+    """The peak memory of the check of a report, beside that of the JSON reader, each in a process of its own."""
+    found = {}
+    for task in ('read', 'check'):
+        with tempfile.NamedTemporaryFile() as out:
+            runs = [timed([words.stages, task, definition, path, '1'], out.name) for _ in range(2)]
+        found[task] = max(run[1] for run in runs)
+        report.raw('large %s peak MiB' % task, ['%.1f' % run[1] for run in runs])
+    report.say('large, peak MiB with the %.1f MiB of the file: read %.1f, check %.1f, check / read %.3f'
+               % (os.path.getsize(path) / 2 ** 20, found['read'], found['check'], found['check'] / found['read']))
 
 
 def machine():
@@ -209,6 +246,7 @@ def given():
     words.add_argument('--sizes', default='10000,100000', help='numbers of records, two or more')
     words.add_argument('--rounds', type=int, default=5)
     words.add_argument('--jq-rounds', type=int, default=3)
+    words.add_argument('--stages-only', action='store_true', help='no runs of cvr')
     words.add_argument('--keep', metavar='NAME', help='append the raw figures to runs/DATE-NAME.md')
     words = words.parse_args()
     words.sizes = sorted(int(text) for text in words.sizes.split(','))
@@ -217,26 +255,34 @@ def given():
     if words.keep and not re.match(r'[\w.-]+$', words.keep):
         sys.exit('a name of letters, digits, points and lines')
     words.cvr, words.stages = os.path.abspath(words.cvr), os.path.abspath(words.stages)
-    if not os.path.exists(words.cvr):
+    if not words.stages_only and not os.path.exists(words.cvr):
         sys.exit(CVR_HINT % words.cvr)
     return words
+
+
+def currents(report, words):
+    """Times `cvr currents` on each size. Returns whether every text was right."""
+    is_right, seconds = True, {}
+    for amount in words.sizes:
+        seconds[amount], is_same = size(report, words, amount)
+        is_right = is_right and is_same
+    least, most = words.sizes[0], words.sizes[-1]
+    report.say()
+    report.say('cvr, time per record at %d records / at %d records: %.3f'
+               % (most, least, seconds[most] / most / (seconds[least] / least)))
+    return is_right
 
 
 def main():
     words = given()
     report = Report()
     report.say('%s, seed %d, commit %s' % (machine(), SEED, commit()))
-    is_right, seconds = True, {}
+    is_right = True
     try:
-        for amount in words.sizes:
-            seconds[amount], is_same = size(report, words, amount)
-            is_right = is_right and is_same
-        least, most = words.sizes[0], words.sizes[-1]
-        report.say()
-        report.say('cvr, time per record at %d records / at %d records: %.3f'
-                   % (most, least, seconds[most] / most / (seconds[least] / least)))
+        if not words.stages_only:
+            is_right = currents(report, words)
         if os.path.exists(words.stages):
-            form(report, words)
+            check(report, words)
         else:
             report.say(STAGES_HINT % os.path.relpath(words.stages))
     except Failed as fault:

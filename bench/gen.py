@@ -1,12 +1,16 @@
 #!/usr/bin/env python3
 """gen.py records --out FOLDER --records N [--seed S]
 gen.py special --out FOLDER [--seed S]
+gen.py lists --out FOLDER --contests C --selections S --units U --records N [--seed S]
 
-Makes invented reports of one large county, the same ones for the same seed. `records` writes definition.json, the
-scanners' reports scan-*.json with N cast vote records, and the desks' reports desk-*.json: one record in twenty again
-with a modified snapshot, a tenth of these with a second one. `special` writes definition.json, large.json (a scanner's
-report as long as the limit of a file allows), snapshots.json (one record with 200,000 snapshots) and devices.json (a
-report with 1,000,000 reporting devices). Every file is a report of the profile, and below 67,108,864 bytes."""
+Makes invented reports, the same ones for the same seed. `records` and `special` are of one large county. `records`
+writes definition.json, the scanners' reports scan-*.json with N cast vote records, and the desks' reports desk-*.json:
+one record in twenty again with a modified snapshot, a tenth of these with a second one. `special` writes
+definition.json, large.json (a scanner's report as long as the limit of a file allows), snapshots.json (one record with
+200,000 snapshots) and devices.json (a report with 1,000,000 reporting devices). `lists` writes definition.json with C
+contests of S selections each and U units, in no order, and report.json with the same lists and N records, each of one
+unit and with one vote in one contest. Every file is a report of the profile, is accepted beside the definition.json of
+its folder, and is below 67,108,864 bytes."""
 import argparse
 import itertools
 import json
@@ -237,18 +241,60 @@ def special(folder, seed):
     write(folder, 'devices.json', compact(head)[:-1] + ',"ReportingDevice":[' + devices + ']}')
 
 
+def shuffled(rng, names):
+    held = list(names)
+    rng.shuffle(held)
+    return held
+
+
+def listed(rng, contests, selections, units):
+    """A report with these ids, but for its CVRs. Short names leave room for records."""
+    choices = [{'@id': name, '@type': 'CVR.CandidateSelection'} for name in selections]
+    election = {'@id': 'e', '@type': 'CVR.Election', 'ElectionScopeId': units[0],
+                'Contest': [{'@id': name, '@type': 'CVR.CandidateContest', 'ContestSelection': choices}
+                            for name in shuffled(rng, contests)]}
+    return {'@type': 'CVR.CastVoteRecordReport', 'Version': '1.0.0', 'GeneratedDate': '2024-11-06T02:00:00Z',
+            'ReportGeneratingDeviceIds': ['d'], 'ReportingDevice': [{'@id': 'd', '@type': 'CVR.ReportingDevice'}],
+            'GpUnit': [{'@id': name, '@type': 'CVR.GpUnit', 'Type': 'precinct'} for name in shuffled(rng, units)],
+            'Election': [election]}
+
+
+def lists(folder, words):
+    rng = random.Random(words.seed)
+    contests = ['c%d' % n for n in range(words.contests)]
+    selections = ['s%d' % n for n in range(words.selections)]
+    units = ['u%d' % n for n in range(words.units)]
+    head = listed(rng, contests, selections, units)
+    write(folder, 'definition.json', compact(dict(head, CVR=[])))
+    report = Series(folder, 'report', head, LIMIT - 1)
+    for number in range(words.records):
+        report.put('{"@type":"CVR.CVR","BallotStyleUnitId":"%s","CVRSnapshot":[{"@id":"a","@type":"CVR.CVRSnapshot",'
+                   '"CVRContest":[{"@type":"CVR.CVRContest","CVRContestSelection":[{"@type":"CVR.CVRContestSelection",'
+                   '"ContestSelectionId":"%s","SelectionPosition":[{"@type":"CVR.SelectionPosition","HasIndication":"yes",'
+                   '"NumberVotes":1}]}],"ContestId":"%s"}],"Type":"original"}],"CreatingDeviceId":"d",'
+                   '"CurrentSnapshotId":"a","ElectionId":"e","UniqueId":"%06d"}'
+                   % (units[number % len(units)], rng.choice(selections), rng.choice(contests), number))
+    report.end()
+    assert report.count == 1, 'so many records take more than one file'
+
+
 def main():
     words = argparse.ArgumentParser()
-    words.add_argument('what', choices=['records', 'special'])
+    words.add_argument('what', choices=['records', 'special', 'lists'])
     words.add_argument('--out', required=True)
+    words.add_argument('--contests', type=int, default=10)
+    words.add_argument('--selections', type=int, default=5)
+    words.add_argument('--units', type=int, default=100)
     words.add_argument('--records', type=int, default=10000)
     words.add_argument('--seed', type=int, default=1)
     words = words.parse_args()
     os.makedirs(words.out)
     if words.what == 'records':
         records(words.out, words.records, words.seed)
-    else:
+    elif words.what == 'special':
         special(words.out, words.seed)
+    else:
+        lists(words.out, words)
     sizes = [os.path.getsize(os.path.join(words.out, name)) for name in os.listdir(words.out)]
     assert max(sizes) < LIMIT
     print('%s: %d files, %.1f MB, the longest %.1f MB' % (words.out, len(sizes), sum(sizes) / 1e6, max(sizes) / 1e6))
