@@ -1,10 +1,12 @@
 //! Times the check of a report, or the reading of a definition, beside the JSON reader alone, each from
-//! bytes to freed tree. The words are a task, the definition, the report and the number of rounds; each
-//! round prints a line of microseconds. It is no part of the product.
+//! bytes to freed tree; and the facts of a report, from the report to the freed list, beside its check.
+//! The words are a task, the definition, the report and the number of rounds; each round prints a line
+//! of microseconds. It is no part of the product.
 #![tactic(auto)]
 
 use anyhow::{Context, Result, bail};
 use cdf_check::{Definition, check_report};
+use cvr_facts::facts_of;
 use serde_json::Value;
 use std::rt::Clock;
 use std::time::Instant;
@@ -32,6 +34,25 @@ fn time_check<R: Clock + AllocGlobal>(
         Err(_) => bail!("the report is refused"),
     }
     Ok(Instant::now(rt)?.duration_since(start).as_micros())
+}
+
+// The microseconds of the facts of a report.
+fn time_facts<R: Clock + AllocGlobal>(
+    rt: &R,
+    definition: &Definition,
+    bytes: &[u8],
+) -> Result<u128> {
+    match check_report(rt.alloc(), definition, bytes) {
+        Ok(report) => {
+            let start = Instant::now(rt)?;
+            match facts_of(rt.alloc(), definition, &report) {
+                Ok(facts) => drop(facts),
+                Err(_) => bail!("no memory"),
+            }
+            Ok(Instant::now(rt)?.duration_since(start).as_micros())
+        }
+        Err(_) => bail!("the report is refused"),
+    }
 }
 
 // The microseconds of the reading of a definition.
@@ -74,6 +95,14 @@ fn print_report(rt: &HostRuntime, known: &Definition, report: &[u8]) -> Result<(
     Ok(())
 }
 
+// Prints the times of the check of a report and of its facts.
+fn print_facts(rt: &HostRuntime, known: &Definition, report: &[u8]) -> Result<()> {
+    let check = time_check(rt, known, report)?;
+    let facts = time_facts(rt, known, report)?;
+    println!(rt; "check {check} facts {facts}")?;
+    Ok(())
+}
+
 // Prints the times of the reader and of the reading of a definition.
 fn print_definition(rt: &HostRuntime, definition: &[u8]) -> Result<()> {
     let read = time_read(rt, definition)?;
@@ -94,6 +123,7 @@ fn play_round(
         "read" => print_read(rt, report),
         "check" => print_check(rt, known, report),
         "report" => print_report(rt, known, report),
+        "facts" => print_facts(rt, known, report),
         "definition" => print_definition(rt, definition),
         _ => bail!("no such task"),
     }

@@ -1,35 +1,42 @@
 -- The lines of the last facts of a sorted list are the currents of the set that it stands for.
-use Rattle.std.proofs.Common.{◌≡◌, ℕ, List, [], ◌∷◌, map, Bool, true, false, if◌then◌else◌, ◌&&◌, Some, Ordering, Less, Equal, Greater, bytes_eq, refl, sym, ap, ◌∙◌, subst, true≢false, inl, inr}
-use Rattle.std.specs.List.{All, filter, flat_map}
-use Rattle.std.specs.List.Sorted.{IsSorted}
+use Rattle.std.proofs.Common.{◌≡◌, ℕ, List, [], ◌∷◌, map, Bool, true, false, ◌&&◌, Some, Ordering, Less, Equal, Greater, bytes_eq, refl, sym, ap, ◌∙◌, subst, arith}
+use Rattle.std.specs.List.{All, Contains, flat_map, filter_map, list_any}
+use Rattle.std.specs.List.Sorted.{IsSorted, IsPermutation}
 use Rattle.std.specs.Ordering.{is_eq, is_gt, eq_by_cmp, ordering_then}
-use Rattle.std.specs.Cmp.{Equal-is, tied_itself}
-use Rattle.std.specs.FinSet.{items, contains-items}
+use Rattle.std.specs.Cmp.{IsTotalOrder, both_ways}
+use Rattle.std.specs.FinSet.{items, contains}
+use Rattle.std.specs.FinMap.{IsAntisymmetric}
+use Rattle.std.proofs.lemmas.Cmp.{eq_by_cmp_equiv}
+use Rattle.std.proofs.lemmas.List.Elements.{All-contains}
+use Rattle.std.proofs.lemmas.List.Sorted.{All-permutation, list_any-IsPermutation, IsPermutation-map}
 use Rattle.std.proofs.lemmas.Map.Text.{is_eq-slice_cmp}
-use Rattle.cvr_cli.specs.declared.snapshot_fact.SnapshotFact.{SnapshotFact}
-use Rattle.cvr_cli.specs.Ordered.{Among}
-use Rattle.cvr_cli.specs.Snapshot.{Name, Fact, Facts, name_of, text_cmp, name_cmp, fact_cmp}
-use Rattle.cvr_cli.specs.Choice.{choice_cmp}
-use Rattle.cvr_cli.specs.Currents.{is_of, bodies_of, current, names, line_of, currents}
+use Rattle.std.proofs.lemmas.Map.Views.{list_any-from_Contains, Contains-from_any, tells_apart}
+use Rattle.cdf_form.specs.Places.{Contest}
+use Rattle.cvr_facts.specs.declared.name.RecordName.{RecordName}
+use Rattle.cvr_facts.specs.declared.snapshot.SnapshotFact.{SnapshotFact}
+use Rattle.cvr_facts.specs.Facts.{Fact, Device, Header, Snapshot, Facts, text_cmp, name_cmp, fact_cmp, fact_total, fact_exact}
+use Rattle.cvr_facts.specs.Choosing.{choice_cmp, snapshot_bodies, current}
+use Rattle.cvr_facts.specs.Lists.{fact_of_snapshot}
+use Rattle.cvr_facts.specs.Stands.{IsSpelledSnapshot}
+use Rattle.cvr_facts.proofs.Choosing.{choice_total, current as current_iff}
+use Rattle.cvr_facts.proofs.Records.{contains_iff, Contains-filter_map, from-filter_map, Contains-snapshot_bodies}
+use Rattle.cvr_facts.proofs.Greatest.{Contains-head, Contains-later}
+use Rattle.cvr_facts.proofs.Members.{in_map, from_map}
+use Rattle.cvr_facts.proofs.Ordered.{ordered-same}
+use Rattle.cvr_cli.specs.Currents.{snapshot_name, names, line_of, currents}
 use Rattle.cvr_cli.specs.Lasts.{lasts}
-use Rattle.cvr_cli.specs.Sort.{cmp}
-use Rattle.cvr_cli.specs.Typed.{IsTyped, AreHeld, fact_in, record_in, is_same_record, typed_line, last_lines}
-use Rattle.cvr_cli.proofs.Greatest.{is_greatest}
-use Rattle.cvr_cli.proofs.SameLists.{same_lists, IsAsymmetric}
-use Rattle.cvr_cli.proofs.Ordered.{any_among, among_any, ordered_rises, ordered_from, to_ordered}
+use Rattle.cvr_cli.specs.Kept.{Adds, kept_cmp, is_same_record, snapshot_line, last_lines}
 use Rattle.cvr_cli.proofs.Groups as groups
-use Rattle.cvr_cli.proofs.Sorted.{name_total, name_exact, fact_total, fact_exact, choice_total, choice_exact, body_in, among_all, rises}
+use Rattle.cvr_cli.proofs.Sorted.{name_total, name_exact, key_of, body_of, rises}
 
 -- ---- the test of one record is the order of names
 
-same_test : (o p : Ordering) → is_eq (ordering_then o (ordering_then p Equal)) ≡ (is_eq o && is_eq p)
+same_test : (o p : Ordering) → is_eq (ordering_then o p) ≡ (is_eq o && is_eq p)
 same_test Less p = refl
-same_test Equal Less = refl
-same_test Equal Equal = refl
-same_test Equal Greater = refl
+same_test Equal p = refl
 same_test Greater p = refl
 
-same_names : (a b : Name) → eq_by_cmp name_cmp a b ≡ (bytes_eq a.device b.device && bytes_eq a.unique b.unique)
+same_names : (a b : RecordName) → eq_by_cmp name_cmp a b ≡ (bytes_eq a.device b.device && bytes_eq a.unique b.unique)
 same_names a b =
     same_test (text_cmp a.device b.device) (text_cmp a.unique b.unique)
     ∙ rw (is_eq-slice_cmp a.device b.device, is_eq-slice_cmp a.unique b.unique) refl
@@ -40,119 +47,107 @@ lasts_alike s t h (x ∷ []) = refl
 lasts_alike s t h (x ∷ y ∷ ys) = rw (h x y, lasts_alike s t h (y ∷ ys)) refl
 
 abbrev own_lasts : List SnapshotFact → List SnapshotFact
-own_lasts = groups.lasts record_in body_in name_cmp choice_cmp
+own_lasts = groups.lasts key_of body_of name_cmp choice_cmp
 
--- ---- members
+some_is : {X : Type 0} (x y : X) → Some x ≡ Some y → x ≡ y
+some_is x y e = Prim.cc e
 
-among_map : {X Y : Type 0} (f : X → Y) (x : X) (xs : List X) → Among x xs → Among (f x) (map f xs)
-among_map f x [] a = a
-among_map f x (y ∷ ys) (inl is) = inl (ap f is)
-among_map f x (y ∷ ys) (inr a) = inr (among_map f x ys a)
+-- a fact that has a name is a snapshot of that record
+snapshot_name-is : (f : Fact) (name : RecordName) → snapshot_name f ≡ Some name → (id : List ℕ) × (body : List ℕ) × (f ≡ Snapshot name.device name.unique id body)
+snapshot_name-is (Device i b) name h = Prim.cc h
+snapshot_name-is (Header d u b) name h = Prim.cc h
+snapshot_name-is (Snapshot d u i b) name h =
+    let same = some_is (record { device = d; unique = u }) name h in
+    (i, b, λ j. Snapshot (same j).device (same j).unique i b)
 
-from_map : {X Y : Type 0} (f : X → Y) (y : Y) (xs : List X) → Among y (map f xs) → (x : X) × Among x xs × (y ≡ f x)
-from_map f y [] a = absurd a
-from_map f y (x ∷ xs) (inl is) = (x, inl refl, is)
-from_map f y (x ∷ xs) (inr a) = let r = from_map f y xs a in (r.0, inr r.1, r.2)
+-- ---- the list and the set
 
-module _ (xs : List SnapshotFact) (facts : Facts) (held : AreHeld xs facts) where
-  pub to_items : (f : SnapshotFact) → Among f xs → Among (fact_in f) (items facts)
-  to_items f a =
-      any_among fact_cmp fact_total fact_exact (fact_in f) (items facts)
-      (sym (contains-items facts (fact_in f)) ∙ sym (held (fact_in f)) ∙ among_any fact_cmp fact_total fact_exact (fact_in f) (map fact_in xs) (among_map fact_in f xs a))
+-- the order of a list is nothing to what it adds
+pub Adds-permutation : (contests : List Contest) (facts : Facts) (before xs ys : List SnapshotFact) → IsPermutation xs ys → Adds contests facts before xs → Adds contests facts before ys
+Adds-permutation contests facts before xs ys moved adds = record {
+  snapshots = λ d u i b.
+      sym (list_any-IsPermutation (eq_by_cmp fact_cmp (Snapshot d u i b)) (map fact_of_snapshot xs) (map fact_of_snapshot ys) (IsPermutation-map fact_of_snapshot xs ys moved)) ∙ adds.snapshots d u i b;
+  spelled = λ all. All-permutation (IsSpelledSnapshot contests) xs ys moved (adds.spelled all);
+}
 
-  pub from_items : (q : Fact) → Among q (items facts) → (f : SnapshotFact) × Among f xs × (q ≡ fact_in f)
-  from_items q a =
-      from_map fact_in q xs (any_among fact_cmp fact_total fact_exact q (map fact_in xs) (held q ∙ contains-items facts q ∙ among_any fact_cmp fact_total fact_exact q (items facts) a))
+any_listed : {K : Type 0} {R : K → K → Ordering} → IsTotalOrder R → (q : K) (ks : List K) → Contains ks q → list_any (eq_by_cmp R q) ks ≡ true
+any_listed t q ks a = list_any-from_Contains (eq_by_cmp_equiv t) q ks a
 
--- ---- the bodies of a record
+listed_any : {K : Type 0} {R : K → K → Ordering} → IsAntisymmetric R → (q : K) (ks : List K) → list_any (eq_by_cmp R q) ks ≡ true → Contains ks q
+listed_any e q ks h = Contains-from_any (tells_apart e) q ks h
 
-pub own_name : (name : Name) (f : Fact) → name ≡ name_of f → is_of name f ≡ true
-own_name name f is = sym (same_names name (name_of f)) ∙ (Equal-is (name_cmp name (name_of f))).1 (sym (ap (name_cmp name) is) ∙ tied_itself name_total name)
+module _ (contests : List Contest) (facts : Facts) (xs : List SnapshotFact) (adds : Adds contests facts [] xs) where
+  pub to_facts : (s : SnapshotFact) → Contains xs s → contains facts (fact_of_snapshot s) ≡ true
+  to_facts s a =
+      sym (adds.snapshots s.key.device s.key.unique s.id s.body) ∙ any_listed fact_total (fact_of_snapshot s) (map fact_of_snapshot xs) (in_map fact_of_snapshot s xs a)
 
-of_name : (name : Name) (f : Fact) → is_of name f ≡ true → name ≡ name_of f
-of_name name f h = name_exact name (name_of f) ((Equal-is (name_cmp name (name_of f))).0 (same_names name (name_of f) ∙ h))
-
-kept_at : (b : Bool) (g f : Fact) (fs : List Fact) → Among (g.body) (map (λ h. h.body) fs) → Among g.body (map (λ h. h.body) (if b then f ∷ fs else fs))
-kept_at true g f fs a = inr a
-kept_at false g f fs a = a
-
-body_listed : (name : Name) (f : Fact) (fs : List Fact) → Among f fs → name ≡ name_of f → Among f.body (bodies_of name fs)
-body_listed name f [] a is = absurd a
-body_listed name f (g ∷ fs) (inl same) is =
-    let own : is_of name g ≡ true = own_name name g (is ∙ ap name_of same) in
-    rw own (inl (ap (λ h. h.body) same))
-body_listed name f (g ∷ fs) (inr a) is = kept_at (is_of name g) f g (filter (is_of name) fs) (body_listed name f fs a is)
-
-from_bodies_at : (t : Bool) (name : Name) (b : List ℕ) (g : Fact) (fs : List Fact) → is_of name g ≡ t → (Among b (bodies_of name fs) → (f : Fact) × Among f fs × (name ≡ name_of f) × (b ≡ f.body))
-    → Among b (map (λ h. h.body) (if t then g ∷ filter (is_of name) fs else filter (is_of name) fs)) → (f : Fact) × Among f (g ∷ fs) × (name ≡ name_of f) × (b ≡ f.body)
-from_bodies_at true name b g fs h rest (inl is) = (g, inl refl, of_name name g h, is)
-from_bodies_at true name b g fs h rest (inr a) = let r = rest a in (r.0, inr r.1, r.2, r.3)
-from_bodies_at false name b g fs h rest a = let r = rest a in (r.0, inr r.1, r.2, r.3)
-
-from_bodies : (name : Name) (b : List ℕ) (fs : List Fact) → Among b (bodies_of name fs) → (f : Fact) × Among f fs × (name ≡ name_of f) × (b ≡ f.body)
-from_bodies name b [] a = absurd a
-from_bodies name b (g ∷ fs) a = from_bodies_at (is_of name g) name b g fs refl (from_bodies name b fs) a
+  pub from_facts : (name : RecordName) (id body : List ℕ) → contains facts (Snapshot name.device name.unique id body) ≡ true → (s : SnapshotFact) × Contains xs s × (s.key ≡ name) × (s.body ≡ body)
+  from_facts name id body h =
+      let q : Fact = Snapshot name.device name.unique id body in
+      let r = from_map fact_of_snapshot q xs (listed_any fact_exact q (map fact_of_snapshot xs) (adds.snapshots name.device name.unique id body ∙ h)) in
+      let is : Snapshot r.0.key.device r.0.key.unique r.0.id r.0.body ≡ Snapshot name.device name.unique id body = r.2 in
+      let device : r.0.key.device ≡ name.device = Prim.cc is in
+      let unique : r.0.key.unique ≡ name.unique = Prim.cc is in
+      (r.0, r.1, λ i. record { device = device i; unique = unique i }, Prim.cc is)
 
 -- ---- what is printed
 
-name_asymmetric : IsAsymmetric name_cmp
-name_asymmetric a b lt gt =
-    let turned : name_cmp a b ≡ Greater = name_total.antisymm a b ∙ rw gt refl in
-    true≢false (ap is_gt (sym turned ∙ lt))
+module _ (contests : List Contest) (facts : Facts) (xs : List SnapshotFact) (adds : Adds contests facts [] xs) (sorted : IsSorted kept_cmp xs) where
+  spelled : All (IsSpelledSnapshot contests) xs
+  spelled = adds.spelled (λ k d lt. absurd (omega (arith, lt)))
 
-module _ (xs : List SnapshotFact) (facts : Facts) (held : AreHeld xs facts) (typed : All IsTyped xs) (sorted : IsSorted cmp xs) where
-  up : groups.Rises record_in body_in name_cmp choice_cmp xs
-  up = rises xs typed sorted
+  up : groups.Rises key_of body_of name_cmp choice_cmp xs
+  up = rises contests xs spelled sorted
 
-  in_list : (f : SnapshotFact) → Among f (own_lasts xs) → Among f xs
-  in_list f a = groups.last_among record_in body_in name_cmp choice_cmp name_total name_exact choice_total f xs a
+  in_list : (s : SnapshotFact) → Contains (own_lasts xs) s → Contains xs s
+  in_list s a = groups.last_among key_of body_of name_cmp choice_cmp name_total name_exact choice_total s xs a
 
-  top_at : (f : SnapshotFact) → Among f (own_lasts xs) → (b : List ℕ) → Among b (bodies_of (record_in f) (items facts)) → is_gt (choice_cmp b f.body) ≡ false
-  top_at f a b there =
-      let r = from_bodies (record_in f) b (items facts) there in
-      let x = from_items xs facts held r.0 r.1 in
-      let same : record_in x.0 ≡ record_in f = sym (r.2 ∙ ap name_of x.2) in
-      let spelled : b ≡ x.0.body = r.3 ∙ ap (λ (h : Fact). h.body) x.2 in
-      subst (λ c. is_gt (choice_cmp c f.body) ≡ false) (sym spelled)
-      (groups.tops record_in body_in name_cmp choice_cmp name_total name_exact choice_total f x.0 xs up a x.1 same)
+  top_at : (s : SnapshotFact) → Contains (own_lasts xs) s → (b : List ℕ) → Contains (snapshot_bodies facts s.key) b → is_gt (choice_cmp b s.body) ≡ false
+  top_at s a b there =
+      let r = (Contains-snapshot_bodies facts s.key b).0 there in
+      let x = from_facts contests facts xs adds s.key r.0 b r.1 in
+      subst (λ c. is_gt (choice_cmp c s.body) ≡ false) x.3 (groups.tops key_of body_of name_cmp choice_cmp name_total name_exact choice_total s xs up a x.0 x.1 x.2)
 
-  is_current : (f : SnapshotFact) → Among f (own_lasts xs) → current facts (record_in f) ≡ Some f.body
-  is_current f a =
-      let bodies = bodies_of (record_in f) (items facts) in
-      is_greatest choice_total choice_exact bodies f.body (record {
-        listed = among_any choice_cmp choice_total choice_exact f.body bodies (body_listed (record_in f) (fact_in f) (items facts) (to_items xs facts held f (in_list f a)) refl);
-        top = λ b any. top_at f a b (any_among choice_cmp choice_total choice_exact b bodies any);
+  is_current : (s : SnapshotFact) → Contains (own_lasts xs) s → current facts s.key ≡ Some s.body
+  is_current s a =
+      (current_iff facts s.key s.body).1 (record {
+        listed = (Contains-snapshot_bodies facts s.key s.body).1 (s.id, to_facts contests facts xs adds s (in_list s a));
+        top = top_at s a;
       })
 
-  same_line : (f : SnapshotFact) → Among f (own_lasts xs) → line_of (record_in f) (current facts (record_in f)) ≡ typed_line f
-  same_line f a =
-      let own : IsTyped f = among_all IsTyped f xs typed (in_list f a) in
-      rw (is_current f a, own.id, own.kind) refl
+  same_line : (s : SnapshotFact) → Contains (own_lasts xs) s → line_of s.key (current facts s.key) ≡ snapshot_line s
+  same_line s a =
+      let own : IsSpelledSnapshot contests s = All-contains (IsSpelledSnapshot contests) xs s spelled (in_list s a) in
+      rw (is_current s a, own.id, own.kind) refl
 
-  lines_of : (fs : List SnapshotFact) → ((f : SnapshotFact) → Among f fs → line_of (record_in f) (current facts (record_in f)) ≡ typed_line f)
-      → flat_map (λ name. line_of name (current facts name)) (map record_in fs) ≡ flat_map typed_line fs
+  lines_of : (ss : List SnapshotFact) → ((s : SnapshotFact) → Contains ss s → line_of s.key (current facts s.key) ≡ snapshot_line s)
+      → flat_map (λ name. line_of name (current facts name)) (map key_of ss) ≡ flat_map snapshot_line ss
   lines_of [] h = refl
-  lines_of (f ∷ fs) h = rw (h f (inl refl), lines_of fs (λ g a. h g (inr a))) refl
+  lines_of (s ∷ ss) h = rw (h s (Contains-head s ss), lines_of ss (λ x a. h x (Contains-later s x ss a))) refl
 
-  listed_name : (z : Name) → Among z (names facts) → Among z (map record_in (own_lasts xs))
+  listed_name : (z : RecordName) → Contains (filter_map snapshot_name (items facts)) z → Contains (map key_of (own_lasts xs)) z
   listed_name z a =
-      let q = from_map name_of z (items facts) (ordered_from name_cmp name_total name_exact (map name_of (items facts)) z a) in
-      let x = from_items xs facts held q.0 q.1 in
-      subst (λ n. Among n (map record_in (own_lasts xs))) (sym (q.2 ∙ ap name_of x.2))
-      (groups.group_has_last record_in body_in name_cmp choice_cmp name_total name_exact choice_total x.0 xs x.1)
+      let q = from-filter_map snapshot_name (items facts) z a in
+      let is = snapshot_name-is q.0 z q.2 in
+      let x = from_facts contests facts xs adds z is.0 is.1 ((contains_iff facts (Snapshot z.device z.unique is.0 is.1)).1 (subst (Contains (items facts)) is.2 q.1)) in
+      subst (Contains (map key_of (own_lasts xs))) x.2 (groups.group_has_last key_of body_of name_cmp choice_cmp name_total name_exact choice_total x.0 xs x.1)
 
-  named : (z : Name) → Among z (map record_in (own_lasts xs)) → Among z (names facts)
+  named : (z : RecordName) → Contains (map key_of (own_lasts xs)) z → Contains (filter_map snapshot_name (items facts)) z
   named z a =
-      let f = from_map record_in z (own_lasts xs) a in
-      to_ordered name_cmp name_total name_exact (map name_of (items facts)) z
-      (subst (λ n. Among n (map name_of (items facts))) (sym f.2) (among_map name_of (fact_in f.0) (items facts) (to_items xs facts held f.0 (in_list f.0 f.1))))
+      let s = from_map key_of z (own_lasts xs) a in
+      let has = (contains_iff facts (fact_of_snapshot s.0)).0 (to_facts contests facts xs adds s.0 (in_list s.0 s.1)) in
+      Contains-filter_map snapshot_name (items facts) (fact_of_snapshot s.0) z has (ap Some s.2)
 
-  same_names_listed : names facts ≡ map record_in (own_lasts xs)
+  same_names_listed : names facts ≡ map key_of (own_lasts xs)
   same_names_listed =
-      same_lists name_cmp (names facts) (map record_in (own_lasts xs)) name_asymmetric (ordered_rises name_cmp (map name_of (items facts)))
-      (groups.names_rise record_in body_in name_cmp choice_cmp name_total name_exact choice_total xs up) listed_name named
+      let all = filter_map snapshot_name (items facts) in
+      let own = map key_of (own_lasts xs) in
+      ordered-same name_total name_exact all own (groups.names_rise key_of body_of name_cmp choice_cmp name_total name_exact choice_total xs up)
+      (λ q. both_ways (list_any (eq_by_cmp name_cmp q) own) (list_any (eq_by_cmp name_cmp q) all)
+      (λ h. any_listed name_total q all (named q (listed_any name_exact q own h)))
+      (λ h. any_listed name_total q own (listed_name q (listed_any name_exact q all h))))
 
   pub last_lines-currents : last_lines xs ≡ currents facts
   last_lines-currents =
-      let alike : lasts is_same_record xs ≡ own_lasts xs = lasts_alike is_same_record (λ x y. eq_by_cmp name_cmp (record_in x) (record_in y)) (λ x y. sym (same_names (record_in x) (record_in y))) xs in
-      ap (flat_map typed_line) alike ∙ sym (lines_of (own_lasts xs) same_line) ∙ ap (flat_map (λ name. line_of name (current facts name))) (sym same_names_listed)
+      let alike : lasts is_same_record xs ≡ own_lasts xs = lasts_alike is_same_record (λ x y. eq_by_cmp name_cmp x.key y.key) (λ x y. sym (same_names x.key y.key)) xs in
+      ap (flat_map snapshot_line) alike ∙ sym (lines_of (own_lasts xs) same_line) ∙ ap (flat_map (λ name. line_of name (current facts name))) (sym same_names_listed)

@@ -1,11 +1,9 @@
-pub mod Greatest
-pub mod SameLists
-pub mod Ordered
 pub mod Groups
 pub mod Sorted
 pub mod CurrentLines
 pub mod Files
 pub mod Accepted
-pub mod Held
+pub mod Kept
+pub mod FileByFile
 pub mod Lines
 pub mod SameFiles

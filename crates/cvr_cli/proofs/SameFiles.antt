@@ -3,11 +3,10 @@ use Rattle.std.proofs.Common.{◌≡◌, ℕ, zero, suc, ◌<◌, List, [], ◌�
 use Rattle.std.specs.List.{Contains, list_any}
 use Rattle.std.specs.Cmp.{both_ways}
 use Rattle.std.specs.FinSet.{contains, contains-empty, contains-union, same_set}
-use Rattle.cvr_cli.specs.Snapshot.{Fact, fact_cmp}
 use Rattle.cdf_check.specs.Frame.{Frame}
+use Rattle.cvr_facts.specs.Facts.{Fact, fact_cmp, fact_total, fact_exact}
 use Rattle.cvr_cli.specs.Laws.{HaveSameFiles}
 use Rattle.cvr_cli.specs.Outcome.{file_facts, held}
-use Rattle.cvr_cli.proofs.Sorted.{fact_total, fact_exact}
 
 -- a fact is held where it is one of some file
 held_by : (definition : Frame) (files : List (List ℕ)) (q : Fact) → contains (held definition files) q ≡ list_any (λ file. contains (file_facts definition file) q) files

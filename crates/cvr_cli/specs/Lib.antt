@@ -1,12 +1,8 @@
 pub mod File
 pub mod Accepted
-pub mod Ordered
-pub mod Snapshot
-pub mod Choice
 pub mod Currents
-pub mod Sort
 pub mod Lasts
-pub mod Typed
+pub mod Kept
 pub mod Outcome
 pub mod Log
 pub mod Status

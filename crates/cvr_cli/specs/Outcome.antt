@@ -7,17 +7,18 @@ use Rattle.std.specs.FinSet as set
 use Rattle.cdf_form.specs.Parts.{record_count}
 use Rattle.cdf_check.specs.Frame.{Frame}
 use Rattle.cdf_check.specs.Acceptance.{frame_in}
+use Rattle.cvr_facts.specs.Facts.{Facts}
+use Rattle.cvr_facts.specs.Reports.{facts}
 use Rattle.cvr_cli.specs.declared.request.Task.{Task}
 use Rattle.cvr_cli.specs.declared.request.Task.TheVariants.{Currents, Check}
 use Rattle.cvr_cli.specs.declared.status.Status.{Status}
 use Rattle.cvr_cli.specs.declared.status.Status.TheVariants.{Done, Refused}
 use Rattle.cvr_cli.specs.Accepted.{is_unsound, is_refused, accepted}
-use Rattle.cvr_cli.specs.Snapshot.{Facts, report_facts}
 use Rattle.cvr_cli.specs.Currents.{currents}
 
 -- the facts of a file: none where it is refused
 abbrev pub file_facts : Frame → List ℕ → Facts
-file_facts definition bytes = set.from_list (option_map_or report_facts (accepted definition bytes) [])
+file_facts definition bytes = if is_refused definition bytes then set.empty else facts bytes
 
 -- the facts of the accepted files together
 abbrev pub held : Frame → List (List ℕ) → Facts

@@ -1,14 +1,13 @@
-ghost use Rattle.std.specs.Prelude.{◌≡◌, ◌++◌, OnOk, IfOk, string_bytes};
-ghost use Rattle.std.specs.List.{All};
+ghost use Rattle.std.specs.Prelude.{◌≡◌, ◌++◌, List, [], OnOk, IfOk, string_bytes};
 ghost use Rattle.std.specs.List.Sorted.{IsPermutation, IsSorted};
-ghost use Rattle.cvr_cli.specs.Snapshot.{Facts};
+ghost use Rattle.cdf_form.specs.Places.{Contest};
+ghost use Rattle.cvr_facts.specs.Facts.{Facts};
 ghost use Rattle.cvr_cli.specs.Currents.{word, currents};
-ghost use Rattle.cvr_cli.specs.Sort.{cmp};
-ghost use Rattle.cvr_cli.specs.Typed.{IsTyped, AreHeld, is_same_record, typed_line, last_lines};
+ghost use Rattle.cvr_cli.specs.Kept.{Adds, kept_cmp, is_same_record, snapshot_line, last_lines};
 
-use crate::snapshot_fact::SnapshotFact;
 use crate::text::quoted;
 use cdf_types::Memory;
+use cvr_facts::{SnapshotFact, choice_cmp};
 use std::alloc::Global;
 
 // Adds a text as a JSON string, and a space.
@@ -22,10 +21,10 @@ fn push_word(alloc: Global, text: &mut String, name: &str) -> Result<(), Memory>
 
 // Adds the line of a fact.
 fn push_line(alloc: Global, text: &mut String, fact: &SnapshotFact) -> Result<(), Memory>
-    ensures { OnOk result (string_bytes text.new ≡ string_bytes text.old ++ typed_line fact.now) }
+    ensures { OnOk result (string_bytes text.new ≡ string_bytes text.old ++ snapshot_line fact.now) }
 {
-    push_word(alloc, text, fact.device.as_str())?;
-    push_word(alloc, text, fact.unique.as_str())?;
+    push_word(alloc, text, fact.key.device.as_str())?;
+    push_word(alloc, text, fact.key.unique.as_str())?;
     push_word(alloc, text, fact.id.as_str())?;
     text.push_str(fact.kind.text())?;
     text.push_str("\n")?;
@@ -36,7 +35,7 @@ fn push_line(alloc: Global, text: &mut String, fact: &SnapshotFact) -> Result<()
 fn is_same_record(one: &SnapshotFact, other: &SnapshotFact) -> bool
     ensures { result ≡ is_same_record one.now other.now }
 {
-    one.device == other.device && one.unique == other.unique
+    one.key == other.key
 }
 
 // Adds the line of the last fact of each run of a record.
@@ -58,9 +57,11 @@ fn push_last_lines(alloc: Global, text: &mut String, facts: &[SnapshotFact]) -> 
 // Puts facts in order of record, and those of a record in the order of choosing.
 fn sort(facts: &mut Vec<SnapshotFact>)
     ensures permutation { IsPermutation facts.old.items facts.new.items }
-    ensures sorted { IsSorted cmp facts.new.items }
+    ensures sorted { IsSorted kept_cmp facts.new.items }
 {
-    facts.sort_unstable();
+    facts.sort_unstable_by(|one, other| {
+        one.key.cmp(&other.key).then_with(|| choice_cmp(one, other))
+    });
 }
 
 /// The lines of the current snapshots among facts, in order of record.
@@ -68,8 +69,8 @@ fn sort(facts: &mut Vec<SnapshotFact>)
 /// # Errors
 /// `Memory` where a growth was refused.
 pub fn currents_text(alloc: Global, mut facts: Vec<SnapshotFact>) -> Result<String, Memory>
-    requires { All IsTyped facts.items }
-    ensures { IfOk result (λ text. (held : Facts) → AreHeld facts.items held → string_bytes text ≡ currents held) }
+    ensures { IfOk result (λ text. (contests : List Contest) (held : Facts) → Adds contests held [] facts.items
+        → string_bytes text ≡ currents held) }
 {
     sort(&mut facts);
     let mut text = String::new(alloc);

@@ -10,7 +10,6 @@ mod over;
 mod reading;
 mod refusals;
 mod request;
-mod snapshot_fact;
 mod status;
 mod tasks;
 #[cfg(test)]

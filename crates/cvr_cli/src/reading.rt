@@ -1,47 +1,16 @@
-ghost use Rattle.std.specs.Prelude.{◌≡◌, ◌++◌, IfOk, IfErr, OnOk, OnErr, None, Some};
+ghost use Rattle.std.specs.Prelude.{◌≡◌, IfOk, IfErr, OnOk, OnErr, None, Some};
 ghost use Rattle.cdf_form.specs.Reading.{IsMemory};
 ghost use Rattle.cdf_form.specs.Parts.{record_count};
-ghost use Rattle.cdf_check.specs.Acceptance.{first_refusal, value_in, report_in};
-ghost use Rattle.cvr_cli.specs.Typed.{typed_of, typed_in_cvr, typed_in_report, typed_in_file};
+ghost use Rattle.cdf_typed.specs.Range.{ReportInRange};
+ghost use Rattle.cdf_check.specs.Acceptance.{first_refusal, value_in};
+ghost use Rattle.cvr_facts.specs.Lists.{IsReportOf};
+ghost use Rattle.cvr_cli.specs.Outcome.{file_facts};
+ghost use Rattle.cvr_cli.specs.Kept.{Adds};
 
-use crate::snapshot_fact::SnapshotFact;
 use cdf_check::{Definition, check_report};
-use cdf_types::{Cvr, Memory, ReadFault, Report};
+use cdf_types::{ReadFault, Report};
+use cvr_facts::{SnapshotFact, facts_of};
 use std::alloc::Global;
-
-// Adds the fact of each snapshot of a cast vote record.
-fn take_cvr(cvr: Cvr, facts: &mut Vec<SnapshotFact>) -> Result<(), Memory>
-    ensures { OnOk result (facts.new.items ≡ facts.old.items ++ typed_in_cvr cvr) }
-{
-    let Cvr {
-        device,
-        unique,
-        snapshots,
-        ..
-    } = cvr;
-    for snapshot in snapshots.into_vec() {
-        facts.push(SnapshotFact {
-            device: device.copy()?,
-            unique: unique.copy()?,
-            kind: snapshot.kind,
-            moment: snapshot.moment,
-            body: snapshot.body,
-            id: snapshot.id,
-        })?;
-    }
-    Ok(())
-}
-
-// The facts of a report.
-fn take_report(alloc: Global, report: Report) -> Result<Vec<SnapshotFact>, Memory>
-    ensures { IfOk result (λ facts. facts.items ≡ typed_in_report report) }
-{
-    let mut facts = Vec::new(alloc);
-    for cvr in report.cvrs.into_vec() {
-        take_cvr(cvr, &mut facts)?;
-    }
-    Ok(facts)
-}
 
 // The report of a file, if it is accepted beside the definition.
 fn accepted_report(
@@ -49,8 +18,8 @@ fn accepted_report(
     definition: &Definition,
     bytes: &[u8],
 ) -> Result<Report, ReadFault>
-    ensures accepted { OnOk result (first_refusal definition.now bytes.now ≡ None) }
-    ensures report { IfOk result (λ r. r ≡ report_in definition.now.contests bytes.now) }
+    ensures report { IfOk result (IsReportOf definition.now bytes.now) }
+    ensures range { IfOk result (ReportInRange definition.now.contests) }
     ensures fault { IfErr result (λ e. ¬ IsMemory e → first_refusal definition.now bytes.now ≡ Some e) }
 {
     match check_report(alloc, definition, bytes) {
@@ -59,7 +28,7 @@ fn accepted_report(
     }
 }
 
-/// Adds the facts of a file, if it is accepted beside the definition.
+/// Adds the snapshots of a file, if it is accepted beside the definition.
 ///
 /// # Errors
 /// As `check_report`. The list is then as it was.
@@ -70,12 +39,13 @@ pub fn read_facts(
     facts: &mut Vec<SnapshotFact>,
 ) -> Result<(), ReadFault>
     ensures accepted { OnOk result (first_refusal definition.now bytes.now ≡ None) }
-    ensures facts { OnOk result (facts.new.items ≡ facts.old.items ++ typed_in_file definition.now bytes.now) }
+    ensures facts { OnOk result (Adds definition.now.contests (file_facts definition.now bytes.now) facts.old.items facts.new.items) }
     ensures fault { IfErr result (λ e. ¬ IsMemory e → first_refusal definition.now bytes.now ≡ Some e) }
     ensures unchanged { OnErr result (facts.new.items ≡ facts.old.items) }
 {
     let report = accepted_report(alloc, definition, bytes)?;
-    let mut found = take_report(alloc, report)?;
+    let list = facts_of(alloc, definition, &report)?;
+    let mut found = list.snapshots.into_vec();
     facts.append(&mut found)?;
     Ok(())
 }

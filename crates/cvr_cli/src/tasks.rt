@@ -1,10 +1,10 @@
 ghost use Rattle.std.specs.Prelude.{◌≡◌, ◌≢◌, ◌⊎◌, ◌++◌, length, map, true, false, IfOk, string_bytes};
-ghost use Rattle.std.specs.List.{flat_map, list_any};
+ghost use Rattle.std.specs.List.{list_any};
 ghost use Rattle.cdf_types.specs.Device.{appended, AppendsFront};
 ghost use Rattle.cvr_cli.specs.Accepted.{is_refused};
 ghost use Rattle.cvr_cli.specs.Outcome.{held, check_lines, task_text, run_text, any_refused, bytes_of, IsWhole};
 ghost use Rattle.cvr_cli.specs.Currents.{currents};
-ghost use Rattle.cvr_cli.specs.Typed.{typed_in_file};
+ghost use Rattle.cvr_cli.specs.Kept.{Adds};
 ghost use Rattle.cvr_cli.specs.declared.status.Status.TheVariants.{Done, Refused, CommandLine, Device, Memory as NoMemory};
 ghost use Rattle.cvr_cli.specs.Ends.{Ends};
 
@@ -14,13 +14,13 @@ use crate::log::say;
 use crate::reading::{count_records, read_facts};
 use crate::refusals::Refusals;
 use crate::request::{Request, Task};
-use crate::snapshot_fact::SnapshotFact;
 use crate::status::Status;
 use cdf_check::Definition;
 use cdf_types::{Body, DeviceFault, Memory, Sink, write_all};
+use cvr_facts::SnapshotFact;
 use std::alloc::Global;
 
-// Takes in the facts of each accepted file.
+// Takes in the snapshots of each accepted file.
 fn read_files<L: Sink>(
     alloc: Global,
     definition: &Definition,
@@ -31,7 +31,8 @@ fn read_files<L: Sink>(
 ) -> Refusals
     requires { length paths.now ≡ length files.now }
     ensures some { result.lacking ≡ false → result.some ≡ list_any (is_refused definition.now) (bytes_of files.now) }
-    ensures facts { result.lacking ≡ false → facts.new.items ≡ facts.old.items ++ flat_map (typed_in_file definition.now) (bytes_of files.now) }
+    ensures facts { result.lacking ≡ false
+        → Adds definition.now.contests (held definition.now (bytes_of files.now)) facts.old.items facts.new.items }
 {
     let mut refusals = Refusals::none();
     for (place, file) in files.iter().enumerate() {

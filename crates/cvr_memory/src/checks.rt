@@ -5,8 +5,8 @@ use cdf_check::{Definition, check_report};
 use cdf_types::{Memory, ReadFault};
 use std::alloc::Global;
 
-// The definition of a sample that is accepted. The script isn't built where it is refused.
-fn definition_of(alloc: Global, sample: Sample) -> Result<Definition, Memory> {
+/// The definition of a sample that is accepted. The script isn't built where it is refused.
+pub fn definition_of(alloc: Global, sample: Sample) -> Result<Definition, Memory> {
     let text = sample.text(alloc)?;
     match Definition::read(alloc, text.as_bytes()) {
         Ok(definition) => Ok(definition),

@@ -8,11 +8,15 @@
 
 mod checks;
 mod contents;
+mod copies;
+mod facts;
 mod files;
 mod reports;
 mod runs;
+mod same;
 mod scenes;
 mod script;
+mod sets;
 mod table;
 mod values;
 

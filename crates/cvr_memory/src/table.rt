@@ -1,4 +1,6 @@
 use crate::checks::{play_checking, play_definition, play_definition_copy};
+use crate::copies::{Copied, play_fact_copy};
+use crate::facts::{COUNTY_FACTS, Gathered, SCAN_FACTS, play_gathering};
 use crate::files::play_file_reading;
 use crate::reports::{
     CANDIDATE_UNKNOWN, CONTEST_TWICE, COUNTY_DEFINED, COUNTY_SCANNED, CUT, DEFINED, DEVICE_UNKNOWN,
@@ -8,6 +10,7 @@ use crate::reports::{
 };
 use crate::runs::play_running;
 use crate::scenes::Show;
+use crate::sets::{play_double_joining, play_set_joining, play_set_making};
 use crate::values::{play_body_copy, play_list_growth, play_sink_growth};
 use cdf_types::Memory;
 use std::alloc::Global;
@@ -24,6 +27,11 @@ pub enum Action {
     /// The report, beside the definition of the one election or of the county.
     Check(Sample),
     CheckInCounty(Sample),
+    GatherFacts(Gathered),
+    CopyFacts(Copied),
+    MakeSet,
+    JoinSet,
+    JoinTwoSets,
     Run(Show),
 }
 
@@ -38,6 +46,15 @@ impl Action {
             Action::ReadDefinition(_) => "Definition::read",
             Action::CopyDefinition(_) => "Definition::copy",
             Action::Check(_) | Action::CheckInCounty(_) => "check_report",
+            Action::GatherFacts(_) => "check_report,facts_of",
+            Action::CopyFacts(Copied::Names) => "RecordName::copy",
+            Action::CopyFacts(Copied::Devices) => "DeviceFact::copy",
+            Action::CopyFacts(Copied::Headers) => "HeaderFact::copy",
+            Action::CopyFacts(Copied::Snapshots) => "SnapshotFact::copy",
+            Action::CopyFacts(Copied::Sums) => "VoteSums::copy",
+            Action::MakeSet => "BodySet::new",
+            Action::JoinSet => "BodySet::join",
+            Action::JoinTwoSets => "join_both",
             Action::Run(_) => "run",
         }
     }
@@ -95,6 +112,22 @@ static MORE_REPORTS: [Script; 8] = [
     ("report_party", Action::CheckInCounty(PARTY_DIFFERING)),
 ];
 
+static FACTS: [Script; 7] = [
+    ("facts", Action::GatherFacts(SCAN_FACTS)),
+    ("facts_county", Action::GatherFacts(COUNTY_FACTS)),
+    ("names_copy", Action::CopyFacts(Copied::Names)),
+    ("devices_copy", Action::CopyFacts(Copied::Devices)),
+    ("headers_copy", Action::CopyFacts(Copied::Headers)),
+    ("snapshots_copy", Action::CopyFacts(Copied::Snapshots)),
+    ("sums_copy", Action::CopyFacts(Copied::Sums)),
+];
+
+static SETS: [Script; 3] = [
+    ("set", Action::MakeSet),
+    ("set_join", Action::JoinSet),
+    ("set_join_both", Action::JoinTwoSets),
+];
+
 static RUNS: [Script; 6] = [
     ("run_currents", Action::Run(Show::Currents)),
     ("run_check", Action::Run(Show::Counts)),
@@ -127,14 +160,32 @@ fn more_reports() -> &'static [Script] {
     &MORE_REPORTS
 }
 
+// Those of facts.
+fn facts() -> &'static [Script] {
+    &FACTS
+}
+
+// Those of sets.
+fn sets() -> &'static [Script] {
+    &SETS
+}
+
 // Those of runs.
 fn runs() -> &'static [Script] {
     &RUNS
 }
 
 /// All scripts, in lists by what they are of.
-pub fn scripts() -> [&'static [Script]; 5] {
-    [values(), definitions(), reports(), more_reports(), runs()]
+pub fn scripts() -> [&'static [Script]; 7] {
+    [
+        values(),
+        definitions(),
+        reports(),
+        more_reports(),
+        facts(),
+        sets(),
+        runs(),
+    ]
 }
 
 // Builds what an action needs, burns blocks, and does it.
@@ -148,6 +199,11 @@ fn play_action(alloc: Global, action: Action, blocks: u32) -> Result<&'static st
         Action::CopyDefinition(sample) => play_definition_copy(alloc, sample, blocks),
         Action::Check(sample) => play_checking(alloc, DEFINED, sample, blocks),
         Action::CheckInCounty(sample) => play_checking(alloc, COUNTY_DEFINED, sample, blocks),
+        Action::GatherFacts(wanted) => play_gathering(alloc, wanted, blocks),
+        Action::CopyFacts(copied) => play_fact_copy(alloc, copied, blocks),
+        Action::MakeSet => play_set_making(alloc, blocks),
+        Action::JoinSet => play_set_joining(alloc, blocks),
+        Action::JoinTwoSets => play_double_joining(alloc, blocks),
         Action::Run(show) => play_running(alloc, show.scene(), blocks),
     }
 }

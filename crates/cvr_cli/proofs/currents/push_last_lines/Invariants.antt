@@ -1,5 +1,5 @@
 use Rattle.std.proofs.Common.{◌≡◌, ◌++◌, drop, string_bytes}
-use Rattle.cvr_cli.specs.Typed.{last_lines}
+use Rattle.cvr_cli.specs.Kept.{last_lines}
 use Rattle.cvr_cli.proofs.currents.push_last_lines.Given as goal
 
 -- the text so far and the lines of the facts that are left

@@ -1,7 +1,7 @@
-use Rattle.std.proofs.Common.{◌≡◌, ap, ◌∙◌, subst, sym}
+use Rattle.std.proofs.Common.{ap, ◌∙◌, subst}
 use Rattle.cdf_types.specs.Device.{appended, AppendsFront}
 use Rattle.cvr_cli.specs.Outcome.{bytes_of}
-use Rattle.cvr_cli.proofs.Accepted.{is_sound, text_beside, none_refused_beside}
+use Rattle.cvr_cli.proofs.Accepted.{text_beside, none_refused_beside}
 use Rattle.cvr_cli.proofs.tasks.run.Goals as goal
 
 pub returns-in-Ok-clause-text : goal.returns-in-Ok-clause-text

@@ -1,0 +1,59 @@
+-- A list put in order.
+use Rattle.std.proofs.Common.{◌≡◌, List, [], ◌∷◌, map, Bool, true, false, cond, ◌||◌, ◌&&◌, T, Option, Some, is_some, Ordering, Less, Equal, Greater, refl, sym, ap, ◌∙◌}
+use Rattle.std.specs.List.{list_any, AllByRecursion}
+use Rattle.std.specs.List.Sorted.{IsStrictlySortedBy}
+use Rattle.std.specs.Ordering.{eq_by_cmp, is_lt}
+use Rattle.std.specs.Cmp.{IsTotalOrder}
+use Rattle.std.specs.FinMap as map_of
+use Rattle.std.specs.FinMap.{IsAntisymmetric, entries, entries_sorted}
+use Rattle.std.specs.FinMap.Entries.{is_sorted, below_all}
+use Rattle.std.specs.FinSet.{items, from_list, contains-from_list, contains-items}
+use Rattle.cvr_facts.specs.Ordered.{keys_of, ordered}
+use Rattle.cvr_facts.proofs.SameLists.{same_lists}
+
+some_cond : (b : Bool) (o : Option (Unit {0})) → is_some (cond b (Some tt) o) ≡ (b || is_some o)
+some_cond true o = refl
+some_cond false o = refl
+
+both_left : (a b : Bool) → T (a && b) → T a
+both_left true b h = tt
+both_left false b h = h
+
+both_right : (a b : Bool) → T (a && b) → T b
+both_right true b h = h
+both_right false b h = absurd h
+
+less_is : (o : Ordering) → T (is_lt o) → o ≡ Less
+less_is Less h = refl
+less_is Equal h = absurd h
+less_is Greater h = absurd h
+
+module _ {K : Type 0} (R : K → K → Ordering) where
+  below_is : (k : K) (es : List (K × Unit {0})) → T (below_all R k es) → AllByRecursion (λ y. R k y ≡ Less) (map (λ x. x.0) es)
+  below_is k [] h = tt
+  below_is k (x ∷ es) h = (less_is (R k x.0) (both_left (is_lt (R k x.0)) _ h), below_is k es (both_right (is_lt (R k x.0)) _ h))
+
+  rises : (es : List (K × Unit {0})) → T (is_sorted R es) → IsStrictlySortedBy R (map (λ x. x.0) es)
+  unfolding IsStrictlySortedBy
+  rises [] h = tt
+  rises (x ∷ es) h = (below_is x.0 es (both_left (below_all R x.0 es) _ h), rises es (both_right (below_all R x.0 es) _ h))
+
+  pub ordered_rises : (ks : List K) → IsStrictlySortedBy R (ordered R ks)
+  ordered_rises ks = rises (entries (keys_of R ks)) (entries_sorted (keys_of R ks))
+
+module _ {K : Type 0} {R : K → K → Ordering} (t : IsTotalOrder R) where
+  found : (ks : List K) (q : K) → is_some (map_of.get (keys_of R ks) q) ≡ list_any (eq_by_cmp R q) ks
+  found [] q = ap is_some (map_of.get-empty R q)
+  found (k ∷ ks) q = ap is_some (map_of.get-insert t (keys_of R ks) k tt q) ∙ (some_cond (eq_by_cmp R q k) (map_of.get (keys_of R ks) q) ∙ ap (λ b. eq_by_cmp R q k || b) (found ks q))
+
+  -- it keeps its members
+  pub list_any-ordered : (ks : List K) (q : K) → list_any (eq_by_cmp R q) (ordered R ks) ≡ list_any (eq_by_cmp R q) ks
+  list_any-ordered ks q = sym (map_of.contains_key-keys (keys_of R ks) q) ∙ found ks q
+
+  -- what rises and has the members is it
+  pub ordered-same : IsAntisymmetric R → (ks xs : List K) → IsStrictlySortedBy R xs → ((q : K) → list_any (eq_by_cmp R q) xs ≡ list_any (eq_by_cmp R q) ks) → ordered R ks ≡ xs
+  ordered-same e ks xs h same = same_lists t e (ordered R ks) xs (ordered_rises R ks) h (λ q. list_any-ordered ks q ∙ sym (same q))
+
+  -- the members of the set that a rising list makes, in order, are that list
+  pub ordered-from_list : IsAntisymmetric R → (xs : List K) → IsStrictlySortedBy R xs → ordered R (items (from_list {R = R} xs)) ≡ xs
+  ordered-from_list e xs h = ordered-same e (items (from_list xs)) xs h (λ q. sym (contains-from_list t xs q) ∙ contains-items (from_list xs) q)

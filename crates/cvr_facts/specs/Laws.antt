@@ -1,0 +1,69 @@
+-- Laws of the order of choosing, of sums and of facts. (This project's own.)
+use Rattle.std.specs.Prelude.{◌≡◌, ◌≢◌, ◌↔◌, ℕ, List, [], true, Some, codes}
+use Rattle.std.specs.declared.cmp.Ordering.TheVariants.{Equal}
+use Rattle.std.specs.Cmp.{IsTotalOrder}
+use Rattle.std.specs.FinSet.{contains, union, empty}
+use Rattle.cdf_types.specs.declared.report.ContestVote.{ContestVote}
+use Rattle.cdf_types.specs.SnapshotKind.{snapshot_kind_rank}
+use Rattle.cdf_form.specs.Parts.{ids_at}
+use Rattle.cdf_form.specs.Places.{Contest}
+use Rattle.cdf_typed.specs.Range.{ContestInRange}
+use Rattle.cdf_check.specs.Sound.{IsFrame}
+use Rattle.cdf_check.specs.Frame.{Frame, scope_in}
+use Rattle.cdf_check.specs.Acceptance.{Valid, value_in}
+use Rattle.cvr_facts.specs.declared.name.RecordName.{RecordName}
+use Rattle.cvr_facts.specs.declared.snapshot.SnapshotFact.{SnapshotFact}
+use Rattle.cvr_facts.specs.Facts.{Fact, Facts, fact_cmp}
+use Rattle.cvr_facts.specs.Sets.{JoinLaws}
+use Rattle.cvr_facts.specs.Reports.{facts}
+use Rattle.cvr_facts.specs.Choosing.{choice_cmp, fact_choice, snapshot_bodies, current, IsGreatest}
+use Rattle.cvr_facts.specs.Sums.{sums_of, sum_limit, AreBelow}
+use Rattle.cvr_facts.specs.Stands.{IsSpelledSnapshot, Stands, IsOfWhole}
+
+-- ---- joining
+
+abbrev pub JoiningLaw : Type 0
+JoiningLaw = JoinLaws (union {R = fact_cmp}) empty
+
+-- ---- the order of choosing
+
+abbrev pub ChoosingLaw : Type 0
+ChoosingLaw = IsTotalOrder fact_choice
+
+-- two facts are equal in it exactly where rank, instant and body are
+abbrev pub EqualLaw : Type 0
+EqualLaw = (a b : SnapshotFact) → (fact_choice a b ≡ Equal) ↔ ((snapshot_kind_rank a.kind ≡ snapshot_kind_rank b.kind) × (a.moment ≡ b.moment) × (a.body ≡ b.body))
+
+-- it is that of the bodies
+abbrev pub BodiesLaw : Type 0
+BodiesLaw = (contests : List Contest) (a b : SnapshotFact) → IsSpelledSnapshot contests a → IsSpelledSnapshot contests b → fact_choice a b ≡ choice_cmp a.body b.body
+
+-- of one record no two facts are equal in it, since a body spells its id and all that is kept beside it
+abbrev pub ExactLaw : Type 0
+ExactLaw = (contests : List Contest) (a b : SnapshotFact) → IsSpelledSnapshot contests a → IsSpelledSnapshot contests b → a.key ≡ b.key → fact_choice a b ≡ Equal → a ≡ b
+
+-- a body is current exactly where it is among those of the record and nothing passes it
+abbrev pub CurrentLaw : Type 0
+CurrentLaw = (s : Facts) (key : RecordName) (body : List ℕ) → (current s key ≡ Some body) ↔ IsGreatest choice_cmp (snapshot_bodies s key) body
+
+-- a record that has a snapshot has exactly one that is current
+abbrev pub OneCurrentLaw : Type 0
+OneCurrentLaw = (s : Facts) (key : RecordName) → snapshot_bodies s key ≢ [] → (body : List ℕ) × IsGreatest choice_cmp (snapshot_bodies s key) body
+    × ((other : List ℕ) → IsGreatest choice_cmp (snapshot_bodies s key) other → other ≡ body)
+
+-- ---- sums
+
+-- the sums of a contest in one snapshot stay below 2^54
+abbrev pub SumsLaw : Type 0
+SumsLaw = (contests : List Contest) (vote : ContestVote) → ContestInRange contests vote → AreBelow sum_limit (sums_of contests vote)
+
+-- ---- facts of a file
+
+-- the bodies of an accepted file's facts would stand in a written report, by the definition and the report's devices alone
+abbrev pub FactsStandLaw : Type 0
+FactsStandLaw = (frame : Frame) (bytes : List ℕ) (f : Fact) → IsFrame frame → Valid frame bytes → contains (facts bytes) f ≡ true
+    → Stands (scope_in frame (ids_at (codes "ReportingDevice") (value_in bytes))) f
+
+-- each record that an accepted file has a fact of is whole
+abbrev pub RecordsWholeLaw : Type 0
+RecordsWholeLaw = (frame : Frame) (bytes : List ℕ) (f : Fact) → Valid frame bytes → contains (facts bytes) f ≡ true → IsOfWhole (facts bytes) f

@@ -1,0 +1,11 @@
+pub mod Facts
+pub mod Ordered
+pub mod Sets
+pub mod Unions
+pub mod Reports
+pub mod Choosing
+pub mod Sums
+pub mod Lists
+pub mod Stands
+pub mod Laws
+pub mod Rows

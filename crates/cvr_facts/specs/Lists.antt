@@ -1,0 +1,95 @@
+-- The facts of a typed report as lists. (This project's own.)
+use Rattle.std.specs.Prelude.{◌≡◌, ℕ, List, ◌++◌, map, None}
+use Rattle.std.specs.List.{flat_map, Contains}
+use Rattle.std.specs.List.Sorted.{IsStrictlySortedBy}
+use Rattle.std.specs.declared.cmp.Ordering.{Ordering}
+use Rattle.std.specs.Ordering.{ordering_then}
+use Rattle.cdf_types.specs.declared.report.Cvr.{Cvr}
+use Rattle.cdf_types.specs.declared.report.Snapshot.{Snapshot as ReportSnapshot}
+use Rattle.cdf_types.specs.declared.report.ReportingDevice.{ReportingDevice}
+use Rattle.cdf_types.specs.declared.report.Report.{Report}
+use Rattle.cdf_form.specs.Places.{Contest}
+use Rattle.cdf_check.specs.Frame.{Frame}
+use Rattle.cdf_check.specs.Acceptance.{first_refusal, report_in}
+use Rattle.cvr_facts.specs.declared.name.RecordName.{RecordName}
+use Rattle.cvr_facts.specs.declared.device.DeviceFact.{DeviceFact}
+use Rattle.cvr_facts.specs.declared.header.HeaderFact.{HeaderFact}
+use Rattle.cvr_facts.specs.declared.snapshot.SnapshotFact.{SnapshotFact}
+use Rattle.cvr_facts.specs.declared.list.FactList.{FactList}
+use Rattle.cvr_facts.specs.Facts.{Fact, Device, Header, Snapshot, text_cmp, name_cmp}
+use Rattle.cvr_facts.specs.Sums.{sums_in}
+
+-- ---- what a report tells
+
+abbrev pub name_of : Cvr → RecordName
+name_of cvr = record { device = cvr.device; unique = cvr.unique }
+
+abbrev pub told_device : ReportingDevice → DeviceFact
+told_device device = record { id = device.id; body = device.body }
+
+abbrev pub told_header : Cvr → HeaderFact
+told_header cvr = record { key = name_of cvr; unit = cvr.unit; batch = cvr.batch; body = cvr.body }
+
+abbrev pub told_snapshot : List Contest → Cvr → ReportSnapshot → SnapshotFact
+told_snapshot contests cvr snapshot = record {
+  key = name_of cvr;
+  id = snapshot.id;
+  kind = snapshot.kind;
+  moment = snapshot.moment;
+  votes = sums_in contests snapshot.contests;
+  body = snapshot.body;
+}
+
+abbrev pub told_snapshots : List Contest → Cvr → List SnapshotFact
+told_snapshots contests cvr = map (told_snapshot contests cvr) cvr.snapshots
+
+-- ---- the facts that they are
+
+abbrev pub fact_of_device : DeviceFact → Fact
+fact_of_device d = Device d.id d.body
+
+abbrev pub fact_of_header : HeaderFact → Fact
+fact_of_header h = Header h.key.device h.key.unique h.body
+
+abbrev pub fact_of_snapshot : SnapshotFact → Fact
+fact_of_snapshot s = Snapshot s.key.device s.key.unique s.id s.body
+
+abbrev pub facts_in : FactList → List Fact
+facts_in list = map fact_of_device list.devices ++ (map fact_of_header list.headers ++ map fact_of_snapshot list.snapshots)
+
+abbrev pub told_facts : List Contest → Report → List Fact
+told_facts contests report =
+    map (λ device. fact_of_device (told_device device)) report.devices
+    ++ (map (λ cvr. fact_of_header (told_header cvr)) report.cvrs
+    ++ map fact_of_snapshot (flat_map (told_snapshots contests) report.cvrs))
+
+-- ---- lists in order
+
+-- by id, then by body
+abbrev pub device_cmp : DeviceFact → DeviceFact → Ordering
+device_cmp a b = ordering_then (text_cmp a.id b.id) (text_cmp a.body b.body)
+
+-- by record, then by body
+abbrev pub header_cmp : HeaderFact → HeaderFact → Ordering
+header_cmp a b = ordering_then (name_cmp a.key b.key) (text_cmp a.body b.body)
+
+-- by record, then by id, then by body
+abbrev pub snapshot_cmp : SnapshotFact → SnapshotFact → Ordering
+snapshot_cmp a b = ordering_then (name_cmp a.key b.key) (ordering_then (text_cmp a.id b.id) (text_cmp a.body b.body))
+
+-- each fact stands once, in order
+pub record Rises (list : FactList) : Type 0 where
+  pub devices : IsStrictlySortedBy device_cmp list.devices
+  pub headers : IsStrictlySortedBy header_cmp list.headers
+  pub snapshots : IsStrictlySortedBy snapshot_cmp list.snapshots
+
+-- each is what the report tells
+pub record IsTold (contests : List Contest) (report : Report) (list : FactList) : Type 0 where
+  pub devices : (d : DeviceFact) → Contains list.devices d → Contains (map told_device report.devices) d
+  pub headers : (h : HeaderFact) → Contains list.headers h → Contains (map told_header report.cvrs) h
+  pub snapshots : (s : SnapshotFact) → Contains list.snapshots s → Contains (flat_map (told_snapshots contests) report.cvrs) s
+
+-- the report of a file that is accepted beside a definition
+pub record IsReportOf (frame : Frame) (bytes : List ℕ) (report : Report) : Type 0 where
+  pub accepted : first_refusal frame bytes ≡ None
+  pub report_is : report ≡ report_in frame.contests bytes

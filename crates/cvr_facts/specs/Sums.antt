@@ -1,0 +1,114 @@
+-- The sums of a snapshot: for each of its contests the votes that count, are pending or name no selection. (NIST SP 1500-103, classes CVRContest, CVRContestSelection and SelectionPosition; which positions count is this project's own.)
+use Rattle.std.specs.Prelude.{◌<◌, ◌==◌, ℕ, zero, suc, List, [], ◌∷◌, ◌++◌, map, length, Bool, true, false, ◌&&◌, is_none}
+use Rattle.std.specs.List.{filter, sum_by, Contains, IsDistinct}
+use Rattle.std.specs.Option.{option_map_or}
+use Rattle.cdf_types.specs.declared.mark.Indication.{Indication}
+use Rattle.cdf_types.specs.declared.mark.Indication.TheVariants as indication
+use Rattle.cdf_types.specs.declared.mark.Allocation.{Allocation}
+use Rattle.cdf_types.specs.declared.mark.Allocation.TheVariants as allocation
+use Rattle.cdf_types.specs.declared.report.Position.{Position}
+use Rattle.cdf_types.specs.declared.report.SelectionVote.{SelectionVote}
+use Rattle.cdf_types.specs.declared.report.ContestVote.{ContestVote}
+use Rattle.cdf_form.specs.Places.{Texts, Contest, selections_at}
+use Rattle.cdf_typed.specs.Range.{ContestInRange}
+use Rattle.cvr_facts.specs.declared.sums.VoteSums.{VoteSums}
+
+-- ---- positions
+
+-- whether HasIndication is `yes`
+abbrev pub is_marked : Indication → Bool
+is_marked indication.No = false
+is_marked indication.Unknown = false
+is_marked indication.Yes = true
+
+-- whether IsAllocable is `yes`
+abbrev pub is_allowed : Allocation → Bool
+is_allowed allocation.No = false
+is_allowed allocation.Unknown = false
+is_allowed allocation.Yes = true
+
+-- whether IsAllocable is `unknown`
+abbrev pub is_unsettled : Allocation → Bool
+is_unsettled allocation.No = false
+is_unsettled allocation.Unknown = true
+is_unsettled allocation.Yes = false
+
+-- a position counts where IsAllocable is `yes`, or is absent while HasIndication is `yes`
+abbrev pub counts : Position → Bool
+counts p = option_map_or is_allowed p.allocation (is_marked p.indication)
+
+-- a position is pending where IsAllocable is `unknown` and HasIndication is `yes`
+abbrev pub is_pending : Position → Bool
+is_pending p = option_map_or is_unsettled p.allocation false && is_marked p.indication
+
+-- ---- contest selections
+
+-- the votes of the positions of this sort
+abbrev pub votes_of : (Position → Bool) → SelectionVote → ℕ
+votes_of sort s = sum_by (λ p. p.votes) (filter sort s.positions)
+
+-- whether the selection at this place is named
+abbrev pub names : ℕ → SelectionVote → Bool
+names place s = option_map_or (λ i. i == place) s.selection false
+
+-- whether no selection is named
+abbrev pub names_none : SelectionVote → Bool
+names_none s = is_none s.selection
+
+-- ---- contests
+
+-- the votes of the selection at a place
+abbrev pub votes_for : ℕ → ContestVote → ℕ
+votes_for place vote = sum_by (votes_of counts) (filter (names place) vote.selections)
+
+-- the votes of each selection, from a place on
+abbrev pub votes_from : ℕ → Texts → ContestVote → List ℕ
+votes_from place [] vote = []
+votes_from place (id ∷ ids) vote = votes_for place vote ∷ votes_from (suc place) ids vote
+
+abbrev pub unassigned_in : ContestVote → ℕ
+unassigned_in vote = sum_by (votes_of counts) (filter names_none vote.selections)
+
+abbrev pub pending_in : ContestVote → ℕ
+pending_in vote = sum_by (votes_of is_pending) vote.selections
+
+abbrev pub sums_of : List Contest → ContestVote → VoteSums
+sums_of contests vote = record {
+  contest = vote.contest;
+  votes = votes_from 0 (selections_at contests vote.contest) vote;
+  overvotes = vote.overvotes;
+  undervotes = vote.undervotes;
+  write_ins = vote.write_ins;
+  pending = pending_in vote;
+  unassigned = unassigned_in vote;
+}
+
+-- ---- snapshots
+
+-- those at n places from a place on, in order of place
+abbrev pub by_place : ℕ → ℕ → List ContestVote → List ContestVote
+by_place place zero votes = []
+by_place place (suc n) votes = filter (λ vote. vote.contest == place) votes ++ by_place (suc place) n votes
+
+-- the sums of a snapshot's contests, in order of place
+abbrev pub sums_in : List Contest → List ContestVote → List VoteSums
+sums_in contests votes = map (sums_of contests) (by_place 0 (length contests) votes)
+
+-- contests of the definition, each once and in range
+pub record AreInRange (contests : List Contest) (votes : List ContestVote) : Type 0 where
+  pub once : IsDistinct ◌==◌ (map (λ vote. vote.contest) votes)
+  pub each : (vote : ContestVote) → Contains votes vote → ContestInRange contests vote
+
+-- ---- bounds
+
+-- the most that a sum can be: 65,536 selections with 64 positions of 4,294,967,295 votes stay below it
+abbrev pub sum_limit : ℕ
+sum_limit = 18_014_398_509_481_984
+
+pub record AreBelow (limit : ℕ) (sums : VoteSums) : Type 0 where
+  pub votes : (n : ℕ) → Contains sums.votes n → n < limit
+  pub overvotes : sums.overvotes < limit
+  pub undervotes : sums.undervotes < limit
+  pub write_ins : sums.write_ins < limit
+  pub pending : sums.pending < limit
+  pub unassigned : sums.unassigned < limit

@@ -1,0 +1,159 @@
+ghost use Rattle.std.specs.Prelude.{◌≡◌, ◌++◌, ℕ, List, IfOk, OnOk, map};
+ghost use Rattle.std.specs.List.{Any, Contains, flat_map};
+ghost use Rattle.std.specs.List.Sorted.{IsStrictlySortedBy};
+ghost use Rattle.std.specs.declared.cmp.Ordering.TheVariants.{Equal};
+ghost use Rattle.std.specs.FinSet.{from_list};
+ghost use Rattle.cdf_types.specs.declared.report.Cvr.{Cvr};
+ghost use Rattle.cdf_typed.specs.Range.{SnapshotInRange, CvrInRange, ReportInRange};
+ghost use Rattle.cvr_facts.specs.Facts.{fact_cmp};
+ghost use Rattle.cvr_facts.specs.Lists.{name_of, told_device, told_header, told_snapshot, told_snapshots, facts_in, told_facts, Rises, IsTold, IsReportOf};
+ghost use Rattle.cvr_facts.specs.Reports.{facts};
+ghost use Rattle.cvr_facts.specs.Stands.{AreSpelled};
+
+use crate::device::DeviceFact;
+use crate::header::{HeaderFact, copy_optional};
+use crate::list::FactList;
+use crate::name::RecordName;
+use crate::snapshot::SnapshotFact;
+use crate::sums::sums_in;
+use cdf_check::Definition;
+use cdf_types::{Cvr, Memory, Report, ReportingDevice, Seq, Snapshot};
+use std::alloc::Global;
+
+/// The facts of a report that was accepted beside a definition, each once and in order: of each
+/// reporting device, of each cast vote record and of each of its snapshots, with the sums of its
+/// contests (NIST SP 1500-103, class CastVoteRecordReport).
+///
+/// # Errors
+/// `Memory` where a growth was refused.
+pub fn facts_of(alloc: Global, definition: &Definition, report: &Report) -> Result<FactList, Memory>
+    requires { ReportInRange definition.now.contests report.now }
+    ensures facts { IfOk result (λ list. from_list {R = fact_cmp} (facts_in list) ≡ from_list (told_facts definition.now.contests report.now)) }
+    ensures once { IfOk result Rises }
+    ensures told { IfOk result (IsTold definition.now.contests report.now) }
+    ensures file { IfOk result (λ list. (bytes : List ℕ) → IsReportOf definition.now bytes report.now → from_list (facts_in list) ≡ facts bytes) }
+    ensures spelled { IfOk result (λ list. (bytes : List ℕ) → IsReportOf definition.now bytes report.now → AreSpelled definition.now.contests list) }
+{
+    Ok(FactList {
+        devices: in_order(devices_in(alloc, report.devices.as_slice())?),
+        headers: in_order(headers_in(alloc, report.cvrs.as_slice())?),
+        snapshots: in_order(snapshots_in(alloc, definition, report.cvrs.as_slice())?),
+    })
+}
+
+// The facts in order, one of those that tie.
+fn in_order<T: Ord + Drop>(mut facts: Vec<T>) -> Seq<T>
+    ensures once { IsStrictlySortedBy T.cmp result }
+    ensures told { (fact : T) → Contains result fact → Contains facts.items fact }
+    ensures kept { (fact : T) → Contains facts.items fact → Any (λ other. T.cmp fact other ≡ Equal) result }
+{
+    facts.sort_unstable();
+    facts.dedup();
+    Seq::new(facts)
+}
+
+// The facts of the devices, in order of the file.
+fn devices_in(alloc: Global, devices: &[ReportingDevice]) -> Result<Vec<DeviceFact>, Memory>
+    ensures { IfOk result (λ facts. facts.items ≡ map told_device devices.now) }
+{
+    let mut facts = Vec::with_capacity(alloc, devices.len())?;
+    for device in devices {
+        facts.push(device_of(device)?)?;
+    }
+    Ok(facts)
+}
+
+// The fact of a device.
+fn device_of(device: &ReportingDevice) -> Result<DeviceFact, Memory>
+    ensures { IfOk result (λ fact. fact ≡ told_device device.now) }
+{
+    Ok(DeviceFact {
+        id: device.id.copy()?,
+        body: device.body.copy()?,
+    })
+}
+
+// The headers of the records, in order of the file.
+fn headers_in(alloc: Global, cvrs: &[Cvr]) -> Result<Vec<HeaderFact>, Memory>
+    ensures { IfOk result (λ facts. facts.items ≡ map told_header cvrs.now) }
+{
+    let mut facts = Vec::with_capacity(alloc, cvrs.len())?;
+    for cvr in cvrs {
+        facts.push(header_of(cvr)?)?;
+    }
+    Ok(facts)
+}
+
+// The header of a record.
+fn header_of(cvr: &Cvr) -> Result<HeaderFact, Memory>
+    ensures { IfOk result (λ fact. fact ≡ told_header cvr.now) }
+{
+    Ok(HeaderFact {
+        key: name_of(cvr)?,
+        unit: copy_optional(&cvr.unit)?,
+        batch: copy_optional(&cvr.batch)?,
+        body: cvr.body.copy()?,
+    })
+}
+
+// The name of a record.
+fn name_of(cvr: &Cvr) -> Result<RecordName, Memory>
+    ensures { IfOk result (λ name. name ≡ name_of cvr.now) }
+{
+    Ok(RecordName {
+        device: cvr.device.copy()?,
+        unique: cvr.unique.copy()?,
+    })
+}
+
+// The snapshots of all the records, in order of the file.
+fn snapshots_in(
+    alloc: Global,
+    definition: &Definition,
+    cvrs: &[Cvr],
+) -> Result<Vec<SnapshotFact>, Memory>
+    requires { (cvr : Cvr) → Contains cvrs.now cvr → CvrInRange definition.now.contests cvr }
+    ensures { IfOk result (λ facts. facts.items ≡ flat_map (told_snapshots definition.now.contests) cvrs.now) }
+{
+    let mut facts = Vec::new(alloc);
+    for cvr in cvrs {
+        add_snapshots(alloc, definition, cvr, &mut facts)?;
+    }
+    Ok(facts)
+}
+
+// Adds the snapshots of a record.
+fn add_snapshots(
+    alloc: Global,
+    definition: &Definition,
+    cvr: &Cvr,
+    facts: &mut Vec<SnapshotFact>,
+) -> Result<(), Memory>
+    requires { CvrInRange definition.now.contests cvr.now }
+    ensures { OnOk result (facts.new.items ≡ facts.old.items ++ told_snapshots definition.now.contests cvr.now) }
+{
+    for snapshot in cvr.snapshots.as_slice() {
+        facts.push(snapshot_of(alloc, definition, cvr, snapshot)?)?;
+    }
+    Ok(())
+}
+
+// A snapshot of a record.
+fn snapshot_of(
+    alloc: Global,
+    definition: &Definition,
+    cvr: &Cvr,
+    snapshot: &Snapshot,
+) -> Result<SnapshotFact, Memory>
+    requires { SnapshotInRange definition.now.contests snapshot.now }
+    ensures { IfOk result (λ fact. fact ≡ told_snapshot definition.now.contests cvr.now snapshot.now) }
+{
+    Ok(SnapshotFact {
+        key: name_of(cvr)?,
+        id: snapshot.id.copy()?,
+        kind: snapshot.kind,
+        moment: snapshot.moment,
+        votes: sums_in(alloc, definition, snapshot.contests.as_slice())?,
+        body: snapshot.body.copy()?,
+    })
+}

@@ -1,0 +1,90 @@
+ghost use Rattle.std.specs.Prelude.{◌≡◌, IfOk, refl};
+ghost use Rattle.std.specs.Ordering.{as_partial_cmp, eq_by_cmp};
+ghost use Rattle.std.specs.Cmp.Rules.{comparing};
+ghost use Rattle.std.proofs.Common.{rules};
+ghost use Rattle.cvr_facts.specs.Lists.{header_cmp};
+
+use crate::name::RecordName;
+use cdf_types::{Body, Memory};
+use std::cmp::Ordering;
+
+/// The header of a cast vote record as a fact (NIST SP 1500-103, class CVR). Facts are ordered by
+/// record, then by body, and equal where both are.
+#[derive(Drop)]
+pub struct HeaderFact {
+    /// The record's name.
+    pub key: RecordName,
+    /// The GpUnit of its ballot style (member BallotStyleUnitId).
+    pub unit: Option<Body>,
+    /// Its batch (member BatchId).
+    pub batch: Option<Body>,
+    /// The compact JSON text of the object without its members CVRSnapshot and CurrentSnapshotId.
+    pub body: Body,
+}
+
+impl HeaderFact {
+    /// An equal fact, in every field.
+    ///
+    /// # Errors
+    /// `Memory` where a growth was refused.
+    pub fn copy(&self) -> Result<HeaderFact, Memory>
+        ensures { IfOk result (λ f. f ≡ self.now) }
+    {
+        Ok(HeaderFact {
+            key: self.key.copy()?,
+            unit: copy_optional(&self.unit)?,
+            batch: copy_optional(&self.batch)?,
+            body: self.body.copy()?,
+        })
+    }
+}
+
+// An equal text, where there is one.
+pub(crate) fn copy_optional(text: &Option<Body>) -> Result<Option<Body>, Memory>
+    ensures { IfOk result (λ copy. copy ≡ text.now) }
+{
+    match text {
+        Some(body) => Ok(Some(body.copy()?)),
+        None => Ok(None),
+    }
+}
+
+impl PartialEq for HeaderFact {
+    ghost eq = { eq_by_cmp header_cmp };
+
+    ghost laws = { Prim.search (comparing, rules) depth 9 };
+
+    fn eq(&self, other: &HeaderFact) -> bool {
+        self.cmp(other).is_eq()
+    }
+}
+
+impl Eq for HeaderFact {
+    ghost laws = { Prim.search (comparing, rules) depth 9 };
+}
+
+impl Ord for HeaderFact {
+    ghost cmp = { header_cmp };
+
+    ghost total = { Prim.search (comparing, rules) depth 9 };
+
+    ghost matches_partial_cmp = { λ _ _. refl };
+
+    ghost matches_eq = { λ _ _. refl };
+
+    fn cmp(&self, other: &HeaderFact) -> Ordering {
+        self.key
+            .cmp(&other.key)
+            .then_with(|| self.body.cmp(&other.body))
+    }
+}
+
+impl PartialOrd for HeaderFact {
+    ghost partial_cmp = { as_partial_cmp header_cmp };
+
+    ghost laws = { Prim.search (comparing, rules) depth 9 };
+
+    fn partial_cmp(&self, other: &HeaderFact) -> Option<Ordering> {
+        Some(self.cmp(other))
+    }
+}
