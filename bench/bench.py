@@ -23,6 +23,7 @@ TOP = os.path.dirname(HERE)
 SEED = 1
 MANY = 150000               # the records of one file of short records
 CONTESTS, SELECTIONS, UNITS, RECORDS = 2000, 50, 20000, 20000
+REPEATS = (10000, 100000)   # how often one record comes again in a file
 JQ_HINT = 'jq is missing: install it, as by `apt-get install jq`, `brew install jq` or `dnf install jq`'
 CVR_HINT = '%s is missing: `./cvr currents examples/county/definition.json` builds it'
 STAGES_HINT = '%s is missing, so the stages are left out: `cd crates/cvr_bench && rt run` builds it'
@@ -147,27 +148,29 @@ def size(report, words, amount):
 
 
 def stages(words, task, definition, report):
-    """(microseconds of the JSON reader, microseconds of the check) per round."""
+    """(microseconds of what is below, microseconds of the stage) per round."""
     command = [words.stages, task, definition, report, str(words.rounds)]
     done = subprocess.run(command, stdin=subprocess.DEVNULL, stdout=subprocess.PIPE)
     if done.returncode:
         raise Failed('%s .. ended with status %d' % (' '.join(command[:4]), done.returncode))
     lines = done.stdout.decode('ascii').splitlines()
-    found = [re.match(r'read (\d+) check (\d+)$', line) for line in lines]
+    found = [re.match(r'(?:read|check) (\d+) (?:check|facts) (\d+)$', line) for line in lines]
     if len(found) != words.rounds or None in found:
         raise Failed('%s .. printed %r' % (' '.join(command[:4]), lines[:3]))
     return [(int(one.group(1)), int(one.group(2))) for one in found]
 
 
 def stage(report, words, name, task, definition, path):
-    """A line of the table of stages: a check beside the JSON reader alone, over one file."""
+    """A line of the table of stages: a stage beside the one below it, over one file. Returns its median."""
     runs = stages(words, task, definition, path)
     reads, checks = [run[0] / 1e6 for run in runs], [run[1] / 1e6 for run in runs]
     ratios = [run[1] / max(run[0], 1) for run in runs]
     report.say('%-22s %6.1f   %9.3f   %9.3f   %8.3f to %8.3f   %8.3f   %5.2f to %5.2f'
                % (name, os.path.getsize(path) / 1e6, statistics.median(reads), statistics.median(checks),
                   min(checks), max(checks), statistics.median(ratios), min(ratios), max(ratios)))
-    report.raw(name + ' read/check microseconds', ['%d/%d' % run for run in runs])
+    report.raw('%s %s microseconds' % (name, 'check/facts' if task == 'facts' else 'read/check'),
+               ['%d/%d' % run for run in runs])
+    return statistics.median(checks)
 
 
 def lists_made(words, name, contests, selections, units, records):
@@ -194,19 +197,34 @@ def check(report, words):
     stage(report, words, 'report with lists', 'report', wide_definition, wide)
     report.say('lists: %d contests of %d selections each, %d units; %d records'
                % (CONTESTS, SELECTIONS, UNITS, RECORDS))
+    facts(report, words, data, county)
     peaks(report, words, county, os.path.join(data, 'large.json'))
+
+
+def facts(report, words, data, county):
+    """Times the facts of reports beside their check."""
+    report.say()
+    report.say('facts, from the report to the freed list')
+    report.say('%-22s %6s   %9s   %9s   %20s   %8s   %14s'
+               % ('', 'MB', 'check s', 'facts s', 'spread of facts', 'f / c', 'spread of f / c'))
+    stage(report, words, 'large', 'facts', county, os.path.join(data, 'large.json'))
+    seconds = [stage(report, words, 'repeated %d' % amount, 'facts', county, os.path.join(data, 'repeated-%d.json' % amount))
+               for amount in REPEATS]
+    report.say('one record, time per repeat at %d / at %d: %.3f'
+               % (REPEATS[1], REPEATS[0], seconds[1] / REPEATS[1] / (seconds[0] / REPEATS[0])))
 
 
 def peaks(report, words, definition, path):
     """The peak memory of the check of a report, beside that of the JSON reader, each in a process of its own."""
     found = {}
-    for task in ('read', 'check'):
+    for task in ('read', 'check', 'facts'):
         with tempfile.NamedTemporaryFile() as out:
             runs = [timed([words.stages, task, definition, path, '1'], out.name) for _ in range(2)]
         found[task] = max(run[1] for run in runs)
         report.raw('large %s peak MiB' % task, ['%.1f' % run[1] for run in runs])
-    report.say('large, peak MiB with the %.1f MiB of the file: read %.1f, check %.1f, check / read %.3f'
-               % (os.path.getsize(path) / 2 ** 20, found['read'], found['check'], found['check'] / found['read']))
+    report.say('large, peak MiB with the %.1f MiB of the file: read %.1f, check %.1f, facts %.1f; check / read %.3f'
+               % (os.path.getsize(path) / 2 ** 20, found['read'], found['check'], found['facts'],
+                  found['check'] / found['read']))
 
 
 def machine():

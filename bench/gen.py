@@ -25,6 +25,7 @@ BATCH = 200
 PAPERS = 240                # different ways in which a contest is marked, by contest
 AGAIN, TWICE = 0.05, 0.1
 SNAPSHOTS, DEVICES = 200000, 1000000
+REPEATS = (10000, 100000)      # the records of the files that have one record again and again
 
 
 def compact(value):
@@ -219,6 +220,15 @@ def records(folder, amount, seed):
         series.end()
 
 
+def write_repeated(folder, count, amount):
+    """A file that has one record so many times."""
+    snapshot = '{"@id":"a","@type":"CVR.CVRSnapshot","Type":"original"}'
+    cvr = count.cvr('"@type":"CVR.CVR","CreatingDeviceId":"scanner-00","ElectionId":"election","UniqueId":"one"',
+                    [snapshot], 'a')
+    head = compact(count.county.head('scanner-00'))[:-1]
+    write(folder, 'repeated-%d.json' % amount, head + ',"CVR":[' + ','.join([cvr] * amount) + ']}')
+
+
 def special(folder, seed):
     count = Count(seed)
     county = count.county
@@ -235,6 +245,8 @@ def special(folder, seed):
     cvr = count.cvr('"@type":"CVR.CVR","CreatingDeviceId":"scanner-00","ElectionId":"election","UniqueId":"one"',
                     snapshots, '000000')
     write(folder, 'snapshots.json', compact(county.head('scanner-00'))[:-1] + ',"CVR":[' + cvr + ']}')
+    for amount in REPEATS:
+        write_repeated(folder, count, amount)
     devices = ','.join('{"@id":"d%06d","@type":"CVR.ReportingDevice"}' % n for n in range(DEVICES))
     head = dict(county.head('d000000'))
     del head['ReportingDevice']
