@@ -24,6 +24,7 @@ fn words<R: Env + AllocGlobal>(rt: &R) -> Result<Vec<String>, Status> {
 fn task_of(word: &str) -> Option<Task> {
     match word {
         "currents" => Some(Task::Currents),
+        "conflicts" => Some(Task::Conflicts),
         "check" => Some(Task::Check),
         _ => None,
     }

@@ -1,19 +1,15 @@
--- Accepted and refused files.
-use Rattle.std.proofs.Common.{◌≡◌, ℕ, List, true, false, Some, None, refl, sym, ap, ◌∙◌}
+-- An accepted file, and a run beside a sound definition.
+use Rattle.std.proofs.Common.{◌≡◌, ℕ, List, false, None, refl, sym, ap, ◌∙◌}
 use Rattle.std.specs.List.{list_any}
-use Rattle.cdf_types.specs.declared.fault.ReadFault.{ReadFault}
 use Rattle.cdf_check.specs.Frame.{Frame}
-use Rattle.cdf_check.specs.Acceptance.{Sound, first_refusal, frame_in}
-use Rattle.cdf_check.proofs.Accepting.{sound_file}
+use Rattle.cdf_check.specs.Acceptance.{Sound, Valid, first_refusal, frame_in}
+use Rattle.cdf_check.proofs.Accepting.{sound_file, valid_file}
 use Rattle.cvr_cli.specs.declared.request.Task.{Task}
 use Rattle.cvr_cli.specs.Accepted.{is_unsound, is_refused}
 use Rattle.cvr_cli.specs.Outcome.{task_text, run_text, any_refused}
 
-pub not_refused : (definition : Frame) (bytes : List ℕ) → first_refusal definition bytes ≡ None → is_refused definition bytes ≡ false
-not_refused definition bytes h = rw h refl
-
-pub refused : (definition : Frame) (bytes : List ℕ) (e : ReadFault) → first_refusal definition bytes ≡ Some e → is_refused definition bytes ≡ true
-refused definition bytes e h = rw h refl
+pub none_refuses : (definition : Frame) (bytes : List ℕ) → Valid definition bytes → first_refusal definition bytes ≡ None
+none_refuses definition bytes valid = (valid_file definition bytes).1 valid
 
 -- ---- a run beside a sound definition
 

@@ -1,9 +1,8 @@
-pub mod Groups
-pub mod Sorted
-pub mod CurrentLines
 pub mod Files
 pub mod Accepted
-pub mod Kept
-pub mod FileByFile
-pub mod Lines
-pub mod SameFiles
+pub mod Imports
+pub mod Members
+pub mod Endings
+pub mod Upward
+pub mod CurrentLines
+pub mod Most

@@ -2,6 +2,7 @@
 use Rattle.std.specs.Prelude.{◌≡◌, ◌↔◌, ℕ, List}
 use Rattle.std.specs.List.{Contains}
 use Rattle.cdf_check.specs.Frame.{Frame}
+use Rattle.cvr_collect.specs.Names.{conflicts}
 use Rattle.cvr_cli.specs.Currents.{currents}
 use Rattle.cvr_cli.specs.Outcome.{held}
 
@@ -16,3 +17,7 @@ SameFactsLaw = (definition : Frame) (files others : List (List ℕ)) → HaveSam
 -- and have the same current snapshots
 abbrev pub SameCurrentsLaw : Type 0
 SameCurrentsLaw = (definition : Frame) (files others : List (List ℕ)) → HaveSameFiles files others → currents (held definition files) ≡ currents (held definition others)
+
+-- and the same conflicts
+abbrev pub SameConflictsLaw : Type 0
+SameConflictsLaw = (definition : Frame) (files others : List (List ℕ)) → HaveSameFiles files others → conflicts (held definition files) ≡ conflicts (held definition others)

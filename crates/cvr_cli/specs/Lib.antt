@@ -1,8 +1,6 @@
 pub mod File
 pub mod Accepted
 pub mod Currents
-pub mod Lasts
-pub mod Kept
 pub mod Outcome
 pub mod Log
 pub mod Status

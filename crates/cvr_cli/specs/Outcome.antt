@@ -1,29 +1,41 @@
 -- What a run has to print, over the bytes of its files. (This project's own.)
-use Rattle.std.specs.Prelude.{◌≡◌, ℕ, List, [], ◌∷◌, ◌++◌, Bool, ◌||◌, if◌then◌else◌, map, decimal, ◌⊎◌}
+use Rattle.std.specs.Prelude.{◌≡◌, ℕ, zero, suc, length, get_or, List, [], ◌∷◌, ◌++◌, Bool, ◌||◌, if◌then◌else◌, map, decimal, ◌⊎◌}
 use Rattle.std.specs.Global.{Vec}
 use Rattle.std.specs.List.{list_any}
 use Rattle.std.specs.Option.{option_map_or}
-use Rattle.std.specs.FinSet as set
 use Rattle.cdf_form.specs.Parts.{record_count}
 use Rattle.cdf_check.specs.Frame.{Frame}
-use Rattle.cdf_check.specs.Acceptance.{frame_in}
+use Rattle.cdf_check.specs.Acceptance.{frame_in, first_refusal}
 use Rattle.cvr_facts.specs.Facts.{Facts}
 use Rattle.cvr_facts.specs.Reports.{facts}
 use Rattle.cvr_cli.specs.declared.request.Task.{Task}
-use Rattle.cvr_cli.specs.declared.request.Task.TheVariants.{Currents, Check}
+use Rattle.cvr_cli.specs.declared.request.Task.TheVariants.{Currents, Check, Conflicts}
 use Rattle.cvr_cli.specs.declared.status.Status.{Status}
 use Rattle.cvr_cli.specs.declared.status.Status.TheVariants.{Done, Refused}
 use Rattle.cvr_cli.specs.Accepted.{is_unsound, is_refused, accepted}
-use Rattle.cvr_cli.specs.Currents.{currents}
+use Rattle.cvr_collect.specs.declared.event.Event.TheVariants.{Import}
+use Rattle.cvr_collect.specs.Names.{conflicts}
+use Rattle.cvr_collect.specs.Keeps.{starting}
+use Rattle.cvr_collect.specs.Readers.{growth}
+use Rattle.cvr_collect.specs.Reach.{History, content}
+use Rattle.cvr_collect.specs.Outcomes.{due}
+use Rattle.cvr_cli.specs.Currents.{currents, conflict_text}
 
--- the facts of a file: none where it is refused
-abbrev pub file_facts : Frame → List ℕ → Facts
-file_facts definition bytes = if is_refused definition bytes then set.empty else facts bytes
+-- ---- what a run holds
 
--- the facts of the accepted files together
+-- the imports of the first n files into one new office, each with the outcome that is due, the newest first
+abbrev pub imports : Frame → List (List ℕ) → ℕ → History
+imports definition files zero = []
+imports definition files (suc n) =
+    let past = imports definition files n in
+    let file = get_or files n [] in
+    (Import 0 n, due (first_refusal definition file) (growth (content (starting definition ∷ []) files past 0) (facts file))) ∷ past
+
+-- what the office holds after all of them
 abbrev pub held : Frame → List (List ℕ) → Facts
-held definition [] = set.empty
-held definition (file ∷ files) = set.union (file_facts definition file) (held definition files)
+held definition files = content (starting definition ∷ []) files (imports definition files (length files)) 0
+
+-- ---- texts
 
 -- a path and a number
 abbrev pub count_line : List ℕ → ℕ → List ℕ
@@ -42,6 +54,7 @@ check_lines definition (path ∷ paths) (file ∷ files) = check_line definition
 abbrev pub task_text : Frame → Task → List (List ℕ) → List (List ℕ) → List ℕ
 task_text definition Currents paths files = currents (held definition files)
 task_text definition Check paths files = check_lines definition paths files
+task_text definition Conflicts paths files = conflict_text (conflicts (held definition files))
 
 -- the text of a run: nothing where the file of the definition is refused
 abbrev pub run_text : Task → List ℕ → List (List ℕ) → List (List ℕ) → List ℕ

@@ -2,6 +2,8 @@
 #![tactic(auto)]
 
 mod check;
+mod collecting;
+mod conflicts;
 mod currents;
 mod file;
 pub mod law;
@@ -16,6 +18,8 @@ mod tasks;
 mod tests;
 mod text;
 
+pub use conflicts::conflicts_text;
+pub use currents::currents_text;
 pub use file::{FileFault, HELD, read_file};
 pub use over::{OverRead, OverWrite};
 pub use request::{Request, Task};

@@ -16,6 +16,8 @@ pub struct Request {
 pub enum Task {
     /// The current snapshot of each cast vote record.
     Currents,
+    /// The names with two bodies or more.
+    Conflicts,
     /// Each accepted file with the number of its cast vote records.
     Check,
 }

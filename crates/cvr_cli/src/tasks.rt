@@ -1,48 +1,26 @@
-ghost use Rattle.std.specs.Prelude.{◌≡◌, ◌≢◌, ◌⊎◌, ◌++◌, length, map, true, false, IfOk, string_bytes};
+ghost use Rattle.std.specs.Prelude.{◌≡◌, ◌≢◌, ◌⊎◌, ◌++◌, length, map, true, false, IfOk, IfErr, string_bytes};
 ghost use Rattle.std.specs.List.{list_any};
 ghost use Rattle.cdf_types.specs.Device.{appended, AppendsFront};
 ghost use Rattle.cvr_cli.specs.Accepted.{is_refused};
 ghost use Rattle.cvr_cli.specs.Outcome.{held, check_lines, task_text, run_text, any_refused, bytes_of, IsWhole};
-ghost use Rattle.cvr_cli.specs.Currents.{currents};
-ghost use Rattle.cvr_cli.specs.Kept.{Adds};
+ghost use Rattle.cvr_collect.specs.Names.{conflicts};
+ghost use Rattle.cvr_cli.specs.Currents.{currents, conflict_text};
 ghost use Rattle.cvr_cli.specs.declared.status.Status.TheVariants.{Done, Refused, CommandLine, Device, Memory as NoMemory};
 ghost use Rattle.cvr_cli.specs.Ends.{Ends};
 
 use crate::check::push_count;
+use crate::collecting::collect;
+use crate::conflicts::conflicts_text;
 use crate::currents::currents_text;
 use crate::log::say;
-use crate::reading::{count_records, read_facts};
+use crate::reading::count_records;
 use crate::refusals::Refusals;
 use crate::request::{Request, Task};
 use crate::status::Status;
 use cdf_check::Definition;
 use cdf_types::{Body, DeviceFault, Memory, Sink, write_all};
-use cvr_facts::SnapshotFact;
+use cvr_collect::{Office, PlainOffice};
 use std::alloc::Global;
-
-// Takes in the snapshots of each accepted file.
-fn read_files<L: Sink>(
-    alloc: Global,
-    definition: &Definition,
-    paths: &[Body],
-    files: &[Vec<u8>],
-    facts: &mut Vec<SnapshotFact>,
-    log: &mut L,
-) -> Refusals
-    requires { length paths.now ≡ length files.now }
-    ensures some { result.lacking ≡ false → result.some ≡ list_any (is_refused definition.now) (bytes_of files.now) }
-    ensures facts { result.lacking ≡ false
-        → Adds definition.now.contests (held definition.now (bytes_of files.now)) facts.old.items facts.new.items }
-{
-    let mut refusals = Refusals::none();
-    for (place, file) in files.iter().enumerate() {
-        match read_facts(alloc, definition, file.as_slice(), facts) {
-            Ok(()) => {}
-            Err(fault) => refusals.note(alloc, log, paths[place].as_str(), &fault),
-        }
-    }
-    refusals
-}
 
 // Counts the cast vote records of each accepted file.
 fn count_files<L: Sink>(
@@ -96,10 +74,33 @@ fn end_with<W: Sink, L: Sink>(text: &str, refusals: Refusals, out: &mut W, log: 
     }
 }
 
-// Prints the current snapshots.
-fn run_currents<W: Sink, L: Sink>(
+// One office with all files that aren't refused, or the status of a run that wanted memory for it.
+fn collect_all<O: Office + Drop, L: Sink>(
     alloc: Global,
-    definition: &Definition,
+    definition: Definition,
+    paths: &[Body],
+    files: &[Vec<u8>],
+    log: &mut L,
+) -> Result<(O, Refusals), Status>
+    requires { length paths.now ≡ length files.now }
+    ensures content { IfOk result (λ r. O.held r.0 ≡ held definition (bytes_of files.now)) }
+    ensures some { IfOk result (λ r. r.1.some ≡ list_any (is_refused definition) (bytes_of files.now)) }
+    ensures whole { IfOk result (λ r. r.1.lacking ≡ false) }
+    ensures status { IfErr result (λ s. s ≡ NoMemory) }
+{
+    let Ok((office, refusals)) = collect::<O, L>(alloc, definition, paths, files, log) else {
+        return Err(end_in_memory(log));
+    };
+    if refusals.lacking {
+        return Err(Status::Memory);
+    }
+    Ok((office, refusals))
+}
+
+// Prints the current snapshots.
+fn run_currents<O: Office + Drop, W: Sink, L: Sink>(
+    alloc: Global,
+    definition: Definition,
     paths: &[Body],
     files: &[Vec<u8>],
     out: &mut W,
@@ -108,16 +109,44 @@ fn run_currents<W: Sink, L: Sink>(
     requires working { W.has_failed out.old ≡ false }
     requires named { length paths.now ≡ length files.now }
     ensures { Ends (W.taken out.old) (W.taken out.new) (W.has_failed out.new)
-        (currents (held definition.now (bytes_of files.now))) (list_any (is_refused definition.now) (bytes_of files.now)) result }
+        (currents (held definition (bytes_of files.now))) (list_any (is_refused definition) (bytes_of files.now)) result }
 {
-    let mut facts = Vec::new(alloc);
-    let refusals = read_files(alloc, definition, paths, files, &mut facts, log);
-    if refusals.lacking {
-        return Status::Memory;
+    match collect_all::<O, L>(alloc, definition, paths, files, log) {
+        Ok((office, refusals)) => match currents_text(alloc, &office) {
+            Ok(text) => end_with(text.as_str(), refusals, out, log),
+            Err(Memory) => end_in_memory(log),
+        },
+        Err(status) => status,
     }
-    match currents_text(alloc, facts) {
-        Ok(text) => end_with(text.as_str(), refusals, out, log),
-        Err(Memory) => end_in_memory(log),
+}
+
+// The lines of the conflicts of an office.
+fn text_of_conflicts<O: Office>(alloc: Global, office: &O) -> Result<String, Memory>
+    ensures { IfOk result (λ text. string_bytes text ≡ conflict_text (conflicts (O.held office.now))) }
+{
+    conflicts_text(alloc, &office.conflicts(alloc)?)
+}
+
+// Prints the conflicts.
+fn run_conflicts<O: Office + Drop, W: Sink, L: Sink>(
+    alloc: Global,
+    definition: Definition,
+    paths: &[Body],
+    files: &[Vec<u8>],
+    out: &mut W,
+    log: &mut L,
+) -> Status
+    requires working { W.has_failed out.old ≡ false }
+    requires named { length paths.now ≡ length files.now }
+    ensures { Ends (W.taken out.old) (W.taken out.new) (W.has_failed out.new)
+        (conflict_text (conflicts (held definition (bytes_of files.now)))) (list_any (is_refused definition) (bytes_of files.now)) result }
+{
+    match collect_all::<O, L>(alloc, definition, paths, files, log) {
+        Ok((office, refusals)) => match text_of_conflicts(alloc, &office) {
+            Ok(text) => end_with(text.as_str(), refusals, out, log),
+            Err(Memory) => end_in_memory(log),
+        },
+        Err(status) => status,
     }
 }
 
@@ -147,9 +176,9 @@ fn run_check<W: Sink, L: Sink>(
 }
 
 // Does the task of a request beside its definition.
-fn run_task<W: Sink, L: Sink>(
+fn run_task<O: Office + Drop, W: Sink, L: Sink>(
     alloc: Global,
-    definition: &Definition,
+    definition: Definition,
     request: &Request,
     files: &[Vec<u8>],
     out: &mut W,
@@ -158,13 +187,14 @@ fn run_task<W: Sink, L: Sink>(
     requires working { W.has_failed out.old ≡ false }
     requires named { length request.now.paths ≡ length files.now }
     ensures { Ends (W.taken out.old) (W.taken out.new) (W.has_failed out.new)
-        (task_text definition.now request.now.task request.now.paths (bytes_of files.now))
-        (list_any (is_refused definition.now) (bytes_of files.now)) result }
+        (task_text definition request.now.task request.now.paths (bytes_of files.now))
+        (list_any (is_refused definition) (bytes_of files.now)) result }
 {
     let paths = request.paths.as_slice();
     match request.task {
-        Task::Currents => run_currents(alloc, definition, paths, files, out, log),
-        Task::Check => run_check(alloc, definition, paths, files, out, log),
+        Task::Currents => run_currents::<O, W, L>(alloc, definition, paths, files, out, log),
+        Task::Conflicts => run_conflicts::<O, W, L>(alloc, definition, paths, files, out, log),
+        Task::Check => run_check(alloc, &definition, paths, files, out, log),
     }
 }
 
@@ -198,6 +228,8 @@ pub fn run<W: Sink, L: Sink>(
             refusals.note(alloc, log, request.def.as_str(), &fault);
             refusals.status()
         }
-        Ok(definition) => run_task(alloc, &definition, request, files, out, log),
+        Ok(definition) => run_task::<PlainOffice, W, L>(
+            alloc, definition, request, files, out, log,
+        ),
     }
 }

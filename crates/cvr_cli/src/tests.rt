@@ -83,6 +83,28 @@ fn adjudicated_snapshots_are_current_in_both_orders(rt: HostRuntime) -> Result<(
 }
 
 #[test]
+fn conflicts_are_names_with_several_bodies(rt: HostRuntime) -> Result<(), Fail> {
+    let alloc = rt.alloc();
+    let request = over_two(alloc, Task::Conflicts)?;
+    let def = definition(alloc)?;
+    for (files, text) in [
+        ([scan(alloc)?, adjudication(alloc)?], "volumes 1\n"),
+        (
+            [scan(alloc)?, report_of(alloc, "a", "modified")?],
+            "\"s1\" \"u1\" snapshot \"a\" 2\nvolumes 2\n",
+        ),
+    ] {
+        let mut out = MemorySink::new(alloc, 100, 0);
+        let mut log = MemorySink::new(alloc, 100, 0);
+        let status = run(alloc, &request, &def, &files, &mut out, &mut log);
+        assert_eq!(rt; status, Status::Done);
+        assert_eq!(rt; out.taken(), text.as_bytes());
+        assert_eq!(rt; log.taken(), b"".as_slice());
+    }
+    Ok(())
+}
+
+#[test]
 fn refused_files_are_told_and_the_rest_is_done(rt: HostRuntime) -> Result<(), Fail> {
     let alloc = rt.alloc();
     let def = definition(alloc)?;
@@ -91,6 +113,7 @@ fn refused_files_are_told_and_the_rest_is_done(rt: HostRuntime) -> Result<(), Fa
     for (task, text) in [
         (Task::Currents, ADJUDICATED),
         (Task::Check, "second.json 1\n"),
+        (Task::Conflicts, "volumes 1\n"),
     ] {
         // A log that fails changes nothing else.
         for (fail_at, line) in [(0, told), (1, b"".as_slice())] {

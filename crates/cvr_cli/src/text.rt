@@ -1,5 +1,6 @@
-ghost use Rattle.std.specs.Prelude.{◌≡◌, IfOk, string_bytes};
+ghost use Rattle.std.specs.Prelude.{◌≡◌, ◌++◌, IfOk, OnOk, string_bytes};
 ghost use Rattle.json.specs.Print.{quoted};
+ghost use Rattle.cvr_cli.specs.Currents.{word};
 
 use cdf_types::Memory;
 use serde_json::Value;
@@ -14,4 +15,16 @@ pub fn quoted(alloc: Global, text: &str) -> Result<String, Memory>
 {
     let value = Value::String(String::from_str(alloc, text)?);
     Ok(value.to_string(alloc)?)
+}
+
+/// Adds a text as a JSON string, and a space.
+///
+/// # Errors
+/// `Memory` where a growth was refused. The text is then a front of the longer one.
+pub fn push_word(alloc: Global, text: &mut String, name: &str) -> Result<(), Memory>
+    ensures { OnOk result (string_bytes text.new ≡ string_bytes text.old ++ word name.now) }
+{
+    text.push_str(quoted(alloc, name)?.as_str())?;
+    text.push_str(" ")?;
+    Ok(())
 }

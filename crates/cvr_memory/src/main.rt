@@ -7,10 +7,13 @@
 #![tactic(auto)]
 
 mod checks;
+mod collected;
 mod contents;
 mod copies;
+mod drills;
 mod facts;
 mod files;
+mod offices;
 mod reports;
 mod runs;
 mod same;

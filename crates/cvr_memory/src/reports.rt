@@ -2,8 +2,8 @@ use crate::contents::{Contents, Record, Stage};
 use cdf_types::{Rule, SnapshotKind};
 use std::alloc::{AllocError, Global};
 
-// A scan of one ballot with a vote for Ann.
-const SCAN: &str = r#"{
+/// A scan of one ballot with a vote for Ann.
+pub const SCAN: &str = r#"{
   "@type": "CVR.CastVoteRecordReport",
   "CVR": [{
     "@type": "CVR.CVR", "CreatingDeviceId": "s1", "ElectionId": "e",
@@ -119,15 +119,17 @@ const LISTED: Contents = Contents {
 const SCAN_HEADER: &str =
     r#"{"@type":"CVR.CVR","CreatingDeviceId":"s1","ElectionId":"e","UniqueId":"u1"}"#;
 
+const SCAN_STAGES: &[Stage] = &[Stage {
+    id: "a",
+    kind: SnapshotKind::Original,
+    contests: &[0],
+    body: r#"{"@id":"a","@type":"CVR.CVRSnapshot","CVRContest":[{"@type":"CVR.CVRContest","CVRContestSelection":[{"@type":"CVR.CVRContestSelection","ContestSelectionId":"ann","SelectionPosition":[{"@type":"CVR.SelectionPosition","HasIndication":"yes","NumberVotes":1}]}],"ContestId":"mayor"}],"Type":"original"}"#,
+}];
+
 const SCAN_RECORDS: &[Record] = &[Record {
     unique: "u1",
     body: SCAN_HEADER,
-    snapshots: &[Stage {
-        id: "a",
-        kind: SnapshotKind::Original,
-        contests: &[0],
-        body: r#"{"@id":"a","@type":"CVR.CVRSnapshot","CVRContest":[{"@type":"CVR.CVRContest","CVRContestSelection":[{"@type":"CVR.CVRContestSelection","ContestSelectionId":"ann","SelectionPosition":[{"@type":"CVR.SelectionPosition","HasIndication":"yes","NumberVotes":1}]}],"ContestId":"mayor"}],"Type":"original"}"#,
-    }],
+    snapshots: SCAN_STAGES,
 }];
 
 /// The scan itself.
@@ -172,6 +174,21 @@ pub const ADJUDICATED: Sample = Sample {
                 contests: &[0],
                 body: r#"{"@id":"m","@type":"CVR.CVRSnapshot","CVRContest":[{"@type":"CVR.CVRContest","CVRContestSelection":[{"@type":"CVR.CVRContestSelection","ContestSelectionId":"ann","SelectionPosition":[{"@type":"CVR.SelectionPosition","HasIndication":"yes","NumberVotes":1}]}],"ContestId":"mayor"}],"Type":"modified"}"#,
             }],
+        }],
+        ..LISTED
+    }),
+};
+
+/// The scan with a ballot style, so that its record has another header.
+pub const OTHER_STYLE: Sample = Sample {
+    base: SCAN,
+    old: r#""UniqueId": "u1""#,
+    new: r#""BallotStyleUnitId": "p1", "UniqueId": "u1""#,
+    told: Told::Accepted(Contents {
+        records: &[Record {
+            unique: "u1",
+            body: r#"{"@type":"CVR.CVR","BallotStyleUnitId":"p1","CreatingDeviceId":"s1","ElectionId":"e","UniqueId":"u1"}"#,
+            snapshots: SCAN_STAGES,
         }],
         ..LISTED
     }),

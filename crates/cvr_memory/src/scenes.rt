@@ -1,6 +1,6 @@
 use crate::reports::{
-    ADJUDICATED, DEFINED, ELECTION_DIFFERING, OTHER_VERSION, SCANNED, SNAPSHOT_UNKNOWN, Sample,
-    UNNAMED,
+    ADJUDICATED, DEFINED, ELECTION_DIFFERING, OTHER_STYLE, OTHER_VERSION, SCANNED,
+    SNAPSHOT_UNKNOWN, Sample, UNNAMED,
 };
 use cvr_cli::{Status, Task};
 
@@ -43,6 +43,11 @@ const DESK: Named = Named {
     sample: ADJUDICATED,
 };
 
+const STYLE: Named = Named {
+    path: "style",
+    sample: OTHER_STYLE,
+};
+
 const BAD: Named = Named {
     path: "bad",
     sample: UNNAMED,
@@ -67,6 +72,18 @@ const CURRENTS: Scene = Scene {
     log: "",
     status: Status::Done,
     kept_back: &["d: E6\n", "scan: E6\n", "desk: E6\n", "memory\n"],
+    unlogged: &[],
+};
+
+/// The conflicts of two accepted files.
+const CONFLICTS: Scene = Scene {
+    task: Task::Conflicts,
+    definition: DEFINITION,
+    files: &[SCAN, STYLE],
+    text: "\"s1\" \"u1\" header 2\nvolumes 2\n",
+    log: "",
+    status: Status::Done,
+    kept_back: &["d: E6\n", "scan: E6\n", "style: E6\n", "memory\n"],
     unlogged: &[],
 };
 
@@ -95,6 +112,8 @@ const CURRENTS_REFUSED: Scene = Scene {
         "bad: E6\n",
         "bad: E3 /CVR/0/UniqueId 2\nscan: E6\n",
         "bad: E3 /CVR/0/UniqueId 2\nmemory\n",
+        // No file was taken in yet.
+        "memory\n",
     ],
     unlogged: &[""],
 };
@@ -157,6 +176,10 @@ fn currents() -> Scene {
     CURRENTS
 }
 
+fn conflicts() -> Scene {
+    CONFLICTS
+}
+
 fn counts() -> Scene {
     COUNTS
 }
@@ -181,6 +204,7 @@ fn definition_refused() -> Scene {
 #[derive(Clone, Copy)]
 pub enum Show {
     Currents,
+    Conflicts,
     Counts,
     CountsBeside,
     CurrentsRefused,
@@ -193,6 +217,7 @@ impl Show {
     pub fn scene(&self) -> Scene {
         match self {
             Show::Currents => currents(),
+            Show::Conflicts => conflicts(),
             Show::Counts => counts(),
             Show::CountsBeside => counts_beside(),
             Show::CurrentsRefused => currents_refused(),

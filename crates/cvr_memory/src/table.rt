@@ -1,7 +1,10 @@
 use crate::checks::{play_checking, play_definition, play_definition_copy};
+use crate::collected::{Changed, OTHER_BODY, OTHER_DEVICE, OTHER_HEADER, OTHER_SNAPSHOT};
 use crate::copies::{Copied, play_fact_copy};
+use crate::drills::play_drilling;
 use crate::facts::{COUNTY_FACTS, Gathered, SCAN_FACTS, play_gathering};
 use crate::files::play_file_reading;
+use crate::offices::{Question, play_asking, play_importing, play_joining, play_starting};
 use crate::reports::{
     CANDIDATE_UNKNOWN, CONTEST_TWICE, COUNTY_DEFINED, COUNTY_SCANNED, CUT, DEFINED, DEVICE_UNKNOWN,
     ELECTION_DIFFERING, FRACTION, FRACTION_LATER, MANY_DEVICES, NEGATIVE, OTHER_VERSION,
@@ -32,6 +35,11 @@ pub enum Action {
     MakeSet,
     JoinSet,
     JoinTwoSets,
+    MakeOffice,
+    Import(Changed),
+    JoinOffices,
+    Ask(Question),
+    PlayEvents,
     Run(Show),
 }
 
@@ -55,6 +63,14 @@ impl Action {
             Action::MakeSet => "BodySet::new",
             Action::JoinSet => "BodySet::join",
             Action::JoinTwoSets => "join_both",
+            Action::MakeOffice => "PlainOffice::new",
+            Action::Import(_) => "PlainOffice::import",
+            Action::JoinOffices => "PlainOffice::join",
+            Action::Ask(Question::RecordFacts) => "PlainOffice::record_facts",
+            Action::Ask(Question::Conflicts) => "PlainOffice::conflicts",
+            Action::Ask(Question::CurrentsText) => "currents_text",
+            Action::Ask(Question::ConflictsText) => "conflicts_text",
+            Action::PlayEvents => "play",
             Action::Run(_) => "run",
         }
     }
@@ -128,8 +144,23 @@ static SETS: [Script; 3] = [
     ("set_join_both", Action::JoinTwoSets),
 ];
 
-static RUNS: [Script; 6] = [
+static OFFICES: [Script; 11] = [
+    ("office", Action::MakeOffice),
+    ("import_body", Action::Import(OTHER_BODY)),
+    ("import_header", Action::Import(OTHER_HEADER)),
+    ("import_snapshot", Action::Import(OTHER_SNAPSHOT)),
+    ("import_device", Action::Import(OTHER_DEVICE)),
+    ("join", Action::JoinOffices),
+    ("record_facts", Action::Ask(Question::RecordFacts)),
+    ("conflicts", Action::Ask(Question::Conflicts)),
+    ("currents_text", Action::Ask(Question::CurrentsText)),
+    ("conflicts_text", Action::Ask(Question::ConflictsText)),
+    ("play", Action::PlayEvents),
+];
+
+static RUNS: [Script; 7] = [
     ("run_currents", Action::Run(Show::Currents)),
+    ("run_conflicts", Action::Run(Show::Conflicts)),
     ("run_check", Action::Run(Show::Counts)),
     ("run_check_beside", Action::Run(Show::CountsBeside)),
     ("run_currents_refused", Action::Run(Show::CurrentsRefused)),
@@ -170,13 +201,18 @@ fn sets() -> &'static [Script] {
     &SETS
 }
 
+// Those of offices.
+fn offices() -> &'static [Script] {
+    &OFFICES
+}
+
 // Those of runs.
 fn runs() -> &'static [Script] {
     &RUNS
 }
 
 /// All scripts, in lists by what they are of.
-pub fn scripts() -> [&'static [Script]; 7] {
+pub fn scripts() -> [&'static [Script]; 8] {
     [
         values(),
         definitions(),
@@ -184,6 +220,7 @@ pub fn scripts() -> [&'static [Script]; 7] {
         more_reports(),
         facts(),
         sets(),
+        offices(),
         runs(),
     ]
 }
@@ -204,6 +241,11 @@ fn play_action(alloc: Global, action: Action, blocks: u32) -> Result<&'static st
         Action::MakeSet => play_set_making(alloc, blocks),
         Action::JoinSet => play_set_joining(alloc, blocks),
         Action::JoinTwoSets => play_double_joining(alloc, blocks),
+        Action::MakeOffice => play_starting(alloc, blocks),
+        Action::Import(file) => play_importing(alloc, file, blocks),
+        Action::JoinOffices => play_joining(alloc, blocks),
+        Action::Ask(question) => play_asking(alloc, question, blocks),
+        Action::PlayEvents => play_drilling(alloc, blocks),
         Action::Run(show) => play_running(alloc, show.scene(), blocks),
     }
 }

@@ -1,7 +1,12 @@
 use Rattle.std.proofs.Common.{ap}
+use Rattle.cvr_collect.specs.Names.{conflicts}
 use Rattle.cvr_cli.specs.Currents.{currents}
-use Rattle.cvr_cli.proofs.SameFiles.{same_held}
+use Rattle.cvr_cli.proofs.Members.{same_held}
 use Rattle.cvr_cli.proofs.law.order_and_repeats_change_nothing.Goals as goal
 
 pub returns : goal.returns
-returns c = record { facts = same_held; currents = λ definition files others same. ap currents (same_held definition files others same) }
+returns c = record {
+  facts = same_held;
+  currents = λ definition files others same. ap currents (same_held definition files others same);
+  conflicts = λ definition files others same. ap conflicts (same_held definition files others same);
+}

@@ -1,0 +1,112 @@
+-- The facts that are held of files: those of the definition's devices, and of each file that isn't refused.
+use Rattle.std.proofs.Common.{◌≡◌, ℕ, zero, suc, ◌<◌, List, [], ◌∷◌, length, get_or, true, ◌⊎◌, inl, inr, Option, Some, None, refl, sym, ap, ◌∙◌, arith}
+use Rattle.std.proofs.lemmas.Bool.{cases_lt}
+use Rattle.std.proofs.lemmas.List.{get_or_default}
+use Rattle.std.specs.List.{Contains}
+use Rattle.std.specs.Cmp.{both_ways}
+use Rattle.std.specs.FinSet.{contains, union, same_set, contains-union}
+use Rattle.cdf_types.specs.declared.fault.ReadFault.{ReadFault}
+use Rattle.cdf_check.specs.Frame.{Frame}
+use Rattle.cdf_check.specs.Acceptance.{first_refusal}
+use Rattle.cvr_facts.specs.Facts.{Fact, Facts, fact_total, fact_exact}
+use Rattle.cvr_facts.specs.Reports.{facts}
+use Rattle.cvr_collect.specs.declared.event.Event.TheVariants.{Import}
+use Rattle.cvr_collect.specs.declared.event.Outcome.TheVariants.{Accepted}
+use Rattle.cvr_collect.specs.Keeps.{starting}
+use Rattle.cvr_collect.specs.Reach.{History, File, reached, brought, content}
+use Rattle.cvr_collect.specs.Outcomes.{due}
+use Rattle.cvr_collect.proofs.Unions.{over_insert, or_cases, or_left, or_right}
+use Rattle.cvr_collect.proofs.Reached.{origin_total, origin_exact, content-none}
+use Rattle.cvr_cli.specs.Laws.{HaveSameFiles}
+use Rattle.cvr_cli.specs.Outcome.{imports, held}
+
+content-accepted : (starts : List Facts) (files : List (List ℕ)) (past : History) (file n : ℕ)
+    → content starts files ((Import 0 file, Accepted n) ∷ past) 0 ≡ union (content starts files past 0) (facts (get_or files file []))
+content-accepted starts files past file n = over_insert origin_total origin_exact (brought starts files) (reached past 0) (File file)
+
+module _ (definition : Frame) (files : List (List ℕ)) (q : Fact) where
+  -- it is one of an accepted file among the first n
+  record IsBrought (n : ℕ) : Type 0 where
+    pub place : ℕ
+    pub below : place < n
+    pub accepted : first_refusal definition (get_or files place []) ≡ None
+    pub there : contains (facts (get_or files place [])) q ≡ true
+
+  abbrev Has : ℕ → Type 0
+  Has n = (contains (starting definition) q ≡ true) ⊎ IsBrought n
+
+  later : (n : ℕ) → Has n → Has (suc n)
+  later n (inl at_first) = inl at_first
+  later n (inr from) = inr (record { place = from.place; below = omega (arith, from.below); accepted = from.accepted; there = from.there })
+
+  -- ---- one more file
+
+  grown : (n g : ℕ) (past : History) (first : Option ReadFault) → first_refusal definition (get_or files n []) ≡ first
+      → contains (content (starting definition ∷ []) files ((Import 0 n, due first g) ∷ past) 0) q ≡ true
+      → (contains (content (starting definition ∷ []) files past 0) q ≡ true) ⊎ IsBrought (suc n)
+  grown n g past None is h =
+      elim (or_cases _ _ (sym (contains-union fact_total (content (starting definition ∷ []) files past 0) (facts (get_or files n [])) q) ∙ (ap (λ s. contains s q) (sym (content-accepted (starting definition ∷ []) files past n g)) ∙ h))) [
+        | inl before ↦ inl before
+        | inr there ↦ inr (record { place = n; below = omega arith; accepted = is; there = there })
+      ]
+  grown n g past (Some fault) is h = inl h
+
+  stays : (n g : ℕ) (past : History) (first : Option ReadFault) → contains (content (starting definition ∷ []) files past 0) q ≡ true
+      → contains (content (starting definition ∷ []) files ((Import 0 n, due first g) ∷ past) 0) q ≡ true
+  stays n g past None h =
+      ap (λ s. contains s q) (content-accepted (starting definition ∷ []) files past n g)
+      ∙ (contains-union fact_total (content (starting definition ∷ []) files past 0) (facts (get_or files n [])) q ∙ or_left _ _ h)
+  stays n g past (Some fault) h = h
+
+  comes : (n g : ℕ) (past : History) (first : Option ReadFault) → first ≡ None → contains (facts (get_or files n [])) q ≡ true
+      → contains (content (starting definition ∷ []) files ((Import 0 n, due first g) ∷ past) 0) q ≡ true
+  comes n g past None is h =
+      ap (λ s. contains s q) (content-accepted (starting definition ∷ []) files past n g)
+      ∙ (contains-union fact_total (content (starting definition ∷ []) files past 0) (facts (get_or files n [])) q ∙ or_right (contains (content (starting definition ∷ []) files past 0) q) _ h)
+  comes n g past (Some fault) is h = absurd (Prim.cc is)
+
+  -- ---- all files
+
+  abbrev held_at : ℕ → Facts
+  held_at n = content (starting definition ∷ []) files (imports definition files n) 0
+
+  from_held : (n : ℕ) → contains (held_at n) q ≡ true → Has n
+  from_held zero h = inl (ap (λ s. contains s q) (sym (content-none (starting definition ∷ []) files 0)) ∙ h)
+  from_held (suc n) h =
+      elim (grown n _ (imports definition files n) (first_refusal definition (get_or files n [])) refl h) [
+        | inl before ↦ later n (from_held n before)
+        | inr now ↦ inr now
+      ]
+
+  start_held : (n : ℕ) → contains (starting definition) q ≡ true → contains (held_at n) q ≡ true
+  start_held zero h = ap (λ s. contains s q) (content-none (starting definition ∷ []) files 0) ∙ h
+  start_held (suc n) h = stays n _ (imports definition files n) (first_refusal definition (get_or files n [])) (start_held n h)
+
+  file_held : (n k : ℕ) → k < n → first_refusal definition (get_or files k []) ≡ None → contains (facts (get_or files k [])) q ≡ true → contains (held_at n) q ≡ true
+  file_held zero k lt is h = absurd (omega arith)
+  file_held (suc n) k lt is h =
+      elim (cases_lt k n) [
+        | inl before ↦ stays n _ (imports definition files n) (first_refusal definition (get_or files n [])) (file_held n k before is h)
+        | inr now ↦ let same : k ≡ n = omega (arith, lt, now) in
+            comes n _ (imports definition files n) (first_refusal definition (get_or files n []))
+            (ap (λ i. first_refusal definition (get_or files i [])) (sym same) ∙ is)
+            (ap (λ i. contains (facts (get_or files i [])) q) (sym same) ∙ h)
+      ]
+
+-- ---- the same files
+
+also_held : (definition : Frame) (files others : List (List ℕ)) → HaveSameFiles files others → (q : Fact) → contains (held definition files) q ≡ true → contains (held definition others) q ≡ true
+also_held definition files others same q h =
+    elim (from_held definition files q (length files) h) [
+      | inl at_first ↦ start_held definition others q (length others) at_first
+      | inr from ↦
+          let file = get_or files from.place [] in
+          let there : Contains others file = (same file).0 (from.place, from.below, get_or_default files from.place file [] from.below) in
+          let is : get_or others there.0 [] ≡ file = get_or_default others there.0 [] file there.1 ∙ there.2 in
+          file_held definition others q (length others) there.0 there.1 (ap (first_refusal definition) is ∙ from.accepted) (ap (λ b. contains (facts b) q) is ∙ from.there)
+    ]
+
+pub same_held : (definition : Frame) (files others : List (List ℕ)) → HaveSameFiles files others → held definition files ≡ held definition others
+same_held definition files others same =
+    same_set fact_total fact_exact (held definition files) (held definition others)
+    (λ q. both_ways (contains (held definition files) q) (contains (held definition others) q) (also_held definition files others same q) (also_held definition others files (λ f. ((same f).1, (same f).0)) q))

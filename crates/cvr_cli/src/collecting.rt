@@ -1,0 +1,68 @@
+ghost use Rattle.std.specs.Prelude.{◌≡◌, ℕ, ◌<◌, false, length, get_or, IfOk};
+ghost use Rattle.std.specs.List.{list_any};
+ghost use Rattle.cvr_collect.specs.declared.event.Event.TheVariants.{Import, Exchange};
+ghost use Rattle.cvr_cli.specs.Accepted.{is_refused};
+ghost use Rattle.cvr_cli.specs.Outcome.{held, bytes_of};
+ghost use Rattle.cvr_cli.specs.Refusals.{is_refusal, is_want};
+
+use crate::refusals::Refusals;
+use cdf_check::Definition;
+use cdf_types::{Body, Memory, Sink};
+use cvr_collect::{Cause, Event, Office, Outcome, play};
+use std::alloc::Global;
+
+// The import of each file into the first office, in order.
+fn imports_of(alloc: Global, files: usize) -> Result<Vec<Event>, Memory>
+    ensures count { IfOk result (λ events. length events.items ≡ files) }
+    ensures each { IfOk result (λ events. (k : ℕ) → k < files → get_or events.items k (Exchange 0 0) ≡ Import 0 k) }
+{
+    let mut events = Vec::new(alloc);
+    for file in 0..files {
+        events.push(Event::Import { office: 0, file })?;
+    }
+    Ok(events)
+}
+
+// Tells each file that was refused to the log.
+fn note_refused<L: Sink>(
+    alloc: Global,
+    paths: &[Body],
+    outcomes: &[Outcome],
+    log: &mut L,
+) -> Refusals
+    requires { length paths.now ≡ length outcomes.now }
+    ensures some { result.some ≡ list_any is_refusal outcomes.now }
+    ensures lacking { result.lacking ≡ list_any is_want outcomes.now }
+{
+    let mut refusals = Refusals::none();
+    for (place, outcome) in outcomes.iter().enumerate() {
+        if let Outcome::Refused(Cause::Read(fault)) = outcome {
+            refusals.note(alloc, log, paths[place].as_str(), fault);
+        }
+    }
+    refusals
+}
+
+/// Collects files in one new office, in order, and tells each refused one to the log.
+///
+/// # Errors
+/// `Memory` where the office or the lists of imports and their outcomes had no room. No file is then
+/// collected.
+pub fn collect<O: Office + Drop, L: Sink>(
+    alloc: Global,
+    definition: Definition,
+    paths: &[Body],
+    files: &[Vec<u8>],
+    log: &mut L,
+) -> Result<(O, Refusals), Memory>
+    requires { length paths.now ≡ length files.now }
+    ensures content { IfOk result (λ r. r.1.lacking ≡ false → O.held r.0 ≡ held definition (bytes_of files.now)) }
+    ensures some { IfOk result (λ r. r.1.lacking ≡ false → r.1.some ≡ list_any (is_refused definition) (bytes_of files.now)) }
+{
+    let mut offices = Vec::new(alloc);
+    offices.push(O::new(alloc, definition)?)?;
+    let events = imports_of(alloc, files.len())?;
+    let outcomes = play(alloc, offices.as_mut_slice(), files, events.as_slice())?;
+    let refusals = note_refused(alloc, paths, outcomes.as_slice(), log);
+    Ok((offices.swap_remove(0), refusals))
+}

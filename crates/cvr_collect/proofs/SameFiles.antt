@@ -1,0 +1,50 @@
+-- Offices that the same files have reached hold the same, where all began with the same.
+use Rattle.std.proofs.Common.{◌≡◌, ℕ, true, List, [], ◌∷◌, sym, ap, ◌∙◌}
+use Rattle.std.specs.List.{list_any}
+use Rattle.std.specs.Cmp.{both_ways}
+use Rattle.std.specs.FinSet.{empty, contains, items, same_set, contains-insert}
+use Rattle.cvr_facts.specs.Facts.{Fact, Facts, fact_total, fact_exact}
+use Rattle.cvr_facts.specs.Choosing.{current, header}
+use Rattle.cvr_collect.specs.Names.{conflicts}
+use Rattle.cvr_collect.specs.Reach.{Origin, Start, File, History, reached, brought, content}
+use Rattle.cvr_collect.specs.Laws.{BeganAlike, SameFilesLaw, SameAnswersLaw}
+use Rattle.cvr_collect.proofs.Unions.{or_left, tie_itself, contains-union_over, member_that_passes, passes_by_member}
+use Rattle.cvr_collect.proofs.Reached.{origin_total, origin_exact}
+use Rattle.cvr_collect.proofs.Ways.{reached_after-stays}
+
+-- an office has reached itself
+own : (past : History) (o : ℕ) → contains (reached past o) (Start o) ≡ true
+own [] o = contains-insert origin_total empty (Start o) (Start o) ∙ or_left _ _ (tie_itself origin_total origin_exact (Start o))
+own (e ∷ past) o = reached_after-stays (Start o) e.0 e.1 (reached past) o (own past o)
+
+-- a fact of what has reached o is one of what has reached p
+one_way : (start : Facts) (starts : List Facts) (files : List (List ℕ)) (past : History) (o p : ℕ)
+    → BeganAlike start starts past o → BeganAlike start starts past p
+    → ((f : ℕ) → contains (reached past o) (File f) ≡ true → contains (reached past p) (File f) ≡ true)
+    → (q : Fact) → list_any (λ x. contains (brought starts files x) q) (items (reached past o)) ≡ true
+    → list_any (λ x. contains (brought starts files x) q) (items (reached past p)) ≡ true
+one_way start starts files past o p a b same q any =
+    let has = λ (x : Origin). contains (brought starts files x) q in
+    let w = member_that_passes origin_total origin_exact has (reached past o) any in
+    elim w.0 as (λ x. contains (reached past o) x ≡ true → has x ≡ true → list_any has (items (reached past p)) ≡ true) [
+      | Start k ↦ λ had here.
+          passes_by_member origin_total origin_exact has (Start p) (reached past p) (own past p)
+          (ap (λ t. contains t q) (b p (own past p) ∙ sym (a k had)) ∙ here)
+      | File f ↦ λ had here. passes_by_member origin_total origin_exact has (File f) (reached past p) (same f had) here
+    ] w.1 w.2
+
+pub same_files : SameFilesLaw
+same_files start starts files past o p a b same = same_set fact_total fact_exact _ _ (λ q.
+    contains-union_over (brought starts files) (items (reached past o)) q
+    ∙ (both_ways _ _ (one_way start starts files past o p a b (λ f. (same f).0) q) (one_way start starts files past p o b a (λ f. (same f).1) q)
+    ∙ sym (contains-union_over (brought starts files) (items (reached past p)) q)))
+
+-- so all that is answered of their facts is the same
+pub same_answers : SameAnswersLaw
+same_answers start starts files past o p a b same =
+    let alike : content starts files past o ≡ content starts files past p = same_files start starts files past o p a b same in
+    record {
+      currents = λ key. ap (λ facts. current facts key) alike;
+      headers = λ key. ap (λ facts. header facts key) alike;
+      conflicts_are = ap conflicts alike;
+    }

@@ -1,0 +1,11 @@
+use Rattle.std.proofs.Common.{◌≡◌, take, map, Contains}
+use Rattle.cvr_collect.specs.declared.record_facts.IdFacts.{IdFacts}
+use Rattle.cvr_collect.specs.Runs.{snapshots}
+use Rattle.cvr_collect.specs.Groups.{under, IsFalling}
+use Rattle.cvr_collect.proofs.record_lists.grouped.Given as goal
+
+abbrev pub invariant-loop-id : goal.invariant-loop-id
+invariant-loop-id l = record {
+  ids_are : map (λ i. i.id.now) l.groups.items ≡ map (λ i. i.now) (take l.id-index l.id-items);
+  each : (i : IdFacts) → Contains l.groups.items i → IsFalling (snapshots (under i.id.now l.run)) (map (λ s. s.now) i.snapshots.items);
+}

@@ -1,0 +1,11 @@
+pub mod Names
+pub mod Readers
+pub mod Keeps
+pub mod Reach
+pub mod Outcomes
+pub mod Laws
+pub mod Place
+pub mod Plain
+pub mod AnyNames
+pub mod Runs
+pub mod Groups

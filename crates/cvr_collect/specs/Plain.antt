@@ -1,0 +1,68 @@
+-- A plain office: a definition, and a list of facts in order. (This project's own.)
+use Rattle.std.specs.Prelude.{◌≡◌, ◌⊎◌, ℕ, List, ◌++◌, map, ⊤}
+use Rattle.std.specs.List.{Contains}
+use Rattle.std.specs.List.Sorted.{IsStrictlySortedBy}
+use Rattle.std.specs.Coded.{Coded, code_by, coded×, coded_list, coded_ℕ}
+use Rattle.std.specs.FinSet.{from_list, union}
+use Rattle.std.proofs.Common.{refl}
+use Rattle.cdf_form.specs.Places.{Contest}
+use Rattle.cdf_check.specs.Named.{Entry}
+use Rattle.cdf_check.specs.Frame.{Frame}
+use Rattle.cvr_facts.specs.declared.list.FactList.{FactList}
+use Rattle.cvr_facts.specs.Facts.{Facts, coded_facts}
+use Rattle.cvr_facts.specs.Stands.{IsSpelledHeader, IsSpelledSnapshot}
+use Rattle.cvr_collect.specs.declared.any_fact.AnyFact.{AnyFact}
+use Rattle.cvr_collect.specs.declared.any_fact.AnyFact.TheVariants as any
+use Rattle.cvr_collect.specs.Place.{fact_of, any_cmp}
+use Rattle.cvr_collect.specs.Keeps.{Keeps}
+
+-- the set of them
+abbrev pub set_of : List AnyFact → Facts
+set_of items = from_list (map fact_of items)
+
+-- the facts of a list of each kind
+abbrev pub all_of : FactList → List AnyFact
+all_of list = map any.Device list.devices ++ (map any.Header list.headers ++ map any.Snapshot list.snapshots)
+
+-- a definition and facts
+pub record Content : Type 0 where
+  pub frame : Frame
+  pub facts : Facts
+
+abbrev pub coded_text : Coded (List ℕ)
+coded_text = coded_list coded_ℕ
+
+abbrev pub coded_entries : Coded (List Entry)
+coded_entries = coded_list (coded× coded_text coded_text)
+
+abbrev pub coded_contests : Coded (List Contest)
+coded_contests = coded_list (coded× coded_text (coded_list coded_text))
+
+abbrev pub coded_content : Coded Content
+coded_content =
+    code_by (List Entry × (List Entry × (List Entry × (List Entry × (List Contest × Facts)))))
+    (coded× coded_entries (coded× coded_entries (coded× coded_entries (coded× coded_entries (coded× coded_contests coded_facts)))))
+    (λ c. (c.frame.elections, (c.frame.units, (c.frame.parties, (c.frame.devices, (c.frame.contests, c.facts))))))
+    (λ p. record { frame = record { elections = p.0; units = p.1.0; parties = p.1.1.0; devices = p.1.1.1.0; contests = p.1.1.1.1.0 }; facts = p.1.1.1.1.1 })
+    (λ _. refl)
+
+abbrev pub content : Frame → List AnyFact → Content
+content frame items = record { frame = frame; facts = set_of items }
+
+-- its fields are those that its body spells
+abbrev pub IsSpelled : List Contest → AnyFact → Type 0
+IsSpelled contests (any.Device d) = ⊤
+IsSpelled contests (any.Header h) = IsSpelledHeader h
+IsSpelled contests (any.Snapshot s) = IsSpelledSnapshot contests s
+
+-- the list rises, each of it is spelled, and the set of them keeps what an office keeps
+pub record IsPlain (frame : Frame) (items : List AnyFact) : Type 0 where
+  pub rises : IsStrictlySortedBy any_cmp items
+  pub spelled : (fact : AnyFact) → Contains items fact → IsSpelled frame.contests fact
+  pub keeps : Keeps frame (set_of items)
+
+-- what a list holds after another was put in
+pub record IsPut (old more new : List AnyFact) : Type 0 where
+  pub rises : IsStrictlySortedBy any_cmp new
+  pub from : (fact : AnyFact) → Contains new fact → Contains old fact ⊎ Contains more fact
+  pub set : set_of new ≡ union (set_of old) (set_of more)

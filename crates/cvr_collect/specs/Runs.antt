@@ -1,0 +1,61 @@
+-- The run of a record: its facts in a list in order, which stand together. (This project's own.)
+use Rattle.std.specs.Prelude.{◌≡◌, List, [], Bool, Option, Some, None}
+use Rattle.std.specs.List.{filter, filter_map, Contains}
+use Rattle.std.specs.declared.cmp.Ordering.{Ordering}
+use Rattle.std.specs.Ordering.{is_eq}
+use Rattle.std.specs.Option.{option_cmp}
+use Rattle.cdf_form.specs.Places.{Contest}
+use Rattle.cdf_typed.specs.Greatest.{greater}
+use Rattle.cvr_facts.specs.declared.name.RecordName.{RecordName}
+use Rattle.cvr_facts.specs.declared.header.HeaderFact.{HeaderFact}
+use Rattle.cvr_facts.specs.declared.snapshot.SnapshotFact.{SnapshotFact}
+use Rattle.cvr_facts.specs.Facts.{name_cmp}
+use Rattle.cvr_facts.specs.Choosing.{fact_choice, IsGreatest}
+use Rattle.cvr_collect.specs.declared.any_fact.AnyFact.{AnyFact}
+use Rattle.cvr_collect.specs.declared.any_fact.AnyFact.TheVariants as any
+use Rattle.cvr_collect.specs.Names.{record_of}
+use Rattle.cvr_collect.specs.Place.{fact_of}
+use Rattle.cvr_collect.specs.Plain.{IsSpelled}
+
+-- how a fact's record stands to this one, where a device stands before all records
+abbrev pub record_order : RecordName → AnyFact → Ordering
+record_order key fact = option_cmp name_cmp (record_of (fact_of fact)) (Some key)
+
+-- whether it is a fact of the record
+abbrev pub is_of : RecordName → AnyFact → Bool
+is_of key fact = is_eq (record_order key fact)
+
+-- the facts of the record
+abbrev pub run : RecordName → List AnyFact → List AnyFact
+run key facts = filter (is_of key) facts
+
+abbrev pub as_header : AnyFact → Option HeaderFact
+as_header (any.Device d) = None
+as_header (any.Header h) = Some h
+as_header (any.Snapshot s) = None
+
+abbrev pub as_snapshot : AnyFact → Option SnapshotFact
+as_snapshot (any.Device d) = None
+as_snapshot (any.Header h) = None
+as_snapshot (any.Snapshot s) = Some s
+
+-- the headers of a list, and its snapshots
+abbrev pub headers : List AnyFact → List HeaderFact
+headers facts = filter_map as_header facts
+
+abbrev pub snapshots : List AnyFact → List SnapshotFact
+snapshots facts = filter_map as_snapshot facts
+
+-- each fact of the list is spelled
+abbrev pub AreSpelled : List Contest → List AnyFact → Type 0
+AreSpelled contests facts = (fact : AnyFact) → Contains facts fact → IsSpelled contests fact
+
+-- the greater of two snapshots by the order of choosing, or the only one
+abbrev pub chosen : Option SnapshotFact → SnapshotFact → SnapshotFact
+chosen None other = other
+chosen (Some one) other = greater fact_choice one other
+
+-- the greatest of these, if there are any
+abbrev pub IsChosen : List SnapshotFact → Option SnapshotFact → Type 0
+IsChosen found None = found ≡ []
+IsChosen found (Some s) = IsGreatest fact_choice found s

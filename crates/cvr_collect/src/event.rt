@@ -1,0 +1,43 @@
+use crate::fault::JoinFault;
+use cdf_types::ReadFault;
+
+/// Something that happens among offices and files, all told by their places, from 0.
+#[derive(Clone, Copy, Debug, PartialEq, Eq)]
+pub enum Event {
+    /// An office takes in a file.
+    Import {
+        /// The office.
+        office: usize,
+        /// The file.
+        file: usize,
+    },
+    /// The office `to` takes in what the office `from` holds, which stays as it is.
+    Exchange {
+        /// The office that gives.
+        from: usize,
+        /// The office that takes.
+        to: usize,
+    },
+}
+
+/// Why an event was refused.
+#[derive(Drop)]
+pub enum Cause {
+    /// The file isn't accepted.
+    Read(ReadFault),
+    /// The facts couldn't be joined.
+    Join(JoinFault),
+    /// There is no such office.
+    NoOffice,
+    /// There is no such file.
+    NoFile,
+}
+
+/// What became of an event.
+#[derive(Drop)]
+pub enum Outcome {
+    /// It took place, and brought this many new facts.
+    Accepted(usize),
+    /// It changed nothing.
+    Refused(Cause),
+}

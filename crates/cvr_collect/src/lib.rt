@@ -1,0 +1,34 @@
+//! Offices that collect cast vote records, and the events by which records come to them.
+#![tactic(auto)]
+
+mod any_fact;
+mod conflict;
+mod conflicts;
+mod devices;
+mod event;
+mod fault;
+pub mod law;
+mod names;
+mod office;
+mod one_record;
+mod plain;
+mod playing;
+mod putting;
+mod record_facts;
+mod record_lists;
+#[cfg(test)]
+mod tests;
+#[cfg(test)]
+mod tests_devices;
+#[cfg(test)]
+mod tests_playing;
+#[cfg(test)]
+mod tests_reports;
+
+pub use conflict::{Conflict, ConflictList, ConflictName};
+pub use event::{Cause, Event, Outcome};
+pub use fault::JoinFault;
+pub use office::{Office, Receipt};
+pub use plain::PlainOffice;
+pub use playing::play;
+pub use record_facts::{IdFacts, RecordFacts};

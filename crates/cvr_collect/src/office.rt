@@ -1,0 +1,142 @@
+ghost use Rattle.std.specs.Prelude.{◌≡◌, ◌+◌, ℕ, List, IsTrue, ◌↔◌, ◌⊎◌, OnOk, OnErr, IfOk, IfErr, map, length, Option, None, Some, option_map};
+ghost use Rattle.std.specs.FinSet.{union, len};
+ghost use Rattle.cdf_types.specs.declared.fault.ReadFault.{ReadFault};
+ghost use Rattle.cdf_form.specs.Reading.{IsMemory};
+ghost use Rattle.cdf_form.specs.Parts.{record_count};
+ghost use Rattle.cdf_check.specs.Frame.{Frame, IsSame};
+ghost use Rattle.cdf_check.specs.Acceptance.{Valid, first_refusal, value_in};
+ghost use Rattle.cvr_facts.specs.Facts.{Facts, text_cmp, name_cmp};
+ghost use Rattle.cvr_facts.specs.Reports.{facts};
+ghost use Rattle.cvr_collect.specs.Names.{records, devices, count_under, conflicts, greatest_count};
+ghost use Rattle.cvr_collect.specs.declared.conflict.ConflictName.TheVariants as name;
+ghost use Rattle.cvr_collect.specs.declared.fault.JoinFault.TheVariants as join_fault;
+ghost use Rattle.cvr_collect.specs.Keeps.{starting, Keeps};
+ghost use Rattle.cvr_collect.specs.Readers.{next, numbered, growth, device_list, IsHeader, IsCurrent, AreRecordFacts};
+
+use crate::conflict::ConflictList;
+use crate::fault::JoinFault;
+use crate::record_facts::RecordFacts;
+use cdf_check::Definition;
+use cdf_types::{Body, Memory, ReadFault};
+use cvr_facts::{HeaderFact, RecordName, SnapshotFact};
+use std::alloc::Global;
+
+/// What an import brought.
+#[derive(Clone, Copy, Debug, PartialEq, Eq)]
+pub struct Receipt {
+    /// The cast vote records of the file (NIST SP 1500-103, class CVR).
+    pub cvrs: usize,
+    /// The facts that were new.
+    pub new_facts: usize,
+}
+
+/// A place that collects cast vote records: it holds a set of facts beside one definition.
+pub trait Office {
+    // its facts
+    ghost held: { Self → Facts };
+
+    // its definition
+    ghost defined: { Self → Frame };
+
+    /// A new office, which holds the devices of its definition.
+    ///
+    /// # Errors
+    /// `Memory` where a growth was refused; the definition is then dropped.
+    fn new(alloc: Global, definition: Definition) -> Result<Self, Memory>
+        ensures content { IfOk result (λ o. held o ≡ starting definition) }
+        ensures definition { IfOk result (λ o. defined o ≡ definition) };
+
+    /// Its definition, which no call changes. Takes no memory.
+    fn definition(&self) -> &Definition
+        ensures is { result.now ≡ defined self.now }
+        ensures keeps { Keeps (defined self.now) (held self.now) };
+
+    /// Takes in the facts of a file that is accepted beside the definition.
+    ///
+    /// # Errors
+    /// As `check_report`. The office is then as it was.
+    fn import(&mut self, bytes: &[u8]) -> Result<Receipt, ReadFault>
+        ensures content { OnOk result (held self.new ≡ union (held self.old) (facts bytes.now)) }
+        ensures valid { OnOk result (Valid (defined self.old) bytes.now) }
+        ensures cvrs { IfOk result (λ r. r.cvrs ≡ record_count (value_in bytes.now)) }
+        ensures new_facts { IfOk result (λ r. r.new_facts ≡ growth (held self.old) (facts bytes.now)) }
+        ensures first { IfErr result (λ e. ¬ IsMemory e → first_refusal (defined self.old) bytes.now ≡ Some e) }
+        ensures unchanged { OnErr result (held self.new ≡ held self.old) }
+        ensures definition { defined self.new ≡ defined self.old };
+
+    /// Takes in the facts of another office, which stays as it is, and answers how many were new.
+    ///
+    /// # Errors
+    /// `OtherDefinition` where the definitions differ (devices aside); else `Memory` where a growth
+    /// was refused. The office is then as it was.
+    fn join(&mut self, other: &Self) -> Result<usize, JoinFault>
+        ensures content { OnOk result (held self.new ≡ union (held self.old) (held other.now)) }
+        ensures same { OnOk result (IsSame (defined self.old) (defined other.now)) }
+        ensures new_facts { IfOk result (λ n. n ≡ growth (held self.old) (held other.now)) }
+        ensures fault { IfErr result (λ e. ((e ≡ join_fault.OtherDefinition) × ¬ IsSame (defined self.old) (defined other.now))
+            ⊎ ((e ≡ join_fault.Memory) × IsSame (defined self.old) (defined other.now))) }
+        ensures unchanged { OnErr result (held self.new ≡ held self.old) }
+        ensures definition { defined self.new ≡ defined self.old };
+
+    /// Whether both have the same definition (devices aside) and hold the same facts. Takes no
+    /// memory.
+    fn same(&self, other: &Self) -> bool
+        ensures { IsTrue result ↔ (IsSame (defined self.now) (defined other.now) × (held self.now ≡ held other.now)) };
+
+    /// The current snapshot of a record: the greatest by Type, then by its latest annotation, then
+    /// by bytes. None where there is no such record. Takes no memory.
+    fn current(&self, key: &RecordName) -> Option<&SnapshotFact>
+        ensures { IsCurrent (defined self.now).contests (held self.now) key.now (option_map (λ s. s.now) result) };
+
+    /// The header of a record: the greatest by bytes. None where there is no such record. Takes no
+    /// memory.
+    fn header(&self, key: &RecordName) -> Option<&HeaderFact>
+        ensures { IsHeader (held self.now) key.now (option_map (λ h. h.now) result) };
+
+    /// All facts of a record. None where there is no such record.
+    ///
+    /// # Errors
+    /// `Memory` where a growth was refused.
+    fn record_facts(
+        &self,
+        alloc: Global,
+        key: &RecordName,
+    ) -> Result<Option<RecordFacts<'_>>, Memory>
+        ensures { IfOk result (AreRecordFacts (defined self.now).contests (held self.now) key.now) };
+
+    /// The least record name above the given one, or the least of all. Takes no memory.
+    fn next_record(&self, after: Option<&RecordName>) -> Option<&RecordName>
+        ensures { option_map (λ k. k.now) result ≡ next name_cmp (records (held self.now)) (option_map (λ k. k.now) after.entry) };
+
+    /// The least device id above the given one, or the least of all. Takes no memory.
+    fn next_device(&self, after: Option<&str>) -> Option<&str>
+        ensures { option_map (λ i. i.now) result ≡ next text_cmp (devices (held self.now)) (option_map (λ i. i.now) after.entry) };
+
+    /// How many bodies the device with this id has, 0 where there is none. Takes no memory.
+    fn device_count(&self, id: &str) -> usize
+        ensures { result ≡ count_under (held self.now) (name.Device id.now) };
+
+    /// Body number `k` of the device with this id, from 1, greatest first by bytes. None for 0 and
+    /// above their number. Takes no memory.
+    fn device_body(&self, id: &str, k: usize) -> Option<&Body>
+        ensures { option_map (λ b. b.now) result ≡ numbered (device_list (held self.now) id.now) k };
+
+    /// The names with two bodies or more, in order.
+    ///
+    /// # Errors
+    /// `Memory` where a growth was refused.
+    fn conflicts(&self, alloc: Global) -> Result<ConflictList, Memory>
+        ensures { IfOk result (λ list. list ≡ conflicts (held self.now)) };
+
+    /// How many records it has. Takes no memory.
+    fn record_count(&self) -> usize
+        ensures { result ≡ length (records (held self.now)) };
+
+    /// How many facts it holds. Takes no memory.
+    fn fact_count(&self) -> usize
+        ensures { result ≡ len (held self.now) };
+
+    /// The greatest number of bodies under one name, 0 where there is none. Takes no memory.
+    fn greatest_count(&self) -> usize
+        ensures { result ≡ greatest_count (held self.now) };
+}

@@ -1,0 +1,125 @@
+use crate::any_fact::AnyFact;
+use crate::conflict::ConflictList;
+use crate::conflicts::{conflicts_in, greatest_count_in};
+use crate::devices::{device_body_in, device_count_in, next_device_in};
+use crate::fault::JoinFault;
+use crate::names::{next_record_in, record_count_in};
+use crate::office::{Office, Receipt};
+use crate::one_record::{current_in, header_in};
+use crate::putting::{in_one, own_devices, put_copies, put_in};
+use crate::record_facts::RecordFacts;
+use crate::record_lists::record_facts_in;
+use cdf_check::{Definition, check_report};
+use cdf_types::{Body, Memory, ReadFault};
+use cvr_facts::{HeaderFact, RecordName, SnapshotFact, facts_of};
+use std::alloc::Global;
+use std::marker::Model;
+
+/// An office that keeps its facts in one list, and computes each answer anew from it.
+#[derive(Drop)]
+pub struct PlainOffice {
+    definition: Definition,
+    facts: Vec<AnyFact>,
+}
+
+impl Model for PlainOffice {
+    ghost use Rattle.cvr_collect.specs.Plain.{Content, coded_content, content, IsPlain};
+
+    ghost Value = { Content };
+
+    ghost coded = { coded_content };
+
+    ghost view = { λ a. content a.definition a.facts.items };
+
+    ghost invariant = { λ a. IsPlain a.definition a.facts.items };
+}
+
+impl Office for PlainOffice {
+    ghost held = { λ o. o.facts };
+
+    ghost defined = { λ o. o.frame };
+
+    fn new(alloc: Global, definition: Definition) -> Result<Self, Memory> {
+        let mut facts = Vec::new(alloc);
+        put_in(&mut facts, own_devices(alloc, &definition)?)?;
+        definition.made_of_a_report();
+        Ok(PlainOffice { definition, facts })
+    }
+
+    fn definition(&self) -> &Definition {
+        &self.definition
+    }
+
+    fn import(&mut self, bytes: &[u8]) -> Result<Receipt, ReadFault> {
+        let alloc = *self.facts.allocator();
+        let report = check_report(alloc, &self.definition, bytes)?;
+        let list = facts_of(alloc, &self.definition, &report)?;
+        let cvrs = report.cvrs.as_slice().len();
+        drop(report);
+        let new_facts = put_in(&mut self.facts, in_one(alloc, list)?)?;
+        Ok(Receipt { cvrs, new_facts })
+    }
+
+    fn join(&mut self, other: &Self) -> Result<usize, JoinFault> {
+        if !self.definition.same(&other.definition) {
+            return Err(JoinFault::OtherDefinition);
+        }
+        match put_copies(&mut self.facts, &other.facts) {
+            Ok(new_facts) => Ok(new_facts),
+            Err(Memory) => Err(JoinFault::Memory),
+        }
+    }
+
+    fn same(&self, other: &Self) -> bool {
+        self.definition.same(&other.definition) && self.facts == other.facts
+    }
+
+    fn current(&self, key: &RecordName) -> Option<&SnapshotFact> {
+        current_in(&self.facts, key)
+    }
+
+    fn header(&self, key: &RecordName) -> Option<&HeaderFact> {
+        header_in(&self.facts, key)
+    }
+
+    fn record_facts(
+        &self,
+        alloc: Global,
+        key: &RecordName,
+    ) -> Result<Option<RecordFacts<'_>>, Memory> {
+        let found = record_facts_in(alloc, &self.facts, key)?;
+        Ok(found)
+    }
+
+    fn next_record(&self, after: Option<&RecordName>) -> Option<&RecordName> {
+        next_record_in(&self.facts, after)
+    }
+
+    fn next_device(&self, after: Option<&str>) -> Option<&str> {
+        next_device_in(&self.facts, after)
+    }
+
+    fn device_count(&self, id: &str) -> usize {
+        device_count_in(&self.facts, id)
+    }
+
+    fn device_body(&self, id: &str, k: usize) -> Option<&Body> {
+        device_body_in(&self.facts, id, k)
+    }
+
+    fn conflicts(&self, alloc: Global) -> Result<ConflictList, Memory> {
+        conflicts_in(alloc, &self.facts)
+    }
+
+    fn record_count(&self) -> usize {
+        record_count_in(&self.facts)
+    }
+
+    fn fact_count(&self) -> usize {
+        self.facts.len()
+    }
+
+    fn greatest_count(&self) -> usize {
+        greatest_count_in(&self.facts)
+    }
+}

@@ -1,0 +1,115 @@
+ghost use Rattle.std.specs.Prelude.{◌≡◌, map, IfOk, OnOk, OnErr};
+ghost use Rattle.std.specs.List.Sorted.{IsStrictlySortedBy};
+ghost use Rattle.cvr_facts.specs.Facts.{Device};
+ghost use Rattle.cvr_collect.specs.Readers.{growth};
+ghost use Rattle.cvr_collect.specs.declared.any_fact.AnyFact.TheVariants as any;
+ghost use Rattle.cvr_collect.specs.Place.{fact_of, any_cmp};
+ghost use Rattle.cvr_collect.specs.Plain.{set_of, all_of, IsPut};
+
+use crate::any_fact::AnyFact;
+use cdf_check::Definition;
+use cdf_types::{Body, Memory, Seq};
+use cvr_facts::{DeviceFact, FactList, HeaderFact, SnapshotFact};
+use std::alloc::Global;
+
+// Puts more facts into a list in order, each once, and answers how many are new. A list of a few
+// rising stretches is sorted in linear time.
+pub(crate) fn put_in(facts: &mut Vec<AnyFact>, mut more: Vec<AnyFact>) -> Result<usize, Memory>
+    requires { IsStrictlySortedBy any_cmp facts.old.items }
+    ensures put { OnOk result (IsPut facts.old.items more.items facts.new.items) }
+    ensures new { IfOk result (λ n. n ≡ growth (set_of facts.old.items) (set_of more.items)) }
+    ensures unchanged { OnErr result (facts.new.items ≡ facts.old.items) }
+{
+    let before = facts.len();
+    facts.append(&mut more)?;
+    if let Err(refused) = facts.sort() {
+        facts.truncate(before);
+        return Err(refused.into());
+    }
+    facts.dedup();
+    Ok(facts.len() - before)
+}
+
+// The devices of a definition.
+pub(crate) fn own_devices(alloc: Global, definition: &Definition) -> Result<Vec<AnyFact>, Memory>
+    ensures { IfOk result (λ facts. map fact_of facts.items ≡ map (λ e. Device e.0 e.1) definition.now.devices) }
+{
+    let bodies = definition.devices();
+    let mut facts = Vec::with_capacity(alloc, bodies.len())?;
+    for (place, body) in bodies.iter().enumerate() {
+        let id = String::from_str(alloc, definition.device_id(place))?;
+        facts.push(AnyFact::Device(DeviceFact {
+            id: Body::new(id),
+            body: body.copy()?,
+        }))?;
+    }
+    Ok(facts)
+}
+
+// The facts of all kinds in one list.
+pub(crate) fn in_one(alloc: Global, list: FactList) -> Result<Vec<AnyFact>, Memory>
+    ensures { IfOk result (λ facts. facts.items ≡ all_of list) }
+{
+    let mut facts = of_devices(alloc, list.devices)?;
+    facts.append(&mut of_headers(alloc, list.headers)?)?;
+    facts.append(&mut of_snapshots(alloc, list.snapshots)?)?;
+    Ok(facts)
+}
+
+// The devices as facts of any kind.
+fn of_devices(alloc: Global, devices: Seq<DeviceFact>) -> Result<Vec<AnyFact>, Memory>
+    ensures { IfOk result (λ facts. facts.items ≡ map any.Device devices) }
+{
+    let devices = devices.into_vec();
+    let mut facts = Vec::with_capacity(alloc, devices.len())?;
+    for device in devices {
+        facts.push(AnyFact::Device(device))?;
+    }
+    Ok(facts)
+}
+
+// The headers as facts of any kind.
+fn of_headers(alloc: Global, headers: Seq<HeaderFact>) -> Result<Vec<AnyFact>, Memory>
+    ensures { IfOk result (λ facts. facts.items ≡ map any.Header headers) }
+{
+    let headers = headers.into_vec();
+    let mut facts = Vec::with_capacity(alloc, headers.len())?;
+    for header in headers {
+        facts.push(AnyFact::Header(header))?;
+    }
+    Ok(facts)
+}
+
+// The snapshots as facts of any kind.
+fn of_snapshots(alloc: Global, snapshots: Seq<SnapshotFact>) -> Result<Vec<AnyFact>, Memory>
+    ensures { IfOk result (λ facts. facts.items ≡ map any.Snapshot snapshots) }
+{
+    let snapshots = snapshots.into_vec();
+    let mut facts = Vec::with_capacity(alloc, snapshots.len())?;
+    for snapshot in snapshots {
+        facts.push(AnyFact::Snapshot(snapshot))?;
+    }
+    Ok(facts)
+}
+
+// Puts copies of facts into a list in order, as `put_in`.
+pub(crate) fn put_copies(facts: &mut Vec<AnyFact>, theirs: &[AnyFact]) -> Result<usize, Memory>
+    requires { IsStrictlySortedBy any_cmp facts.old.items }
+    ensures put { OnOk result (IsPut facts.old.items theirs.now facts.new.items) }
+    ensures new { IfOk result (λ n. n ≡ growth (set_of facts.old.items) (set_of theirs.now)) }
+    ensures unchanged { OnErr result (facts.new.items ≡ facts.old.items) }
+{
+    let more = copies(*facts.allocator(), theirs)?;
+    put_in(facts, more)
+}
+
+// Equal facts, in order.
+fn copies(alloc: Global, facts: &[AnyFact]) -> Result<Vec<AnyFact>, Memory>
+    ensures { IfOk result (λ copies. copies.items ≡ facts.now) }
+{
+    let mut copies = Vec::with_capacity(alloc, facts.len())?;
+    for fact in facts {
+        copies.push(fact.copy(alloc)?)?;
+    }
+    Ok(copies)
+}
