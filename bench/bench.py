@@ -1,8 +1,9 @@
 #!/usr/bin/env python3
 """bench.py [--sizes 10000,100000] [--rounds 5] [--jq-rounds 3] [--stages-only] [--keep NAME]
 
-Times `cvr currents` beside jq and beside reading the files alone, at two sizes or more, and the check of one report, or
-the reading of one definition, beside the JSON reader alone; compares what is printed with jq byte by byte. README.md says
+Times `cvr currents` beside jq and beside reading the files alone, at two sizes or more, and `cvr tally` at the same; and
+the check of one report, or the reading of one definition, beside the JSON reader alone, with the stages from there to the
+tally; compares current snapshots with jq byte by byte. README.md says
 what the figures mean. The status is 1 where a command fails or a text differs. With --keep the raw figures are appended to
 runs/DATE-NAME.md. With --stages-only there are no runs of `cvr`."""
 import argparse
@@ -121,16 +122,17 @@ def measured(report, commands, folder, megabytes):
 
 
 def size(report, words, amount):
-    """Times the commands on `amount` records. Returns the seconds of `cvr`, and whether all was well."""
+    """Times the commands on `amount` records. Returns the seconds of `currents` and `tally`, and whether all was well."""
     data = made(words.data, 'records-%d' % amount, ['records', '--records', str(amount)])
     definition = os.path.join(data, 'definition.json')
     files = sorted(glob.glob(os.path.join(data, 'scan-*.json')) + glob.glob(os.path.join(data, 'desk-*.json')))
     megabytes = sum(map(os.path.getsize, files)) / 1e6
     report.say()
-    report.say('currents, %d records, %d files, %.1f MB' % (amount, len(files), megabytes))
+    report.say('currents (cvr, jq) and tally, %d records, %d files, %.1f MB' % (amount, len(files), megabytes))
     read_all([definition] + files)
     commands = [('reading', ['cat'] + files, words.rounds),
-                ('cvr', [words.cvr, 'currents', definition] + files, words.rounds)]
+                ('cvr', [words.cvr, 'currents', definition] + files, words.rounds),
+                ('tally', [words.cvr, 'tally', definition] + files, words.rounds)]
     if shutil.which('jq'):
         jq = ['jq', '-rn', '-f', os.path.join(HERE, 'currents.jq')] + files
         commands.append(('jq', jq, words.jq_rounds))
@@ -144,7 +146,8 @@ def size(report, words, amount):
             report.say('cvr / jq %.3f, cvr / reading %.1f' % (middle['cvr'] / middle['jq'], middle['cvr'] / middle['reading']))
         else:
             report.say('cvr / reading %.1f; no text was compared. %s' % (middle['cvr'] / middle['reading'], JQ_HINT))
-    return middle['cvr'], is_right
+        report.say('tally / cvr %.3f' % (middle['tally'] / middle['cvr']))
+    return (middle['cvr'], middle['tally']), is_right
 
 
 def stages(words, task, definition, report):
@@ -214,6 +217,30 @@ def facts(report, words, data, county):
                % (REPEATS[1], REPEATS[0], seconds[1] / REPEATS[1] / (seconds[0] / REPEATS[0])))
 
 
+STAGES = ('read', 'check', 'facts', 'import', 'tally')
+
+
+def office(report, words):
+    """Times each stage from the JSON reader to the tally, file by file, each in an office of its own."""
+    amount = words.sizes[0]
+    data = made(words.data, 'records-%d' % amount, ['records', '--records', str(amount)])
+    files = sorted(glob.glob(os.path.join(data, 'scan-*.json')) + glob.glob(os.path.join(data, 'desk-*.json')))
+    sums = dict.fromkeys(STAGES, 0)
+    for path in files:
+        command = [words.stages, 'office', os.path.join(data, 'definition.json'), path, str(words.rounds)]
+        told = subprocess.run(command, stdin=subprocess.DEVNULL, stdout=subprocess.PIPE, check=True).stdout.decode('ascii')
+        for name in STAGES:
+            held = [int(text) for text in re.findall(r'\b%s (\d+)' % name, told)]
+            sums[name] += statistics.median(held)
+            report.raw('%s %s microseconds' % (os.path.basename(path), name), ['%d' % one for one in held])
+    report.say()
+    report.say('stages of %d records, sums of the medians of %d files; import has its own check and facts in it'
+               % (amount, len(files)))
+    report.say(', '.join('%s %.3f s' % (name, sums[name] / 1e6) for name in STAGES))
+    report.say('beyond check and facts an import takes %.3f of the check, the tally %.3f'
+               % ((sums['import'] - sums['check'] - sums['facts']) / sums['check'], sums['tally'] / sums['check']))
+
+
 def peaks(report, words, definition, path):
     """The peak memory of the check of a report, beside that of the JSON reader, each in a process of its own."""
     found = {}
@@ -278,16 +305,17 @@ def given():
     return words
 
 
-def currents(report, words):
-    """Times `cvr currents` on each size. Returns whether every text was right."""
+def commands(report, words):
+    """Times `cvr currents` and `cvr tally` on each size. Returns whether every text was right."""
     is_right, seconds = True, {}
     for amount in words.sizes:
         seconds[amount], is_same = size(report, words, amount)
         is_right = is_right and is_same
     least, most = words.sizes[0], words.sizes[-1]
     report.say()
-    report.say('cvr, time per record at %d records / at %d records: %.3f'
-               % (most, least, seconds[most] / most / (seconds[least] / least)))
+    for place, name in enumerate(('currents', 'tally')):
+        report.say('%s, time per record at %d records / at %d records: %.3f'
+                   % (name, most, least, seconds[most][place] / most / (seconds[least][place] / least)))
     return is_right
 
 
@@ -298,9 +326,10 @@ def main():
     is_right = True
     try:
         if not words.stages_only:
-            is_right = currents(report, words)
+            is_right = commands(report, words)
         if os.path.exists(words.stages):
             check(report, words)
+            office(report, words)
         else:
             report.say(STAGES_HINT % os.path.relpath(words.stages))
     except Failed as fault:

@@ -25,6 +25,7 @@ fn task_of(word: &str) -> Option<Task> {
     match word {
         "currents" => Some(Task::Currents),
         "conflicts" => Some(Task::Conflicts),
+        "tally" => Some(Task::Tally),
         "check" => Some(Task::Check),
         _ => None,
     }

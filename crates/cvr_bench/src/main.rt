@@ -1,12 +1,15 @@
 //! Times the check of a report, or the reading of a definition, beside the JSON reader alone, each from
-//! bytes to freed tree; and the facts of a report, from the report to the freed list, beside its check.
+//! bytes to freed tree; the facts of a report, from the report to the freed list, beside its check; and
+//! its import into a new office, from the bytes to the facts held, with the tally, from these to its text.
 //! The words are a task, the definition, the report and the number of rounds; each round prints a line
 //! of microseconds. It is no part of the product.
 #![tactic(auto)]
 
 use anyhow::{Context, Result, bail};
 use cdf_check::{Definition, check_report};
+use cvr_collect::{Office, PlainOffice};
 use cvr_facts::facts_of;
+use cvr_tally::tally_text;
 use serde_json::Value;
 use std::rt::Clock;
 use std::time::Instant;
@@ -53,6 +56,44 @@ fn time_facts<R: Clock + AllocGlobal>(
         }
         Err(_) => bail!("the report is refused"),
     }
+}
+
+// A new office of a definition.
+fn office_of<R: AllocGlobal>(rt: &R, definition: &Definition) -> Result<PlainOffice> {
+    let Ok(definition) = definition.copy(rt.alloc()) else {
+        bail!("no memory")
+    };
+    match PlainOffice::new(rt.alloc(), definition) {
+        Ok(office) => Ok(office),
+        Err(_) => bail!("no memory"),
+    }
+}
+
+// The microseconds of an import.
+fn time_import<R: Clock + AllocGlobal>(
+    rt: &R,
+    office: &mut PlainOffice,
+    bytes: &[u8],
+) -> Result<u128> {
+    let start = Instant::now(rt)?;
+    if office.import(bytes).is_err() {
+        bail!("the report is refused")
+    }
+    Ok(Instant::now(rt)?.duration_since(start).as_micros())
+}
+
+// The microseconds of the tally of an office.
+fn time_tally<R: Clock + AllocGlobal>(rt: &R, office: &PlainOffice) -> Result<u128> {
+    let start = Instant::now(rt)?;
+    let Ok(totals) = office.totals(rt.alloc()) else {
+        bail!("no memory")
+    };
+    match tally_text(rt.alloc(), &totals) {
+        Ok(text) => drop(text),
+        Err(_) => bail!("no memory"),
+    }
+    drop(totals);
+    Ok(Instant::now(rt)?.duration_since(start).as_micros())
 }
 
 // The microseconds of the reading of a definition.
@@ -103,6 +144,18 @@ fn print_facts(rt: &HostRuntime, known: &Definition, report: &[u8]) -> Result<()
     Ok(())
 }
 
+// Prints the times of all stages from the reader to the tally.
+fn print_office(rt: &HostRuntime, known: &Definition, report: &[u8]) -> Result<()> {
+    let read = time_read(rt, report)?;
+    let check = time_check(rt, known, report)?;
+    let facts = time_facts(rt, known, report)?;
+    let mut office = office_of(rt, known)?;
+    let import = time_import(rt, &mut office, report)?;
+    let tally = time_tally(rt, &office)?;
+    println!(rt; "read {read} check {check} facts {facts} import {import} tally {tally}")?;
+    Ok(())
+}
+
 // Prints the times of the reader and of the reading of a definition.
 fn print_definition(rt: &HostRuntime, definition: &[u8]) -> Result<()> {
     let read = time_read(rt, definition)?;
@@ -124,6 +177,7 @@ fn play_round(
         "check" => print_check(rt, known, report),
         "report" => print_report(rt, known, report),
         "facts" => print_facts(rt, known, report),
+        "office" => print_office(rt, known, report),
         "definition" => print_definition(rt, definition),
         _ => bail!("no such task"),
     }

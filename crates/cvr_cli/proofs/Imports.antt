@@ -4,12 +4,10 @@ use Rattle.std.specs.Prelude.{is_some}
 use Rattle.std.proofs.lemmas.List.{take_more, take_all, reverse-append}
 use Rattle.std.proofs.lemmas.List.Folds.{list_any_more, list_any_at}
 use Rattle.std.specs.List.{zip, list_any}
-use Rattle.std.specs.FinSet.{empty}
 use Rattle.cdf_types.specs.declared.fault.ReadFault.{ReadFault}
 use Rattle.cdf_types.specs.declared.fault.ReadFault.TheVariants as read
 use Rattle.cdf_check.specs.Frame.{Frame}
 use Rattle.cdf_check.specs.Acceptance.{first_refusal}
-use Rattle.cvr_facts.specs.Facts.{Facts}
 use Rattle.cvr_facts.specs.Reports.{facts}
 use Rattle.cvr_collect.specs.declared.event.Event.{Event}
 use Rattle.cvr_collect.specs.declared.event.Event.TheVariants.{Import, Exchange}
@@ -34,11 +32,11 @@ zip-push [] (b ∷ ys) x y h = absurd (omega arith)
 zip-push (a ∷ xs) [] x y h = absurd (omega arith)
 zip-push (a ∷ xs) (b ∷ ys) x y h = ap (λ ps. (a, b) ∷ ps) (zip-push xs ys x y (omega arith))
 
--- what the only office holds
-pub get_or-one : {O : Type 0} (held_of : O → Facts) (offices : List O) (office : O) → length offices ≡ 1 → office ≡ get_or offices 0 office → get_or (map held_of offices) 0 empty ≡ held_of office
-get_or-one held_of [] office one is = absurd (omega arith)
-get_or-one held_of (x ∷ []) office one is = ap held_of (sym is)
-get_or-one held_of (x ∷ y ∷ offices) office one is = absurd (omega arith)
+-- what is told of the only office
+pub get_or-one : {O X : Type 0} (told_of : O → X) (other : X) (offices : List O) (office : O) → length offices ≡ 1 → office ≡ get_or offices 0 office → get_or (map told_of offices) 0 other ≡ told_of office
+get_or-one told_of other [] office one is = absurd (omega arith)
+get_or-one told_of other (x ∷ []) office one is = ap told_of (sym is)
+get_or-one told_of other (x ∷ y ∷ offices) office one is = absurd (omega arith)
 
 -- the events es, an import of each file, had the outcomes rs
 module _ (definition : Frame) (files : List (List ℕ)) (es : List Event) (rs : List Outcome)

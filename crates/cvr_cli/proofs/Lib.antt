@@ -3,6 +3,5 @@ pub mod Accepted
 pub mod Imports
 pub mod Members
 pub mod Endings
-pub mod Upward
 pub mod CurrentLines
 pub mod Most

@@ -1,7 +1,6 @@
 -- The printed lines of current snapshots and of conflicts. (This project's own.)
 use Rattle.std.specs.Prelude.{ℕ, List, [], ◌∷◌, ◌++◌, map, codes, decimal, Option, Some, None}
 use Rattle.std.specs.List.{flat_map}
-use Rattle.json.specs.Print.{quoted}
 use Rattle.cdf_types.specs.SnapshotKind.{snapshot_kind_text}
 use Rattle.cdf_form.specs.Parts.{id_of}
 use Rattle.cdf_typed.specs.Typed.{kind_of}
@@ -12,10 +11,7 @@ use Rattle.cvr_collect.specs.declared.conflict.Conflict.{Conflict}
 use Rattle.cvr_collect.specs.declared.conflict.ConflictName.{ConflictName}
 use Rattle.cvr_collect.specs.declared.conflict.ConflictName.TheVariants as name
 use Rattle.cvr_collect.specs.Names.{records, most}
-
--- a text as a JSON string, and a space
-abbrev pub word : List ℕ → List ℕ
-word text = quoted text ++ 32 ∷ []
+use Rattle.cvr_tally.specs.Text.{word}
 
 -- ---- current snapshots
 

@@ -3,6 +3,7 @@ use Rattle.std.specs.Prelude.{◌≡◌, ◌↔◌, ℕ, List}
 use Rattle.std.specs.List.{Contains}
 use Rattle.cdf_check.specs.Frame.{Frame}
 use Rattle.cvr_collect.specs.Names.{conflicts}
+use Rattle.cvr_collect.specs.Tallied.{tally}
 use Rattle.cvr_cli.specs.Currents.{currents}
 use Rattle.cvr_cli.specs.Outcome.{held}
 
@@ -21,3 +22,7 @@ SameCurrentsLaw = (definition : Frame) (files others : List (List ℕ)) → Have
 -- and the same conflicts
 abbrev pub SameConflictsLaw : Type 0
 SameConflictsLaw = (definition : Frame) (files others : List (List ℕ)) → HaveSameFiles files others → conflicts (held definition files) ≡ conflicts (held definition others)
+
+-- and the same tally
+abbrev pub SameTallyLaw : Type 0
+SameTallyLaw = (definition : Frame) (files others : List (List ℕ)) → HaveSameFiles files others → tally definition.contests (held definition files) ≡ tally definition.contests (held definition others)

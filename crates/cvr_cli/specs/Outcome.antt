@@ -9,12 +9,13 @@ use Rattle.cdf_check.specs.Acceptance.{frame_in, first_refusal}
 use Rattle.cvr_facts.specs.Facts.{Facts}
 use Rattle.cvr_facts.specs.Reports.{facts}
 use Rattle.cvr_cli.specs.declared.request.Task.{Task}
-use Rattle.cvr_cli.specs.declared.request.Task.TheVariants.{Currents, Check, Conflicts}
+use Rattle.cvr_cli.specs.declared.request.Task.TheVariants.{Currents, Check, Conflicts, Tally}
 use Rattle.cvr_cli.specs.declared.status.Status.{Status}
 use Rattle.cvr_cli.specs.declared.status.Status.TheVariants.{Done, Refused}
 use Rattle.cvr_cli.specs.Accepted.{is_unsound, is_refused, accepted}
 use Rattle.cvr_collect.specs.declared.event.Event.TheVariants.{Import}
 use Rattle.cvr_collect.specs.Names.{conflicts}
+use Rattle.cvr_collect.specs.Tallied.{tally}
 use Rattle.cvr_collect.specs.Keeps.{starting}
 use Rattle.cvr_collect.specs.Readers.{growth}
 use Rattle.cvr_collect.specs.Reach.{History, content}
@@ -55,6 +56,7 @@ abbrev pub task_text : Frame → Task → List (List ℕ) → List (List ℕ) �
 task_text definition Currents paths files = currents (held definition files)
 task_text definition Check paths files = check_lines definition paths files
 task_text definition Conflicts paths files = conflict_text (conflicts (held definition files))
+task_text definition Tally paths files = tally definition.contests (held definition files)
 
 -- the text of a run: nothing where the file of the definition is refused
 abbrev pub run_text : Task → List ℕ → List (List ℕ) → List (List ℕ) → List ℕ

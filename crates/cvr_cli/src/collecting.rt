@@ -56,6 +56,7 @@ pub fn collect<O: Office + Drop, L: Sink>(
     log: &mut L,
 ) -> Result<(O, Refusals), Memory>
     requires { length paths.now ≡ length files.now }
+    ensures definition { IfOk result (λ r. O.defined r.0 ≡ definition) }
     ensures content { IfOk result (λ r. r.1.lacking ≡ false → O.held r.0 ≡ held definition (bytes_of files.now)) }
     ensures some { IfOk result (λ r. r.1.lacking ≡ false → r.1.some ≡ list_any (is_refused definition) (bytes_of files.now)) }
 {

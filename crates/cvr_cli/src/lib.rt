@@ -16,7 +16,6 @@ mod status;
 mod tasks;
 #[cfg(test)]
 mod tests;
-mod text;
 
 pub use conflicts::conflicts_text;
 pub use currents::currents_text;

@@ -5,8 +5,8 @@ ghost use Rattle.cdf_types.specs.Rule.{number_of};
 ghost use Rattle.std.specs.Prelude.{decimal};
 ghost use Rattle.cvr_cli.specs.Log.{fault_text, fault_line};
 
-use crate::text::quoted;
 use cdf_types::{Memory, ReadFault, Rule, Sink, write_all};
+use cvr_tally::text::quoted;
 use itoa::Buffer;
 use std::alloc::Global;
 

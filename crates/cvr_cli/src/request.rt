@@ -18,6 +18,8 @@ pub enum Task {
     Currents,
     /// The names with two bodies or more.
     Conflicts,
+    /// The rows of the tally.
+    Tally,
     /// Each accepted file with the number of its cast vote records.
     Check,
 }

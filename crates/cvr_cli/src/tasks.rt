@@ -4,6 +4,7 @@ ghost use Rattle.cdf_types.specs.Device.{appended, AppendsFront};
 ghost use Rattle.cvr_cli.specs.Accepted.{is_refused};
 ghost use Rattle.cvr_cli.specs.Outcome.{held, check_lines, task_text, run_text, any_refused, bytes_of, IsWhole};
 ghost use Rattle.cvr_collect.specs.Names.{conflicts};
+ghost use Rattle.cvr_collect.specs.Tallied.{tally};
 ghost use Rattle.cvr_cli.specs.Currents.{currents, conflict_text};
 ghost use Rattle.cvr_cli.specs.declared.status.Status.TheVariants.{Done, Refused, CommandLine, Device, Memory as NoMemory};
 ghost use Rattle.cvr_cli.specs.Ends.{Ends};
@@ -20,6 +21,7 @@ use crate::status::Status;
 use cdf_check::Definition;
 use cdf_types::{Body, DeviceFault, Memory, Sink, write_all};
 use cvr_collect::{Office, PlainOffice};
+use cvr_tally::tally_text;
 use std::alloc::Global;
 
 // Counts the cast vote records of each accepted file.
@@ -83,6 +85,7 @@ fn collect_all<O: Office + Drop, L: Sink>(
     log: &mut L,
 ) -> Result<(O, Refusals), Status>
     requires { length paths.now ≡ length files.now }
+    ensures definition { IfOk result (λ r. O.defined r.0 ≡ definition) }
     ensures content { IfOk result (λ r. O.held r.0 ≡ held definition (bytes_of files.now)) }
     ensures some { IfOk result (λ r. r.1.some ≡ list_any (is_refused definition) (bytes_of files.now)) }
     ensures whole { IfOk result (λ r. r.1.lacking ≡ false) }
@@ -150,6 +153,36 @@ fn run_conflicts<O: Office + Drop, W: Sink, L: Sink>(
     }
 }
 
+// The lines of the tally of an office.
+fn text_of_tally<O: Office>(alloc: Global, office: &O) -> Result<String, Memory>
+    ensures { IfOk result (λ text. string_bytes text ≡ tally (O.defined office.now).contests (O.held office.now)) }
+{
+    tally_text(alloc, &office.totals(alloc)?)
+}
+
+// Prints the tally.
+fn run_tally<O: Office + Drop, W: Sink, L: Sink>(
+    alloc: Global,
+    definition: Definition,
+    paths: &[Body],
+    files: &[Vec<u8>],
+    out: &mut W,
+    log: &mut L,
+) -> Status
+    requires working { W.has_failed out.old ≡ false }
+    requires named { length paths.now ≡ length files.now }
+    ensures { Ends (W.taken out.old) (W.taken out.new) (W.has_failed out.new)
+        (tally definition.contests (held definition (bytes_of files.now))) (list_any (is_refused definition) (bytes_of files.now)) result }
+{
+    match collect_all::<O, L>(alloc, definition, paths, files, log) {
+        Ok((office, refusals)) => match text_of_tally(alloc, &office) {
+            Ok(text) => end_with(text.as_str(), refusals, out, log),
+            Err(Memory) => end_in_memory(log),
+        },
+        Err(status) => status,
+    }
+}
+
 // Prints the number of cast vote records of each accepted file.
 fn run_check<W: Sink, L: Sink>(
     alloc: Global,
@@ -194,6 +227,7 @@ fn run_task<O: Office + Drop, W: Sink, L: Sink>(
     match request.task {
         Task::Currents => run_currents::<O, W, L>(alloc, definition, paths, files, out, log),
         Task::Conflicts => run_conflicts::<O, W, L>(alloc, definition, paths, files, out, log),
+        Task::Tally => run_tally::<O, W, L>(alloc, definition, paths, files, out, log),
         Task::Check => run_check(alloc, &definition, paths, files, out, log),
     }
 }

@@ -9,10 +9,17 @@ use std::test::Fail;
 
 // The members of a report beside its records.
 const FRAME: &str =
-    r#""@type":"CVR.CastVoteRecordReport","Election":[{"@id":"e","@type":"CVR.Election","Contest":[],"ElectionScopeId":"p1"}],"GeneratedDate":"2024-11-05T20:00:00Z","GpUnit":[{"@id":"p1","@type":"CVR.GpUnit"}],"ReportGeneratingDeviceIds":["s1"],"ReportingDevice":[{"@id":"s1","@type":"CVR.ReportingDevice"}],"Version":"1.0.0""#;
+    r#""@type":"CVR.CastVoteRecordReport","Election":[{"@id":"e","@type":"CVR.Election","Contest":[{"@id":"mayor","@type":"CVR.CandidateContest","ContestSelection":[{"@id":"ann","@type":"CVR.CandidateSelection"}]}],"ElectionScopeId":"p1"}],"GeneratedDate":"2024-11-05T20:00:00Z","GpUnit":[{"@id":"p1","@type":"CVR.GpUnit"}],"ReportGeneratingDeviceIds":["s1"],"ReportingDevice":[{"@id":"s1","@type":"CVR.ReportingDevice"}],"Version":"1.0.0""#;
+
+// A vote for the mayor.
+const VOTE: &str =
+    r#"{"@type":"CVR.CVRContest","CVRContestSelection":[{"@type":"CVR.CVRContestSelection","ContestSelectionId":"ann","SelectionPosition":[{"@type":"CVR.SelectionPosition","HasIndication":"yes","NumberVotes":1}]}],"ContestId":"mayor"}"#;
 
 // The line of the record once it is adjudicated.
 const ADJUDICATED: &str = "\"s1\" \"u1\" \"m\" modified\n";
+
+// The row of the record, whichever of its snapshots is current.
+const COUNTED: &str = "\"mayor\" null null 1 0 0 0 0 0 \"ann\" 1\n";
 
 // A report without records.
 fn definition(alloc: Global) -> Result<Vec<u8>, AllocError> {
@@ -23,7 +30,7 @@ fn definition(alloc: Global) -> Result<Vec<u8>, AllocError> {
 // A report of the one record with a snapshot of this id and Type.
 fn report_of(alloc: Global, id: &str, kind: &str) -> Result<Vec<u8>, AllocError> {
     let snapshot = format!(in alloc;
-        r#"{{"@id":"{id}","@type":"CVR.CVRSnapshot","Type":"{kind}"}}"#
+        r#"{{"@id":"{id}","@type":"CVR.CVRSnapshot","CVRContest":[{VOTE}],"Type":"{kind}"}}"#
     )?;
     let record = format!(in alloc;
         r#"{{"@type":"CVR.CVR","CVRSnapshot":[{snapshot}],"CreatingDeviceId":"s1","CurrentSnapshotId":"{id}","ElectionId":"e","UniqueId":"u1"}}"#
@@ -105,6 +112,25 @@ fn conflicts_are_names_with_several_bodies(rt: HostRuntime) -> Result<(), Fail> 
 }
 
 #[test]
+fn tallies_count_a_record_once(rt: HostRuntime) -> Result<(), Fail> {
+    let alloc = rt.alloc();
+    let request = over_two(alloc, Task::Tally)?;
+    let def = definition(alloc)?;
+    for files in [
+        [scan(alloc)?, adjudication(alloc)?],
+        [scan(alloc)?, scan(alloc)?],
+    ] {
+        let mut out = MemorySink::new(alloc, 100, 0);
+        let mut log = MemorySink::new(alloc, 100, 0);
+        let status = run(alloc, &request, &def, &files, &mut out, &mut log);
+        assert_eq!(rt; status, Status::Done);
+        assert_eq!(rt; out.taken(), COUNTED.as_bytes());
+        assert_eq!(rt; log.taken(), b"".as_slice());
+    }
+    Ok(())
+}
+
+#[test]
 fn refused_files_are_told_and_the_rest_is_done(rt: HostRuntime) -> Result<(), Fail> {
     let alloc = rt.alloc();
     let def = definition(alloc)?;
@@ -114,6 +140,7 @@ fn refused_files_are_told_and_the_rest_is_done(rt: HostRuntime) -> Result<(), Fa
         (Task::Currents, ADJUDICATED),
         (Task::Check, "second.json 1\n"),
         (Task::Conflicts, "volumes 1\n"),
+        (Task::Tally, COUNTED),
     ] {
         // A log that fails changes nothing else.
         for (fail_at, line) in [(0, told), (1, b"".as_slice())] {

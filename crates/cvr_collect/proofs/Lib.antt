@@ -40,3 +40,11 @@ pub mod InOrder
 pub mod RecordNames
 pub mod RecordGroups
 pub mod WholeRecord
+pub mod RowColumns
+pub mod RowSteps
+pub mod RowSums
+pub mod CurrentSums
+pub mod AddedSums
+pub mod RowsOfKeys
+pub mod Walks
+pub mod RecordWalk

@@ -7,6 +7,7 @@ use Rattle.cvr_facts.specs.Facts.{Fact, Facts, fact_total, fact_exact}
 use Rattle.cvr_facts.specs.Choosing.{current, header}
 use Rattle.cvr_collect.specs.Names.{conflicts}
 use Rattle.cvr_collect.specs.Reach.{Origin, Start, File, History, reached, brought, content}
+use Rattle.cvr_collect.specs.Tallied.{row, rows, tally}
 use Rattle.cvr_collect.specs.Laws.{BeganAlike, SameFilesLaw, SameAnswersLaw}
 use Rattle.cvr_collect.proofs.Unions.{or_left, tie_itself, contains-union_over, member_that_passes, passes_by_member}
 use Rattle.cvr_collect.proofs.Reached.{origin_total, origin_exact}
@@ -47,4 +48,7 @@ same_answers start starts files past o p a b same =
       currents = λ key. ap (λ facts. current facts key) alike;
       headers = λ key. ap (λ facts. header facts key) alike;
       conflicts_are = ap conflicts alike;
+      row_is = λ contests q. ap (λ facts. row contests facts q) alike;
+      rows_are = λ contests. ap (rows contests) alike;
+      tally_is = λ contests. ap (tally contests) alike;
     }

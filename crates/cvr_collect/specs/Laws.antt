@@ -1,6 +1,8 @@
 -- Laws of offices. (This project's own.)
-use Rattle.std.specs.Prelude.{◌≡◌, ◌↔◌, ℕ, List, true, get_or}
+use Rattle.std.specs.Prelude.{◌≡◌, ◌↔◌, ◌<◌, ℕ, List, true, get_or, Some}
+use Rattle.std.specs.FinMap.{get}
 use Rattle.std.specs.FinSet.{contains, union, empty}
+use Rattle.cdf_form.specs.Places.{Contest}
 use Rattle.cdf_check.specs.Frame.{Frame, IsSame}
 use Rattle.cdf_check.specs.Sound.{IsFrame}
 use Rattle.cdf_check.specs.Acceptance.{Valid}
@@ -11,6 +13,9 @@ use Rattle.cvr_facts.specs.Choosing.{header, current}
 use Rattle.cvr_collect.specs.Names.{conflicts}
 use Rattle.cvr_collect.specs.Keeps.{Keeps, starting}
 use Rattle.cvr_collect.specs.Reach.{History, Start, File, reached, content}
+use Rattle.cvr_tally.specs.declared.key.RowKey.{RowKey}
+use Rattle.cvr_tally.specs.declared.row.Row.{Row}
+use Rattle.cvr_collect.specs.Tallied.{row, rows, tally}
 
 -- ---- what offices keep
 
@@ -38,14 +43,27 @@ abbrev pub SameFilesLaw : Type 0
 SameFilesLaw = (start : Facts) (starts : List Facts) (files : List (List ℕ)) (past : History) (o p : ℕ)
     → BeganAlike start starts past o → BeganAlike start starts past p → HaveSameFiles past o p → content starts files past o ≡ content starts files past p
 
--- what two sets of facts answer alike: the same currents, headers and conflicts
+-- what two sets of facts answer alike: the same currents, headers, conflicts, rows and tally
 pub record AnswerAlike (s t : Facts) : Type 0 where
   pub currents : (key : RecordName) → current s key ≡ current t key
   pub headers : (key : RecordName) → header s key ≡ header t key
   pub conflicts_are : conflicts s ≡ conflicts t
+  pub row_is : (contests : List Contest) (q : RowKey) → row contests s q ≡ row contests t q
+  pub rows_are : (contests : List Contest) → rows contests s ≡ rows contests t
+  pub tally_is : (contests : List Contest) → tally contests s ≡ tally contests t
 
--- so they have the same currents, headers and conflicts
+-- so they answer alike
 abbrev pub SameAnswersLaw : Type 0
 SameAnswersLaw = (start : Facts) (starts : List Facts) (files : List (List ℕ)) (past : History) (o p : ℕ)
     → BeganAlike start starts past o → BeganAlike start starts past p → HaveSameFiles past o p
     → AnswerAlike (content starts files past o) (content starts files past p)
+
+-- ---- rows
+
+-- the map of rows has each row under its key, and nothing else
+abbrev pub RowsLaw : Type 0
+RowsLaw = (contests : List Contest) (s : Facts) (q : RowKey) → get (rows contests s) q ≡ row contests s q
+
+-- each row has a ballot
+abbrev pub BallotsLaw : Type 0
+BallotsLaw = (contests : List Contest) (s : Facts) (q : RowKey) (r : Row) → row contests s q ≡ Some r → 0 < r.ballots

@@ -9,3 +9,5 @@ pub mod Plain
 pub mod AnyNames
 pub mod Runs
 pub mod Groups
+pub mod Tallied
+pub mod Adding

@@ -1,6 +1,6 @@
 //! Laws of offices: what they keep, how files reach them, and that the same files give the same.
 ghost use Rattle.cvr_collect.specs.Reach.{ReachLaw};
-ghost use Rattle.cvr_collect.specs.Laws.{StartLaw, ImportLaw, JoinLaw, SameFilesLaw, SameAnswersLaw};
+ghost use Rattle.cvr_collect.specs.Laws.{StartLaw, ImportLaw, JoinLaw, SameFilesLaw, SameAnswersLaw, RowsLaw, BallotsLaw};
 
 /// A file has reached an office exactly where an accepted import and accepted exchanges after it,
 /// one leading to the next, bring it there.
@@ -9,7 +9,7 @@ pub fn reach()
 {}
 
 /// Offices that started alike and that the same files have reached hold the same facts, and so have
-/// the same currents, headers and conflicts.
+/// the same currents, headers and conflicts, and the same rows and text of the tally.
 pub fn same_files()
     ensures content { SameFilesLaw }
     ensures answers { SameAnswersLaw }
@@ -20,4 +20,10 @@ pub fn keeping()
     ensures start { StartLaw }
     ensures import { ImportLaw }
     ensures join { JoinLaw }
+{}
+
+/// The map of rows has the row of each key and nothing else, and each row has a ballot.
+pub fn rows()
+    ensures rows { RowsLaw }
+    ensures ballots { BallotsLaw }
 {}

@@ -16,6 +16,7 @@ mod playing;
 mod putting;
 mod record_facts;
 mod record_lists;
+mod tallying;
 #[cfg(test)]
 mod tests;
 #[cfg(test)]
@@ -24,6 +25,8 @@ mod tests_devices;
 mod tests_playing;
 #[cfg(test)]
 mod tests_reports;
+#[cfg(test)]
+mod tests_tallying;
 
 pub use conflict::{Conflict, ConflictList, ConflictName};
 pub use event::{Cause, Event, Outcome};

@@ -1,5 +1,7 @@
 ghost use Rattle.std.specs.Prelude.{◌≡◌, ◌+◌, ℕ, List, IsTrue, ◌↔◌, ◌⊎◌, OnOk, OnErr, IfOk, IfErr, map, length, Option, None, Some, option_map};
+ghost use Rattle.std.specs.FinMap.{get};
 ghost use Rattle.std.specs.FinSet.{union, len};
+ghost use Rattle.std.specs.Option.{IfSome};
 ghost use Rattle.cdf_types.specs.declared.fault.ReadFault.{ReadFault};
 ghost use Rattle.cdf_form.specs.Reading.{IsMemory};
 ghost use Rattle.cdf_form.specs.Parts.{record_count};
@@ -7,11 +9,13 @@ ghost use Rattle.cdf_check.specs.Frame.{Frame, IsSame};
 ghost use Rattle.cdf_check.specs.Acceptance.{Valid, first_refusal, value_in};
 ghost use Rattle.cvr_facts.specs.Facts.{Facts, text_cmp, name_cmp};
 ghost use Rattle.cvr_facts.specs.Reports.{facts};
+ghost use Rattle.cvr_tally.specs.declared.key.RowKey.{RowKey};
 ghost use Rattle.cvr_collect.specs.Names.{records, devices, count_under, conflicts, greatest_count};
 ghost use Rattle.cvr_collect.specs.declared.conflict.ConflictName.TheVariants as name;
 ghost use Rattle.cvr_collect.specs.declared.fault.JoinFault.TheVariants as join_fault;
 ghost use Rattle.cvr_collect.specs.Keeps.{starting, Keeps};
 ghost use Rattle.cvr_collect.specs.Readers.{next, numbered, growth, device_list, IsHeader, IsCurrent, AreRecordFacts};
+ghost use Rattle.cvr_collect.specs.Tallied.{row, rows, total_limit, IsBelow};
 
 use crate::conflict::ConflictList;
 use crate::fault::JoinFault;
@@ -19,6 +23,7 @@ use crate::record_facts::RecordFacts;
 use cdf_check::Definition;
 use cdf_types::{Body, Memory, ReadFault};
 use cvr_facts::{HeaderFact, RecordName, SnapshotFact};
+use cvr_tally::{Row, RowKey, Totals};
 use std::alloc::Global;
 
 /// What an import brought.
@@ -127,6 +132,24 @@ pub trait Office {
     /// `Memory` where a growth was refused.
     fn conflicts(&self, alloc: Global) -> Result<ConflictList, Memory>
         ensures { IfOk result (λ list. list ≡ conflicts (held self.now)) };
+
+    /// The row of the tally for a key: what the current snapshots of the records add up to whose
+    /// header has the key's unit and batch and whose current snapshot has its contest. None where
+    /// there is no such record.
+    ///
+    /// # Errors
+    /// `Memory` where a growth was refused.
+    fn row(&self, alloc: Global, key: &RowKey) -> Result<Option<Row>, Memory>
+        ensures { IfOk result (λ found. found ≡ row (defined self.now).contests (held self.now) key.now) };
+
+    /// The rows of the tally, each that has a ballot.
+    ///
+    /// # Errors
+    /// `Memory` where a growth was refused.
+    fn totals(&self, alloc: Global) -> Result<Totals, Memory>
+        ensures rows { IfOk result (λ t. t.rows ≡ rows (defined self.now).contests (held self.now)) }
+        ensures contests { IfOk result (λ t. t.contests ≡ (defined self.now).contests) }
+        ensures below { IfOk result (λ t. (q : RowKey) → IfSome (get t.rows q) (IsBelow total_limit)) };
 
     /// How many records it has. Takes no memory.
     fn record_count(&self) -> usize

@@ -9,9 +9,11 @@ use crate::one_record::{current_in, header_in};
 use crate::putting::{in_one, own_devices, put_copies, put_in};
 use crate::record_facts::RecordFacts;
 use crate::record_lists::record_facts_in;
+use crate::tallying::{row_in, totals_in};
 use cdf_check::{Definition, check_report};
 use cdf_types::{Body, Memory, ReadFault};
 use cvr_facts::{HeaderFact, RecordName, SnapshotFact, facts_of};
+use cvr_tally::{Row, RowKey, Totals};
 use std::alloc::Global;
 use std::marker::Model;
 
@@ -109,6 +111,16 @@ impl Office for PlainOffice {
 
     fn conflicts(&self, alloc: Global) -> Result<ConflictList, Memory> {
         conflicts_in(alloc, &self.facts)
+    }
+
+    fn row(&self, alloc: Global, key: &RowKey) -> Result<Option<Row>, Memory> {
+        let found = row_in(alloc, &self.definition, &self.facts, key)?;
+        Ok(found)
+    }
+
+    fn totals(&self, alloc: Global) -> Result<Totals, Memory> {
+        let totals = totals_in(alloc, &self.definition, &self.facts)?;
+        Ok(totals)
     }
 
     fn record_count(&self) -> usize {

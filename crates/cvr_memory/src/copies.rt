@@ -1,14 +1,19 @@
 use crate::facts::county_facts;
-use crate::same::{are_same_facts, are_same_sums, is_same_header, is_same_snapshot};
+use crate::same::{
+    are_same_facts, are_same_sums, are_same_texts, is_same_header, is_same_snapshot,
+};
 use crate::script::{Answer, Script, play};
 use cdf_types::Memory;
 use cvr_facts::{DeviceFact, FactList, HeaderFact, SnapshotFact, VoteSums};
+use cvr_tally::RowKey;
 use std::alloc::Global;
 
-/// What is copied of the county's facts: each of its kind.
+/// What is copied of the county's facts: each of its kind, or of the headers what a key of the tally
+/// has.
 #[derive(Clone, Copy)]
 pub enum Copied {
     Names,
+    Keys,
     Devices,
     Headers,
     Snapshots,
@@ -19,6 +24,23 @@ pub enum Copied {
 fn copies_names(headers: &[HeaderFact]) -> Result<bool, Memory> {
     for header in headers {
         if header.key.copy()? != header.key {
+            return Ok(false);
+        }
+    }
+    Ok(true)
+}
+
+// The place of a contest.
+const CONTEST: usize = 1;
+
+// Whether each key of a contest's row has the unit and the batch of its header.
+fn copies_keys(headers: &[HeaderFact]) -> Result<bool, Memory> {
+    for header in headers {
+        let key = RowKey::under(header, CONTEST)?;
+        if key.contest != CONTEST
+            || !are_same_texts(&key.unit, &header.unit)
+            || !are_same_texts(&key.batch, &header.batch)
+        {
             return Ok(false);
         }
     }
@@ -97,6 +119,7 @@ impl FactCopy {
     fn copies(&self, alloc: Global) -> Result<bool, Memory> {
         match self.copied {
             Copied::Names => copies_names(self.list.headers.as_slice()),
+            Copied::Keys => copies_keys(self.list.headers.as_slice()),
             Copied::Devices => copies_devices(self.list.devices.as_slice()),
             Copied::Headers => copies_headers(self.list.headers.as_slice()),
             Copied::Snapshots => copies_snapshots(alloc, self.list.snapshots.as_slice()),

@@ -1,5 +1,5 @@
 use crate::collected::{
-    ADJUDICATED, Changed, OTHER_HEADER, UNCHANGED, copy_of, copy_with, is_like, joined_copy,
+    ADJUDICATED, Changed, Lines, OTHER_HEADER, UNCHANGED, copy_of, copy_with, is_like, joined_copy,
     new_office, office_of,
 };
 use crate::script::{Answer, Script, play as play_script};
@@ -27,15 +27,26 @@ struct Drilling {
     without: [PlainOffice; 3],
 }
 
-// The line of the current snapshot of the files.
-const ADJUDICATED_LINE: &str = "\"s1\" \"u1\" \"m\" modified\n";
+// What an office prints before it has the files, and what it prints when it has them.
+const NO_LINES: Lines = Lines {
+    currents: "",
+    tally: "",
+};
 
-// That of the files but one, which is the adjudicated one alone that changes it.
-fn line_without(place: usize) -> &'static str {
+const ALL_LINES: Lines = Lines {
+    currents: "\"s1\" \"u1\" \"m\" modified\n",
+    tally: "\"mayor\" null null 1 0 0 0 0 0 \"ann\" 1\n",
+};
+
+// What it prints when it has the files but one, which is the adjudicated one alone that changes it.
+fn lines_without(place: usize) -> Lines {
     if place == 1 {
-        "\"s1\" \"u1\" \"a\" original\n"
+        Lines {
+            currents: "\"s1\" \"u1\" \"a\" original\n",
+            ..ALL_LINES
+        }
     } else {
-        ADJUDICATED_LINE
+        ALL_LINES
     }
 }
 
@@ -106,7 +117,7 @@ impl Drilling {
     fn lacks_refused(&self, alloc: Global, outcomes: &[Outcome]) -> bool {
         for (place, office) in self.without.iter().enumerate() {
             if is_refused_at(outcomes, place) {
-                return is_like(alloc, &self.offices[0], office, line_without(place));
+                return is_like(alloc, &self.offices[0], office, lines_without(place));
             }
         }
         false
@@ -114,12 +125,12 @@ impl Drilling {
 
     // Whether the office is as it was made.
     fn is_new(&self, alloc: Global) -> bool {
-        is_like(alloc, &self.offices[0], &self.before, "")
+        is_like(alloc, &self.offices[0], &self.before, NO_LINES)
     }
 
     // Whether the office has all files.
     fn has_all(&self, alloc: Global) -> bool {
-        is_like(alloc, &self.offices[0], &self.after, ADJUDICATED_LINE)
+        is_like(alloc, &self.offices[0], &self.after, ALL_LINES)
     }
 
     // The answer of outcomes after which the office has so many facts more.

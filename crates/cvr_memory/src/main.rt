@@ -15,12 +15,14 @@ mod facts;
 mod files;
 mod offices;
 mod reports;
+mod rows;
 mod runs;
 mod same;
 mod scenes;
 mod script;
 mod sets;
 mod table;
+mod tallies;
 mod values;
 
 use std::process::ExitCode;

@@ -1,7 +1,7 @@
 use crate::checks::definition_of;
 use crate::collected::{
-    Changed, OTHER_BODY, OTHER_DEVICE, OTHER_HEADER, OTHER_HEADER_AND_SNAPSHOT, TAKEN, TAKEN_LINES,
-    copy_of, copy_with, is_like, joined_copy, new_office, office_of,
+    Changed, Lines, OTHER_BODY, OTHER_DEVICE, OTHER_HEADER, OTHER_HEADER_AND_SNAPSHOT, TAKEN,
+    TAKEN_LINES, copy_of, copy_with, is_like, joined_copy, new_office, office_of,
 };
 use crate::reports::DEFINED;
 use crate::script::{Answer, Script, play};
@@ -90,8 +90,11 @@ impl Script for Importing {
 // What the other office took: a header, a snapshot and a device are new to the first.
 static TAKEN_BY_OTHER: [Changed; 2] = [OTHER_HEADER_AND_SNAPSHOT, OTHER_DEVICE];
 
-// The line of its current snapshot.
-const OTHER_LINE: &str = "\"s1\" \"u1\" \"x\" interpreted\n";
+// What it prints.
+const OTHER_LINES: Lines = Lines {
+    currents: "\"s1\" \"u1\" \"x\" interpreted\n",
+    tally: "\"mayor\" null null 1 0 0 0 0 0 \"ann\" 1\n",
+};
 
 // An office that joins another, and those that both are to be before, and the first after.
 #[derive(Drop)]
@@ -120,7 +123,7 @@ impl Joining {
 impl Script for Joining {
     fn attempt(&mut self, alloc: Global) -> Answer {
         let joined = self.office.join(&self.other);
-        if !is_like(alloc, &self.other, &self.other_before, OTHER_LINE) {
+        if !is_like(alloc, &self.other, &self.other_before, OTHER_LINES) {
             return Answer::Wrong("the other office changed");
         }
         match joined {
@@ -244,7 +247,7 @@ impl Script for Asking {
             Question::RecordFacts => self.ask_for_record(alloc),
             Question::Conflicts => self.ask_for_conflicts(alloc),
             Question::CurrentsText => {
-                answer_of_text(currents_text(alloc, &self.office), TAKEN_LINES)
+                answer_of_text(currents_text(alloc, &self.office), TAKEN_LINES.currents)
             }
             Question::ConflictsText => {
                 answer_of_text(conflicts_text(alloc, &self.conflicts), CONFLICT_LINES)

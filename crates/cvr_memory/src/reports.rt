@@ -49,8 +49,8 @@ const DEFINITION: &str = r#"{
   "Version": "1.0.0"
 }"#;
 
-// The definition of an election with several of everything, in no order.
-const COUNTY: &str = r#"{
+/// The definition of an election with several of everything, in no order.
+pub const COUNTY: &str = r#"{
   "@type": "CVR.CastVoteRecordReport",
   "Election": [{
     "@id": "e", "@type": "CVR.Election", "ElectionScopeId": "p2",

@@ -1,8 +1,9 @@
 use cdf_types::Body;
 use cvr_facts::{DeviceFact, FactList, HeaderFact, SnapshotFact, VoteSums};
+use cvr_tally::Row;
 
-// Whether two texts are equal, or both absent.
-fn are_same_texts(one: &Option<Body>, other: &Option<Body>) -> bool {
+/// Whether two texts are equal, or both absent. Takes no memory.
+pub fn are_same_texts(one: &Option<Body>, other: &Option<Body>) -> bool {
     match (one, other) {
         (None, None) => true,
         (Some(one), Some(other)) => one == other,
@@ -79,4 +80,15 @@ pub fn are_same_facts(one: &FactList, other: &FactList) -> bool {
     are_same_devices(one.devices.as_slice(), other.devices.as_slice())
         && are_same_headers(one.headers.as_slice(), other.headers.as_slice())
         && are_same_snapshots(one.snapshots.as_slice(), other.snapshots.as_slice())
+}
+
+/// Whether rows of a tally are equal in every number. Takes no memory.
+pub fn is_same_row(one: &Row, other: &Row) -> bool {
+    one.ballots == other.ballots
+        && one.overvotes == other.overvotes
+        && one.undervotes == other.undervotes
+        && one.write_ins == other.write_ins
+        && one.pending == other.pending
+        && one.unassigned == other.unassigned
+        && one.votes.as_slice() == other.votes.as_slice()
 }

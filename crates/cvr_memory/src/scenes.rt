@@ -87,6 +87,18 @@ const CONFLICTS: Scene = Scene {
     unlogged: &[],
 };
 
+/// The tally of two accepted files.
+const TALLY: Scene = Scene {
+    task: Task::Tally,
+    definition: DEFINITION,
+    files: &[SCAN, DESK],
+    text: "\"mayor\" null null 1 0 0 0 0 0 \"ann\" 1\n",
+    log: "",
+    status: Status::Done,
+    kept_back: &["d: E6\n", "scan: E6\n", "desk: E6\n", "memory\n"],
+    unlogged: &[],
+};
+
 /// The counts of two accepted files.
 const COUNTS: Scene = Scene {
     task: Task::Check,
@@ -180,6 +192,10 @@ fn conflicts() -> Scene {
     CONFLICTS
 }
 
+fn tally() -> Scene {
+    TALLY
+}
+
 fn counts() -> Scene {
     COUNTS
 }
@@ -205,6 +221,7 @@ fn definition_refused() -> Scene {
 pub enum Show {
     Currents,
     Conflicts,
+    Tally,
     Counts,
     CountsBeside,
     CurrentsRefused,
@@ -218,6 +235,7 @@ impl Show {
         match self {
             Show::Currents => currents(),
             Show::Conflicts => conflicts(),
+            Show::Tally => tally(),
             Show::Counts => counts(),
             Show::CountsBeside => counts_beside(),
             Show::CurrentsRefused => currents_refused(),

@@ -11,10 +11,14 @@ use crate::reports::{
     PARTY_DIFFERING, SCANNED, SELECTION_UNKNOWN, SNAPSHOT_TWICE, SNAPSHOT_UNKNOWN, Sample,
     UNIT_DIFFERING, UNNAMED,
 };
+use crate::rows::{play_key_copy, play_row_copy, play_row_opening, play_totals_making};
 use crate::runs::play_running;
 use crate::scenes::Show;
 use crate::sets::{play_double_joining, play_set_joining, play_set_making};
-use crate::values::{play_body_copy, play_list_growth, play_sink_growth};
+use crate::tallies::{Asked, play_tallying};
+use crate::values::{
+    play_body_copy, play_list_growth, play_quoting, play_sink_growth, play_word_pushing,
+};
 use cdf_types::Memory;
 use std::alloc::Global;
 
@@ -24,6 +28,8 @@ pub enum Action {
     CopyBody,
     GrowList,
     GrowSink,
+    Quote,
+    PushWords,
     ReadFile,
     ReadDefinition(Sample),
     CopyDefinition(Sample),
@@ -40,6 +46,11 @@ pub enum Action {
     JoinOffices,
     Ask(Question),
     PlayEvents,
+    MakeTotals,
+    OpenRows,
+    CopyKey,
+    CopyRow,
+    AskTally(Asked),
     Run(Show),
 }
 
@@ -50,12 +61,15 @@ impl Action {
             Action::CopyBody => "Body::copy",
             Action::GrowList => "Seq::push",
             Action::GrowSink => "MemorySink::write",
+            Action::Quote => "quoted",
+            Action::PushWords => "push_word",
             Action::ReadFile => "read_file",
             Action::ReadDefinition(_) => "Definition::read",
             Action::CopyDefinition(_) => "Definition::copy",
             Action::Check(_) | Action::CheckInCounty(_) => "check_report",
             Action::GatherFacts(_) => "check_report,facts_of",
             Action::CopyFacts(Copied::Names) => "RecordName::copy",
+            Action::CopyFacts(Copied::Keys) => "RowKey::under",
             Action::CopyFacts(Copied::Devices) => "DeviceFact::copy",
             Action::CopyFacts(Copied::Headers) => "HeaderFact::copy",
             Action::CopyFacts(Copied::Snapshots) => "SnapshotFact::copy",
@@ -71,6 +85,13 @@ impl Action {
             Action::Ask(Question::CurrentsText) => "currents_text",
             Action::Ask(Question::ConflictsText) => "conflicts_text",
             Action::PlayEvents => "play",
+            Action::MakeTotals => "Totals::new",
+            Action::OpenRows => "Totals::open_row",
+            Action::CopyKey => "RowKey::copy",
+            Action::CopyRow => "Row::copy",
+            Action::AskTally(Asked::Totals) => "PlainOffice::totals",
+            Action::AskTally(Asked::Row) => "PlainOffice::row",
+            Action::AskTally(Asked::Lines) => "tally_text",
             Action::Run(_) => "run",
         }
     }
@@ -79,10 +100,12 @@ impl Action {
 /// A script: its name, and what it does.
 pub type Script = (&'static str, Action);
 
-static VALUES: [Script; 4] = [
+static VALUES: [Script; 6] = [
     ("copy", Action::CopyBody),
     ("push", Action::GrowList),
     ("write", Action::GrowSink),
+    ("quoted", Action::Quote),
+    ("push_word", Action::PushWords),
     ("read_file", Action::ReadFile),
 ];
 
@@ -128,10 +151,11 @@ static MORE_REPORTS: [Script; 8] = [
     ("report_party", Action::CheckInCounty(PARTY_DIFFERING)),
 ];
 
-static FACTS: [Script; 7] = [
+static FACTS: [Script; 8] = [
     ("facts", Action::GatherFacts(SCAN_FACTS)),
     ("facts_county", Action::GatherFacts(COUNTY_FACTS)),
     ("names_copy", Action::CopyFacts(Copied::Names)),
+    ("key_under", Action::CopyFacts(Copied::Keys)),
     ("devices_copy", Action::CopyFacts(Copied::Devices)),
     ("headers_copy", Action::CopyFacts(Copied::Headers)),
     ("snapshots_copy", Action::CopyFacts(Copied::Snapshots)),
@@ -158,9 +182,20 @@ static OFFICES: [Script; 11] = [
     ("play", Action::PlayEvents),
 ];
 
-static RUNS: [Script; 7] = [
+static TALLIES: [Script; 7] = [
+    ("totals_new", Action::MakeTotals),
+    ("open_row", Action::OpenRows),
+    ("key_copy", Action::CopyKey),
+    ("row_copy", Action::CopyRow),
+    ("totals", Action::AskTally(Asked::Totals)),
+    ("row", Action::AskTally(Asked::Row)),
+    ("tally_text", Action::AskTally(Asked::Lines)),
+];
+
+static RUNS: [Script; 8] = [
     ("run_currents", Action::Run(Show::Currents)),
     ("run_conflicts", Action::Run(Show::Conflicts)),
+    ("run_tally", Action::Run(Show::Tally)),
     ("run_check", Action::Run(Show::Counts)),
     ("run_check_beside", Action::Run(Show::CountsBeside)),
     ("run_currents_refused", Action::Run(Show::CurrentsRefused)),
@@ -206,13 +241,18 @@ fn offices() -> &'static [Script] {
     &OFFICES
 }
 
+// Those of tallies.
+fn tallies() -> &'static [Script] {
+    &TALLIES
+}
+
 // Those of runs.
 fn runs() -> &'static [Script] {
     &RUNS
 }
 
 /// All scripts, in lists by what they are of.
-pub fn scripts() -> [&'static [Script]; 8] {
+pub fn scripts() -> [&'static [Script]; 9] {
     [
         values(),
         definitions(),
@@ -221,6 +261,7 @@ pub fn scripts() -> [&'static [Script]; 8] {
         facts(),
         sets(),
         offices(),
+        tallies(),
         runs(),
     ]
 }
@@ -231,6 +272,8 @@ fn play_action(alloc: Global, action: Action, blocks: u32) -> Result<&'static st
         Action::CopyBody => play_body_copy(alloc, blocks),
         Action::GrowList => Ok(play_list_growth(alloc, blocks)),
         Action::GrowSink => Ok(play_sink_growth(alloc, blocks)),
+        Action::Quote => Ok(play_quoting(alloc, blocks)),
+        Action::PushWords => Ok(play_word_pushing(alloc, blocks)),
         Action::ReadFile => play_file_reading(alloc, blocks),
         Action::ReadDefinition(sample) => play_definition(alloc, sample, blocks),
         Action::CopyDefinition(sample) => play_definition_copy(alloc, sample, blocks),
@@ -246,6 +289,11 @@ fn play_action(alloc: Global, action: Action, blocks: u32) -> Result<&'static st
         Action::JoinOffices => play_joining(alloc, blocks),
         Action::Ask(question) => play_asking(alloc, question, blocks),
         Action::PlayEvents => play_drilling(alloc, blocks),
+        Action::MakeTotals => play_totals_making(alloc, blocks),
+        Action::OpenRows => play_row_opening(alloc, blocks),
+        Action::CopyKey => play_key_copy(alloc, blocks),
+        Action::CopyRow => play_row_copy(alloc, blocks),
+        Action::AskTally(asked) => play_tallying(alloc, asked, blocks),
         Action::Run(show) => play_running(alloc, show.scene(), blocks),
     }
 }

@@ -1,5 +1,6 @@
 use crate::script::{Answer, Script, play};
 use cdf_types::{Body, DeviceFault, Memory, MemorySink, Seq, Sink};
+use cvr_tally::text::{push_word, quoted};
 use std::alloc::Global;
 
 const NAME: &str = "scanner-1";
@@ -105,6 +106,60 @@ fn refusal_of(sink: &MemorySink) -> Answer {
     }
 }
 
+const SPOKEN: &str = "Ann \"the judge\" M\u{fc}ller\n";
+
+const QUOTED: &str = "\"Ann \\\"the judge\\\" M\u{fc}ller\\n\"";
+
+// A text that is quoted.
+#[derive(Drop)]
+struct Quoting;
+
+impl Script for Quoting {
+    fn attempt(&mut self, alloc: Global) -> Answer {
+        match quoted(alloc, SPOKEN) {
+            Ok(text) if text.as_str() == QUOTED => Answer::Right,
+            Ok(_) => Answer::Wrong("another text"),
+            Err(Memory) => Answer::NoMemory,
+        }
+    }
+}
+
+// Adds a word to a text.
+fn push_one(alloc: Global, text: &mut String, word: &str, before: &str, after: &str) -> Answer {
+    match push_word(alloc, text, word) {
+        Ok(()) if text.as_str() == after => Answer::Right,
+        Ok(()) => Answer::Wrong("another text"),
+        Err(Memory) => front_of(text.as_str(), before, after),
+    }
+}
+
+const ONE_WORD: &str = "\"p1\" ";
+
+const TWO_WORDS: &str = "\"p1\" \"a longer name\" ";
+
+// Words that are added to a text.
+#[derive(Drop)]
+struct WordPushing;
+
+impl Script for WordPushing {
+    fn attempt(&mut self, alloc: Global) -> Answer {
+        let mut text = String::new(alloc);
+        match push_one(alloc, &mut text, "p1", "", ONE_WORD) {
+            Answer::Right => push_one(alloc, &mut text, "a longer name", ONE_WORD, TWO_WORDS),
+            refused => refused,
+        }
+    }
+}
+
+// A refused word leaves a front of the longer text.
+fn front_of(text: &str, before: &str, after: &str) -> Answer {
+    if text.starts_with(before) && after.starts_with(text) {
+        Answer::NoMemory
+    } else {
+        Answer::Wrong("no front of the longer text")
+    }
+}
+
 /// Copies a text.
 pub fn play_body_copy(alloc: Global, blocks: u32) -> Result<&'static str, Memory> {
     Ok(play(&mut BodyCopy::new(alloc)?, alloc, blocks))
@@ -118,4 +173,14 @@ pub fn play_list_growth(alloc: Global, blocks: u32) -> &'static str {
 /// Grows a sink.
 pub fn play_sink_growth(alloc: Global, blocks: u32) -> &'static str {
     play(&mut SinkGrowth, alloc, blocks)
+}
+
+/// Quotes a text.
+pub fn play_quoting(alloc: Global, blocks: u32) -> &'static str {
+    play(&mut Quoting, alloc, blocks)
+}
+
+/// Adds words to a text.
+pub fn play_word_pushing(alloc: Global, blocks: u32) -> &'static str {
+    play(&mut WordPushing, alloc, blocks)
 }

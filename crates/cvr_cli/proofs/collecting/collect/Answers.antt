@@ -1,5 +1,6 @@
 use Rattle.std.proofs.Common.{◌≡◌, ◌<◌, ◌∙◌, ℕ, [], ◌∷◌, false, length, get_or, map, sym, ap, subst, arith, rules}
 use Rattle.std.specs.List.{list_any}
+use Rattle.std.specs.FinSet.{empty}
 use Rattle.std.proofs.lemmas.List.{length-map}
 use Rattle.cvr_collect.specs.declared.event.Event.TheVariants.{Import, Exchange}
 use Rattle.cvr_collect.specs.Keeps.{starting}
@@ -36,8 +37,11 @@ returns g c =
     let told = c.note_refused-refusals.ensures in
     let wants : c.note_refused-refusals.result.lacking ≡ false → list_any is_want rs ≡ false = λ working. ap (list_any is_want) (sym c.as_slice-2.ensures.value) ∙ (sym told.lacking ∙ working) in
     record {
+      definition =
+          sym (get_or-one g.O.Office.defined def after office one is)
+          ∙ ap (λ ds. get_or ds 0 def) (c.in_ok-outcomes.ensures.definitions ∙ defined_are);
       content = λ working.
-          sym (get_or-one g.O.Office.held after office one is)
+          sym (get_or-one g.O.Office.held empty after office one is)
           ∙ (c.in_ok-outcomes.ensures.content 0 (omega (arith, ap length started))
           ∙ ((λ i. content (held_are i) files (history (same_events i) rs) 0)
           ∙ content_held def files es rs many also each (wants working) out));

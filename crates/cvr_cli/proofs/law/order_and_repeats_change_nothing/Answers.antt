@@ -1,5 +1,6 @@
 use Rattle.std.proofs.Common.{ap}
 use Rattle.cvr_collect.specs.Names.{conflicts}
+use Rattle.cvr_collect.specs.Tallied.{tally}
 use Rattle.cvr_cli.specs.Currents.{currents}
 use Rattle.cvr_cli.proofs.Members.{same_held}
 use Rattle.cvr_cli.proofs.law.order_and_repeats_change_nothing.Goals as goal
@@ -9,4 +10,5 @@ returns c = record {
   facts = same_held;
   currents = λ definition files others same. ap currents (same_held definition files others same);
   conflicts = λ definition files others same. ap conflicts (same_held definition files others same);
+  tally = λ definition files others same. ap (tally definition.contests) (same_held definition files others same);
 }

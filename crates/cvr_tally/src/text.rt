@@ -1,6 +1,6 @@
 ghost use Rattle.std.specs.Prelude.{◌≡◌, ◌++◌, IfOk, OnOk, string_bytes};
 ghost use Rattle.json.specs.Print.{quoted};
-ghost use Rattle.cvr_cli.specs.Currents.{word};
+ghost use Rattle.cvr_tally.specs.Text.{word};
 
 use cdf_types::Memory;
 use serde_json::Value;

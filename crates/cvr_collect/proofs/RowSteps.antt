@@ -1,0 +1,159 @@
+-- What is at a key of the tally, record by record.
+use Rattle.std.proofs.Common.{◌≡◌, ◌==◌, ℕ, ◌<◌, ◌≤◌, ◌*◌, Bool, true, false, cond, ◌&&◌, List, [], ◌∷◌, ◌++◌, length, get_or, Contains, Option, Some, None, is_some, IfSome, inl, inr, refl, sym, ap, ◌∙◌, subst, arith, ne_eqb, append-nil}
+use Rattle.std.specs.Prelude.{unwrap_or}
+use Rattle.std.specs.List.{filter, find}
+use Rattle.std.specs.Option.{option_map_or}
+use Rattle.std.proofs.lemmas.Bool.{cases_lt, eqb-true, eqb-false}
+use Rattle.std.proofs.lemmas.List.{length_push, get_or_past}
+use Rattle.std.proofs.lemmas.List.Elements.{filter-append, Contains-get_or}
+use Rattle.std.proofs.lemmas.List.Sums.{length-filter, count_by-le-length}
+use Rattle.cdf_form.specs.Places.{Contest, selections_at}
+use Rattle.cvr_facts.specs.declared.name.RecordName.{RecordName}
+use Rattle.cvr_facts.specs.declared.sums.VoteSums.{VoteSums}
+use Rattle.cvr_facts.specs.Facts.{Facts}
+use Rattle.cvr_facts.specs.Choosing.{header, current}
+use Rattle.cvr_facts.specs.Sums.{sum_limit, AreBelow}
+use Rattle.cvr_facts.proofs.Members.{at_head, at_tail}
+use Rattle.cvr_tally.specs.declared.key.RowKey.{RowKey}
+use Rattle.cvr_tally.specs.declared.row.Row.{Row}
+use Rattle.cvr_tally.specs.Rows.{zero_row, row_plus, ballot_limit}
+use Rattle.cvr_collect.specs.Tallied.{is_headed, sums_of_body, sums_at, stands_in, column, row_of, row_over, total_limit, IsBelow}
+use Rattle.cvr_collect.specs.Adding.{IsSums, CurrentsAreSums, added, row_with, CanGrow}
+use Rattle.cvr_collect.proofs.RowColumns.{row_of-none, row_of-more, each-le, column-le}
+
+-- ---- a search
+
+-- what is found is listed and passes
+pub found : {X : Type 0} (p : X → Bool) (xs : List X) (x : X) → find p xs ≡ Some x → Contains xs x × (p x ≡ true)
+found p [] x e = Prim.cc e
+found p (y ∷ ys) x e =
+    elim (p y) as (λ b. p y ≡ b → cond b (Some y) (find p ys) ≡ Some x → Contains (y ∷ ys) x × (p x ≡ true)) [
+      | true ↦ λ passes is. let same : y ≡ x = Prim.cc is in (subst (λ z. Contains (y ∷ ys) z) same (at_head y ys), subst (λ z. p z ≡ true) same passes)
+      | false ↦ λ fails is. let more = found p ys x is in (at_tail y x ys more.0, more.1)
+    ] refl e
+
+-- ---- the sums of a record
+
+module _ (contests : List Contest) (s : Facts) (sums : CurrentsAreSums contests s) where
+  sums_from : (c : ℕ) (r : RecordName) (v : VoteSums) (o : Option (List ℕ)) → current s r ≡ o
+      → find (λ v. v.contest == c) (option_map_or (sums_of_body contests) o []) ≡ Some v → IsSums contests v × (v.contest ≡ c)
+  sums_from c r v None is e = Prim.cc e
+  sums_from c r v (Some body) is e =
+      let at = found (λ v. v.contest == c) (sums_of_body contests body) v e in
+      ((sums r body is).each v at.0, eqb-true v.contest c at.1)
+
+  pub sums_there : (c : ℕ) (r : RecordName) (v : VoteSums) → sums_at contests s c r ≡ Some v → IsSums contests v × (v.contest ≡ c)
+  sums_there c r v e = sums_from c r v (current s r) refl e
+
+  votes_long : (c : ℕ) (r : RecordName) (v : VoteSums) → sums_at contests s c r ≡ Some v → length v.votes ≡ length (selections_at contests c)
+  votes_long c r v e =
+      let at = sums_there c r v e in
+      subst (λ k. length v.votes ≡ length (selections_at contests k)) at.1 at.0.votes
+
+-- ---- one record more
+
+both_is : (b : Bool) (o : Option VoteSums) → (b && is_some o) ≡ is_some (cond b o None)
+both_is true o = refl
+both_is false o = refl
+
+passed : {X : Type 0} (b : Bool) (o : Option X) (x : X) → cond b o None ≡ Some x → o ≡ Some x
+passed true o x e = e
+passed false o x e = Prim.cc e
+
+shown : {X : Type 0} (b : Bool) (x y : X) → cond b None (Some x) ≡ Some y → (b ≡ false) × (x ≡ y)
+shown true x y e = Prim.cc e
+shown false x y e = (refl, Prim.cc e)
+
+module _ (contests : List Contest) (s : Facts) (sums : CurrentsAreSums contests s) (q : RowKey) where
+  abbrev standing : List RecordName → List RecordName
+  standing rs = filter (stands_in contests s q) rs
+
+  -- the row of these, if there are any
+  abbrev if_any : List RecordName → Option Row
+  if_any rs = cond (length rs == 0) None (Some (row_of contests s q.contest rs))
+
+  if_any-more : (rs : List RecordName) (r : RecordName) → if_any (rs ++ r ∷ []) ≡ Some (row_of contests s q.contest (rs ++ r ∷ []))
+  if_any-more rs r =
+      let long = length_push rs r in
+      ap (λ b. cond b None (Some (row_of contests s q.contest (rs ++ r ∷ [])))) (ne_eqb (length (rs ++ r ∷ [])) 0 (λ e. omega (arith, long, e)))
+
+  -- it is what there would be with a row of zeros at first
+  opened : (rs : List RecordName) → unwrap_or (if_any rs) (zero_row (length (selections_at contests q.contest))) ≡ row_of contests s q.contest rs
+  opened [] = sym (row_of-none contests s q.contest)
+  opened (r ∷ rs) =
+      ap (λ b. unwrap_or (cond b None (Some (row_of contests s q.contest (r ∷ rs)))) (zero_row (length (selections_at contests q.contest))))
+      (ne_eqb (length (r ∷ rs)) 0 (λ e. omega (arith, e)))
+
+  stands_is : (r : RecordName) → stands_in contests s q r ≡ is_some (added contests s q r)
+  stands_is r = both_is (is_headed q (header s r)) (sums_at contests s q.contest r)
+
+  standing_more : (rs : List RecordName) (r : RecordName) (b : Bool) → stands_in contests s q r ≡ b → standing (rs ++ r ∷ []) ≡ standing rs ++ cond b (r ∷ []) []
+  standing_more rs r b is = filter-append (stands_in contests s q) rs (r ∷ []) ∙ ap (λ b. standing rs ++ cond b (r ∷ []) []) is
+
+  adds : (rs : List RecordName) (r : RecordName) (o : Option VoteSums) → added contests s q r ≡ o
+      → row_over contests s q (rs ++ r ∷ []) ≡ row_with contests q (row_over contests s q rs) o
+  adds rs r None is = ap if_any (standing_more rs r false (stands_is r ∙ ap is_some is) ∙ append-nil (standing rs))
+  adds rs r (Some v) is =
+      let at = passed (is_headed q (header s r)) (sums_at contests s q.contest r) v is in
+      ap if_any (standing_more rs r true (stands_is r ∙ ap is_some is))
+      ∙ (if_any-more (standing rs) r
+      ∙ ap Some (row_of-more contests s q.contest (standing rs) r v at (votes_long contests s sums q.contest r v at) ∙ ap (λ w. row_plus w v) (sym (opened (standing rs)))))
+
+  pub row_over-more : (rs : List RecordName) (r : RecordName) → row_over contests s q (rs ++ r ∷ []) ≡ row_with contests q (row_over contests s q rs) (added contests s q r)
+  row_over-more rs r = adds rs r (added contests s q r) refl
+
+  -- ---- bounds
+
+  vote-lt : (v : VoteSums) → AreBelow sum_limit v → (i : ℕ) → get_or v.votes i 0 < sum_limit
+  vote-lt v h i = elim (cases_lt i (length v.votes)) [
+    | inl lt ↦ h.votes (get_or v.votes i 0) (Contains-get_or v.votes i 0 lt)
+    | inr le ↦ let e = get_or_past v.votes i 0 le in omega (arith, e)
+  ]
+
+  below : (f : VoteSums → ℕ) → ((v : VoteSums) → AreBelow sum_limit v → f v < sum_limit) → (rs : List RecordName) → column contests s q.contest f rs ≤ length rs * sum_limit
+  below f h rs =
+      column-le contests s q.contest f (λ r v e. let lt : f v < sum_limit = h v (sums_there contests s sums q.contest r v e).0.below in omega (arith, lt)) rs
+
+  row_below : (rs : List RecordName) → length rs ≤ ballot_limit → IsBelow total_limit (row_of contests s q.contest rs)
+  row_below rs few = record {
+    ballots = omega (arith, few);
+    overvotes = let le = below (λ v. v.overvotes) (λ v h. h.overvotes) rs in omega (arith, le, few);
+    undervotes = let le = below (λ v. v.undervotes) (λ v h. h.undervotes) rs in omega (arith, le, few);
+    write_ins = let le = below (λ v. v.write_ins) (λ v h. h.write_ins) rs in omega (arith, le, few);
+    pending = let le = below (λ v. v.pending) (λ v h. h.pending) rs in omega (arith, le, few);
+    unassigned = let le = below (λ v. v.unassigned) (λ v h. h.unassigned) rs in omega (arith, le, few);
+    votes = λ i.
+        let le = each-le (λ i. column contests s q.contest (λ v. get_or v.votes i 0) rs) (length rs * sum_limit) (λ i. below (λ v. get_or v.votes i 0) (λ v h. vote-lt v h i) rs) 0
+        (length (selections_at contests q.contest)) i
+        in
+        omega (arith, le, few);
+  }
+
+  few_stand : (rs : List RecordName) → length (standing rs) ≤ length rs
+  few_stand rs = omega (arith, length-filter (stands_in contests s q) rs, count_by-le-length (stands_in contests s q) rs)
+
+  pub row_over-below : (rs : List RecordName) → length rs ≤ ballot_limit → IfSome (row_over contests s q rs) (IsBelow total_limit)
+  row_over-below rs few =
+      elim (length (standing rs) == 0) as (λ b. IfSome (cond b None (Some (row_of contests s q.contest (standing rs)))) (IsBelow total_limit)) [
+        | true ↦ tt
+        | false ↦ row_below (standing rs) (let le = few_stand rs in omega (arith, le, few))
+      ]
+
+  pub row_over-grows : (rs : List RecordName) → length rs < ballot_limit → IfSome (row_over contests s q rs) CanGrow
+  row_over-grows rs few =
+      let le = few_stand rs in
+      elim (length (standing rs) == 0) as (λ b. IfSome (cond b None (Some (row_of contests s q.contest (standing rs)))) CanGrow) [
+        | true ↦ tt
+        | false ↦ record { ballots = omega (arith, le, few); columns = row_below (standing rs) (omega (arith, le, few)) }
+      ]
+
+-- ---- ballots
+
+-- a row has the ballots of the records that stand in it
+pub row_stands : (contests : List Contest) (s : Facts) (q : RowKey) (rs : List RecordName) (r : Row) → row_over contests s q rs ≡ Some r
+    → (r.ballots ≡ length (filter (stands_in contests s q) rs)) × (0 < r.ballots)
+row_stands contests s q rs r is =
+    let parts = shown (length (filter (stands_in contests s q) rs) == 0) (row_of contests s q.contest (filter (stands_in contests s q) rs)) r is in
+    let none = eqb-false (length (filter (stands_in contests s q) rs)) 0 parts.0 in
+    let ballots : length (filter (stands_in contests s q) rs) ≡ r.ballots = ap (λ r. r.ballots) parts.1 in
+    (sym ballots, omega (arith, ballots, none))

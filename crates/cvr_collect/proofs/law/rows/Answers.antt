@@ -1,0 +1,5 @@
+use Rattle.cvr_collect.proofs.RowsOfKeys.{rows_law, ballots_law}
+use Rattle.cvr_collect.proofs.law.rows.Goals as goal
+
+pub returns : goal.returns
+returns c = record { rows = rows_law; ballots = ballots_law }

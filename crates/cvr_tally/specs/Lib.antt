@@ -1,0 +1,4 @@
+pub mod Contests
+pub mod Keys
+pub mod Rows
+pub mod Text

@@ -1,0 +1,42 @@
+-- The printed lines of a tally. (This project's own.)
+use Rattle.std.specs.Prelude.{ℕ, List, [], ◌∷◌, ◌++◌, codes, decimal, Option, Some, None, slice_index_or}
+use Rattle.std.specs.List.{flat_map, zip}
+use Rattle.std.specs.FinMap.{entries}
+use Rattle.json.specs.Print.{quoted}
+use Rattle.cdf_form.specs.Places.{Contest, contest_ids, selections_at}
+use Rattle.cvr_tally.specs.declared.key.RowKey.{RowKey}
+use Rattle.cvr_tally.specs.declared.row.Row.{Row}
+use Rattle.cvr_tally.specs.Rows.{Rows}
+
+-- a text as a JSON string, and a space
+abbrev pub word : List ℕ → List ℕ
+word text = quoted text ++ 32 ∷ []
+
+-- a unit or a batch, `null` where there is none, and a space
+abbrev pub part : Option (List ℕ) → List ℕ
+part None = codes "null "
+part (Some text) = word text
+
+-- a number, and a space before it
+abbrev pub number : ℕ → List ℕ
+number n = 32 ∷ decimal n
+
+-- a selection's id and its votes, with a space before each
+abbrev pub selection : List ℕ × ℕ → List ℕ
+selection p = 32 ∷ quoted p.0 ++ number p.1
+
+-- contest, unit, batch
+abbrev pub key_words : List Contest → RowKey → List ℕ
+key_words contests k = word (slice_index_or (contest_ids contests) k.contest []) ++ (part k.unit ++ part k.batch)
+
+-- ballots, overvotes, undervotes, write-ins, pending, unassigned
+abbrev pub numbers : Row → List ℕ
+numbers r = decimal r.ballots ++ (number r.overvotes ++ (number r.undervotes ++ (number r.write_ins ++ (number r.pending ++ number r.unassigned))))
+
+-- the key, the numbers, then the votes of each selection
+abbrev pub row_line : List Contest → RowKey × Row → List ℕ
+row_line contests e = key_words contests e.0 ++ (numbers e.1 ++ (flat_map selection (zip (selections_at contests e.0.contest) e.1.votes) ++ 10 ∷ []))
+
+-- one line for each row, in order of key
+abbrev pub tally_text : List Contest → Rows → List ℕ
+tally_text contests rows = flat_map (row_line contests) (entries rows)

@@ -1,0 +1,60 @@
+ghost use Rattle.std.specs.Prelude.{◌≡◌, ◌<◌, length, map, slice_index_or, IfOk, []};
+ghost use Rattle.cdf_form.specs.Places.{contest_ids, selections_at};
+
+use cdf_check::Definition;
+use cdf_types::{Body, Memory, Seq};
+use std::alloc::Global;
+
+// The ids of a contest and of its selections, by place (NIST SP 1500-103, classes Contest and
+// ContestSelection).
+#[derive(Drop)]
+pub(crate) struct ContestIds {
+    pub(crate) id: Body,
+    pub(crate) selections: Seq<Body>,
+}
+
+// The ids of the contests of a definition, in order.
+pub(crate) fn contest_ids(alloc: Global, definition: &Definition) -> Result<Vec<ContestIds>, Memory>
+    ensures { IfOk result (λ ids. map (λ c. (c.id, c.selections)) ids.items ≡ definition.now.contests) }
+{
+    let mut ids = Vec::with_capacity(alloc, definition.contest_count())?;
+    for contest in 0..definition.contest_count() {
+        ids.push(ids_of(alloc, definition, contest)?)?;
+    }
+    Ok(ids)
+}
+
+// The ids of the contest at a place.
+fn ids_of(alloc: Global, definition: &Definition, contest: usize) -> Result<ContestIds, Memory>
+    requires { contest < length definition.now.contests }
+    ensures id { IfOk result (λ c. c.id ≡ slice_index_or (contest_ids definition.now.contests) contest []) }
+    ensures selections { IfOk result (λ c. c.selections ≡ selections_at definition.now.contests contest) }
+{
+    Ok(ContestIds {
+        id: body_of(alloc, definition.contest(contest))?,
+        selections: selections_of(alloc, definition, contest)?,
+    })
+}
+
+// The ids of the selections of the contest at a place, in order.
+fn selections_of(
+    alloc: Global,
+    definition: &Definition,
+    contest: usize,
+) -> Result<Seq<Body>, Memory>
+    requires { contest < length definition.now.contests }
+    ensures { IfOk result (λ ids. ids ≡ selections_at definition.now.contests contest) }
+{
+    let mut ids = Vec::with_capacity(alloc, definition.selection_count(contest))?;
+    for place in 0..definition.selection_count(contest) {
+        ids.push(body_of(alloc, definition.selection(contest, place))?)?;
+    }
+    Ok(Seq::new(ids))
+}
+
+// The text.
+fn body_of(alloc: Global, text: &str) -> Result<Body, Memory>
+    ensures { IfOk result (λ b. b ≡ text.now) }
+{
+    Ok(Body::new(String::from_str(alloc, text)?))
+}

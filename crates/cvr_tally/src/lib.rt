@@ -1,0 +1,20 @@
+//! Rows of totals, which go up and down ballot by ballot, and their text.
+#![tactic(auto)]
+
+mod changes;
+mod contest_ids;
+mod counts;
+mod key;
+mod moves;
+mod row;
+mod tally;
+#[cfg(test)]
+mod tests;
+pub mod text;
+mod totals;
+
+pub use counts::Counts;
+pub use key::RowKey;
+pub use row::Row;
+pub use tally::tally_text;
+pub use totals::Totals;
