@@ -27,7 +27,7 @@ CONTESTS, SELECTIONS, UNITS, RECORDS = 2000, 50, 20000, 20000
 REPEATS = (10000, 100000)   # how often one record comes again in a file
 JQ_HINT = 'jq is missing: install it, as by `apt-get install jq`, `brew install jq` or `dnf install jq`'
 CVR_HINT = '%s is missing: `./cvr currents examples/county/definition.json` builds it'
-STAGES_HINT = '%s is missing, so the stages are left out: `cd crates/cvr_bench && rt run` builds it'
+STAGES_HINT = '%s is missing, so the stages are left out: `bench/build_stages` builds it'
 
 
 class Failed(Exception):
@@ -286,7 +286,7 @@ def keep(report, name):
 def given():
     words = argparse.ArgumentParser()
     words.add_argument('--cvr', default=os.path.join(TOP, 'crates', 'cvr', 'out', 'cvr'))
-    words.add_argument('--stages', default=os.path.join(TOP, 'crates', 'cvr_bench', 'out', 'cvr_bench'))
+    words.add_argument('--stages', default=os.path.join(HERE, 'data', 'cvr_stages'))
     words.add_argument('--data', default=os.path.join(HERE, 'data'), help='where generated data is kept')
     words.add_argument('--sizes', default='10000,100000', help='numbers of records, two or more')
     words.add_argument('--rounds', type=int, default=5)
