@@ -1,6 +1,7 @@
 -- The lines of the log. (This project's own.)
-use Rattle.std.specs.Prelude.{ℕ, List, [], ◌∷◌, ◌++◌, codes, decimal}
+use Rattle.std.specs.Prelude.{◌≡◌, ℕ, List, [], ◌∷◌, ◌++◌, codes, decimal, Bool, true, false, Option}
 use Rattle.json.specs.Print.{escape}
+use Rattle.cdf_types.specs.Device.{appended, AppendsFront}
 use Rattle.cdf_types.specs.declared.fault.ReadFault.{ReadFault}
 use Rattle.cdf_types.specs.declared.fault.ReadFault.TheVariants.{TooLong, NotJson, Schema, Reference, Disagrees, Memory}
 use Rattle.cdf_types.specs.Rule.{number_of}
@@ -17,3 +18,21 @@ fault_text Memory = codes "E6"
 -- what was refused, as it was given, and why
 abbrev pub fault_line : List ℕ → ReadFault → List ℕ
 fault_line what fault = what ++ (codes ": " ++ (fault_text fault ++ 10 ∷ []))
+
+-- whether a path stands in the line: its spelling alone takes memory
+abbrev pub has_path : ReadFault → Bool
+has_path TooLong = false
+has_path NotJson = false
+has_path (Schema path rule) = true
+has_path (Reference path) = true
+has_path (Disagrees path) = true
+has_path Memory = false
+
+-- want of memory that no file is told for; it stands in the place of a line whose path could not be spelled
+abbrev pub memory_line : List ℕ
+memory_line = codes "memory\n"
+
+-- a log that had taken `before` has taken `after`: the line, or a front of it where the log has failed
+pub record Logs (before after : Option (List ℕ)) (has_failed : Bool) (line : List ℕ) : Type 0 where
+  pub whole : has_failed ≡ false → after ≡ appended before line
+  pub front : AppendsFront before after line
