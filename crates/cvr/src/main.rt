@@ -5,17 +5,22 @@ ghost use Rattle.std.specs.Prelude.{◌≡◌, length, IfOk};
 
 use cdf_types::{Body, Seq};
 use cvr_cli::{FileFault, OverRead, OverWrite, Request, Status, Task, read_file, run};
-use std::alloc::Global;
 use std::io::ErrorKind;
 use std::process::ExitCode;
 use std::rt::{Env, Files};
 use std::{env, fs};
 
+// Tells want of memory for which no file is told.
+fn wanting<R: Eprint>(rt: &R) -> Status {
+    let _ = eprintln!(rt; "memory");
+    Status::Memory
+}
+
 // The words after the program's name.
-fn words<R: Env + AllocGlobal>(rt: &R) -> Result<Vec<String>, Status> {
+fn words<R: Env + AllocGlobal + Eprint>(rt: &R) -> Result<Vec<String>, Status> {
     match env::args(rt) {
-        Ok(all) => all.skip(1).collect(rt.alloc()).map_err(|_| Status::Memory),
-        Err(e) if e.kind() == ErrorKind::OutOfMemory => Err(Status::Memory),
+        Ok(all) => all.skip(1).collect(rt.alloc()).map_err(|_| wanting(rt)),
+        Err(e) if e.kind() == ErrorKind::OutOfMemory => Err(wanting(rt)),
         Err(_) => Err(Status::CommandLine),
     }
 }
@@ -32,14 +37,14 @@ fn task_of(word: &str) -> Option<Task> {
 }
 
 // The request of the words: a command, the definition, the files.
-fn request_of(alloc: Global, words: Vec<String>) -> Result<Request, Status> {
+fn request_of<R: AllocGlobal + Eprint>(rt: &R, words: Vec<String>) -> Result<Request, Status> {
     let mut words = words.into_iter();
     let command = words.next().ok_or(Status::CommandLine)?;
     let task = task_of(command.as_str()).ok_or(Status::CommandLine)?;
     let def = words.next().ok_or(Status::CommandLine)?;
-    let mut paths = Seq::empty(alloc);
+    let mut paths = Seq::empty(rt.alloc());
     for path in words {
-        paths.push(Body::new(path)).map_err(|_| Status::Memory)?;
+        paths.push(Body::new(path)).map_err(|_| wanting(rt))?;
     }
     Ok(Request {
         task,
@@ -80,13 +85,13 @@ fn read_all<R: Files + AllocGlobal + Eprint>(rt: &R, paths: &[Body]) -> Result<V
     for path in paths {
         files
             .push(read(rt, path.as_str())?)
-            .map_err(|_| Status::Memory)?;
+            .map_err(|_| wanting(rt))?;
     }
     Ok(files)
 }
 
 fn work(rt: &HostRuntime) -> Result<Status, Status> {
-    let request = request_of(rt.alloc(), words(rt)?)?;
+    let request = request_of(rt, words(rt)?)?;
     let def = read(rt, request.def.as_str())?;
     let files = read_all(rt, request.paths.as_slice())?;
     let mut out = OverWrite::new(rt.stdout());

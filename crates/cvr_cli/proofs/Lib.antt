@@ -5,3 +5,4 @@ pub mod Members
 pub mod Endings
 pub mod CurrentLines
 pub mod Most
+mod Pieces

@@ -1,14 +1,33 @@
-ghost use Rattle.std.specs.Prelude.{◌≡◌, ℕ, ◌≤◌, List, [], ◌∷◌, ◌++◌, length, false, OnOk, IfOk, string_bytes};
-ghost use Rattle.json.specs.Print.{escape};
-ghost use Rattle.cdf_types.specs.Device.{appended, AppendsFront};
-ghost use Rattle.cdf_types.specs.Rule.{number_of};
-ghost use Rattle.std.specs.Prelude.{decimal};
-ghost use Rattle.cvr_cli.specs.Log.{fault_text, fault_line};
+ghost use Rattle.std.specs.Prelude.{◌≡◌, ℕ, ◌≤◌, List, [], ◌∷◌, ◌++◌, length, false, OnOk, OnErr, IsOk};
+ghost use Rattle.std.specs.List.{flat_map};
+ghost use Rattle.cvr_cli.specs.Log.{fault_line, memory_line, has_path, Logs};
 
-use cdf_types::{Memory, ReadFault, Rule, Sink, write_all};
+use cdf_types::{Memory, ReadFault, Sink, write_all};
 use cvr_tally::text::quoted;
 use itoa::Buffer;
 use std::alloc::Global;
+
+/// Writes a line to the log, piece by piece, unless the log has failed. A log that fails gets a front
+/// of it. Takes no memory.
+pub fn say<L: Sink>(log: &mut L, pieces: &[&[u8]])
+    ensures { Logs (L.taken log.old) (L.taken log.new) (L.has_failed log.new) (flat_map (λ p. p.now) pieces.now) }
+{
+    if log.failed() {
+        return;
+    }
+    for piece in pieces {
+        if write_all(log, piece).is_err() {
+            return;
+        }
+    }
+}
+
+/// Tells want of memory to the log. Takes no memory.
+pub fn say_memory<L: Sink>(log: &mut L)
+    ensures { Logs (L.taken log.old) (L.taken log.new) (L.has_failed log.new) memory_line }
+{
+    say(log, &[b"memory\n"]);
+}
 
 // What stands between the first byte and the last.
 fn inner(text: &[u8]) -> &[u8]
@@ -18,72 +37,42 @@ fn inner(text: &[u8]) -> &[u8]
     &text[1..text.len() - 1]
 }
 
-// Adds a path as a JSON string without its quotes.
-fn push_path(alloc: Global, line: &mut Vec<u8>, path: &str) -> Result<(), Memory>
-    ensures { OnOk result (line.new.items ≡ line.old.items ++ escape path.now) }
-{
-    let path = quoted(alloc, path)?;
-    line.extend_from_slice(inner(path.as_bytes()))?;
-    Ok(())
-}
-
-// Adds a space and the rule's number.
-fn push_rule(line: &mut Vec<u8>, rule: Rule) -> Result<(), Memory>
-    ensures { OnOk result (line.new.items ≡ line.old.items ++ (32 ∷ decimal (number_of rule))) }
-{
-    let mut buffer = Buffer::new();
-    line.extend_from_slice(b" ")?;
-    line.extend_from_slice(buffer.format(rule.number()).as_bytes())?;
-    Ok(())
-}
-
-// Adds the cause, with its path and its rule where it has them.
-fn push_fault(alloc: Global, line: &mut Vec<u8>, fault: &ReadFault) -> Result<(), Memory>
-    ensures { OnOk result (line.new.items ≡ line.old.items ++ fault_text fault.now) }
-{
-    match fault {
-        ReadFault::TooLong => line.extend_from_slice(b"E1")?,
-        ReadFault::NotJson => line.extend_from_slice(b"E2")?,
-        ReadFault::Schema { path, rule } => {
-            line.extend_from_slice(b"E3 ")?;
-            push_path(alloc, line, path.as_str())?;
-            push_rule(line, *rule)?;
-        }
-        ReadFault::Reference { path } => {
-            line.extend_from_slice(b"E4 ")?;
-            push_path(alloc, line, path.as_str())?;
-        }
-        ReadFault::Disagrees { path } => {
-            line.extend_from_slice(b"E5 ")?;
-            push_path(alloc, line, path.as_str())?;
-        }
-        ReadFault::Memory => line.extend_from_slice(b"E6")?,
-    }
-    Ok(())
-}
-
-/// The log line of a refusal: what was refused, as it was given, and why.
+/// Tells a refusal to the log: what was refused, as it was given, and why. Only the spelling of a path
+/// takes memory.
 ///
 /// # Errors
-/// `Memory` where a growth was refused.
-pub fn fault_line(alloc: Global, what: &str, fault: &ReadFault) -> Result<Vec<u8>, Memory>
-    ensures { IfOk result (λ line. line.items ≡ fault_line what.now fault.now) }
+/// `Memory` where the path could not be spelled. The log is as it was.
+#[tactic(auto, using(crate::proofs::Pieces::end_of_rule))]
+pub fn tell<L: Sink>(
+    alloc: Global,
+    log: &mut L,
+    what: &str,
+    fault: &ReadFault,
+) -> Result<(), Memory>
+    ensures line { OnOk result (Logs (L.taken log.old) (L.taken log.new) (L.has_failed log.new) (fault_line what.now fault.now)) }
+    ensures unchanged { OnErr result (log.new ≡ log.old) }
+    ensures pathless { has_path fault.now ≡ false → IsOk result }
 {
-    let mut line = Vec::new(alloc);
-    line.extend_from_slice(what.as_bytes())?;
-    line.extend_from_slice(b": ")?;
-    push_fault(alloc, &mut line, fault)?;
-    line.extend_from_slice(b"\n")?;
-    Ok(line)
-}
-
-/// Writes a line to the log, unless the log has failed. A log that fails gets a front of it.
-/// Takes no memory.
-pub fn say<L: Sink>(log: &mut L, line: &[u8])
-    ensures front { AppendsFront (L.taken log.old) (L.taken log.new) line.now }
-    ensures whole { L.has_failed log.new ≡ false → L.taken log.new ≡ appended (L.taken log.old) line.now }
-{
-    if !log.failed() {
-        let _ = write_all(log, line);
+    let what = what.as_bytes();
+    match fault {
+        ReadFault::TooLong => say(log, &[what, b": E1\n"]),
+        ReadFault::NotJson => say(log, &[what, b": E2\n"]),
+        ReadFault::Schema { path, rule } => {
+            let path = quoted(alloc, path.as_str())?;
+            let path = inner(path.as_bytes());
+            let mut buffer = Buffer::new();
+            let rule = buffer.format(rule.number()).as_bytes();
+            say(log, &[what, b": E3 ", path, b" ", rule, b"\n"]);
+        }
+        ReadFault::Reference { path } => {
+            let path = quoted(alloc, path.as_str())?;
+            say(log, &[what, b": E4 ", inner(path.as_bytes()), b"\n"]);
+        }
+        ReadFault::Disagrees { path } => {
+            let path = quoted(alloc, path.as_str())?;
+            say(log, &[what, b": E5 ", inner(path.as_bytes()), b"\n"]);
+        }
+        ReadFault::Memory => say(log, &[what, b": E6\n"]),
     }
+    Ok(())
 }

@@ -1,8 +1,7 @@
-ghost use Rattle.std.specs.Prelude.{◌≡◌, ◌||◌, Bool, true, false};
-ghost use Rattle.cdf_types.specs.Device.{appended};
-ghost use Rattle.cvr_cli.specs.Log.{fault_line};
+ghost use Rattle.std.specs.Prelude.{◌≡◌, ◌||◌, ◌⊎◌, Bool, true, false};
+ghost use Rattle.cvr_cli.specs.Log.{fault_line, memory_line, has_path, Logs};
 
-use crate::log::{fault_line, say};
+use crate::log::{say_memory, tell};
 use crate::status::Status;
 use cdf_types::{Memory, ReadFault, Sink};
 use std::alloc::Global;
@@ -14,7 +13,7 @@ pub struct Refusals {
     pub some: bool,
     /// A file was refused for want of memory, so that a text would lack it.
     pub lacking: bool,
-    /// A log line could not be made for want of memory.
+    /// A path could not be spelled for a log line, for want of memory.
     pub unlogged: bool,
 }
 
@@ -34,21 +33,24 @@ impl Refusals {
         }
     }
 
-    /// Notes a refusal, and tells it to the log.
+    /// Notes a refusal, and tells it to the log. Where its path can't be spelled for want of memory,
+    /// that is told in its place.
     pub fn note<L: Sink>(&mut self, alloc: Global, log: &mut L, what: &str, fault: &ReadFault)
         ensures some { self.new.some ≡ true }
         ensures lacking { self.new.lacking ≡ (self.old.lacking || is_memory fault.now) }
         ensures unlogged { self.old.unlogged ≡ true → self.new.unlogged ≡ true }
-        ensures told { self.new.unlogged ≡ false → L.has_failed log.new ≡ false
-            → L.taken log.new ≡ appended (L.taken log.old) (fault_line what.now fault.now) }
+        ensures pathless { has_path fault.now ≡ false → self.new.unlogged ≡ self.old.unlogged }
+        ensures told { Logs (L.taken log.old) (L.taken log.new) (L.has_failed log.new) (fault_line what.now fault.now)
+            ⊎ (has_path fault.now ≡ true) × (self.new.unlogged ≡ true)
+            × Logs (L.taken log.old) (L.taken log.new) (L.has_failed log.new) memory_line }
     {
         self.some = true;
         if let ReadFault::Memory = fault {
             self.lacking = true;
         }
-        match fault_line(alloc, what, fault) {
-            Ok(line) => say(log, line.as_slice()),
-            Err(Memory) => self.unlogged = true,
+        if let Err(Memory) = tell(alloc, log, what, fault) {
+            self.unlogged = true;
+            say_memory(log);
         }
     }
 

@@ -13,7 +13,7 @@ use crate::check::push_count;
 use crate::collecting::collect;
 use crate::conflicts::conflicts_text;
 use crate::currents::currents_text;
-use crate::log::say;
+use crate::log::{say, say_memory};
 use crate::reading::count_records;
 use crate::refusals::Refusals;
 use crate::request::{Request, Task};
@@ -53,7 +53,7 @@ fn count_files<L: Sink>(
 fn end_in_memory<L: Sink>(log: &mut L) -> Status
     ensures { result ≡ NoMemory }
 {
-    say(log, b"memory\n");
+    say_memory(log);
     Status::Memory
 }
 
@@ -66,7 +66,7 @@ fn end_with<W: Sink, L: Sink>(text: &str, refusals: Refusals, out: &mut W, log: 
     match write_all(out, text.as_bytes()) {
         Ok(()) => refusals.status(),
         Err(DeviceFault) => {
-            say(log, b"out: X1\n");
+            say(log, &[b"out: X1\n"]);
             if refusals.unlogged {
                 Status::Memory
             } else {

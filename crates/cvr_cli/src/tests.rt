@@ -1,6 +1,6 @@
 ghost use Rattle.std.specs.Prelude.{◌≡◌, length, IfOk};
 
-use crate::log::fault_line;
+use crate::log::tell;
 use crate::*;
 use cdf_types::{Body, Memory, MemorySink, MemorySource, ReadFault, Rule, Seq, Sink, Source};
 use std::alloc::{AllocError, Global};
@@ -230,8 +230,9 @@ fn fault_lines_tell_cause_path_and_rule(rt: HostRuntime) -> Result<(), Fail> {
         (ReadFault::Disagrees { path: at("/\n")? }, "d: E5 /\\n\n"),
         (ReadFault::Memory, "d: E6\n"),
     ] {
-        let told = fault_line(alloc, "d", &fault)?;
-        assert_eq!(rt; told.as_slice(), line.as_bytes());
+        let mut log = MemorySink::new(alloc, 100, 0);
+        tell(alloc, &mut log, "d", &fault)?;
+        assert_eq!(rt; log.taken(), line.as_bytes());
     }
     Ok(())
 }

@@ -1,0 +1,23 @@
+use Rattle.std.proofs.Common.{sym, ◌∙◌}
+use Rattle.cvr_cli.proofs.Pieces.{next_piece, front_of_piece, piece_taken, failed_works, where_err, where_ok}
+use Rattle.cvr_cli.proofs.log.say.Goals as goal
+
+-- the log failed at this piece
+pub returns-then-is_err : goal.returns-then-is_err
+returns-then-is_err g c =
+    let err = sym c.is_err.ensures.value ∙ c.if-is_err.true in
+    let told = where_err _ c.write_all.result err c.write_all.ensures.front in record {
+      whole = failed_works _ _ (where_err _ c.write_all.result err c.write_all.ensures.failed);
+      front = front_of_piece _ _ _ _ _ _ _ (next_piece c.args.pieces.now c.loop-piece.piece-index _ c.loop-piece.invariant.1 c.loop-piece-test.true c.loop-piece.invariant.2) c.loop-piece.invariant.3 told;
+    }
+
+pub loop-piece-preserved : goal.loop-piece-preserved
+loop-piece-preserved g c =
+    let ok = sym c.is_err.ensures.value ∙ c.if-is_err.false in
+    let told = where_ok _ c.write_all.result ok c.write_all.ensures.ok in
+    let taken = piece_taken _ _ _ c.loop-piece.invariant.1 _ c.loop-piece.invariant.3 told in (
+      where_ok _ c.write_all.result ok c.write_all.ensures.working,
+      _,
+      next_piece c.args.pieces.now c.loop-piece.piece-index _ c.loop-piece.invariant.1 c.loop-piece-test.true c.loop-piece.invariant.2,
+      taken,
+    )
