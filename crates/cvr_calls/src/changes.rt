@@ -1,0 +1,178 @@
+ghost use Rattle.std.specs.Prelude.{◌≡◌, length};
+
+use crate::files::{ADJUDICATED, BATCHED, SCAN, office_of};
+use crate::same::are_same_sets;
+use crate::trying::{Answer, Change, Ended, answer_of, try_change};
+use cdf_check::Definition;
+use cdf_types::{Body, Memory, Seq};
+use cvr_collect::Office;
+use cvr_facts::{BodySet, Join, join_both};
+use cvr_tally::{RowKey, Totals, tally_text};
+use std::alloc::Global;
+
+// A list to which a number is added.
+#[derive(Drop)]
+struct Pushing {
+    list: Seq<u64>,
+}
+
+impl Pushing {
+    // Before it is added, or after.
+    fn new(alloc: Global, is_done: bool) -> Result<Pushing, Memory> {
+        let numbers: &[u64] = if is_done {
+            &[1, 2, 3, 4, 5]
+        } else {
+            &[1, 2, 3, 4]
+        };
+        let list = Seq::new(Vec::from_slice(alloc, numbers)?);
+        Ok(Pushing { list })
+    }
+}
+
+impl Change for Pushing {
+    fn make(&mut self, _alloc: Global) -> Answer {
+        answer_of(self.list.push(5), &())
+    }
+
+    fn is_same(&self, _alloc: Global, other: &Pushing) -> Result<bool, Memory> {
+        Ok(self.list.as_slice() == other.list.as_slice())
+    }
+}
+
+// The set of these texts.
+fn set_of(alloc: Global, texts: &[&str]) -> Result<BodySet, Memory> {
+    let mut bodies = Vec::new(alloc);
+    for text in texts {
+        bodies.push(Body::new(text.to_string(alloc)?))?;
+    }
+    BodySet::new(alloc, bodies.as_slice())
+}
+
+// A set of bodies that joins another, from which it gets two new ones.
+#[derive(Drop)]
+struct JoiningBodies {
+    set: BodySet,
+    other: BodySet,
+}
+
+impl JoiningBodies {
+    // Before the join, or after it.
+    fn new(alloc: Global, is_done: bool) -> Result<JoiningBodies, Memory> {
+        let set = if is_done {
+            set_of(alloc, &["a", "b", "c", "d"])?
+        } else {
+            set_of(alloc, &["b", "d"])?
+        };
+        let other = set_of(alloc, &["a", "b", "c"])?;
+        Ok(JoiningBodies { set, other })
+    }
+}
+
+impl Change for JoiningBodies {
+    fn make(&mut self, _alloc: Global) -> Answer {
+        answer_of(self.set.join(&self.other), &2)
+    }
+
+    fn is_same(&self, _alloc: Global, other: &JoiningBodies) -> Result<bool, Memory> {
+        Ok(are_same_sets(&self.set, &other.set) && are_same_sets(&self.other, &other.other))
+    }
+}
+
+/// A set that joined another twice.
+pub fn joined_of(alloc: Global, other: &BodySet) -> Result<BodySet, Memory> {
+    let mut set = BodySet::new(alloc, &[])?;
+    join_both(&mut set, other, other)?;
+    Ok(set)
+}
+
+// Totals of three files, in which the row of a batch that they haven't is opened.
+#[derive(Drop)]
+struct OpeningRow {
+    key: RowKey,
+    contests: usize,
+    totals: Totals,
+    ghost counted: { contests ≡ length totals.contests },
+}
+
+// The key of the row that is opened.
+fn new_key(alloc: Global) -> Result<RowKey, Memory> {
+    let batch = "b9".to_string(alloc)?;
+    Ok(RowKey {
+        contest: 0,
+        unit: None,
+        batch: Some(Body::new(batch)),
+    })
+}
+
+// Opens the row of a key, if it is of one of so many contests.
+fn open(totals: &mut Totals, contests: usize, key: &RowKey) -> Result<(), Memory>
+    requires { contests ≡ length totals.old.contests }
+    ensures { totals.new.contests ≡ totals.old.contests }
+{
+    if key.contest < contests {
+        totals.open_row(key)
+    } else {
+        Err(Memory)
+    }
+}
+
+impl OpeningRow {
+    // Before the row is opened, or after.
+    fn new(rt: &HostRuntime, is_done: bool) -> Result<OpeningRow, Memory> {
+        let key = new_key(rt.alloc())?;
+        let office = office_of(rt, &[SCAN, ADJUDICATED, BATCHED])?;
+        let contests = office.definition().contest_count();
+        let mut totals = office.totals(rt.alloc())?;
+        if is_done {
+            open(&mut totals, contests, &key)?;
+        }
+        Ok(OpeningRow {
+            key,
+            contests,
+            totals,
+        })
+    }
+}
+
+impl Change for OpeningRow {
+    fn make(&mut self, _alloc: Global) -> Answer {
+        answer_of(open(&mut self.totals, self.contests, &self.key), &())
+    }
+
+    fn is_same(&self, alloc: Global, other: &OpeningRow) -> Result<bool, Memory> {
+        let text = tally_text(alloc, &self.totals)?;
+        let wanted = tally_text(alloc, &other.totals)?;
+        Ok(text.as_str() == wanted.as_str())
+    }
+}
+
+/// The lines of new totals in which a row of zeros was opened.
+pub fn opened_text(alloc: Global, definition: &Definition) -> Result<String, Memory> {
+    let mut totals = Totals::new(alloc, definition)?;
+    let key = new_key(alloc)?;
+    open(&mut totals, definition.contest_count(), &key)?;
+    tally_text(alloc, &totals)
+}
+
+/// Tries the adding to a list.
+pub fn try_push(rt: &HostRuntime, name: &str) -> Result<(), Ended> {
+    let alloc = rt.alloc();
+    let before = Pushing::new(alloc, false);
+    let after = Pushing::new(alloc, true);
+    try_change(rt, name, Pushing::new(alloc, false), before, after)
+}
+
+/// Tries the joining of sets.
+pub fn try_join_bodies(rt: &HostRuntime, name: &str) -> Result<(), Ended> {
+    let alloc = rt.alloc();
+    let before = JoiningBodies::new(alloc, false);
+    let after = JoiningBodies::new(alloc, true);
+    try_change(rt, name, JoiningBodies::new(alloc, false), before, after)
+}
+
+/// Tries the opening of a row.
+pub fn try_open(rt: &HostRuntime, name: &str) -> Result<(), Ended> {
+    let before = OpeningRow::new(rt, false);
+    let after = OpeningRow::new(rt, true);
+    try_change(rt, name, OpeningRow::new(rt, false), before, after)
+}

@@ -1,0 +1,68 @@
+use cdf_check::{Definition, check_report};
+use cdf_types::{Memory, ReadFault};
+use cvr_cli::{OverRead, read_file};
+use cvr_collect::{Office, PlainOffice};
+use cvr_facts::{FactList, facts_of};
+use std::alloc::Global;
+use std::fs;
+use std::rt::Files;
+
+/// The definition, and the files beside it.
+pub const DEFINITION: &str = "definition.json";
+
+pub const SCAN: &str = "scan_for_ann.json";
+
+pub const ADJUDICATED: &str = "adjudicated_for_bob.json";
+
+pub const OTHER_BODY: &str = "adjudicated_other_body.json";
+
+pub const OTHER_UNIT: &str = "scan_other_unit.json";
+
+pub const EVERY_KIND: &str = "every_kind_of_position.json";
+
+pub const OTHER_DEVICE: &str = "device_other_body.json";
+
+pub const BATCHED: &str = "batched_with_image.json";
+
+/// The bytes of a file.
+pub fn bytes_of(rt: &HostRuntime, name: &str) -> Result<Vec<u8>, Memory> {
+    let Ok(file) = fs::open(rt, name) else {
+        return Err(Memory);
+    };
+    read_file(rt.alloc(), &mut OverRead::new(file)).map_err(|_| Memory)
+}
+
+/// The bytes of files, in order.
+pub fn all_bytes(rt: &HostRuntime, names: &[&str]) -> Result<Vec<Vec<u8>>, Memory> {
+    let mut files = Vec::new(rt.alloc());
+    for name in names {
+        files.push(bytes_of(rt, name)?)?;
+    }
+    Ok(files)
+}
+
+/// The definition.
+pub fn definition(rt: &HostRuntime) -> Result<Definition, Memory> {
+    Definition::read(rt.alloc(), bytes_of(rt, DEFINITION)?.as_slice()).map_err(|_| Memory)
+}
+
+/// An office beside the definition that took files.
+pub fn office_of(rt: &HostRuntime, names: &[&str]) -> Result<PlainOffice, Memory> {
+    let mut office = PlainOffice::new(rt.alloc(), definition(rt)?)?;
+    for name in names {
+        if office.import(bytes_of(rt, name)?.as_slice()).is_err() {
+            return Err(Memory);
+        }
+    }
+    Ok(office)
+}
+
+/// The facts of a file.
+pub fn facts_in(
+    alloc: Global,
+    definition: &Definition,
+    bytes: &[u8],
+) -> Result<FactList, ReadFault> {
+    let report = check_report(alloc, definition, bytes)?;
+    Ok(facts_of(alloc, definition, &report)?)
+}

@@ -1,0 +1,102 @@
+use crate::files::{ADJUDICATED, OTHER_UNIT, SCAN, all_bytes, office_of};
+use crate::same::are_same_offices;
+use crate::trying::{Ended, end, is_copy, was_refused};
+use cdf_types::{Memory, ReadFault};
+use cvr_collect::{Cause, Event, Office, Outcome, PlainOffice, play};
+
+static EVENTS: [Event; 3] = [
+    Event::Import { office: 0, file: 0 },
+    Event::Import { office: 0, file: 1 },
+    Event::Import { office: 0, file: 2 },
+];
+
+// A new office into which files are played, and what it is held against.
+#[derive(Drop)]
+struct Playing {
+    files: Vec<Vec<u8>>,
+    offices: [PlainOffice; 1],
+    wanted: PlainOffice,
+    whole: PlainOffice,
+}
+
+impl Playing {
+    fn new(rt: &HostRuntime) -> Result<Playing, Memory> {
+        let names = [SCAN, ADJUDICATED, OTHER_UNIT];
+        let files = all_bytes(rt, &names)?;
+        let office = office_of(rt, &[])?;
+        let wanted = office_of(rt, &[])?;
+        let whole = office_of(rt, &names)?;
+        Ok(Playing {
+            files,
+            offices: [office],
+            wanted,
+            whole,
+        })
+    }
+}
+
+// Imports into an office the files of which the import was accepted, and answers how many were refused
+// for want of memory. None where an outcome isn't what that import tells.
+fn refused_of(wanted: &mut PlainOffice, files: &[Vec<u8>], outcomes: &[Outcome]) -> Option<usize> {
+    let mut refused = 0usize;
+    for (outcome, file) in outcomes.iter().zip(files) {
+        match outcome {
+            Outcome::Accepted(new_facts) => match wanted.import(file.as_slice()) {
+                Ok(receipt) if receipt.new_facts == *new_facts => {}
+                _ => return None,
+            },
+            Outcome::Refused(Cause::Read(ReadFault::Memory)) => refused = refused.saturating_add(1),
+            Outcome::Refused(_) => return None,
+        }
+    }
+    if outcomes.len() == files.len() {
+        Some(refused)
+    } else {
+        None
+    }
+}
+
+// Whether the outcomes are right, with so many refusals at most. The office that is wanted gets the
+// files that were accepted.
+fn are_right(
+    wanted: &mut PlainOffice,
+    files: &[Vec<u8>],
+    outcomes: &Result<Vec<Outcome>, Memory>,
+    most: usize,
+) -> bool {
+    match outcomes {
+        Ok(outcomes) => match refused_of(wanted, files, outcomes.as_slice()) {
+            Some(refused) => refused <= most,
+            None => false,
+        },
+        Err(Memory) => most > 0,
+    }
+}
+
+/// Tries to play three imports. Where an allocation is refused alone, one import at most is refused;
+/// the last allocation of a copy tells whether all are refused from some point on.
+pub fn try_playing(rt: &HostRuntime, name: &str) -> Result<(), Ended> {
+    let Playing {
+        files,
+        mut offices,
+        mut wanted,
+        whole,
+    } = Playing::new(rt)?;
+    if !is_copy(rt, name) {
+        return Ok(());
+    }
+    let alloc = rt.alloc();
+    let outcomes = play(alloc, &mut offices, files.as_slice(), &EVENTS);
+    let is_last_refused = Box::new(alloc, 0u8).is_err();
+    let most = match (was_refused(rt), is_last_refused) {
+        (false, _) => 0,
+        (true, false) => 1,
+        (true, true) => EVENTS.len(),
+    };
+    let is_kept = are_right(&mut wanted, files.as_slice(), &outcomes, most)
+        && are_same_offices(alloc, &offices[0], &wanted).unwrap_or(false);
+    let again = play(alloc, &mut offices, files.as_slice(), &EVENTS);
+    let is_whole = are_right(&mut wanted, files.as_slice(), &again, 0)
+        && are_same_offices(alloc, &offices[0], &whole).unwrap_or(false);
+    end(rt, name, is_kept && is_whole)
+}
