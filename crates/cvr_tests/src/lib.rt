@@ -1,0 +1,20 @@
+//! Tests of the libraries, and nothing else: each public call that can answer want of memory is run
+//! with ample memory, and worked examples of facts, offices and runs.
+#![tactic(auto)]
+
+#[cfg(test)]
+mod definitions;
+#[cfg(test)]
+mod facts;
+#[cfg(test)]
+mod files;
+#[cfg(test)]
+mod offices;
+#[cfg(test)]
+mod playing;
+#[cfg(test)]
+mod runs;
+#[cfg(test)]
+mod sets;
+#[cfg(test)]
+mod texts;
