@@ -16,10 +16,6 @@ mod read;
 mod references;
 pub mod rows;
 mod scope;
-#[cfg(test)]
-mod tests;
-#[cfg(test)]
-mod tests_definition;
 
 pub use definition::Definition;
 pub use read::check_report;

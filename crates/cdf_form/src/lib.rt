@@ -13,8 +13,6 @@ pub mod part;
 pub mod path;
 pub mod read;
 pub mod table;
-#[cfg(test)]
-mod tests;
 pub mod text_law;
 mod walk;
 

@@ -3,8 +3,6 @@
 
 mod listed;
 mod records;
-#[cfg(test)]
-mod tests;
 mod votes;
 
 pub use records::read_report;

@@ -15,8 +15,6 @@ mod rule;
 mod seq;
 mod snapshot_kind;
 mod status;
-#[cfg(test)]
-mod tests;
 mod vote_variation;
 
 pub use body::Body;

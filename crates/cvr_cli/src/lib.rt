@@ -14,8 +14,6 @@ mod refusals;
 mod request;
 mod status;
 mod tasks;
-#[cfg(test)]
-mod tests;
 
 pub use conflicts::conflicts_text;
 pub use currents::currents_text;

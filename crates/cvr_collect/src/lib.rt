@@ -17,16 +17,6 @@ mod putting;
 mod record_facts;
 mod record_lists;
 mod tallying;
-#[cfg(test)]
-mod tests;
-#[cfg(test)]
-mod tests_devices;
-#[cfg(test)]
-mod tests_playing;
-#[cfg(test)]
-mod tests_reports;
-#[cfg(test)]
-mod tests_tallying;
 
 pub use conflict::{Conflict, ConflictList, ConflictName};
 pub use event::{Cause, Event, Outcome};

@@ -14,10 +14,6 @@ mod name;
 pub mod rows;
 mod snapshot;
 mod sums;
-#[cfg(test)]
-mod tests;
-#[cfg(test)]
-mod tests_bodies;
 
 pub use bodies::BodySet;
 pub use choice::choice_cmp;

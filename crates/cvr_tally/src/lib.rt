@@ -8,8 +8,6 @@ mod key;
 mod moves;
 mod row;
 mod tally;
-#[cfg(test)]
-mod tests;
 pub mod text;
 mod totals;
 
