@@ -7,6 +7,7 @@ pub mod Reports
 pub mod SameElection
 pub mod Entries
 pub mod Listing
+pub mod SameDefinition
 pub mod Ascii
 pub mod Gathered
 pub mod OneElection

@@ -7,6 +7,7 @@ pub mod Named
 pub mod Frame
 pub mod Agreement
 pub mod Sound
+pub mod Same
 pub mod Acceptance
 pub mod Bodies
 pub mod Laws

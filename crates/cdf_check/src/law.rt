@@ -1,4 +1,5 @@
 ghost use Rattle.cdf_check.specs.Laws.{ReferencesLaw, AgreementLaw, SoundLaw, SoundFileLaw, ValidFileLaw, OneElectionLaw, SameElectionLaw, ListsLaw, PlacesLaw};
+ghost use Rattle.cdf_check.specs.Same.{SameTextsLaw, SameDefinitionsLaw, OneDefinitionLaw};
 
 /// A list of faults is empty exactly where what the faults tell of holds: of references, of
 /// agreement, of a value, and of a file alone and beside a definition.
@@ -28,4 +29,13 @@ pub fn lists_rise()
 /// Each contest, and each selection of a contest, is found by its id at its own place.
 pub fn found_by_ids()
     ensures { PlacesLaw }
+{}
+
+/// Two definitions are the same exactly where they agree in the sets of texts of Election, GpUnits
+/// and Parties. They are then equal but for their devices, contests and selections among the rest,
+/// and with the same texts of devices they are equal.
+pub fn same_definitions()
+    ensures texts { SameTextsLaw }
+    ensures equal { SameDefinitionsLaw }
+    ensures one { OneDefinitionLaw }
 {}
