@@ -7,7 +7,9 @@ use Rattle.serde_json.specs.Written.{compact_text}
 use Rattle.cdf_form.specs.Parts.{ids_at, id_of}
 use Rattle.cdf_check.specs.Acceptance.{Valid, value_in}
 use Rattle.cdf_check.specs.Frame.{Frame, scope_in}
+use Rattle.cdf_check.specs.Same.{AreEqualButDevices}
 use Rattle.cdf_check.specs.Sound.{IsFrame}
+use Rattle.cdf_check.proofs.SameDefinition.{same_definitions}
 use Rattle.cdf_check.proofs.Standing.{more_devices}
 use Rattle.cdf_check.proofs.Utf8.{bodies_utf8}
 use Rattle.cdf_check.proofs.Wider.{Includes}
@@ -21,7 +23,7 @@ use Rattle.cvr_facts.proofs.Whole.{records_whole}
 use Rattle.cvr_collect.specs.Keeps.{Keeps, content_scope}
 use Rattle.cvr_collect.specs.Laws.{ImportLaw, JoinLaw}
 use Rattle.cvr_collect.proofs.Included.{IsWithin, of_union, left_within, right_within, device_ids, includes, device_known, devices_within, stands_wider, whole_wider}
-use Rattle.cvr_collect.proofs.SameFrames.{IsAlike, alike, agrees_alike, scope_alike}
+use Rattle.cvr_collect.proofs.SameFrames.{agrees_alike, scope_alike}
 
 -- ---- facts that can be taken in
 
@@ -97,7 +99,7 @@ import_keeps frame s bytes valid k = union_keeps frame s (facts bytes) k (file_c
 
 -- ---- joins
 
-pub other_can_join : (frame other : Frame) (t : Facts) → IsAlike frame other → Keeps other t → CanJoin frame t
+pub other_can_join : (frame other : Frame) (t : Facts) → AreEqualButDevices frame other → Keeps other t → CanJoin frame t
 other_can_join frame other t a k = record {
   given = λ f h. ∥∥₁_map (k.given f h) (λ q. (q.0, (q.1.0, q.1.1, q.1.2, agrees_alike frame other a q.1.0 q.1.3), q.2));
   stand = λ f h. subst (λ scope. Stands scope f) (sym (scope_alike frame other a (device_ids t))) (k.stand f h);
@@ -106,4 +108,4 @@ other_can_join frame other t a k = record {
 }
 
 pub join_keeps : JoinLaw
-join_keeps frame other s t same k j = union_keeps frame s t k (other_can_join frame other t (alike frame other k.sound j.sound same) j)
+join_keeps frame other s t same k j = union_keeps frame s t k (other_can_join frame other t (same_definitions frame other k.sound j.sound same) j)

@@ -15,6 +15,7 @@ use Rattle.cdf_check.specs.Frame.{Frame, IsSame}
 use Rattle.cdf_check.specs.Sound.{IsFrame}
 use Rattle.cdf_check.specs.Acceptance.{Valid, report_in}
 use Rattle.cdf_check.proofs.Accepting.{valid_file}
+use Rattle.cdf_check.proofs.SameDefinition.{same_definitions}
 use Rattle.cdf_types.specs.declared.report.Report.{Report}
 use Rattle.cvr_facts.specs.declared.list.FactList.{FactList}
 use Rattle.cvr_facts.specs.Facts.{Fact, Device, fact_cmp, fact_total, fact_exact}
@@ -28,7 +29,6 @@ use Rattle.cvr_collect.specs.declared.any_fact.AnyFact.TheVariants as any
 use Rattle.cvr_collect.specs.Keeps.{Keeps, starting}
 use Rattle.cvr_collect.specs.Place.{fact_of, place_total, any_cmp}
 use Rattle.cvr_collect.specs.Plain.{set_of, all_of, IsSpelled, IsPlain, IsPut}
-use Rattle.cvr_collect.proofs.SameFrames.{alike}
 use Rattle.cvr_collect.proofs.Starting.{start_keeps}
 use Rattle.cvr_collect.proofs.Keeping.{import_keeps, join_keeps}
 use Rattle.cvr_collect.proofs.Rising.{len-from_list}
@@ -129,7 +129,7 @@ module _ (frame : Frame) (bytes : List ℕ) (list : FactList) (old more new : Li
 
 pub plain_join : (frame other : Frame) (old theirs new : List AnyFact) → IsSame frame other → IsPlain frame old → IsPlain other theirs → IsPut old theirs new → IsPlain frame new
 plain_join frame other old theirs new same mine plain put =
-    let contests : other.contests ≡ frame.contests = sym ((alike frame other mine.keeps.sound plain.keeps.sound same).contests) in
+    let contests : other.contests ≡ frame.contests = sym ((same_definitions frame other mine.keeps.sound plain.keeps.sound same).contests) in
     record {
       rises = put.rises;
       spelled = spelled_put frame.contests old theirs new put mine.spelled (λ f at. subst (λ cs. IsSpelled cs f) contests (plain.spelled f at));
