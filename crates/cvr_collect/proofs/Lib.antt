@@ -10,6 +10,8 @@ pub mod Reached
 pub mod Turns
 pub mod Ways
 pub mod SameFiles
+pub mod AnsweredAlike
+pub mod NewOffices
 pub mod Orderings
 pub mod Rising
 pub mod Puts

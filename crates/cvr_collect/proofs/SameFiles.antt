@@ -1,17 +1,18 @@
 -- Offices that the same files have reached hold the same, where all began with the same.
-use Rattle.std.proofs.Common.{◌≡◌, ℕ, true, List, [], ◌∷◌, sym, ap, ◌∙◌}
+use Rattle.std.proofs.Common.{◌≡◌, ℕ, true, List, [], ◌∷◌, get_or, sym, ap, ◌∙◌}
 use Rattle.std.specs.List.{list_any}
 use Rattle.std.specs.Cmp.{both_ways}
 use Rattle.std.specs.FinSet.{empty, contains, items, same_set, contains-insert}
 use Rattle.cvr_facts.specs.Facts.{Fact, Facts, fact_total, fact_exact}
-use Rattle.cvr_facts.specs.Choosing.{current, header}
-use Rattle.cvr_collect.specs.Names.{conflicts}
 use Rattle.cvr_collect.specs.Reach.{Origin, Start, File, History, reached, brought, content}
-use Rattle.cvr_collect.specs.Tallied.{row, rows, tally}
-use Rattle.cvr_collect.specs.Laws.{BeganAlike, SameFilesLaw, SameAnswersLaw}
+use Rattle.cvr_collect.specs.Alike.{HaveSameFiles}
 use Rattle.cvr_collect.proofs.Unions.{or_left, tie_itself, contains-union_over, member_that_passes, passes_by_member}
 use Rattle.cvr_collect.proofs.Reached.{origin_total, origin_exact}
 use Rattle.cvr_collect.proofs.Ways.{reached_after-stays}
+
+-- the offices that have reached this one all started with these facts
+abbrev pub BeganAlike : Facts → List Facts → History → ℕ → Type 0
+BeganAlike start starts past o = (k : ℕ) → contains (reached past o) (Start k) ≡ true → get_or starts k empty ≡ start
 
 -- an office has reached itself
 own : (past : History) (o : ℕ) → contains (reached past o) (Start o) ≡ true
@@ -34,21 +35,9 @@ one_way start starts files past o p a b same q any =
       | File f ↦ λ had here. passes_by_member origin_total origin_exact has (File f) (reached past p) (same f had) here
     ] w.1 w.2
 
-pub same_files : SameFilesLaw
+pub same_files : (start : Facts) (starts : List Facts) (files : List (List ℕ)) (past : History) (o p : ℕ)
+    → BeganAlike start starts past o → BeganAlike start starts past p → HaveSameFiles past o p → content starts files past o ≡ content starts files past p
 same_files start starts files past o p a b same = same_set fact_total fact_exact _ _ (λ q.
     contains-union_over (brought starts files) (items (reached past o)) q
     ∙ (both_ways _ _ (one_way start starts files past o p a b (λ f. (same f).0) q) (one_way start starts files past p o b a (λ f. (same f).1) q)
     ∙ sym (contains-union_over (brought starts files) (items (reached past p)) q)))
-
--- so all that is answered of their facts is the same
-pub same_answers : SameAnswersLaw
-same_answers start starts files past o p a b same =
-    let alike : content starts files past o ≡ content starts files past p = same_files start starts files past o p a b same in
-    record {
-      currents = λ key. ap (λ facts. current facts key) alike;
-      headers = λ key. ap (λ facts. header facts key) alike;
-      conflicts_are = ap conflicts alike;
-      row_is = λ contests q. ap (λ facts. row contests facts q) alike;
-      rows_are = λ contests. ap (rows contests) alike;
-      tally_is = λ contests. ap (tally contests) alike;
-    }

@@ -11,3 +11,4 @@ pub mod Runs
 pub mod Groups
 pub mod Tallied
 pub mod Adding
+pub mod Alike

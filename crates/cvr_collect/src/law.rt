@@ -1,6 +1,9 @@
-//! Laws of offices: what they keep, how files reach them, and that the same files give the same.
+//! Laws of offices: what they keep, how files reach them, and which hold and answer the same.
 ghost use Rattle.cvr_collect.specs.Reach.{ReachLaw};
-ghost use Rattle.cvr_collect.specs.Laws.{StartLaw, ImportLaw, JoinLaw, SameFilesLaw, SameAnswersLaw, RowsLaw, BallotsLaw};
+ghost use Rattle.cvr_collect.specs.Laws.{StartLaw, ImportLaw, JoinLaw, RowsLaw, BallotsLaw};
+ghost use Rattle.cvr_collect.specs.Alike.{SameFilesLaw};
+
+use crate::office::Office;
 
 /// A file has reached an office exactly where an accepted import and accepted exchanges after it,
 /// one leading to the next, bring it there.
@@ -8,11 +11,11 @@ pub fn reach()
     ensures { ReachLaw }
 {}
 
-/// Offices that started alike and that the same files have reached hold the same facts, and so have
-/// the same currents, headers and conflicts, and the same rows and text of the tally.
-pub fn same_files()
-    ensures content { SameFilesLaw }
-    ensures answers { SameAnswersLaw }
+/// New offices of one definition play any events, refused ones among them. Then two of them that
+/// the same files have reached hold the same facts, and have the same current snapshots with their
+/// votes, the same headers, conflicts and rows, and the same text of the tally.
+pub fn same_files<O: Office>()
+    ensures alike { SameFilesLaw O.held O.defined }
 {}
 
 /// What an office keeps of its facts holds at first, and after each import and join.

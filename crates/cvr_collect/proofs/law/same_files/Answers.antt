@@ -1,8 +1,5 @@
-use Rattle.cvr_collect.proofs.SameFiles.{same_files, same_answers}
+use Rattle.cvr_collect.proofs.NewOffices.{same_files_law}
 use Rattle.cvr_collect.proofs.law.same_files.Goals as goal
 
 pub returns : goal.returns
-returns c = record {
-  content = same_files;
-  answers = same_answers;
-}
+returns g c = record { alike = same_files_law g.O.Office.held g.O.Office.defined }

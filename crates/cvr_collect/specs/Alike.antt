@@ -1,0 +1,60 @@
+-- Offices that hold and answer the same: those of one definition that the same files have reached. (This project's own.)
+use Rattle.std.specs.Prelude.{◌≡◌, ◌↔◌, ◌<◌, ℕ, List, length, map, get_or, true, Option, Some}
+use Rattle.std.specs.List.{All, slice_get}
+use Rattle.std.specs.FinSet.{contains, empty}
+use Rattle.cdf_check.specs.Frame.{Frame}
+use Rattle.cdf_check.specs.Same.{IsOne}
+use Rattle.cdf_check.specs.Sound.{IsFrame}
+use Rattle.cvr_facts.specs.declared.name.RecordName.{RecordName}
+use Rattle.cvr_facts.specs.declared.header.HeaderFact.{HeaderFact}
+use Rattle.cvr_facts.specs.declared.snapshot.SnapshotFact.{SnapshotFact}
+use Rattle.cvr_facts.specs.Facts.{Facts}
+use Rattle.cvr_facts.specs.Choosing.{header, current}
+use Rattle.cvr_tally.specs.declared.key.RowKey.{RowKey}
+use Rattle.cvr_collect.specs.Names.{conflicts}
+use Rattle.cvr_collect.specs.Readers.{IsHeader, IsCurrent}
+use Rattle.cvr_collect.specs.Keeps.{starting}
+use Rattle.cvr_collect.specs.Reach.{History, File, reached, content}
+use Rattle.cvr_collect.specs.Outcomes.{AreOutcomes}
+use Rattle.cvr_collect.specs.Tallied.{row, rows, tally}
+
+-- ---- what is answered
+
+-- two sets of facts, each beside a definition, answer alike
+pub record AnswerAlike (f g : Frame) (s t : Facts) : Type 0 where
+  pub currents : (key : RecordName) → current s key ≡ current t key
+  -- as they are told, with their votes
+  pub currents_told : (key : RecordName) (one other : Option SnapshotFact) → IsCurrent f.contests s key one → IsCurrent g.contests t key other → one ≡ other
+  pub headers : (key : RecordName) → header s key ≡ header t key
+  -- as they are told, with unit and batch
+  pub headers_told : (key : RecordName) (one other : Option HeaderFact) → IsHeader s key one → IsHeader t key other → one ≡ other
+  pub conflicts_are : conflicts s ≡ conflicts t
+  pub contests_are : f.contests ≡ g.contests
+  pub row_is : (q : RowKey) → row f.contests s q ≡ row g.contests t q
+  pub rows_are : rows f.contests s ≡ rows g.contests t
+  pub tally_is : tally f.contests s ≡ tally g.contests t
+
+-- ---- offices of one definition
+
+-- each is new, and their definitions are one
+pub record AreNewOfOne {Office : Type 0} (held : Office → Facts) (defined : Office → Frame) (offices : List Office) : Type 0 where
+  pub new : All (λ o. held o ≡ starting (defined o)) offices
+  pub sound : All (λ o. IsFrame (defined o)) offices
+  pub one : All (λ o. All (λ p. IsOne (defined o) (defined p)) offices) offices
+
+-- what `play` says of offices before and after some events with their outcomes
+pub record ArePlayed {Office : Type 0} (held : Office → Facts) (defined : Office → Frame) (before after : List Office) (files : List (List ℕ)) (past : History) : Type 0 where
+  pub contents : (o : ℕ) → o < length before → get_or (map held after) o empty ≡ content (map held before) files past o
+  pub outcomes : AreOutcomes (map held before) (map defined before) files past
+  pub definitions : map defined after ≡ map defined before
+
+-- the same files have reached both
+abbrev pub HaveSameFiles : History → ℕ → ℕ → Type 0
+HaveSameFiles past o p = (f : ℕ) → (contains (reached past o) (File f) ≡ true) ↔ (contains (reached past p) (File f) ≡ true)
+
+-- new offices of one definition, after any events: two that the same files have reached hold the same and answer alike
+abbrev pub SameFilesLaw : {Office : Type 0} → (Office → Facts) → (Office → Frame) → Type 0
+SameFilesLaw {Office} held defined = (before after : List Office) (files : List (List ℕ)) (past : History) (o p : ℕ) (one other : Office)
+    → AreNewOfOne held defined before → ArePlayed held defined before after files past → HaveSameFiles past o p
+    → slice_get after o ≡ Some one → slice_get after p ≡ Some other
+    → (held one ≡ held other) × AnswerAlike (defined one) (defined other) (held one) (held other)
