@@ -5,6 +5,7 @@ use Rattle.cdf_form.specs.Parts.{id_of, text_in}
 use Rattle.cdf_form.specs.Places.{Contest}
 use Rattle.cdf_typed.specs.Typed.{kind_of, moment_of, snapshot_of}
 use Rattle.cdf_check.specs.Frame.{Frame}
+use Rattle.cdf_check.proofs.SameDefinition.{same_definitions}
 use Rattle.cvr_facts.specs.declared.name.RecordName.{RecordName}
 use Rattle.cvr_facts.specs.declared.header.HeaderFact.{HeaderFact}
 use Rattle.cvr_facts.specs.declared.snapshot.SnapshotFact.{SnapshotFact}
@@ -13,7 +14,7 @@ use Rattle.cvr_facts.specs.Choosing.{data_of, header, current}
 use Rattle.cvr_facts.specs.Sums.{sums_in}
 use Rattle.cvr_collect.specs.Names.{conflicts}
 use Rattle.cvr_collect.specs.Readers.{IsHeaderOf, IsSnapshotOf, IsHeader, IsCurrent}
-use Rattle.cvr_collect.specs.Alike.{AnswerAlike}
+use Rattle.cvr_collect.specs.Alike.{AnswerAlike, SameOfficesLaw}
 use Rattle.cvr_collect.specs.Tallied.{row, rows, tally}
 
 -- ---- what is told of a body
@@ -67,3 +68,6 @@ answer_alike f g s t contests same = record {
   rows_are = λ i. rows (contests i) (same i);
   tally_is = λ i. tally (contests i) (same i);
 }
+
+pub same_offices : SameOfficesLaw
+same_offices f g s t p q same held = answer_alike f g s t (same_definitions f g p q same).contests held

@@ -1,8 +1,8 @@
--- Offices that hold and answer the same: those of one definition that the same files have reached. (This project's own.)
+-- Offices that hold and answer the same: those of one definition that the same files have reached, and those that are the same. (This project's own.)
 use Rattle.std.specs.Prelude.{◌≡◌, ◌↔◌, ◌<◌, ℕ, List, length, map, get_or, true, Option, Some}
 use Rattle.std.specs.List.{All, slice_get}
 use Rattle.std.specs.FinSet.{contains, empty}
-use Rattle.cdf_check.specs.Frame.{Frame}
+use Rattle.cdf_check.specs.Frame.{Frame, IsSame}
 use Rattle.cdf_check.specs.Same.{IsOne}
 use Rattle.cdf_check.specs.Sound.{IsFrame}
 use Rattle.cvr_facts.specs.declared.name.RecordName.{RecordName}
@@ -58,3 +58,9 @@ SameFilesLaw {Office} held defined = (before after : List Office) (files : List 
     → AreNewOfOne held defined before → ArePlayed held defined before after files past → HaveSameFiles past o p
     → slice_get after o ≡ Some one → slice_get after p ≡ Some other
     → (held one ≡ held other) × AnswerAlike (defined one) (defined other) (held one) (held other)
+
+-- ---- offices that are the same
+
+-- the same definition and the same facts answer alike
+abbrev pub SameOfficesLaw : Type 0
+SameOfficesLaw = (f g : Frame) (s t : Facts) → IsFrame f → IsFrame g → IsSame f g → s ≡ t → AnswerAlike f g s t

@@ -1,7 +1,7 @@
 //! Laws of offices: what they keep, how files reach them, and which hold and answer the same.
 ghost use Rattle.cvr_collect.specs.Reach.{ReachLaw};
 ghost use Rattle.cvr_collect.specs.Laws.{StartLaw, ImportLaw, JoinLaw, RowsLaw, BallotsLaw};
-ghost use Rattle.cvr_collect.specs.Alike.{SameFilesLaw};
+ghost use Rattle.cvr_collect.specs.Alike.{SameFilesLaw, SameOfficesLaw};
 
 use crate::office::Office;
 
@@ -16,6 +16,12 @@ pub fn reach()
 /// votes, the same headers, conflicts and rows, and the same text of the tally.
 pub fn same_files<O: Office>()
     ensures alike { SameFilesLaw O.held O.defined }
+{}
+
+/// Offices that are the same have the same current snapshots with their votes, the same headers,
+/// conflicts and rows, and the same text of the tally.
+pub fn same_offices()
+    ensures alike { SameOfficesLaw }
 {}
 
 /// What an office keeps of its facts holds at first, and after each import and join.

@@ -1,0 +1,5 @@
+use Rattle.cvr_collect.proofs.AnsweredAlike.{same_offices}
+use Rattle.cvr_collect.proofs.law.same_offices.Goals as goal
+
+pub returns : goal.returns
+returns c = record { alike = same_offices }
