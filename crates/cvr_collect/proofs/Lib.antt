@@ -12,6 +12,7 @@ pub mod Ways
 pub mod SameFiles
 pub mod AnsweredAlike
 pub mod NewOffices
+pub mod UnitOffice
 pub mod Orderings
 pub mod Rising
 pub mod Puts

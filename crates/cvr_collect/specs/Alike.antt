@@ -1,7 +1,7 @@
 -- Offices that hold and answer the same: those of one definition that the same files have reached, and those that are the same. (This project's own.)
 use Rattle.std.specs.Prelude.{◌≡◌, ◌↔◌, ◌<◌, ℕ, List, length, map, get_or, true, Option, Some}
 use Rattle.std.specs.List.{All, slice_get}
-use Rattle.std.specs.FinSet.{contains, empty}
+use Rattle.std.specs.FinSet.{contains, union, empty}
 use Rattle.cdf_check.specs.Frame.{Frame, IsSame}
 use Rattle.cdf_check.specs.Same.{IsOne}
 use Rattle.cdf_check.specs.Sound.{IsFrame}
@@ -13,7 +13,7 @@ use Rattle.cvr_facts.specs.Choosing.{header, current}
 use Rattle.cvr_tally.specs.declared.key.RowKey.{RowKey}
 use Rattle.cvr_collect.specs.Names.{conflicts}
 use Rattle.cvr_collect.specs.Readers.{IsHeader, IsCurrent}
-use Rattle.cvr_collect.specs.Keeps.{starting}
+use Rattle.cvr_collect.specs.Keeps.{starting, Keeps}
 use Rattle.cvr_collect.specs.Reach.{History, File, reached, content}
 use Rattle.cvr_collect.specs.Outcomes.{AreOutcomes}
 use Rattle.cvr_collect.specs.Tallied.{row, rows, tally}
@@ -64,3 +64,14 @@ SameFilesLaw {Office} held defined = (before after : List Office) (files : List 
 -- the same definition and the same facts answer alike
 abbrev pub SameOfficesLaw : Type 0
 SameOfficesLaw = (f g : Frame) (s t : Facts) → IsFrame f → IsFrame g → IsSame f g → s ≡ t → AnswerAlike f g s t
+
+-- ---- new offices
+
+-- to join these facts changes nothing, on either side
+pub record IsUnitFor (s new : Facts) : Type 0 where
+  pub joined : union s new ≡ s
+  pub joining : union new s ≡ s
+
+-- a new office is the unit of joining among offices with the same starting facts
+abbrev pub NewOfficeLaw : Type 0
+NewOfficeLaw = (f g : Frame) (s : Facts) → Keeps g s → starting f ≡ starting g → IsUnitFor s (starting f)

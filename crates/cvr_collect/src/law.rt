@@ -1,7 +1,7 @@
 //! Laws of offices: what they keep, how files reach them, and which hold and answer the same.
 ghost use Rattle.cvr_collect.specs.Reach.{ReachLaw};
 ghost use Rattle.cvr_collect.specs.Laws.{StartLaw, ImportLaw, JoinLaw, RowsLaw, BallotsLaw};
-ghost use Rattle.cvr_collect.specs.Alike.{SameFilesLaw, SameOfficesLaw};
+ghost use Rattle.cvr_collect.specs.Alike.{SameFilesLaw, SameOfficesLaw, NewOfficeLaw};
 
 use crate::office::Office;
 
@@ -22,6 +22,11 @@ pub fn same_files<O: Office>()
 /// conflicts and rows, and the same text of the tally.
 pub fn same_offices()
     ensures alike { SameOfficesLaw }
+{}
+
+/// A new office is the unit of joining among offices with the same starting facts.
+pub fn new_office()
+    ensures unit { NewOfficeLaw }
 {}
 
 /// What an office keeps of its facts holds at first, and after each import and join.
