@@ -51,3 +51,4 @@ pub mod AddedSums
 pub mod RowsOfKeys
 pub mod Walks
 pub mod RecordWalk
+pub mod MoreFacts

@@ -12,3 +12,4 @@ pub mod Groups
 pub mod Tallied
 pub mod Adding
 pub mod Alike
+pub mod Counting

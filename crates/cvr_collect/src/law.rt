@@ -2,6 +2,7 @@
 ghost use Rattle.cvr_collect.specs.Reach.{ReachLaw};
 ghost use Rattle.cvr_collect.specs.Laws.{StartLaw, ImportLaw, JoinLaw, RowsLaw, BallotsLaw};
 ghost use Rattle.cvr_collect.specs.Alike.{SameFilesLaw, SameOfficesLaw, NewOfficeLaw};
+ghost use Rattle.cvr_collect.specs.Counting.{GrowthLaw};
 
 use crate::office::Office;
 
@@ -40,4 +41,9 @@ pub fn keeping()
 pub fn rows()
     ensures rows { RowsLaw }
     ensures ballots { BallotsLaw }
+{}
+
+/// The number of a set's facts, and that by which it grows, add up to the number of the union.
+pub fn growing()
+    ensures growth { GrowthLaw }
 {}
