@@ -52,3 +52,4 @@ pub mod RowsOfKeys
 pub mod Walks
 pub mod RecordWalk
 pub mod MoreFacts
+pub mod SeveralBodies

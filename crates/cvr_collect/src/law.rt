@@ -2,7 +2,7 @@
 ghost use Rattle.cvr_collect.specs.Reach.{ReachLaw};
 ghost use Rattle.cvr_collect.specs.Laws.{StartLaw, ImportLaw, JoinLaw, RowsLaw, BallotsLaw};
 ghost use Rattle.cvr_collect.specs.Alike.{SameFilesLaw, SameOfficesLaw, NewOfficeLaw};
-ghost use Rattle.cvr_collect.specs.Counting.{GrowthLaw};
+ghost use Rattle.cvr_collect.specs.Counting.{GrowthLaw, ConflictsLaw};
 
 use crate::office::Office;
 
@@ -46,4 +46,10 @@ pub fn rows()
 /// The number of a set's facts, and that by which it grows, add up to the number of the union.
 pub fn growing()
     ensures growth { GrowthLaw }
+{}
+
+/// A name with a number is among the conflicts exactly where that is the number of its bodies, and
+/// at least 2.
+pub fn conflicting()
+    ensures conflicts { ConflictsLaw }
 {}
