@@ -53,3 +53,4 @@ pub mod Walks
 pub mod RecordWalk
 pub mod MoreFacts
 pub mod SeveralBodies
+pub mod BallotCounts

@@ -1,11 +1,18 @@
--- Laws of numbers: of new facts, of bodies under a name. (This project's own.)
-use Rattle.std.specs.Prelude.{◌≡◌, ◌↔◌, ◌+◌, ◌≤◌, ℕ}
-use Rattle.std.specs.List.{Contains}
+-- Laws of numbers: of new facts, of bodies under a name, of ballots. (This project's own.)
+use Rattle.std.specs.Prelude.{◌≡◌, ◌↔◌, ◌+◌, ◌==◌, ◌≤◌, ℕ, List, length, is_some}
+use Rattle.std.specs.List.{Contains, filter, sum_by}
+use Rattle.std.specs.FinMap.{entries}
 use Rattle.std.specs.FinSet.{len, union}
+use Rattle.cdf_form.specs.Places.{Contest}
+use Rattle.cdf_check.specs.Frame.{Frame}
+use Rattle.cvr_facts.specs.declared.name.RecordName.{RecordName}
 use Rattle.cvr_facts.specs.Facts.{Facts}
+use Rattle.cvr_tally.specs.Rows.{Rows}
 use Rattle.cvr_collect.specs.declared.conflict.ConflictName.{ConflictName}
-use Rattle.cvr_collect.specs.Names.{count_under, conflicts}
+use Rattle.cvr_collect.specs.Names.{records, count_under, conflicts}
 use Rattle.cvr_collect.specs.Readers.{growth}
+use Rattle.cvr_collect.specs.Keeps.{Keeps}
+use Rattle.cvr_collect.specs.Tallied.{sums_at, rows}
 
 -- the facts of a set, and those by which it grows, are those of the union
 abbrev pub GrowthLaw : Type 0
@@ -14,3 +21,17 @@ GrowthLaw = (s t : Facts) → len s + growth s t ≡ len (union s t)
 -- a name with a number is among the conflicts exactly where that is the number of its bodies, and at least 2
 abbrev pub ConflictsLaw : Type 0
 ConflictsLaw = (s : Facts) (n : ConflictName) (k : ℕ) → Contains (conflicts s) (record { name = n; bodies = k }) ↔ ((count_under s n ≡ k) × (2 ≤ k))
+
+-- ---- ballots
+
+-- the ballots of all rows of a contest
+abbrev pub ballots_of : Rows → ℕ → ℕ
+ballots_of rows c = sum_by (λ e. e.1.ballots) (filter (λ e. e.0.contest == c) (entries rows))
+
+-- the records whose current snapshot has a contest
+abbrev pub records_with : List Contest → Facts → ℕ → List RecordName
+records_with contests s c = filter (λ r. is_some (sums_at contests s c r)) (records s)
+
+-- these ballots add up to these records
+abbrev pub AddUpLaw : Type 0
+AddUpLaw = (frame : Frame) (s : Facts) (c : ℕ) → Keeps frame s → ballots_of (rows frame.contests s) c ≡ length (records_with frame.contests s c)

@@ -2,7 +2,7 @@
 ghost use Rattle.cvr_collect.specs.Reach.{ReachLaw};
 ghost use Rattle.cvr_collect.specs.Laws.{StartLaw, ImportLaw, JoinLaw, RowsLaw, BallotsLaw};
 ghost use Rattle.cvr_collect.specs.Alike.{SameFilesLaw, SameOfficesLaw, NewOfficeLaw};
-ghost use Rattle.cvr_collect.specs.Counting.{GrowthLaw, ConflictsLaw};
+ghost use Rattle.cvr_collect.specs.Counting.{GrowthLaw, ConflictsLaw, AddUpLaw};
 
 use crate::office::Office;
 
@@ -52,4 +52,10 @@ pub fn growing()
 /// at least 2.
 pub fn conflicting()
     ensures conflicts { ConflictsLaw }
+{}
+
+/// The ballots of all rows of a contest add up to the number of records whose current snapshot has
+/// it.
+pub fn ballots()
+    ensures records { AddUpLaw }
 {}
