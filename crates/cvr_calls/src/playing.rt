@@ -3,6 +3,7 @@ use crate::same::are_same_offices;
 use crate::trying::{Ended, end, is_copy, was_refused};
 use cdf_types::{Memory, ReadFault};
 use cvr_collect::{Cause, Event, Office, Outcome, PlainOffice, play};
+use std::alloc::Global;
 
 static EVENTS: [Event; 3] = [
     Event::Import { office: 0, file: 0 },
@@ -73,8 +74,44 @@ fn are_right(
     }
 }
 
-/// Tries to play three imports. Where an allocation is refused alone, one import at most is refused;
-/// the last allocation of a copy tells whether all are refused from some point on.
+// Plays where memory may be refused. Where an allocation is refused alone, one import at most is refused;
+// the allocation after the last event tells whether all are refused from some point on.
+fn is_kept(
+    rt: &HostRuntime,
+    files: &[Vec<u8>],
+    offices: &mut [PlainOffice],
+    wanted: &mut PlainOffice,
+) -> bool {
+    let outcomes = play(rt.alloc(), offices, files, &EVENTS);
+    let is_last_refused = Box::new(rt.alloc(), 0u8).is_err();
+    let most = match (was_refused(rt), is_last_refused) {
+        (false, _) => 0,
+        (true, false) => 1,
+        (true, true) => EVENTS.len(),
+    };
+    are_right(wanted, files, &outcomes, most) && is_first(rt.alloc(), offices, wanted)
+}
+
+// Plays the same again, with memory.
+fn is_made_whole(
+    alloc: Global,
+    files: &[Vec<u8>],
+    offices: &mut [PlainOffice],
+    wanted: &mut PlainOffice,
+) -> bool {
+    let outcomes = play(alloc, offices, files, &EVENTS);
+    are_right(wanted, files, &outcomes, 0) && is_first(alloc, offices, wanted)
+}
+
+// Whether the first office is as another.
+fn is_first(alloc: Global, offices: &[PlainOffice], wanted: &PlainOffice) -> bool {
+    match offices {
+        [office, ..] => are_same_offices(alloc, office, wanted).unwrap_or(false),
+        [] => false,
+    }
+}
+
+/// Tries to play three imports into a new office: what it then holds, and once all is played again.
 pub fn try_playing(rt: &HostRuntime, name: &str) -> Result<(), Ended> {
     let Playing {
         files,
@@ -85,18 +122,9 @@ pub fn try_playing(rt: &HostRuntime, name: &str) -> Result<(), Ended> {
     if !is_copy(rt, name) {
         return Ok(());
     }
-    let alloc = rt.alloc();
-    let outcomes = play(alloc, &mut offices, files.as_slice(), &EVENTS);
-    let is_last_refused = Box::new(alloc, 0u8).is_err();
-    let most = match (was_refused(rt), is_last_refused) {
-        (false, _) => 0,
-        (true, false) => 1,
-        (true, true) => EVENTS.len(),
-    };
-    let is_kept = are_right(&mut wanted, files.as_slice(), &outcomes, most)
-        && are_same_offices(alloc, &offices[0], &wanted).unwrap_or(false);
-    let again = play(alloc, &mut offices, files.as_slice(), &EVENTS);
-    let is_whole = are_right(&mut wanted, files.as_slice(), &again, 0)
-        && are_same_offices(alloc, &offices[0], &whole).unwrap_or(false);
-    end(rt, name, is_kept && is_whole)
+    let files = files.as_slice();
+    let is_right = is_kept(rt, files, &mut offices, &mut wanted)
+        && is_made_whole(rt.alloc(), files, &mut offices, &mut wanted)
+        && is_first(rt.alloc(), &offices, &whole);
+    end(rt, name, is_right)
 }

@@ -1,6 +1,6 @@
 use crate::changes::{joined_of, opened_text};
 use crate::files::facts_in;
-use crate::records::{Records, first, record_of, row_of};
+use crate::records::{Records, Told, first, record_of, row_of};
 use crate::running::read_whole;
 use crate::same::{
     are_same_conflicts, are_same_definitions, are_same_facts, are_same_headers, are_same_rows,
@@ -32,11 +32,11 @@ pub enum Copying {
 
 impl Reading for Copying {
     fn is_right(&self, alloc: Global, records: &Records) -> Result<bool, ReadFault> {
-        let header = &records.header;
-        let snapshot = first(records.facts.snapshots.as_slice())?;
-        let device = first(records.facts.devices.as_slice())?;
+        let header = &records.kept.header;
+        let snapshot = first(records.file.facts.snapshots.as_slice())?;
+        let device = first(records.file.facts.devices.as_slice())?;
         let sums = first(snapshot.votes.as_slice())?;
-        let told = &records.told;
+        let counted = &records.told.counted;
         Ok(match self {
             Copying::Body => header.body.copy()? == header.body,
             Copying::Name => header.key.copy()? == header.key,
@@ -44,12 +44,12 @@ impl Reading for Copying {
             Copying::Header => are_same_headers(&header.copy()?, header),
             Copying::Snapshot => are_same_snapshots(&snapshot.copy(alloc)?, snapshot),
             Copying::Sums => are_same_sums(&sums.copy(alloc)?, sums),
-            Copying::Key => told.key.copy()? == told.key,
-            Copying::KeyUnder => RowKey::under(header, 0)? == told.key,
-            Copying::Row => are_same_rows(&told.row.copy(alloc)?, &told.row),
+            Copying::Key => counted.key.copy()? == counted.key,
+            Copying::KeyUnder => RowKey::under(header, 0)? == counted.key,
+            Copying::Row => are_same_rows(&counted.row.copy(alloc)?, &counted.row),
             Copying::Definition => are_same_definitions(
-                &records.definition.copy(alloc)?,
-                &records.definition,
+                &records.file.definition.copy(alloc)?,
+                &records.file.definition,
             ),
         })
     }
@@ -64,15 +64,18 @@ pub enum Filing {
 
 impl Reading for Filing {
     fn is_right(&self, alloc: Global, records: &Records) -> Result<bool, ReadFault> {
-        let bytes = records.bytes.as_slice();
-        let definition = &records.definition;
+        let bytes = records.file.bytes.as_slice();
+        let definition = &records.file.definition;
         Ok(match self {
             Filing::ReadFile => read_whole(alloc, bytes)?.as_slice() == bytes,
             Filing::Definition => are_same_definitions(
                 &Definition::read(alloc, bytes)?,
                 definition,
             ),
-            Filing::Facts => are_same_facts(&facts_in(alloc, definition, bytes)?, &records.facts),
+            Filing::Facts => are_same_facts(
+                &facts_in(alloc, definition, bytes)?,
+                &records.file.facts,
+            ),
         })
     }
 }
@@ -88,15 +91,15 @@ pub enum Making {
 
 impl Reading for Making {
     fn is_right(&self, alloc: Global, records: &Records) -> Result<bool, ReadFault> {
-        let devices = &records.devices;
-        let definition = &records.definition;
+        let devices = &records.kept.devices;
+        let definition = &records.file.definition;
         Ok(match self {
             Making::BodySet => are_same_sets(&BodySet::new(alloc, definition.devices())?, devices),
             Making::JoinBoth => are_same_sets(&joined_of(alloc, devices)?, devices),
             Making::Quoted => quoted(alloc, "a\"b")?.as_str() == "\"a\\\"b\"",
             Making::Word => word_of(alloc)?.as_str() == "\"a\\\"b\" ",
             Making::Totals => {
-                opened_text(alloc, definition)?.as_str() == records.told.opened_lines.as_str()
+                opened_text(alloc, definition)?.as_str() == records.told.lines.opened.as_str()
             }
         })
     }
@@ -129,21 +132,25 @@ fn is_new(alloc: Global, definition: &Definition) -> Result<bool, Memory> {
 
 impl Reading for Telling {
     fn is_right(&self, alloc: Global, records: &Records) -> Result<bool, ReadFault> {
-        let office = &records.office;
-        let told = &records.told;
-        let name = &first(records.facts.headers.as_slice())?.key;
+        let office = &records.kept.office;
+        let Told {
+            conflicts,
+            lines,
+            counted,
+        } = &records.told;
+        let name = &first(records.file.facts.headers.as_slice())?.key;
         Ok(match self {
-            Telling::New => is_new(alloc, &records.definition)?,
-            Telling::Row => are_same_rows(&row_of(alloc, office, &told.key)?, &told.row),
-            Telling::Record => { record_of(alloc, office, name)?.as_str() == told.record.as_str() }
-            Telling::Conflicts => are_same_conflicts(&office.conflicts(alloc)?, &told.conflicts),
+            Telling::New => is_new(alloc, &records.file.definition)?,
+            Telling::Row => are_same_rows(&row_of(alloc, office, &counted.key)?, &counted.row),
+            Telling::Record => { record_of(alloc, office, name)?.as_str() == lines.record.as_str() }
+            Telling::Conflicts => are_same_conflicts(&office.conflicts(alloc)?, conflicts),
             Telling::ConflictLines => {
-                conflicts_text(alloc, &told.conflicts)?.as_str() == told.conflict_lines.as_str()
+                conflicts_text(alloc, conflicts)?.as_str() == lines.conflicts.as_str()
             }
             Telling::CurrentLines => {
-                currents_text(alloc, office)?.as_str() == told.current_lines.as_str()
+                currents_text(alloc, office)?.as_str() == lines.currents.as_str()
             }
-            Telling::TallyLines => tally_of(alloc, office)?.as_str() == told.tally_lines.as_str(),
+            Telling::TallyLines => tally_of(alloc, office)?.as_str() == lines.tally.as_str(),
         })
     }
 }

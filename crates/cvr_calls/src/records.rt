@@ -12,44 +12,64 @@ use cvr_facts::{BodySet, FactList, HeaderFact, RecordName};
 use cvr_tally::{Row, RowKey};
 use std::alloc::Global;
 
-/// What the calls that change nothing read.
+/// What the calls that change nothing read. It is in parts, each of few values: what is held at each way
+/// out of a function is what makes its proof long.
 #[derive(Drop)]
 pub struct Records {
+    pub file: Filed,
+    pub kept: Kept,
+    pub told: Told,
+}
+
+/// A file and what is made of it.
+#[derive(Drop)]
+pub struct Filed {
     /// The bytes of a file with every kind of position.
     pub bytes: Vec<u8>,
     /// The definition.
     pub definition: Definition,
-    /// The facts of that file.
+    /// The facts of the file.
     pub facts: FactList,
-    /// A header with unit and batch.
-    pub header: HeaderFact,
-    /// An office of all files, with conflicts of every kind.
-    pub office: PlainOffice,
-    /// The bodies of the definition's devices.
-    pub devices: BodySet,
-    /// What is told of the office.
-    pub told: Told,
 }
 
-/// What is told of an office.
+/// What is kept beside the file.
+#[derive(Drop)]
+pub struct Kept {
+    /// An office of all files, with conflicts of every kind.
+    pub office: PlainOffice,
+    /// A header with unit and batch.
+    pub header: HeaderFact,
+    /// The bodies of the definition's devices.
+    pub devices: BodySet,
+}
+
+/// What is told of the office.
 #[derive(Drop)]
 pub struct Told {
     /// Its conflicts.
     pub conflicts: ConflictList,
-    /// The lines of its conflicts.
-    pub conflict_lines: String,
-    /// The lines of its current snapshots.
-    pub current_lines: String,
-    /// The lines of its tally.
-    pub tally_lines: String,
-    /// All facts of the file's record, as text.
+    pub lines: Lines,
+    pub counted: Counted,
+}
+
+/// The lines of an office.
+#[derive(Drop)]
+pub struct Lines {
+    pub conflicts: String,
+    pub currents: String,
+    pub tally: String,
+    /// Of totals with one open row of zeros.
+    pub opened: String,
+    /// Of all facts of the file's record.
     pub record: String,
-    /// The lines of totals with one open row of zeros.
-    pub opened_lines: String,
-    /// The row of the header.
-    pub row: Row,
-    /// The row's key.
+}
+
+/// A row and its key.
+#[derive(Drop)]
+pub struct Counted {
+    /// That of the header.
     pub key: RowKey,
+    pub row: Row,
 }
 
 // The header of the file with a batch.
@@ -77,42 +97,23 @@ pub fn record_of(alloc: Global, office: &PlainOffice, key: &RecordName) -> Resul
     }
 }
 
-// What is told of an office that has the rows of a header and the record of a name.
-fn told_of(
-    alloc: Global,
-    office: &PlainOffice,
-    header: &HeaderFact,
-    name: &RecordName,
-) -> Result<Told, Memory> {
-    let key = RowKey::under(header, 0)?;
-    let row = row_of(alloc, office, &key)?;
-    let conflicts = office.conflicts(alloc)?;
-    let conflict_lines = conflicts_text(alloc, &conflicts)?;
-    let current_lines = currents_text(alloc, office)?;
-    let tally_lines = tally_of(alloc, office)?;
-    let opened_lines = opened_text(alloc, office.definition())?;
-    let record = record_of(alloc, office, name)?;
-    Ok(Told {
-        conflicts,
-        conflict_lines,
-        current_lines,
-        tally_lines,
-        opened_lines,
-        record,
-        row,
-        key,
-    })
-}
-
-impl Records {
-    /// Of the files.
-    pub fn new(rt: &HostRuntime) -> Result<Records, Memory> {
+impl Filed {
+    fn new(rt: &HostRuntime) -> Result<Filed, Memory> {
         let bytes = bytes_of(rt, EVERY_KIND)?;
         let definition = definition(rt)?;
-        let Ok(facts) = facts_in(rt.alloc(), &definition, bytes.as_slice()) else {
-            return Err(Memory);
-        };
-        let header = header_of(rt, &definition)?;
+        match facts_in(rt.alloc(), &definition, bytes.as_slice()) {
+            Ok(facts) => Ok(Filed {
+                bytes,
+                definition,
+                facts,
+            }),
+            Err(_) => Err(Memory),
+        }
+    }
+}
+
+impl Kept {
+    fn new(rt: &HostRuntime, definition: &Definition) -> Result<Kept, Memory> {
         let files = [
             SCAN,
             ADJUDICATED,
@@ -122,22 +123,68 @@ impl Records {
             BATCHED,
         ];
         let office = office_of(rt, &files)?;
+        let header = header_of(rt, definition)?;
         let devices = BodySet::new(rt.alloc(), definition.devices())?;
-        let told = told_of(
-            rt.alloc(),
-            &office,
-            &header,
-            &first(facts.headers.as_slice())?.key,
-        )?;
-        Ok(Records {
-            bytes,
-            definition,
-            facts,
-            header,
+        Ok(Kept {
             office,
+            header,
             devices,
-            told,
         })
+    }
+}
+
+impl Lines {
+    fn new(
+        alloc: Global,
+        office: &PlainOffice,
+        conflicts: &ConflictList,
+        name: &RecordName,
+    ) -> Result<Lines, Memory> {
+        let conflicts = conflicts_text(alloc, conflicts)?;
+        let currents = currents_text(alloc, office)?;
+        let tally = tally_of(alloc, office)?;
+        let opened = opened_text(alloc, office.definition())?;
+        let record = record_of(alloc, office, name)?;
+        Ok(Lines {
+            conflicts,
+            currents,
+            tally,
+            opened,
+            record,
+        })
+    }
+}
+
+impl Counted {
+    fn new(alloc: Global, office: &PlainOffice, header: &HeaderFact) -> Result<Counted, Memory> {
+        let key = RowKey::under(header, 0)?;
+        let row = row_of(alloc, office, &key)?;
+        Ok(Counted { key, row })
+    }
+}
+
+impl Told {
+    fn new(alloc: Global, kept: &Kept, name: &RecordName) -> Result<Told, Memory> {
+        let office = &kept.office;
+        let conflicts = office.conflicts(alloc)?;
+        let lines = Lines::new(alloc, office, &conflicts, name)?;
+        let counted = Counted::new(alloc, office, &kept.header)?;
+        Ok(Told {
+            conflicts,
+            lines,
+            counted,
+        })
+    }
+}
+
+impl Records {
+    /// Of the files.
+    pub fn new(rt: &HostRuntime) -> Result<Records, Memory> {
+        let file = Filed::new(rt)?;
+        let kept = Kept::new(rt, &file.definition)?;
+        let name = &first(file.facts.headers.as_slice())?.key;
+        let told = Told::new(rt.alloc(), &kept, name)?;
+        Ok(Records { file, kept, told })
     }
 }
 
