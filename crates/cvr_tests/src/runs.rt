@@ -56,9 +56,9 @@ const COUNTED: &str = "\"mayor\" \"p1\" null 1 0 0 0 0 0 \"ann\" 0 \"bob\" 1 \"w
 
 const CONFLICT: &str = "\"s1\" \"u1\" snapshot \"m\" 2\nvolumes 2\n";
 
-// Whether a run over an adjudication and a second file prints this, with no log line.
-fn prints(rt: &(impl Abort + AllocGlobal), task: Task, second: Changes, text: &str) -> bool {
-    let ending = ran(rt, task, &[ADJUDICATED, second], 0, 0);
+// Whether a run over files prints this, with no log line.
+fn prints(rt: &(impl Abort + AllocGlobal), task: Task, files: &[Changes], text: &str) -> bool {
+    let ending = ran(rt, task, files, 0, 0);
     ending.status == Status::Done
         && ending.out.taken() == text.as_bytes()
         && ending.log.taken().is_empty()
@@ -66,10 +66,19 @@ fn prints(rt: &(impl Abort + AllocGlobal), task: Task, second: Changes, text: &s
 
 #[test]
 fn each_task_prints_its_text(rt: HostRuntime) {
-    assert!(rt; prints(&rt, Task::Currents, SCAN, CURRENT));
-    assert!(rt; prints(&rt, Task::Tally, SCAN, COUNTED));
-    assert!(rt; prints(&rt, Task::Conflicts, FOR_WRITE_IN, CONFLICT));
-    assert!(rt; prints(&rt, Task::Check, SCAN, "first.json 1\nsecond.json 1\n"));
+    let adjudicated = [ADJUDICATED, SCAN];
+    let in_conflict = [ADJUDICATED, FOR_WRITE_IN];
+    assert!(rt; prints(&rt, Task::Currents, &adjudicated, CURRENT));
+    assert!(rt; prints(&rt, Task::Tally, &adjudicated, COUNTED));
+    assert!(rt; prints(&rt, Task::Conflicts, &in_conflict, CONFLICT));
+    assert!(rt;
+        prints(
+            &rt,
+            Task::Check,
+            &adjudicated,
+            "first.json 1\nsecond.json 1\n"
+        )
+    );
 }
 
 // Whether a run whose second file is refused prints the rest, and tells this in a log that fails at
