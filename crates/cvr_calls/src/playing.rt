@@ -74,6 +74,15 @@ fn are_right(
     }
 }
 
+// Plays the imports. A function of its own, so that no other proof has to carry all that is said of `play`.
+fn played(
+    alloc: Global,
+    offices: &mut [PlainOffice],
+    files: &[Vec<u8>],
+) -> Result<Vec<Outcome>, Memory> {
+    play(alloc, offices, files, &EVENTS)
+}
+
 // Plays where memory may be refused. Where an allocation is refused alone, one import at most is refused;
 // the allocation after the last event tells whether all are refused from some point on.
 fn is_kept(
@@ -82,7 +91,7 @@ fn is_kept(
     offices: &mut [PlainOffice],
     wanted: &mut PlainOffice,
 ) -> bool {
-    let outcomes = play(rt.alloc(), offices, files, &EVENTS);
+    let outcomes = played(rt.alloc(), offices, files);
     let is_last_refused = Box::new(rt.alloc(), 0u8).is_err();
     let most = match (was_refused(rt), is_last_refused) {
         (false, _) => 0,
@@ -99,7 +108,7 @@ fn is_made_whole(
     offices: &mut [PlainOffice],
     wanted: &mut PlainOffice,
 ) -> bool {
-    let outcomes = play(alloc, offices, files, &EVENTS);
+    let outcomes = played(alloc, offices, files);
     are_right(wanted, files, &outcomes, 0) && is_first(alloc, offices, wanted)
 }
 

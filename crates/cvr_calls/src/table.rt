@@ -5,63 +5,105 @@ use crate::playing::try_playing;
 use crate::readings::{Copying, Filing, Making, Telling};
 use crate::records::Records;
 use crate::running::try_running;
-use crate::trying::{Ended, try_reading};
+use crate::trying::{Ended, Reading, try_reading};
 use cvr_cli::Task;
 
-/// Tries each script, up to the first in a copy. This file is the table of the scripts: each public
-/// call that can answer want of memory stands in the name of one of them.
+// The scripts. Each public call that can answer want of memory stands in the name of one of them.
+
+static COPIES: [(&str, Copying); 10] = [
+    ("Body::copy", Copying::Body),
+    ("RecordName::copy", Copying::Name),
+    ("DeviceFact::copy", Copying::Device),
+    ("HeaderFact::copy", Copying::Header),
+    ("SnapshotFact::copy", Copying::Snapshot),
+    ("VoteSums::copy", Copying::Sums),
+    ("RowKey::copy", Copying::Key),
+    ("RowKey::under", Copying::KeyUnder),
+    ("Row::copy", Copying::Row),
+    ("Definition::copy", Copying::Definition),
+];
+
+static FILINGS: [(&str, Filing); 3] = [
+    ("read_file", Filing::ReadFile),
+    ("Definition::read", Filing::Definition),
+    ("check_report, facts_of", Filing::Facts),
+];
+
+static MAKINGS: [(&str, Making); 5] = [
+    ("BodySet::new", Making::BodySet),
+    ("join_both", Making::JoinBoth),
+    ("quoted", Making::Quoted),
+    ("push_word", Making::Word),
+    ("Totals::new, Totals::open_row, tally_text", Making::Totals),
+];
+
+static TELLINGS: [(&str, Telling); 7] = [
+    ("Office::new", Telling::New),
+    ("Office::row", Telling::Row),
+    ("Office::record_facts", Telling::Record),
+    ("Office::conflicts", Telling::Conflicts),
+    ("conflicts_text", Telling::ConflictLines),
+    ("currents_text", Telling::CurrentLines),
+    ("Office::totals, tally_text", Telling::TallyLines),
+];
+
+static RUNS: [(&str, Task); 4] = [
+    ("run currents", Task::Currents),
+    ("run conflicts", Task::Conflicts),
+    ("run tally", Task::Tally),
+    ("run check", Task::Check),
+];
+
+// Each file brings one new fact.
+static IMPORTS: [(&str, &str); 4] = [
+    ("Office::import, another body of a snapshot", OTHER_BODY),
+    ("Office::import, another body of a header", OTHER_UNIT),
+    ("Office::import, one more snapshot", EVERY_KIND),
+    ("Office::import, one more device", OTHER_DEVICE),
+];
+
+// The files of the other office, and the new facts that they bring.
+static JOINS: [(&str, &[&str], usize); 4] = [
+    ("Office::join, another body of a header", &[OTHER_UNIT], 1),
+    ("Office::join, one more snapshot", &[EVERY_KIND], 1),
+    ("Office::join, one more device", &[OTHER_DEVICE], 1),
+    (
+        "Office::join, all three",
+        &[OTHER_UNIT, EVERY_KIND, OTHER_DEVICE],
+        3,
+    ),
+];
+
+/// Tries each script, up to the first in a copy.
 pub fn try_all(rt: &HostRuntime) -> Result<(), Ended> {
-    let records = Records::new(rt)?;
-    try_copies(rt, &records)?;
-    try_makings(rt, &records)?;
-    try_tellings(rt, &records)?;
+    try_new_records(rt)?;
     try_changes(rt)?;
-    try_offices(rt)?;
-    try_runs(rt, &records)
+    try_imports(rt)?;
+    try_joins(rt)
 }
 
-fn try_copies(rt: &HostRuntime, records: &Records) -> Result<(), Ended> {
-    try_reading(rt, "Body::copy", records, &Copying::Body)?;
-    try_reading(rt, "RecordName::copy", records, &Copying::Name)?;
-    try_reading(rt, "DeviceFact::copy", records, &Copying::Device)?;
-    try_reading(rt, "HeaderFact::copy", records, &Copying::Header)?;
-    try_reading(rt, "SnapshotFact::copy", records, &Copying::Snapshot)?;
-    try_reading(rt, "VoteSums::copy", records, &Copying::Sums)?;
-    try_reading(rt, "RowKey::copy", records, &Copying::Key)?;
-    try_reading(rt, "RowKey::under", records, &Copying::KeyUnder)?;
-    try_reading(rt, "Row::copy", records, &Copying::Row)?;
-    try_reading(rt, "Definition::copy", records, &Copying::Definition)
+fn try_new_records(rt: &HostRuntime) -> Result<(), Ended> {
+    let records = Records::new(rt)?;
+    try_records(rt, &records)
 }
 
-fn try_makings(rt: &HostRuntime, records: &Records) -> Result<(), Ended> {
-    try_reading(rt, "read_file", records, &Filing::ReadFile)?;
-    try_reading(rt, "Definition::read", records, &Filing::Definition)?;
-    try_reading(rt, "check_report, facts_of", records, &Filing::Facts)?;
-    try_reading(rt, "BodySet::new", records, &Making::BodySet)?;
-    try_reading(rt, "join_both", records, &Making::JoinBoth)?;
-    try_reading(rt, "quoted", records, &Making::Quoted)?;
-    try_reading(rt, "push_word", records, &Making::Word)?;
-    try_reading(
-        rt,
-        "Totals::new, Totals::open_row, tally_text",
-        records,
-        &Making::Totals,
-    )
+fn try_records(rt: &HostRuntime, records: &Records) -> Result<(), Ended> {
+    try_readings(rt, records, &COPIES)?;
+    try_readings(rt, records, &FILINGS)?;
+    try_readings(rt, records, &MAKINGS)?;
+    try_readings(rt, records, &TELLINGS)?;
+    try_runs(rt, records)
 }
 
-fn try_tellings(rt: &HostRuntime, records: &Records) -> Result<(), Ended> {
-    try_reading(rt, "Office::new", records, &Telling::New)?;
-    try_reading(rt, "Office::row", records, &Telling::Row)?;
-    try_reading(rt, "Office::record_facts", records, &Telling::Record)?;
-    try_reading(rt, "Office::conflicts", records, &Telling::Conflicts)?;
-    try_reading(rt, "conflicts_text", records, &Telling::ConflictLines)?;
-    try_reading(rt, "currents_text", records, &Telling::CurrentLines)?;
-    try_reading(
-        rt,
-        "Office::totals, tally_text",
-        records,
-        &Telling::TallyLines,
-    )
+fn try_readings<R: Reading>(
+    rt: &HostRuntime,
+    records: &Records,
+    readings: &[(&str, R)],
+) -> Result<(), Ended> {
+    for (name, reading) in readings {
+        try_reading(rt, name, records, reading)?;
+    }
+    Ok(())
 }
 
 fn try_changes(rt: &HostRuntime) -> Result<(), Ended> {
@@ -71,31 +113,23 @@ fn try_changes(rt: &HostRuntime) -> Result<(), Ended> {
     try_playing(rt, "play")
 }
 
-// Each file brings one new fact.
-fn try_offices(rt: &HostRuntime) -> Result<(), Ended> {
-    try_import(rt, "Office::import, another body of a snapshot", OTHER_BODY)?;
-    try_import(rt, "Office::import, another body of a header", OTHER_UNIT)?;
-    try_import(rt, "Office::import, one more snapshot", EVERY_KIND)?;
-    try_import(rt, "Office::import, one more device", OTHER_DEVICE)?;
-    try_join(
-        rt,
-        "Office::join, another body of a header",
-        &[OTHER_UNIT],
-        1,
-    )?;
-    try_join(rt, "Office::join, one more snapshot", &[EVERY_KIND], 1)?;
-    try_join(rt, "Office::join, one more device", &[OTHER_DEVICE], 1)?;
-    try_join(
-        rt,
-        "Office::join, all three",
-        &[OTHER_UNIT, EVERY_KIND, OTHER_DEVICE],
-        3,
-    )
+fn try_imports(rt: &HostRuntime) -> Result<(), Ended> {
+    for (name, file) in &IMPORTS {
+        try_import(rt, name, file)?;
+    }
+    Ok(())
+}
+
+fn try_joins(rt: &HostRuntime) -> Result<(), Ended> {
+    for (name, files, new_facts) in &JOINS {
+        try_join(rt, name, files, *new_facts)?;
+    }
+    Ok(())
 }
 
 fn try_runs(rt: &HostRuntime, records: &Records) -> Result<(), Ended> {
-    try_running(rt, "run currents", records, Task::Currents)?;
-    try_running(rt, "run conflicts", records, Task::Conflicts)?;
-    try_running(rt, "run tally", records, Task::Tally)?;
-    try_running(rt, "run check", records, Task::Check)
+    for (name, task) in &RUNS {
+        try_running(rt, name, records, *task)?;
+    }
+    Ok(())
 }
