@@ -5,7 +5,7 @@ use crate::same::are_same_sets;
 use crate::trying::{Answer, Change, Ended, answer_of, try_change};
 use cdf_check::Definition;
 use cdf_types::{Body, Memory, Seq};
-use cvr_collect::Office;
+use cvr_collect::{Office, PlainOffice};
 use cvr_facts::{BodySet, Join, join_both};
 use cvr_tally::{RowKey, Totals, tally_text};
 use std::alloc::Global;
@@ -119,10 +119,15 @@ fn open(totals: &mut Totals, contests: usize, key: &RowKey) -> Result<(), Memory
 impl OpeningRow {
     // Before the row is opened, or after.
     fn new(rt: &HostRuntime, is_done: bool) -> Result<OpeningRow, Memory> {
-        let key = new_key(rt.alloc())?;
         let office = office_of(rt, &[SCAN, ADJUDICATED, BATCHED])?;
+        OpeningRow::over(rt.alloc(), &office, is_done)
+    }
+
+    // Over the totals of an office.
+    fn over(alloc: Global, office: &PlainOffice, is_done: bool) -> Result<OpeningRow, Memory> {
+        let key = new_key(alloc)?;
         let contests = office.definition().contest_count();
-        let mut totals = office.totals(rt.alloc())?;
+        let mut totals = office.totals(alloc)?;
         if is_done {
             open(&mut totals, contests, &key)?;
         }

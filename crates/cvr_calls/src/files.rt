@@ -46,15 +46,39 @@ pub fn definition(rt: &HostRuntime) -> Result<Definition, Memory> {
     Definition::read(rt.alloc(), bytes_of(rt, DEFINITION)?.as_slice()).map_err(|_| Memory)
 }
 
+/// Has an office take files.
+pub fn take(rt: &HostRuntime, office: &mut PlainOffice, names: &[&str]) -> Result<(), Memory> {
+    for name in names {
+        take_bytes(office, bytes_of(rt, name)?.as_slice())?;
+    }
+    Ok(())
+}
+
+// Has an office take a file. A function of its own, so that no other proof has to carry all that is said of `import`.
+fn take_bytes(office: &mut PlainOffice, bytes: &[u8]) -> Result<(), Memory> {
+    match office.import(bytes) {
+        Ok(_) => Ok(()),
+        Err(_) => Err(Memory),
+    }
+}
+
 /// An office beside the definition that took files.
 pub fn office_of(rt: &HostRuntime, names: &[&str]) -> Result<PlainOffice, Memory> {
     let mut office = PlainOffice::new(rt.alloc(), definition(rt)?)?;
-    for name in names {
-        if office.import(bytes_of(rt, name)?.as_slice()).is_err() {
-            return Err(Memory);
-        }
-    }
+    take(rt, &mut office, names)?;
     Ok(office)
+}
+
+/// The facts of a file that is accepted.
+pub fn read_facts(
+    alloc: Global,
+    definition: &Definition,
+    bytes: &[u8],
+) -> Result<FactList, Memory> {
+    match facts_in(alloc, definition, bytes) {
+        Ok(facts) => Ok(facts),
+        Err(_) => Err(Memory),
+    }
 }
 
 /// The facts of a file.

@@ -13,6 +13,7 @@ mod records;
 mod running;
 mod same;
 mod table;
+mod tellings;
 mod trying;
 
 use std::process::ExitCode;

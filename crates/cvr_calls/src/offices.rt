@@ -1,4 +1,4 @@
-use crate::files::{ADJUDICATED, BATCHED, SCAN, bytes_of, office_of};
+use crate::files::{ADJUDICATED, BATCHED, SCAN, bytes_of, office_of, take};
 use crate::same::are_same_offices;
 use crate::trying::{Answer, Change, Ended, answer_of, try_change};
 use cdf_types::Memory;
@@ -8,11 +8,7 @@ use std::alloc::Global;
 // The office of three files, or of these and more.
 fn office_with(rt: &HostRuntime, more: &[&str]) -> Result<PlainOffice, Memory> {
     let mut office = office_of(rt, &[SCAN, ADJUDICATED, BATCHED])?;
-    for name in more {
-        if office.import(bytes_of(rt, name)?.as_slice()).is_err() {
-            return Err(Memory);
-        }
-    }
+    take(rt, &mut office, more)?;
     Ok(office)
 }
 

@@ -11,31 +11,6 @@ static EVENTS: [Event; 3] = [
     Event::Import { office: 0, file: 2 },
 ];
 
-// A new office into which files are played, and what it is held against.
-#[derive(Drop)]
-struct Playing {
-    files: Vec<Vec<u8>>,
-    offices: [PlainOffice; 1],
-    wanted: PlainOffice,
-    whole: PlainOffice,
-}
-
-impl Playing {
-    fn new(rt: &HostRuntime) -> Result<Playing, Memory> {
-        let names = [SCAN, ADJUDICATED, OTHER_UNIT];
-        let files = all_bytes(rt, &names)?;
-        let office = office_of(rt, &[])?;
-        let wanted = office_of(rt, &[])?;
-        let whole = office_of(rt, &names)?;
-        Ok(Playing {
-            files,
-            offices: [office],
-            wanted,
-            whole,
-        })
-    }
-}
-
 // Imports into an office the files of which the import was accepted, and answers how many were refused
 // for want of memory. None where an outcome isn't what that import tells.
 fn refused_of(wanted: &mut PlainOffice, files: &[Vec<u8>], outcomes: &[Outcome]) -> Option<usize> {
@@ -120,20 +95,28 @@ fn is_first(alloc: Global, offices: &[PlainOffice], wanted: &PlainOffice) -> boo
     }
 }
 
-/// Tries to play three imports into a new office: what it then holds, and once all is played again.
-pub fn try_playing(rt: &HostRuntime, name: &str) -> Result<(), Ended> {
-    let Playing {
-        files,
-        mut offices,
-        mut wanted,
-        whole,
-    } = Playing::new(rt)?;
+// Tries to play these files into a new office, which is then to be as the whole.
+fn try_files(
+    rt: &HostRuntime,
+    name: &str,
+    files: &[Vec<u8>],
+    whole: &PlainOffice,
+) -> Result<(), Ended> {
+    let mut offices = [office_of(rt, &[])?];
+    let mut wanted = office_of(rt, &[])?;
     if !is_copy(rt, name) {
         return Ok(());
     }
-    let files = files.as_slice();
     let is_right = is_kept(rt, files, &mut offices, &mut wanted)
         && is_made_whole(rt.alloc(), files, &mut offices, &mut wanted)
-        && is_first(rt.alloc(), &offices, &whole);
+        && is_first(rt.alloc(), &offices, whole);
     end(rt, name, is_right)
+}
+
+/// Tries to play three imports into a new office: what it then holds, and once all is played again.
+pub fn try_playing(rt: &HostRuntime, name: &str) -> Result<(), Ended> {
+    let names = [SCAN, ADJUDICATED, OTHER_UNIT];
+    let files = all_bytes(rt, &names)?;
+    let whole = office_of(rt, &names)?;
+    try_files(rt, name, files.as_slice(), &whole)
 }

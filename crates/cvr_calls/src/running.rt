@@ -97,7 +97,7 @@ struct Repeating {
 }
 
 impl Reading for Repeating {
-    fn is_right(&self, alloc: Global, _records: &Records) -> Result<bool, ReadFault> {
+    fn is_right(&self, alloc: Global, _records: &Records<'_>) -> Result<bool, ReadFault> {
         Ok(are_alike(&run_over(alloc, &self.running)?, &self.before))
     }
 }
@@ -106,7 +106,7 @@ impl Reading for Repeating {
 pub fn try_running(
     rt: &HostRuntime,
     name: &str,
-    records: &Records,
+    records: &Records<'_>,
     task: Task,
 ) -> Result<(), Ended> {
     let running = Running::new(rt, task)?;

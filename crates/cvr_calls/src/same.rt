@@ -1,9 +1,10 @@
+use crate::tellings::tally_of;
 use cdf_check::Definition;
 use cdf_types::Memory;
 use cvr_cli::currents_text;
-use cvr_collect::{ConflictList, Office, PlainOffice, RecordFacts};
+use cvr_collect::{Office, PlainOffice};
 use cvr_facts::{BodySet, FactList, HeaderFact, SnapshotFact, VoteSums};
-use cvr_tally::{Row, tally_text};
+use cvr_tally::Row;
 use std::alloc::Global;
 
 /// Whether definitions are the same, with the same devices.
@@ -82,37 +83,6 @@ pub fn are_same_rows(one: &Row, other: &Row) -> bool {
         && one.pending == other.pending
         && one.unassigned == other.unassigned
         && one.votes.as_slice() == other.votes.as_slice()
-}
-
-/// The bodies of a record's headers, and of its snapshots after each id, as lines.
-pub fn record_text(alloc: Global, record: &RecordFacts<'_>) -> Result<String, Memory> {
-    let mut text = String::new(alloc);
-    for header in record.headers.as_slice() {
-        writeln!(text, "{}", header.body)?;
-    }
-    for under in record.ids.as_slice() {
-        writeln!(text, "{}", under.id)?;
-        for snapshot in under.snapshots.as_slice() {
-            writeln!(text, "{}", snapshot.body)?;
-        }
-    }
-    Ok(text)
-}
-
-/// Whether conflicts are equal, in order.
-pub fn are_same_conflicts(one: &ConflictList, other: &ConflictList) -> bool {
-    for (one, other) in one.as_slice().iter().zip(other.as_slice()) {
-        if one.name != other.name || one.bodies != other.bodies {
-            return false;
-        }
-    }
-    one.as_slice().len() == other.as_slice().len()
-}
-
-/// The lines of an office's tally.
-pub fn tally_of(alloc: Global, office: &PlainOffice) -> Result<String, Memory> {
-    let totals = office.totals(alloc)?;
-    tally_text(alloc, &totals)
 }
 
 // Whether offices have the same lines of current snapshots.

@@ -2,9 +2,10 @@ use crate::changes::{try_join_bodies, try_open, try_push};
 use crate::files::{EVERY_KIND, OTHER_BODY, OTHER_DEVICE, OTHER_UNIT};
 use crate::offices::{try_import, try_join};
 use crate::playing::try_playing;
-use crate::readings::{Copying, Filing, Making, Telling};
-use crate::records::Records;
+use crate::readings::{Copying, Filing, Making};
+use crate::records::{Records, try_new_records};
 use crate::running::try_running;
+use crate::tellings::{Telling, try_telling};
 use crate::trying::{Ended, Reading, try_reading};
 use cvr_cli::Task;
 
@@ -34,17 +35,16 @@ static MAKINGS: [(&str, Making); 5] = [
     ("join_both", Making::JoinBoth),
     ("quoted", Making::Quoted),
     ("push_word", Making::Word),
-    ("Totals::new, Totals::open_row, tally_text", Making::Totals),
+    ("Office::new", Making::Office),
 ];
 
-static TELLINGS: [(&str, Telling); 7] = [
-    ("Office::new", Telling::New),
+static TELLINGS: [(&str, Telling); 6] = [
+    ("Totals::new, Totals::open_row, tally_text", Telling::Opened),
     ("Office::row", Telling::Row),
     ("Office::record_facts", Telling::Record),
-    ("Office::conflicts", Telling::Conflicts),
-    ("conflicts_text", Telling::ConflictLines),
-    ("currents_text", Telling::CurrentLines),
-    ("Office::totals, tally_text", Telling::TallyLines),
+    ("Office::conflicts, conflicts_text", Telling::Conflicts),
+    ("currents_text", Telling::Currents),
+    ("Office::totals, tally_text", Telling::Tally),
 ];
 
 static RUNS: [(&str, Task); 4] = [
@@ -82,26 +82,29 @@ pub fn try_all(rt: &HostRuntime) -> Result<(), Ended> {
     try_joins(rt)
 }
 
-fn try_new_records(rt: &HostRuntime) -> Result<(), Ended> {
-    let records = Records::new(rt)?;
-    try_records(rt, &records)
-}
-
-fn try_records(rt: &HostRuntime, records: &Records) -> Result<(), Ended> {
+/// Tries the calls that change nothing.
+pub fn try_records(rt: &HostRuntime, records: &Records<'_>) -> Result<(), Ended> {
     try_readings(rt, records, &COPIES)?;
     try_readings(rt, records, &FILINGS)?;
     try_readings(rt, records, &MAKINGS)?;
-    try_readings(rt, records, &TELLINGS)?;
+    try_tellings(rt, records)?;
     try_runs(rt, records)
 }
 
 fn try_readings<R: Reading>(
     rt: &HostRuntime,
-    records: &Records,
+    records: &Records<'_>,
     readings: &[(&str, R)],
 ) -> Result<(), Ended> {
     for (name, reading) in readings {
         try_reading(rt, name, records, reading)?;
+    }
+    Ok(())
+}
+
+fn try_tellings(rt: &HostRuntime, records: &Records<'_>) -> Result<(), Ended> {
+    for (name, telling) in &TELLINGS {
+        try_telling(rt, name, records, telling)?;
     }
     Ok(())
 }
@@ -127,7 +130,7 @@ fn try_joins(rt: &HostRuntime) -> Result<(), Ended> {
     Ok(())
 }
 
-fn try_runs(rt: &HostRuntime, records: &Records) -> Result<(), Ended> {
+fn try_runs(rt: &HostRuntime, records: &Records<'_>) -> Result<(), Ended> {
     for (name, task) in &RUNS {
         try_running(rt, name, records, *task)?;
     }

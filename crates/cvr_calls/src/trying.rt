@@ -74,7 +74,7 @@ pub fn end(rt: &HostRuntime, name: &str, is_right: bool) -> Result<(), Ended> {
 /// Calls that change nothing.
 pub trait Reading {
     /// Makes the call, and answers whether it gave what it gave before.
-    fn is_right(&self, alloc: Global, records: &Records) -> Result<bool, ReadFault>;
+    fn is_right(&self, alloc: Global, records: &Records<'_>) -> Result<bool, ReadFault>;
 }
 
 /// Tries a call that changes nothing. It has to be right, or answer want of memory where memory was
@@ -82,7 +82,7 @@ pub trait Reading {
 pub fn try_reading<R: Reading>(
     rt: &HostRuntime,
     name: &str,
-    records: &Records,
+    records: &Records<'_>,
     reading: &R,
 ) -> Result<(), Ended> {
     let Ok(true) = reading.is_right(rt.alloc(), records) else {

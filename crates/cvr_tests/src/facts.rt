@@ -1,16 +1,21 @@
 //! Facts of files, their copies, and the order of choosing.
 use crate::files::*;
-use cdf_check::check_report;
-use cvr_facts::{FactList, SnapshotFact, VoteSums, choice_cmp, facts_of};
+use cdf_check::{Definition, check_report};
+use cdf_types::Body;
+use cvr_facts::{DeviceFact, FactList, HeaderFact, SnapshotFact, VoteSums, choice_cmp, facts_of};
 use cvr_tally::RowKey;
 use std::cmp::Ordering;
 use std::process::Abort;
 
 // The facts of a report.
 fn facts_in(rt: &(impl Abort + AllocGlobal), text: &str) -> FactList {
-    let definition = definition(rt, &[]);
-    let report = check_report(rt.alloc(), &definition, text.as_bytes()).expect(rt, "refused");
-    facts_of(rt.alloc(), &definition, &report).expect(rt, "no memory")
+    facts_beside(rt, &definition(rt, &[]), text)
+}
+
+// The facts of a report beside a definition.
+fn facts_beside(rt: &(impl Abort + AllocGlobal), definition: &Definition, text: &str) -> FactList {
+    let report = check_report(rt.alloc(), definition, text.as_bytes()).expect(rt, "refused");
+    facts_of(rt.alloc(), definition, &report).expect(rt, "no memory")
 }
 
 // Tells the sums of a contest: its place, overvotes, undervotes, write-ins, pending and unassigned,
@@ -47,31 +52,65 @@ fn told(rt: &(impl Abort + AllocGlobal), snapshot: &SnapshotFact) -> String {
     text
 }
 
+// Whether a snapshot is that of every kind of vote.
+fn is_of_every_kind(rt: &(impl Abort + AllocGlobal), snapshot: &SnapshotFact) -> bool {
+    let wanted = "s1 u1 x interpreted 0: 0 0 1 1 1 [1, 0, 0] 1: 0 0 0 0 0 [2, 0]";
+    told(rt, snapshot).as_str() == wanted
+        && snapshot.moment.is_none()
+        && snapshot.body.as_str() == EVERY_KIND_OF_VOTE
+}
+
+// Whether the copy of a snapshot is equal, and that of every kind of vote.
+fn is_snapshot_copied(rt: &(impl Abort + AllocGlobal), snapshot: &SnapshotFact) -> bool {
+    let copy = snapshot.copy(rt.alloc()).expect(rt, "no memory");
+    copy == *snapshot && is_of_every_kind(rt, &copy)
+}
+
 #[test]
 fn every_kind_of_vote_has_its_sum(rt: HostRuntime) {
     let list = facts_in(&rt, file(&rt, EVERY_KIND).as_str());
     let snapshot = list.snapshots.as_slice().first().expect(&rt, "no snapshot");
-    let wanted = "s1 u1 x interpreted 0: 0 0 1 1 1 [1, 0, 0] 1: 0 0 0 0 0 [2, 0]";
-    let copy = snapshot.copy(rt.alloc()).expect(&rt, "no memory");
-    assert!(rt; told(&rt, snapshot).as_str() == wanted);
-    assert!(rt; told(&rt, &copy).as_str() == wanted && copy == *snapshot);
-    assert!(rt; copy.moment.is_none() && copy.body.as_str() == EVERY_KIND_OF_VOTE);
+    let is_copied = is_snapshot_copied(&rt, snapshot);
+    assert!(rt; is_of_every_kind(&rt, snapshot) && is_copied);
 }
 
 const HEADER: &str =
     r#"{"@type":"CVR.CVR","BallotStyleUnitId":"p1","BatchId":"b1","CreatingDeviceId":"s1","ElectionId":"e","UniqueId":"u2"}"#;
 
+// Whether a header and its copy are that of the second record.
+fn is_header_copied(rt: &(impl Abort + AllocGlobal), header: &HeaderFact) -> bool {
+    let copy = header.copy().expect(rt, "no memory");
+    copy == *header && copy.body.as_str() == HEADER
+}
+
+// Whether a device and its copy are the desk.
+fn is_device_copied(rt: &(impl Abort + AllocGlobal), device: &DeviceFact) -> bool {
+    let copy = device.copy().expect(rt, "no memory");
+    copy == *device && copy.id.as_str() == "desk"
+}
+
+// Whether a part of a row's key is this text.
+fn is_part(part: &Option<Body>, text: &str) -> bool {
+    match part {
+        Some(body) => body.as_str() == text,
+        None => false,
+    }
+}
+
+// Whether a header's key of a row, and the key's copy, have its unit and its batch.
+fn has_key(rt: &(impl Abort + AllocGlobal), header: &HeaderFact) -> bool {
+    let key = RowKey::under(header, 1).expect(rt, "no memory");
+    let is_under = key.contest == 1 && is_part(&key.unit, "p1") && is_part(&key.batch, "b1");
+    is_under && key.copy().expect(rt, "no memory") == key
+}
+
 #[test]
 fn headers_and_devices_are_facts_with_equal_copies(rt: HostRuntime) {
     let list = facts_in(&rt, file(&rt, OTHER_RECORD).as_str());
     let header = list.headers.as_slice().first().expect(&rt, "no header");
-    let copy = header.copy().expect(&rt, "no memory");
-    let key = RowKey::under(&copy, 1).expect(&rt, "no memory");
-    assert!(rt; copy == *header && copy.body.as_str() == HEADER);
-    assert!(rt; key.copy().expect(&rt, "no memory") == key);
-    assert!(rt; key.unit == Some(body(&rt, "p1")) && key.batch == Some(body(&rt, "b1")));
     let device = list.devices.as_slice().first().expect(&rt, "no device");
-    assert!(rt; device.copy().expect(&rt, "no memory") == *device && device.id.as_str() == "desk");
+    let are_copied = is_header_copied(&rt, header) && is_device_copied(&rt, device);
+    assert!(rt; are_copied && has_key(&rt, header));
 }
 
 // The numbers of headers and snapshots of a report of two records.

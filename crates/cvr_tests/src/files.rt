@@ -145,12 +145,17 @@ pub fn office(rt: &(impl Abort + AllocGlobal), changes: Changes) -> PlainOffice 
 pub fn office_of(rt: &(impl Abort + AllocGlobal), files: &[Changes]) -> PlainOffice {
     let mut office = office(rt, &[]);
     for changes in files {
-        let text = file(rt, changes);
-        let _ = office
-            .import(text.as_bytes())
-            .expect(rt, "a file is refused");
+        take(rt, &mut office, changes);
     }
     office
+}
+
+// Has an office take a file. A function of its own, so that no other proof has to carry all that is said of `import`.
+fn take(rt: &(impl Abort + AllocGlobal), office: &mut PlainOffice, changes: Changes) {
+    let text = file(rt, changes);
+    let _ = office
+        .import(text.as_bytes())
+        .expect(rt, "a file is refused");
 }
 
 /// The bytes of files.

@@ -1,7 +1,7 @@
 //! What an office answers of the files that it took.
 use crate::files::*;
 use cvr_collect::{Office, PlainOffice, RecordFacts};
-use cvr_facts::HeaderFact;
+use cvr_facts::{HeaderFact, RecordName};
 use cvr_tally::{RowKey, tally_text};
 use std::process::Abort;
 
@@ -24,15 +24,27 @@ fn are_of_the_move(facts: &RecordFacts<'_>) -> bool {
     }
 }
 
+// Whether the header of a record is that of `p2`.
+fn has_moved(office: &PlainOffice, key: &RecordName) -> bool {
+    match office.header(key) {
+        Some(header) => is_in(header, "p2"),
+        None => false,
+    }
+}
+
+// Whether the facts of a record are those of the move.
+fn are_both_kept(rt: &(impl Abort + AllocGlobal), office: &PlainOffice, key: &RecordName) -> bool {
+    match office.record_facts(rt.alloc(), key).expect(rt, "no memory") {
+        Some(facts) => are_of_the_move(&facts),
+        None => false,
+    }
+}
+
 #[test]
 fn a_record_that_moves_keeps_both_headers(rt: HostRuntime) {
     let (office, key) = (office_of(&rt, &[SCAN, MOVED]), name(&rt, "u1"));
-    let header = office.header(&key).expect(&rt, "no header");
-    assert!(rt; is_in(header, "p2"));
-    let found = office
-        .record_facts(rt.alloc(), &key)
-        .expect(&rt, "no memory");
-    assert!(rt; are_of_the_move(&found.expect(&rt, "no record")));
+    let is_moved = has_moved(&office, &key);
+    assert!(rt; is_moved && are_both_kept(&rt, &office, &key));
 }
 
 // Whether records come in order of their names, each once.
@@ -90,24 +102,31 @@ fn totals_are_those_of_current_snapshots(rt: HostRuntime) {
     assert!(rt; text.as_str() == ROWS, "{text}");
 }
 
+// The key of the mayor's row in a unit, of no batch.
+fn key_in(rt: &(impl Abort + AllocGlobal), unit: &str) -> RowKey {
+    RowKey {
+        contest: 0,
+        unit: Some(body(rt, unit)),
+        batch: None,
+    }
+}
+
+// The ballots of the mayor's row in a unit, and the votes of its last selection. None where there is no row.
+fn last_in(
+    rt: &(impl Abort + AllocGlobal),
+    office: &PlainOffice,
+    unit: &str,
+) -> Option<(u128, u128)> {
+    let found = office.row(rt.alloc(), &key_in(rt, unit));
+    match found.expect(rt, "no memory") {
+        Some(row) => Some((row.ballots, *row.votes.as_slice().last()?)),
+        None => None,
+    }
+}
+
 #[test]
 fn a_row_is_found_by_its_key(rt: HostRuntime) {
     let office = office_of(&rt, &FILES);
-    let key = |unit: &str| RowKey {
-        contest: 0,
-        unit: Some(body(&rt, unit)),
-        batch: None,
-    };
-    let found = office.row(rt.alloc(), &key("p2")).expect(&rt, "no memory");
-    let row = found
-        .expect(&rt, "no row")
-        .copy(rt.alloc())
-        .expect(&rt, "no memory");
-    assert!(rt; row.ballots == 1 && row.votes.as_slice() == [0, 0, 1].as_slice());
-    assert!(rt;
-        office
-            .row(rt.alloc(), &key("p1"))
-            .expect(&rt, "no memory")
-            .is_none()
-    );
+    let (there, lacking) = (last_in(&rt, &office, "p2"), last_in(&rt, &office, "p1"));
+    assert!(rt; there == Some((1, 1)) && lacking.is_none());
 }

@@ -142,20 +142,31 @@ const SEVEN_FILES: Drill = Drill {
 fn new_offices(rt: &(impl Abort + AllocGlobal), definitions: &[Changes]) -> Vec<PlainOffice> {
     let mut offices = Vec::new(rt.alloc());
     for changes in definitions {
-        offices.push(office(rt, changes)).expect(rt, "no memory");
+        add(rt, &mut offices, office(rt, changes));
     }
     offices
+}
+
+fn add(rt: &(impl Abort + AllocGlobal), offices: &mut Vec<PlainOffice>, office: PlainOffice) {
+    offices.push(office).expect(rt, "no memory");
+}
+
+// The name of a refusal.
+fn name_of(cause: &Cause) -> &'static str {
+    match cause {
+        Cause::Read(_) => "E",
+        Cause::Join(JoinFault::OtherDefinition) => "J1",
+        Cause::Join(JoinFault::Memory) => "J2",
+        Cause::NoOffice => "N1",
+        Cause::NoFile => "N2",
+    }
 }
 
 // Tells an outcome: the number of new facts, or the refusal.
 fn tell_outcome(rt: &(impl Abort + AllocGlobal), text: &mut String, outcome: &Outcome) {
     let told = match outcome {
         Outcome::Accepted(count) => write!(text, "{count} "),
-        Outcome::Refused(Cause::Read(_)) => text.push_str("E "),
-        Outcome::Refused(Cause::Join(JoinFault::OtherDefinition)) => text.push_str("J1 "),
-        Outcome::Refused(Cause::Join(JoinFault::Memory)) => text.push_str("J2 "),
-        Outcome::Refused(Cause::NoOffice) => text.push_str("N1 "),
-        Outcome::Refused(Cause::NoFile) => text.push_str("N2 "),
+        Outcome::Refused(cause) => write!(text, "{} ", name_of(cause)),
     };
     told.expect(rt, "no memory");
 }
@@ -187,8 +198,18 @@ fn told(rt: &(impl Abort + AllocGlobal), offices: &[PlainOffice], outcomes: &[Ou
 fn played(rt: &(impl Abort + AllocGlobal), drill: &Drill) -> String {
     let mut offices = new_offices(rt, drill.offices);
     let files = bytes_of(rt, drill.files);
-    let outcomes = play(rt.alloc(), &mut offices, &files, drill.events).expect(rt, "no memory");
+    let outcomes = outcomes_of(rt, &mut offices, &files, drill.events);
     told(rt, &offices, &outcomes)
+}
+
+// Plays events. A function of its own, so that no other proof has to carry all that is said of `play`.
+fn outcomes_of(
+    rt: &(impl Abort + AllocGlobal),
+    offices: &mut [PlainOffice],
+    files: &[Vec<u8>],
+    events: &[Event],
+) -> Vec<Outcome> {
+    play(rt.alloc(), offices, files, events).expect(rt, "no memory")
 }
 
 // Plays a drill, and ends the test where another thing is told of it.

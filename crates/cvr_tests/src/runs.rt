@@ -34,16 +34,27 @@ fn ran(
         def: body(rt, "def.json"),
         paths: paths(rt),
     };
-    let def = report_text(rt, "");
     let files = bytes_of(rt, files);
+    ran_over(rt, &request, &files, out_fails, log_fails)
+}
+
+// Runs a request over as many files as it has paths.
+fn ran_over(
+    rt: &(impl Abort + AllocGlobal),
+    request: &Request,
+    files: &[Vec<u8>],
+    out_fails: usize,
+    log_fails: usize,
+) -> Ending {
     assert_eq!(rt; request.paths.as_slice().len(), files.len());
+    let def = report_text(rt, "");
     let mut out = MemorySink::new(rt.alloc(), 1, out_fails);
     let mut log = MemorySink::new(rt.alloc(), 100, log_fails);
     let status = run(
         rt.alloc(),
-        &request,
+        request,
         def.as_bytes(),
-        &files,
+        files,
         &mut out,
         &mut log,
     );

@@ -34,23 +34,28 @@ fn is_printed(rt: &(impl Abort + AllocGlobal), fault: &ReadFault, wanted: &str) 
     text.as_str() == wanted
 }
 
+// Whether a fault of the file's text is printed so.
+fn is_schema_printed(rt: &(impl Abort + AllocGlobal), path: &str, wanted: &str) -> bool {
+    let (path, rule) = (body(rt, path), Rule::NotWhole);
+    is_printed(rt, &ReadFault::Schema { path, rule }, wanted)
+}
+
 #[test]
 fn a_fault_tells_its_path(rt: HostRuntime) {
-    let rule = Rule::NotWhole;
-    let schema = ReadFault::Schema {
-        path: body(&rt, "/CVR/0"),
-        rule,
-    };
     let reference = ReadFault::Reference {
         path: body(&rt, "/CVR"),
     };
+    assert!(rt; is_printed(&rt, &reference, "nothing has the id at `/CVR`"));
     let disagrees = ReadFault::Disagrees {
         path: body(&rt, ""),
     };
+    assert!(rt; is_printed(&rt, &disagrees, "not the definition's object at ``"));
+    assert!(rt; is_schema_printed(&rt, "/CVR/0", "rule 14 broken at `/CVR/0`"));
+}
+
+#[test]
+fn a_fault_without_a_path_tells_itself(rt: HostRuntime) {
     assert!(rt; is_printed(&rt, &ReadFault::TooLong, "longer than 67,108,864 bytes"));
     assert!(rt; is_printed(&rt, &ReadFault::NotJson, "not JSON"));
-    assert!(rt; is_printed(&rt, &schema, "rule 14 broken at `/CVR/0`"));
-    assert!(rt; is_printed(&rt, &reference, "nothing has the id at `/CVR`"));
-    assert!(rt; is_printed(&rt, &disagrees, "not the definition's object at ``"));
     assert!(rt; is_printed(&rt, &ReadFault::Memory, "out of memory"));
 }
