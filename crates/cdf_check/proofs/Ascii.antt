@@ -1,5 +1,5 @@
 -- What is answered for files whose bytes are all ASCII.
-use Rattle.std.proofs.Common.{◌≡◌, ℕ, List, [], ◌∷◌, ◌<◌, ◌&&◌, length, Bool, true, Option, nat_lt, arith}
+use Rattle.std.proofs.Common.{◌≡◌, ◌≢◌, ℕ, List, [], ◌∷◌, ◌<◌, ◌&&◌, length, Bool, true, false, true≢false, Option, nat_lt, bytes_eq, sym, ap, subst, ◌∙◌, arith}
 use Rattle.std.specs.Prelude.{nat_le, unwrap_or}
 use Rattle.std.specs.Str.{IsAscii}
 use Rattle.std.proofs.lemmas.Bool.Decides.{nat_tests}
@@ -10,7 +10,7 @@ use Rattle.serde_json.specs.Read.{read}
 use Rattle.cdf_types.specs.declared.fault.ReadFault.{ReadFault}
 use Rattle.cdf_form.specs.Reading.{max_file, value_of}
 use Rattle.cdf_form.proofs.Merging.{and-left, and-right}
-use Rattle.cdf_check.specs.Frame.{frame_of}
+use Rattle.cdf_check.specs.Frame.{Frame, frame_of, IsSame}
 use Rattle.cdf_check.specs.Acceptance.{of_value, own_refusal, value_refusal, first_unsound, first_refusal, frame_in}
 
 abbrev pub all_ascii : List ℕ → Bool
@@ -34,3 +34,25 @@ ascii_unsound bytes r a l e = rw (l, ascii_value bytes a) e
 pub ascii_refusal : (def bytes : List ℕ) (r : Option ReadFault) → all_ascii def ≡ true → all_ascii bytes ≡ true → nat_le (length bytes) max_file ≡ true
     → of_value (value_refusal (frame_of (unwrap_or (read def) null))) (read bytes) ≡ r → first_refusal (frame_in def) bytes ≡ r
 ascii_refusal def bytes r d a l e = rw (l, ascii_value bytes a, ascii_value def d) e
+
+pub ascii_frame : (bytes : List ℕ) → all_ascii bytes ≡ true → frame_in bytes ≡ frame_of (unwrap_or (read bytes) null)
+ascii_frame bytes a = rw (ascii_value bytes a)
+
+-- ---- definitions of two files
+
+abbrev frame_read : List ℕ → Frame
+frame_read bytes = frame_of (unwrap_or (read bytes) null)
+
+pub ascii_same : (a b : List ℕ) → all_ascii a ≡ true → all_ascii b ≡ true → IsSame (frame_read a) (frame_read b) → IsSame (frame_in a) (frame_in b)
+ascii_same a b p q h = subst (λ f. IsSame f (frame_in b)) (sym (ascii_frame a p)) (subst (λ f. IsSame (frame_read a) f) (sym (ascii_frame b q)) h)
+
+pub ascii_same_back : (a b : List ℕ) → all_ascii a ≡ true → all_ascii b ≡ true → IsSame (frame_in a) (frame_in b) → IsSame (frame_read a) (frame_read b)
+ascii_same_back a b p q h = subst (λ f. IsSame f (frame_read b)) (ascii_frame a p) (subst (λ f. IsSame (frame_in a) f) (ascii_frame b q) h)
+
+abbrev first_text : List (List ℕ) → List ℕ
+first_text [] = []
+first_text (t ∷ ts) = t
+
+-- lists whose first texts differ
+pub apart : (xs ys : List (List ℕ)) → bytes_eq (first_text xs) (first_text xs) ≡ true → bytes_eq (first_text xs) (first_text ys) ≡ false → xs ≢ ys
+apart xs ys p q e = true≢false (sym p ∙ (ap (λ ts. bytes_eq (first_text xs) (first_text ts)) e ∙ q))

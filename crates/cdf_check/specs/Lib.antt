@@ -13,4 +13,5 @@ pub mod Bodies
 pub mod Laws
 pub mod Defaults
 pub mod Rows
+pub mod Examples
 pub mod Utf8

@@ -7,6 +7,7 @@ pub mod bodies;
 mod check;
 pub mod defaults;
 mod definition;
+pub mod examples;
 mod gather;
 pub mod law;
 mod look;

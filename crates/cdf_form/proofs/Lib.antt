@@ -17,3 +17,4 @@ pub mod Lists
 pub mod Places
 pub mod ContestLists
 pub mod FormParts
+pub mod Bounds

@@ -17,3 +17,4 @@ pub mod MemberLaws
 pub mod PartOf
 pub mod PartLaws
 pub mod TextExamples
+pub mod FormExamples

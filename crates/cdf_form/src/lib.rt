@@ -3,6 +3,7 @@
 #![tactic(auto)]
 
 pub mod contests;
+pub mod examples;
 pub mod float;
 pub mod found;
 pub mod ids;

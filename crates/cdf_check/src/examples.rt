@@ -1,0 +1,48 @@
+// Worked examples of references, of agreement and of equal definitions. Each is the contract of a function that does nothing.
+ghost use Rattle.cdf_check.specs.Examples.{Plain, GeneratingDevice, CreatingDevice, ElectionScope, BallotStyleUnit, PartyOfCandidate, PartyOfSelection, PartyOfRecord};
+ghost use Rattle.cdf_check.specs.Examples.{CandidateOfSelection, ElectionOfRecord, CurrentSnapshot, ContestOfRecord, SelectionOfContest, AllUnknown};
+ghost use Rattle.cdf_check.specs.Examples.{OtherElection, OtherUnit, OtherParty, OtherDevice};
+ghost use Rattle.cdf_check.specs.Examples.{SameWithOtherDevice, SameWithOtherRecord, OtherByElection, OtherByUnit, OtherByParty};
+
+/// A report that has each reference is accepted; where all name nothing, all are told in order.
+pub fn reports()
+    ensures plain { Plain }
+    ensures all_unknown { AllUnknown }
+{}
+
+/// Each reference to a device, a unit, a Party or a Candidate, with the id of another object.
+pub fn named_objects()
+    ensures generating_device { GeneratingDevice }
+    ensures creating_device { CreatingDevice }
+    ensures scope { ElectionScope }
+    ensures unit { BallotStyleUnit }
+    ensures party_of_candidate { PartyOfCandidate }
+    ensures party_of_selection { PartyOfSelection }
+    ensures party_of_record { PartyOfRecord }
+    ensures candidate { CandidateOfSelection }
+{}
+
+/// Each reference to an Election, a snapshot, a contest or a selection, with the id of another object.
+pub fn named_parts()
+    ensures election { ElectionOfRecord }
+    ensures current { CurrentSnapshot }
+    ensures contest { ContestOfRecord }
+    ensures selection { SelectionOfContest }
+{}
+
+/// What has to agree with a definition, and what may differ.
+pub fn agreement()
+    ensures election { OtherElection }
+    ensures unit { OtherUnit }
+    ensures party { OtherParty }
+    ensures device { OtherDevice }
+{}
+
+/// What makes a definition, and what doesn't.
+pub fn same_definitions()
+    ensures device { SameWithOtherDevice }
+    ensures other_record { SameWithOtherRecord }
+    ensures election { OtherByElection }
+    ensures unit { OtherByUnit }
+    ensures party { OtherByParty }
+{}

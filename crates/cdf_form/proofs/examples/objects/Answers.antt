@@ -1,0 +1,14 @@
+use Rattle.std.proofs.Common.{refl}
+use Rattle.std.specs.Fmt.{digits}
+use Rattle.serde_json.proofs.OnLiterals.{serde_json_on_literals}
+use Rattle.jiff.proofs.OnLiterals.{jiff_on_literals}
+use Rattle.cdf_form.proofs.examples.objects.Goals as goal
+
+pub returns : goal.returns
+unfolding serde_json_on_literals jiff_on_literals digits
+returns c = record {
+  no_object = refl;
+  member = refl;
+  absent_class = refl;
+  other_class = refl;
+}

@@ -1,0 +1,59 @@
+// Worked examples of the form, worked out from the rules. Each is the contract of a function that does nothing.
+ghost use Rattle.cdf_form.specs.FormExamples.{SmallReport, OneContest, UnlistedMember, OtherOffset, GreatestCount, IdOfTwoClasses};
+ghost use Rattle.cdf_form.specs.FormExamples.{NotObject, MissingMember, MissingClass, WrongClass};
+ghost use Rattle.cdf_form.specs.FormExamples.{WrongKind, NotListed, EmptyText, NotMoment, NamedZone};
+ghost use Rattle.cdf_form.specs.FormExamples.{CountTooGreat, CountBelowZero, Fractional, NotWhole, NegativeZero};
+ghost use Rattle.cdf_form.specs.FormExamples.{TooFew, TooMany, OneElection, SomeSnapshot, MostPositions, MostContestSelections};
+ghost use Rattle.cdf_form.specs.FormExamples.{RepeatedId, RepeatedContest};
+
+/// Reports without a fault.
+pub fn no_fault()
+    ensures report { SmallReport }
+    ensures contest { OneContest }
+    ensures unlisted { UnlistedMember }
+    ensures offset { OtherOffset }
+    ensures count { GreatestCount }
+    ensures ids { IdOfTwoClasses }
+{}
+
+/// Rules 1, 2 and 5.
+pub fn objects()
+    ensures no_object { NotObject }
+    ensures member { MissingMember }
+    ensures absent_class { MissingClass }
+    ensures other_class { WrongClass }
+{}
+
+/// Rules 3, 4, 6 and 11.
+pub fn texts()
+    ensures kind { WrongKind }
+    ensures listed { NotListed }
+    ensures empty { EmptyText }
+    ensures moment { NotMoment }
+    ensures zone { NamedZone }
+{}
+
+/// Rules 7, 10 and 14.
+pub fn numbers()
+    ensures too_great { CountTooGreat }
+    ensures below_zero { CountBelowZero }
+    ensures fractional { Fractional }
+    ensures whole { NotWhole }
+    ensures negative_zero { NegativeZero }
+{}
+
+/// Rules 8 and 9, and each bound of an array: which lengths break it, and that no other does.
+pub fn arrays()
+    ensures too_few { TooFew }
+    ensures too_many { TooMany }
+    ensures elections { OneElection }
+    ensures snapshots { SomeSnapshot }
+    ensures positions { MostPositions }
+    ensures contest_selections { MostContestSelections }
+{}
+
+/// Rules 12 and 13.
+pub fn repeats()
+    ensures id { RepeatedId }
+    ensures contest { RepeatedContest }
+{}
