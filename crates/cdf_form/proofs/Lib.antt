@@ -18,3 +18,4 @@ pub mod Places
 pub mod ContestLists
 pub mod FormParts
 pub mod Bounds
+pub mod Listings

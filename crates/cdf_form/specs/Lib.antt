@@ -9,6 +9,7 @@ pub mod Parts
 pub mod Places
 pub mod Kept
 pub mod Laws
+pub mod Listings
 pub mod Merge
 pub mod Proper
 pub mod TextLaws

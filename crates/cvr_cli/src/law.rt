@@ -1,3 +1,6 @@
+ghost use Rattle.std.specs.Prelude.{◌≡◌, ◌+◌};
+ghost use Rattle.cdf_form.specs.Reading.{max_file};
+ghost use Rattle.cvr_cli.specs.File.{held_bytes};
 ghost use Rattle.cvr_cli.specs.Laws.{SameFactsLaw, SameCurrentsLaw, SameConflictsLaw, SameTallyLaw};
 
 /// Lists of the same files, in any order and however often each comes, hold the same facts and have
@@ -7,4 +10,9 @@ pub fn order_and_repeats_change_nothing()
     ensures currents { SameCurrentsLaw }
     ensures conflicts { SameConflictsLaw }
     ensures tally { SameTallyLaw }
+{}
+
+/// What is held of a file is one byte more than a file may have.
+pub fn held_is_one_more()
+    ensures { held_bytes ≡ max_file + 1 }
 {}
