@@ -20,13 +20,14 @@ pub trait Source {
     /// bytes answers 0 only at its end. Takes no memory.
     ///
     /// # Errors
-    /// `DeviceFault` where the source failed; it isn't read again.
+    /// `DeviceFault` where the source failed: what is left is as it was, and it isn't read again.
     fn read(&mut self, buffer: &mut [u8]) -> Result<usize, DeviceFault>
         requires working { has_failed self.old ≡ false }
         requires some { 0 < length buffer.old }
         ensures within { count result ≤ length buffer.old }
         ensures failed { has_failed self.new ≡ fails_read result }
-        ensures given { IfOk result (Gives (left self.old) (left self.new) buffer.old buffer.new) };
+        ensures given { IfOk result (Gives (left self.old) (left self.new) buffer.old buffer.new) }
+        ensures unchanged { OnErr result (left self.new ≡ left self.old) };
 
     /// Whether a read has failed. Takes no memory.
     fn failed(&self) -> bool

@@ -68,6 +68,7 @@ impl Source for MemorySource<'_> {
         ensures failed { self.new.has_failed ≡ fails_read result }
         ensures given { IfOk result
             (Gives (Some self.old.rest) (Some self.new.rest) buffer.old buffer.new) }
+        ensures unchanged { OnErr result (Some self.new.rest ≡ Some self.old.rest) }
         ensures refused { IsErr result ↔ (self.old.fails_in ≡ 1) }
         ensures ok { IfOk result (IsGiven self.old self.new buffer.old buffer.new) }
         ensures err { OnErr result (IsRefused self.old self.new buffer.old buffer.new) }
