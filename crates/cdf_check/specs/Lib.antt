@@ -1,5 +1,4 @@
 pub mod Paths
-pub mod Placed
 pub mod References
 pub mod Scoped
 pub mod Resolves

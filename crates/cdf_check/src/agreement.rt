@@ -1,12 +1,11 @@
 ghost use Rattle.std.specs.Prelude.{◌≡◌, option_map, IfOk, false};
 ghost use Rattle.serde_json.specs.View.{view};
 ghost use Rattle.serde_json.specs.Written.{has_float};
-ghost use Rattle.cdf_check.specs.Paths.{first, each};
-ghost use Rattle.cdf_check.specs.Placed.{path_of};
+ghost use Rattle.cdf_check.specs.Paths.{first, each, path_of};
 ghost use Rattle.cdf_check.specs.Agreement.{agrees, differing};
 
 use crate::named::Named;
-use crate::place::Place;
+use crate::path::Path;
 use cdf_form::found::Step;
 use cdf_form::{items_at, text_at};
 use cdf_types::Memory;
@@ -36,14 +35,14 @@ pub fn first_differing(
     known: &Named,
     name: &'static str,
     value: &Value,
-) -> Result<Option<Place>, Memory>
+) -> Result<Option<Path>, Memory>
     requires { has_float (view value.now) ≡ false }
     ensures { IfOk result (λ o. option_map path_of o
         ≡ first (each (differing known.now) name.now (view value.now))) }
 {
     for (place, item) in items_at(name, value).iter().enumerate() {
         if !agrees(alloc, known, item)? {
-            let found = Place::here(alloc).under(Step::Item(place))?;
+            let found = Path::here(alloc).under(Step::Item(place))?;
             return Ok(Some(found.under(Step::Member(name))?));
         }
     }

@@ -1,4 +1,4 @@
-ghost use Rattle.std.specs.Prelude.{◌≡◌, [], Some, IfOk, IfErr, OnOk, false, option_map, codes};
+ghost use Rattle.std.specs.Prelude.{◌≡◌, [], Some, IfOk, IfErr, OnOk, false, option_map};
 ghost use Rattle.serde_json.specs.View.{view};
 ghost use Rattle.serde_json.specs.Written.{has_float};
 ghost use Rattle.cdf_types.specs.declared.fault.ReadFault.TheVariants.{Reference, Disagrees};
@@ -6,16 +6,15 @@ ghost use Rattle.cdf_form.specs.Form as form;
 ghost use Rattle.cdf_form.specs.Found.{fault_of};
 ghost use Rattle.cdf_form.specs.Path.{path_text};
 ghost use Rattle.cdf_form.specs.Reading.{IsMemory, refusal_of, document_faults};
-ghost use Rattle.cdf_check.specs.Paths.{first, each};
-ghost use Rattle.cdf_check.specs.Placed.{path_of};
+ghost use Rattle.cdf_check.specs.Paths.{first, path_of};
 ghost use Rattle.cdf_check.specs.References.{missing};
-ghost use Rattle.cdf_check.specs.Agreement.{differing, disagreements};
+ghost use Rattle.cdf_check.specs.Agreement.{disagreements};
 ghost use Rattle.cdf_check.specs.Sound.{IsSound};
 ghost use Rattle.cdf_check.specs.Acceptance.{own_refusal, value_refusal};
 
 use crate::agreement::first_differing;
 use crate::definition::Definition;
-use crate::place::Place;
+use crate::path::Path;
 use crate::references::first_missing;
 use cdf_form::found::{Found, Stop};
 use cdf_form::path::path_text;
@@ -35,11 +34,11 @@ fn told_fault(alloc: Global, found: Found<'_>) -> Result<ReadFault, Memory>
     })
 }
 
-// The JSON Pointer of a place.
-fn pointer(alloc: Global, place: &Place) -> Result<Body, Memory>
-    ensures { IfOk result (λ b. b ≡ path_text (path_of place.now)) }
+// The JSON Pointer of a path.
+fn pointer(alloc: Global, path: &Path) -> Result<Body, Memory>
+    ensures { IfOk result (λ b. b ≡ path_text (path_of path.now)) }
 {
-    Ok(Body::new(path_text(alloc, &place.steps)?))
+    Ok(Body::new(path_text(alloc, &path.steps)?))
 }
 
 // Whether the numbers and the form of a report are right.
@@ -63,8 +62,8 @@ fn check_references(alloc: Global, value: &Value) -> Result<(), ReadFault>
 {
     match first_missing(alloc, value)? {
         None => Ok(()),
-        Some(place) => Err(ReadFault::Reference {
-            path: pointer(alloc, &place)?,
+        Some(path) => Err(ReadFault::Reference {
+            path: pointer(alloc, &path)?,
         }),
     }
 }
@@ -83,71 +82,26 @@ pub fn check_own(alloc: Global, value: &Value) -> Result<(), ReadFault>
     Ok(())
 }
 
-fn differing_election(
-    alloc: Global,
-    definition: &Definition,
-    value: &Value,
-) -> Result<Option<Place>, Memory>
-    requires { has_float (view value.now) ≡ false }
-    ensures { IfOk result (λ o. option_map path_of o
-        ≡ first (each (differing definition.now.elections) (codes "Election") (view value.now))) }
-{
-    match first_differing(alloc, definition.elections(), "Election", value)? {
-        None => Ok(None),
-        Some(place) => Ok(Some(place)),
-    }
-}
-
-fn differing_unit(
-    alloc: Global,
-    definition: &Definition,
-    value: &Value,
-) -> Result<Option<Place>, Memory>
-    requires { has_float (view value.now) ≡ false }
-    ensures { IfOk result (λ o. option_map path_of o
-        ≡ first (each (differing definition.now.units) (codes "GpUnit") (view value.now))) }
-{
-    match first_differing(alloc, definition.named_units(), "GpUnit", value)? {
-        None => Ok(None),
-        Some(place) => Ok(Some(place)),
-    }
-}
-
-fn differing_party(
-    alloc: Global,
-    definition: &Definition,
-    value: &Value,
-) -> Result<Option<Place>, Memory>
-    requires { has_float (view value.now) ≡ false }
-    ensures { IfOk result (λ o. option_map path_of o
-        ≡ first (each (differing definition.now.parties) (codes "Party") (view value.now))) }
-{
-    match first_differing(alloc, definition.named_parties(), "Party", value)? {
-        None => Ok(None),
-        Some(place) => Ok(Some(place)),
-    }
-}
-
 // The first object of a report that isn't the definition's.
 #[tactic(auto, using(crate::proofs::Items::first_or))]
 fn disagreement(
     alloc: Global,
     definition: &Definition,
     value: &Value,
-) -> Result<Option<Place>, Memory>
+) -> Result<Option<Path>, Memory>
     requires { has_float (view value.now) ≡ false }
     ensures { IfOk result (λ o. option_map path_of o
         ≡ first (disagreements definition.now (view value.now))) }
 {
-    match differing_election(alloc, definition, value)? {
+    match first_differing(alloc, definition.elections(), "Election", value)? {
         None => {}
-        Some(place) => return Ok(Some(place)),
+        Some(path) => return Ok(Some(path)),
     }
-    match differing_unit(alloc, definition, value)? {
+    match first_differing(alloc, definition.named_units(), "GpUnit", value)? {
         None => {}
-        Some(place) => return Ok(Some(place)),
+        Some(path) => return Ok(Some(path)),
     }
-    differing_party(alloc, definition, value)
+    first_differing(alloc, definition.named_parties(), "Party", value)
 }
 
 // Whether every object of a report that has to be the definition's is.
@@ -160,8 +114,8 @@ fn check_agreement(alloc: Global, definition: &Definition, value: &Value) -> Res
 {
     match disagreement(alloc, definition, value)? {
         None => Ok(()),
-        Some(place) => Err(ReadFault::Disagrees {
-            path: pointer(alloc, &place)?,
+        Some(path) => Err(ReadFault::Disagrees {
+            path: pointer(alloc, &path)?,
         }),
     }
 }

@@ -12,7 +12,7 @@ mod gather;
 pub mod law;
 mod look;
 mod named;
-mod place;
+mod path;
 mod read;
 mod references;
 pub mod rows;

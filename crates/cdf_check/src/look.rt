@@ -2,11 +2,11 @@ ghost use Rattle.std.specs.Prelude.{◌≡◌, List, ℕ, option_map, IfOk};
 ghost use Rattle.serde_json.specs.Data.{Data};
 ghost use Rattle.serde_json.specs.Find.{as_str};
 ghost use Rattle.serde_json.specs.View.{view};
-ghost use Rattle.cdf_check.specs.Paths.{Path, first, each};
-ghost use Rattle.cdf_check.specs.Placed.{path_of};
+ghost use Rattle.cdf_check.specs.Paths as paths;
+ghost use Rattle.cdf_check.specs.Paths.{first, each, path_of};
 ghost use Rattle.cdf_check.specs.References.{unknown, one, many};
 
-use crate::place::Place;
+use crate::path::Path;
 use cdf_form::found::Step;
 use cdf_form::ids::Ids;
 use cdf_form::items_at;
@@ -16,17 +16,17 @@ use std::alloc::Global;
 
 /// A look for the first text of a value that names nothing.
 pub trait Look {
-    ghost missing: { Self → Data → List Path };
+    ghost missing: { Self → Data → List paths.Path };
 
-    /// The place of that text, told from the value, or none.
+    /// The path of that text, told from the value, or none.
     ///
     /// # Errors
     /// `Memory` where a growth was refused.
-    fn look(&self, alloc: Global, value: &Value) -> Result<Option<Place>, Memory>
+    fn look(&self, alloc: Global, value: &Value) -> Result<Option<Path>, Memory>
         ensures { IfOk result (λ o. option_map path_of o ≡ first (missing self.now (view value.now))) };
 }
 
-/// The first such place among the items of the array under a name.
+/// The first such path among the items of the array under a name.
 ///
 /// # Errors
 /// `Memory` where a growth was refused.
@@ -35,7 +35,7 @@ pub fn look_in_each<L: Look>(
     look: &L,
     name: &'static str,
     value: &Value,
-) -> Result<Option<Place>, Memory>
+) -> Result<Option<Path>, Memory>
     ensures { IfOk result (λ o. option_map path_of o
         ≡ first (each (L.missing look.now) name.now (view value.now))) }
 {
@@ -57,7 +57,7 @@ struct Reference<'a>(&'a Ids);
 impl Look for Reference<'_> {
     ghost missing = { λ s d. unknown s.0.now (as_str d) };
 
-    fn look(&self, alloc: Global, value: &Value) -> Result<Option<Place>, Memory> {
+    fn look(&self, alloc: Global, value: &Value) -> Result<Option<Path>, Memory> {
         match value.as_str() {
             None => Ok(None),
             Some(id) => {
@@ -65,7 +65,7 @@ impl Look for Reference<'_> {
                 if ids.contains(id) {
                     Ok(None)
                 } else {
-                    Ok(Some(Place::here(alloc)))
+                    Ok(Some(Path::here(alloc)))
                 }
             }
         }
@@ -81,7 +81,7 @@ pub fn look_at_one(
     ids: &Ids,
     name: &'static str,
     value: &Value,
-) -> Result<Option<Place>, Memory>
+) -> Result<Option<Path>, Memory>
     ensures { IfOk result (λ o. option_map path_of o ≡ first (one ids.now name.now (view value.now))) }
 {
     match value.get(name) {
@@ -102,7 +102,7 @@ pub fn look_at_many(
     ids: &Ids,
     name: &'static str,
     value: &Value,
-) -> Result<Option<Place>, Memory>
+) -> Result<Option<Path>, Memory>
     ensures { IfOk result (λ o. option_map path_of o ≡ first (many ids.now name.now (view value.now))) }
 {
     look_in_each(alloc, &Reference(ids), name, value)

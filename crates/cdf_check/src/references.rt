@@ -1,20 +1,19 @@
 ghost use Rattle.std.specs.Prelude.{◌≡◌, option_map, IfOk, codes, map, bytes_eq};
 ghost use Rattle.std.specs.List.{list_any};
 ghost use Rattle.serde_json.specs.View.{view};
-ghost use Rattle.cdf_form.specs.Form.{find_class, class_in};
+ghost use Rattle.cdf_form.specs.Form.{class_in};
 ghost use Rattle.cdf_form.specs.Parts.{ids_at, id_of};
-ghost use Rattle.cdf_form.specs.Places.{contest_ids};
-ghost use Rattle.cdf_check.specs.Paths.{first, each};
-ghost use Rattle.cdf_check.specs.Placed.{path_of};
+ghost use Rattle.cdf_check.specs.Paths.{first, each, path_of};
 ghost use Rattle.cdf_check.specs.Scoped.{scope_view};
 ghost use Rattle.cdf_check.specs.References.{in_selection_vote, in_votes, in_contest_vote, in_snapshot, in_cvr, in_selection, in_contest, in_candidate, in_election, in_report, one, missing};
 
 use crate::look::{Look, look_at_many, look_at_one, look_in_each};
-use crate::place::Place;
+use crate::path::Path;
 use crate::scope::Scope;
 use cdf_form::found::Step;
 use cdf_form::ids::Ids;
-use cdf_form::table::{Class, Group, class_text, classes};
+use cdf_form::leaf::find_class;
+use cdf_form::table::{Class, Group, classes};
 use cdf_form::{items_at, text_at};
 use cdf_types::Memory;
 use serde_json::Value;
@@ -29,7 +28,7 @@ struct InSelectionVote<'a>(Option<&'a Ids>);
 impl Look for InSelectionVote<'_> {
     ghost missing = { λ s d. in_selection_vote (option_map (λ i. i.now) s.0) d };
 
-    fn look(&self, alloc: Global, value: &Value) -> Result<Option<Place>, Memory> {
+    fn look(&self, alloc: Global, value: &Value) -> Result<Option<Path>, Memory> {
         match self.0 {
             None => Ok(None),
             Some(ids) => look_at_one(alloc, ids, "ContestSelectionId", value),
@@ -44,36 +43,23 @@ impl Look for InContestVote<'_> {
     ghost missing = { λ s d. in_contest_vote (scope_view s.0.now) d };
 
     #[tactic(auto, using(crate::proofs::Items::first_or))]
-    fn look(&self, alloc: Global, value: &Value) -> Result<Option<Place>, Memory> {
+    fn look(&self, alloc: Global, value: &Value) -> Result<Option<Path>, Memory> {
         let scope = self.0;
         match look_in_votes(alloc, scope, value)? {
             None => {}
             Some(found) => return Ok(Some(found)),
         }
-        look_at_contest(alloc, scope, value)
+        look_at_one(alloc, scope.contests.ids(), "ContestId", value)
     }
 }
 
 // The selections, where the contest that they stand in is one of the report's.
-fn look_in_votes(alloc: Global, scope: &Scope, value: &Value) -> Result<Option<Place>, Memory>
+fn look_in_votes(alloc: Global, scope: &Scope, value: &Value) -> Result<Option<Path>, Memory>
     ensures { IfOk result (λ o. option_map path_of o
         ≡ first (in_votes (scope_view scope.now) (view value.now))) }
 {
     let ids = scope.contests.selections_of(text_at("ContestId", value));
-    match look_in_each(alloc, &InSelectionVote(ids), "CVRContestSelection", value)? {
-        None => Ok(None),
-        Some(found) => Ok(Some(found)),
-    }
-}
-
-fn look_at_contest(alloc: Global, scope: &Scope, value: &Value) -> Result<Option<Place>, Memory>
-    ensures { IfOk result (λ o. option_map path_of o
-        ≡ first (one (contest_ids (scope_view scope.now).contests) (codes "ContestId") (view value.now))) }
-{
-    match look_at_one(alloc, scope.contests.ids(), "ContestId", value)? {
-        None => Ok(None),
-        Some(found) => Ok(Some(found)),
-    }
+    look_in_each(alloc, &InSelectionVote(ids), "CVRContestSelection", value)
 }
 
 #[derive(Drop)]
@@ -82,7 +68,7 @@ struct InSnapshot<'a>(&'a Scope);
 impl Look for InSnapshot<'_> {
     ghost missing = { λ s d. in_snapshot (scope_view s.0.now) d };
 
-    fn look(&self, alloc: Global, value: &Value) -> Result<Option<Place>, Memory> {
+    fn look(&self, alloc: Global, value: &Value) -> Result<Option<Path>, Memory> {
         look_in_each(alloc, &InContestVote(self.0), "CVRContest", value)
     }
 }
@@ -94,7 +80,7 @@ impl Look for InCvr<'_> {
     ghost missing = { λ s d. in_cvr (scope_view s.0.now) d };
 
     #[tactic(auto, using(crate::proofs::Items::first_or))]
-    fn look(&self, alloc: Global, value: &Value) -> Result<Option<Place>, Memory> {
+    fn look(&self, alloc: Global, value: &Value) -> Result<Option<Path>, Memory> {
         let scope = self.0;
         match look_at_one(alloc, &scope.units, "BallotStyleUnitId", value)? {
             None => {}
@@ -121,7 +107,7 @@ impl Look for InCvr<'_> {
 }
 
 // The id of the current snapshot, where the record has none of that id.
-fn look_at_current(alloc: Global, cvr: &Value) -> Result<Option<Place>, Memory>
+fn look_at_current(alloc: Global, cvr: &Value) -> Result<Option<Path>, Memory>
     ensures { IfOk result (λ o. option_map path_of o
         ≡ first (one (ids_at (codes "CVRSnapshot") (view cvr.now)) (codes "CurrentSnapshotId") (view cvr.now))) }
 {
@@ -132,7 +118,7 @@ fn look_at_current(alloc: Global, cvr: &Value) -> Result<Option<Place>, Memory>
             Some(id) => if has_id(items_at("CVRSnapshot", cvr), id) {
                 Ok(None)
             } else {
-                let found = Place::here(alloc).under(Step::Member("CurrentSnapshotId"))?;
+                let found = Path::here(alloc).under(Step::Member("CurrentSnapshotId"))?;
                 Ok(Some(found))
             },
         },
@@ -157,20 +143,10 @@ struct InCandidate<'a>(&'a Scope);
 impl Look for InCandidate<'_> {
     ghost missing = { λ s d. in_candidate (scope_view s.0.now) d };
 
-    fn look(&self, alloc: Global, value: &Value) -> Result<Option<Place>, Memory> {
+    fn look(&self, alloc: Global, value: &Value) -> Result<Option<Path>, Memory> {
         let scope = self.0;
         look_at_one(alloc, &scope.parties, "PartyId", value)
     }
-}
-
-// The first of the classes that has the text.
-fn find_class(among: &[Class], text: &str) -> Option<Class>
-    ensures { result ≡ find_class among.now text.now }
-{
-    among
-        .iter()
-        .copied()
-        .find(|class| text == class_text(*class))
 }
 
 // The class that an object has at `@type`, if it is one of the group.
@@ -189,7 +165,7 @@ struct InSelection<'a> {
 impl Look for InSelection<'_> {
     ghost missing = { λ s d. in_selection (scope_view s.scope.now) s.candidates.now d };
 
-    fn look(&self, alloc: Global, value: &Value) -> Result<Option<Place>, Memory> {
+    fn look(&self, alloc: Global, value: &Value) -> Result<Option<Path>, Memory> {
         let scope = self.scope;
         match class_in(Group::ContestSelections, value) {
             Some(Class::CandidateSelection) => {
@@ -210,7 +186,7 @@ struct InContest<'a> {
 impl Look for InContest<'_> {
     ghost missing = { λ s d. in_contest (scope_view s.scope.now) s.candidates.now d };
 
-    fn look(&self, alloc: Global, value: &Value) -> Result<Option<Place>, Memory> {
+    fn look(&self, alloc: Global, value: &Value) -> Result<Option<Path>, Memory> {
         let in_selection = InSelection {
             scope: self.scope,
             candidates: self.candidates,
@@ -226,7 +202,7 @@ impl Look for InElection<'_> {
     ghost missing = { λ s d. in_election (scope_view s.0.now) d };
 
     #[tactic(auto, using(crate::proofs::Items::first_or))]
-    fn look(&self, alloc: Global, value: &Value) -> Result<Option<Place>, Memory> {
+    fn look(&self, alloc: Global, value: &Value) -> Result<Option<Path>, Memory> {
         let scope = self.0;
         match look_in_each(alloc, &InCandidate(scope), "Candidate", value)? {
             None => {}
@@ -241,7 +217,7 @@ impl Look for InElection<'_> {
 }
 
 // The contests of an election, whose candidates are its own.
-fn look_in_contests(alloc: Global, scope: &Scope, election: &Value) -> Result<Option<Place>, Memory>
+fn look_in_contests(alloc: Global, scope: &Scope, election: &Value) -> Result<Option<Path>, Memory>
     ensures { IfOk result (λ o. option_map path_of o ≡ first (each
         (in_contest (scope_view scope.now) (ids_at (codes "Candidate") (view election.now)))
         (codes "Contest") (view election.now))) }
@@ -251,15 +227,12 @@ fn look_in_contests(alloc: Global, scope: &Scope, election: &Value) -> Result<Op
         scope,
         candidates: &candidates,
     };
-    match look_in_each(alloc, &in_contest, "Contest", election)? {
-        None => Ok(None),
-        Some(found) => Ok(Some(found)),
-    }
+    look_in_each(alloc, &in_contest, "Contest", election)
 }
 
 // The first text of a report that is none of the ids.
 #[tactic(auto, using(crate::proofs::Items::first_or))]
-fn look_in_report(alloc: Global, scope: &Scope, report: &Value) -> Result<Option<Place>, Memory>
+fn look_in_report(alloc: Global, scope: &Scope, report: &Value) -> Result<Option<Path>, Memory>
     ensures { IfOk result (λ o. option_map path_of o
         ≡ first (in_report (scope_view scope.now) (view report.now))) }
 {
@@ -274,16 +247,13 @@ fn look_in_report(alloc: Global, scope: &Scope, report: &Value) -> Result<Option
     look_at_many(alloc, &scope.devices, "ReportGeneratingDeviceIds", report)
 }
 
-/// The place of the first text of a report that names nothing in it, if there is one.
+/// The path of the first text of a report that names nothing in it, if there is one.
 ///
 /// # Errors
 /// `Memory` where a growth was refused.
-pub fn first_missing(alloc: Global, report: &Value) -> Result<Option<Place>, Memory>
+pub fn first_missing(alloc: Global, report: &Value) -> Result<Option<Path>, Memory>
     ensures { IfOk result (λ o. option_map path_of o ≡ first (missing (view report.now))) }
 {
     let scope = Scope::of_report(alloc, report)?;
-    match look_in_report(alloc, &scope, report)? {
-        None => Ok(None),
-        Some(found) => Ok(Some(found)),
-    }
+    look_in_report(alloc, &scope, report)
 }

@@ -14,7 +14,7 @@ use Rattle.serde_json.specs.declared.value.Value.{Value}
 use Rattle.cdf_form.specs.declared.found.Stop.{Stop}
 use Rattle.cdf_form.specs.declared.found.Stop.TheVariants as stop
 use Rattle.cdf_form.specs.declared.table.Key.{Key}
-use Rattle.cdf_form.specs.declared.table.Row.{Row}
+use Rattle.cdf_form.specs.declared.table.Member.{Member}
 use Rattle.cdf_form.specs.Tables.{Entry, entry_of, entries_of}
 use Rattle.cdf_form.specs.Form.{Fault, at_member, deeper, first, rows_faults, member_look}
 use Rattle.cdf_form.specs.Found.{Tells}
@@ -59,7 +59,7 @@ entry_same Equal a b c e = refl
 entry_same Greater a b c e = cc
 
 -- the row that a member has
-pub entry_here : (name : List ℕ) (d : Data) (mark : Key) (rs : List Row) (i : ℕ) (r : Row) → i < length rs → slice_cmp nat_cmp (get_or rs i r).name.now name ≡ Equal
+pub entry_here : (name : List ℕ) (d : Data) (mark : Key) (rs : List Member) (i : ℕ) (r : Member) → i < length rs → slice_cmp nat_cmp (get_or rs i r).name.now name ≡ Equal
     → first (entry_faults name d mark (entries_of (drop i rs))) ≡ option_map (deeper (at_member (get_or rs i r).name.now)) (first (member_faults d mark (entry_of (get_or rs i r))))
 entry_here name d mark rs i r lt e =
     ap (λ xs. first (entry_faults name d mark (entries_of xs))) (drop_more rs i r lt) ∙ ap first (entry_same (slice_cmp nat_cmp (get_or rs i r).name.now name) _ _ _ e) ∙ first-under _ _

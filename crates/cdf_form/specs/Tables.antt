@@ -11,7 +11,7 @@ use Rattle.cdf_form.specs.declared.table.Leaf.TheVariants as leaf
 use Rattle.cdf_form.specs.declared.table.Key.TheVariants as key
 use Rattle.cdf_form.specs.declared.table.Kind.{Kind}
 use Rattle.cdf_form.specs.declared.table.Kind.TheVariants.{One, Array}
-use Rattle.cdf_form.specs.declared.table.Row.{Row}
+use Rattle.cdf_form.specs.declared.table.Member.{Member}
 
 -- a member of a class
 pub record Entry : Type 0 where
@@ -234,10 +234,10 @@ table class.ReportingDevice =
     required (codes "@id") (One leaf.Name) ∷
     []
 
--- a row of the code's tables as a member
-abbrev pub entry_of : Row → Entry
+-- a member of the code's tables
+abbrev pub entry_of : Member → Entry
 entry_of r = record { name = r.name.now; required = r.required; kind = r.kind }
 
--- all rows of a table
-abbrev pub entries_of : List Row → List Entry
+-- all members of a table
+abbrev pub entries_of : List Member → List Entry
 entries_of rs = map entry_of rs

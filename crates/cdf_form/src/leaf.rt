@@ -44,7 +44,8 @@ fn is_among(texts: &[&str], text: &str) -> bool
     false
 }
 
-fn find_class(among: &[Class], text: &str) -> Option<Class>
+/// The first of the classes that has this text at `@type`. Takes no memory.
+pub fn find_class(among: &[Class], text: &str) -> Option<Class>
     ensures { result ≡ find_class among.now text.now }
 {
     among

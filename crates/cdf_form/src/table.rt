@@ -108,7 +108,7 @@ pub enum Kind {
 
 /// A member of a class.
 #[derive(Clone, Copy)]
-pub struct Row {
+pub struct Member {
     /// Its name.
     pub name: &'static str,
     /// Whether it has to be there.
@@ -237,185 +237,185 @@ pub fn texts(listing: Listing) -> &'static [&'static str]
 
 /// The members of a class, in byte order of their names. Which are required is this project's own
 /// profile. Takes no memory.
-pub fn rows(class: Class) -> &'static [Row]
+pub fn class_members(class: Class) -> &'static [Member]
     ensures { entries_of result.now ≡ table class }
 {
     match class {
         Class::CastVoteRecordReport => &[
-            Row {
+            Member {
                 name: "CVR",
                 required: false,
                 kind: Kind::Array(Leaf::Object(Group::Cvrs), 0, ANY, Key::Free),
             },
-            Row {
+            Member {
                 name: "Election",
                 required: true,
                 kind: Kind::Array(Leaf::Object(Group::Elections), 1, 1, Key::Free),
             },
-            Row {
+            Member {
                 name: "GeneratedDate",
                 required: true,
                 kind: Kind::One(Leaf::Moment),
             },
-            Row {
+            Member {
                 name: "GpUnit",
                 required: true,
                 kind: Kind::Array(Leaf::Object(Group::GpUnits), 0, ANY, Key::Id),
             },
-            Row {
+            Member {
                 name: "Notes",
                 required: false,
                 kind: Kind::One(Leaf::Text),
             },
-            Row {
+            Member {
                 name: "OtherReportType",
                 required: false,
                 kind: Kind::One(Leaf::Text),
             },
-            Row {
+            Member {
                 name: "Party",
                 required: false,
                 kind: Kind::Array(Leaf::Object(Group::Parties), 0, ANY, Key::Id),
             },
-            Row {
+            Member {
                 name: "ReportGeneratingDeviceIds",
                 required: true,
                 kind: Kind::Array(Leaf::Text, 0, ANY, Key::Free),
             },
-            Row {
+            Member {
                 name: "ReportType",
                 required: false,
                 kind: Kind::Array(Leaf::Listed(Listing::ReportType), 0, ANY, Key::Free),
             },
-            Row {
+            Member {
                 name: "ReportingDevice",
                 required: true,
                 kind: Kind::Array(Leaf::Object(Group::ReportingDevices), 0, ANY, Key::Id),
             },
-            Row {
+            Member {
                 name: "Version",
                 required: true,
                 kind: Kind::One(Leaf::Listed(Listing::Version)),
             },
         ],
         Class::Cvr => &[
-            Row {
+            Member {
                 name: "BallotAuditId",
                 required: false,
                 kind: Kind::One(Leaf::Text),
             },
-            Row {
+            Member {
                 name: "BallotPrePrintedId",
                 required: false,
                 kind: Kind::One(Leaf::Text),
             },
-            Row {
+            Member {
                 name: "BallotSheetId",
                 required: false,
                 kind: Kind::One(Leaf::Text),
             },
-            Row {
+            Member {
                 name: "BallotStyleId",
                 required: false,
                 kind: Kind::One(Leaf::Text),
             },
-            Row {
+            Member {
                 name: "BallotStyleUnitId",
                 required: false,
                 kind: Kind::One(Leaf::Text),
             },
-            Row {
+            Member {
                 name: "BatchId",
                 required: false,
                 kind: Kind::One(Leaf::Text),
             },
-            Row {
+            Member {
                 name: "BatchSequenceId",
                 required: false,
                 kind: Kind::One(Leaf::Whole),
             },
-            Row {
+            Member {
                 name: "CVRSnapshot",
                 required: true,
                 kind: Kind::Array(Leaf::Object(Group::Snapshots), 1, ANY, Key::Id),
             },
-            Row {
+            Member {
                 name: "CreatingDeviceId",
                 required: true,
                 kind: Kind::One(Leaf::Name),
             },
-            Row {
+            Member {
                 name: "CurrentSnapshotId",
                 required: true,
                 kind: Kind::One(Leaf::Text),
             },
-            Row {
+            Member {
                 name: "ElectionId",
                 required: true,
                 kind: Kind::One(Leaf::Text),
             },
-            Row {
+            Member {
                 name: "PartyIds",
                 required: false,
                 kind: Kind::Array(Leaf::Text, 0, ANY, Key::Free),
             },
-            Row {
+            Member {
                 name: "UniqueId",
                 required: true,
                 kind: Kind::One(Leaf::Name),
             },
         ],
         Class::CvrSnapshot => &[
-            Row {
+            Member {
                 name: "@id",
                 required: true,
                 kind: Kind::One(Leaf::Name),
             },
-            Row {
+            Member {
                 name: "Annotation",
                 required: false,
                 kind: Kind::Array(Leaf::Object(Group::Annotations), 0, ANY, Key::Free),
             },
-            Row {
+            Member {
                 name: "CVRContest",
                 required: false,
                 kind: Kind::Array(Leaf::Object(Group::CvrContests), 0, ANY, Key::Contest),
             },
-            Row {
+            Member {
                 name: "OtherStatus",
                 required: false,
                 kind: Kind::One(Leaf::Text),
             },
-            Row {
+            Member {
                 name: "Status",
                 required: false,
                 kind: Kind::Array(Leaf::Listed(Listing::CvrStatus), 0, ANY, Key::Free),
             },
-            Row {
+            Member {
                 name: "Type",
                 required: true,
                 kind: Kind::One(Leaf::Listed(Listing::CvrType)),
             },
         ],
         Class::Annotation => &[
-            Row {
+            Member {
                 name: "AdjudicatorName",
                 required: false,
                 kind: Kind::Array(Leaf::Text, 0, ANY, Key::Free),
             },
-            Row {
+            Member {
                 name: "Message",
                 required: false,
                 kind: Kind::Array(Leaf::Text, 0, ANY, Key::Free),
             },
-            Row {
+            Member {
                 name: "TimeStamp",
                 required: false,
                 kind: Kind::One(Leaf::Moment),
             },
         ],
         Class::CvrContest => &[
-            Row {
+            Member {
                 name: "CVRContestSelection",
                 required: false,
                 kind: Kind::Array(
@@ -425,69 +425,69 @@ pub fn rows(class: Class) -> &'static [Row]
                     Key::Free,
                 ),
             },
-            Row {
+            Member {
                 name: "ContestId",
                 required: true,
                 kind: Kind::One(Leaf::Text),
             },
-            Row {
+            Member {
                 name: "OtherStatus",
                 required: false,
                 kind: Kind::One(Leaf::Text),
             },
-            Row {
+            Member {
                 name: "Overvotes",
                 required: false,
                 kind: Kind::One(Leaf::Count),
             },
-            Row {
+            Member {
                 name: "Selections",
                 required: false,
                 kind: Kind::One(Leaf::Count),
             },
-            Row {
+            Member {
                 name: "Status",
                 required: false,
                 kind: Kind::Array(Leaf::Listed(Listing::ContestStatus), 0, ANY, Key::Free),
             },
-            Row {
+            Member {
                 name: "Undervotes",
                 required: false,
                 kind: Kind::One(Leaf::Count),
             },
-            Row {
+            Member {
                 name: "WriteIns",
                 required: false,
                 kind: Kind::One(Leaf::Count),
             },
         ],
         Class::CvrContestSelection => &[
-            Row {
+            Member {
                 name: "ContestSelectionId",
                 required: false,
                 kind: Kind::One(Leaf::Text),
             },
-            Row {
+            Member {
                 name: "OptionPosition",
                 required: false,
                 kind: Kind::One(Leaf::Whole),
             },
-            Row {
+            Member {
                 name: "OtherStatus",
                 required: false,
                 kind: Kind::One(Leaf::Text),
             },
-            Row {
+            Member {
                 name: "Rank",
                 required: false,
                 kind: Kind::One(Leaf::Whole),
             },
-            Row {
+            Member {
                 name: "SelectionPosition",
                 required: true,
                 kind: Kind::Array(Leaf::Object(Group::SelectionPositions), 1, 64, Key::Free),
             },
-            Row {
+            Member {
                 name: "Status",
                 required: false,
                 kind: Kind::Array(
@@ -497,64 +497,64 @@ pub fn rows(class: Class) -> &'static [Row]
                     Key::Free,
                 ),
             },
-            Row {
+            Member {
                 name: "TotalFractionalVotes",
                 required: false,
                 kind: Kind::One(Leaf::Fractional),
             },
-            Row {
+            Member {
                 name: "TotalNumberVotes",
                 required: false,
                 kind: Kind::One(Leaf::Count),
             },
         ],
         Class::SelectionPosition => &[
-            Row {
+            Member {
                 name: "CVRWriteIn",
                 required: false,
                 kind: Kind::One(Leaf::Object(Group::WriteIns)),
             },
-            Row {
+            Member {
                 name: "FractionalVotes",
                 required: false,
                 kind: Kind::One(Leaf::Fractional),
             },
-            Row {
+            Member {
                 name: "HasIndication",
                 required: true,
                 kind: Kind::One(Leaf::Listed(Listing::IndicationStatus)),
             },
-            Row {
+            Member {
                 name: "IsAllocable",
                 required: false,
                 kind: Kind::One(Leaf::Listed(Listing::AllocationStatus)),
             },
-            Row {
+            Member {
                 name: "MarkMetricValue",
                 required: false,
                 kind: Kind::Array(Leaf::Text, 0, ANY, Key::Free),
             },
-            Row {
+            Member {
                 name: "NumberVotes",
                 required: true,
                 kind: Kind::One(Leaf::Count),
             },
-            Row {
+            Member {
                 name: "OtherStatus",
                 required: false,
                 kind: Kind::One(Leaf::Text),
             },
-            Row {
+            Member {
                 name: "Position",
                 required: false,
                 kind: Kind::One(Leaf::Whole),
             },
-            Row {
+            Member {
                 name: "Rank",
                 required: false,
                 kind: Kind::One(Leaf::Whole),
             },
-            Row {
+            Member {
                 name: "Status",
                 required: false,
                 kind: Kind::Array(Leaf::Listed(Listing::PositionStatus), 0, ANY, Key::Free),
@@ -562,179 +562,179 @@ pub fn rows(class: Class) -> &'static [Row]
         ],
         Class::CvrWriteIn => &[],
         Class::Election => &[
-            Row {
+            Member {
                 name: "@id",
                 required: true,
                 kind: Kind::One(Leaf::Name),
             },
-            Row {
+            Member {
                 name: "Candidate",
                 required: false,
                 kind: Kind::Array(Leaf::Object(Group::Candidates), 0, ANY, Key::Id),
             },
-            Row {
+            Member {
                 name: "Contest",
                 required: true,
                 kind: Kind::Array(Leaf::Object(Group::Contests), 0, ANY, Key::Id),
             },
-            Row {
+            Member {
                 name: "ElectionScopeId",
                 required: true,
                 kind: Kind::One(Leaf::Text),
             },
-            Row {
+            Member {
                 name: "Name",
                 required: false,
                 kind: Kind::One(Leaf::Text),
             },
         ],
         Class::BallotMeasureContest => &[
-            Row {
+            Member {
                 name: "@id",
                 required: true,
                 kind: Kind::One(Leaf::Name),
             },
-            Row {
+            Member {
                 name: "ContestSelection",
                 required: false,
                 kind: Kind::Array(Leaf::Object(Group::ContestSelections), 0, ANY, Key::Id),
             },
-            Row {
+            Member {
                 name: "VoteVariation",
                 required: false,
                 kind: Kind::One(Leaf::Listed(Listing::VoteVariation)),
             },
         ],
         Class::CandidateContest => &[
-            Row {
+            Member {
                 name: "@id",
                 required: true,
                 kind: Kind::One(Leaf::Name),
             },
-            Row {
+            Member {
                 name: "ContestSelection",
                 required: false,
                 kind: Kind::Array(Leaf::Object(Group::ContestSelections), 0, ANY, Key::Id),
             },
-            Row {
+            Member {
                 name: "VoteVariation",
                 required: false,
                 kind: Kind::One(Leaf::Listed(Listing::VoteVariation)),
             },
         ],
         Class::Contest => &[
-            Row {
+            Member {
                 name: "@id",
                 required: true,
                 kind: Kind::One(Leaf::Name),
             },
-            Row {
+            Member {
                 name: "ContestSelection",
                 required: false,
                 kind: Kind::Array(Leaf::Object(Group::ContestSelections), 0, ANY, Key::Id),
             },
-            Row {
+            Member {
                 name: "VoteVariation",
                 required: false,
                 kind: Kind::One(Leaf::Listed(Listing::VoteVariation)),
             },
         ],
         Class::PartyContest => &[
-            Row {
+            Member {
                 name: "@id",
                 required: true,
                 kind: Kind::One(Leaf::Name),
             },
-            Row {
+            Member {
                 name: "ContestSelection",
                 required: false,
                 kind: Kind::Array(Leaf::Object(Group::ContestSelections), 0, ANY, Key::Id),
             },
-            Row {
+            Member {
                 name: "VoteVariation",
                 required: false,
                 kind: Kind::One(Leaf::Listed(Listing::VoteVariation)),
             },
         ],
         Class::RetentionContest => &[
-            Row {
+            Member {
                 name: "@id",
                 required: true,
                 kind: Kind::One(Leaf::Name),
             },
-            Row {
+            Member {
                 name: "ContestSelection",
                 required: false,
                 kind: Kind::Array(Leaf::Object(Group::ContestSelections), 0, ANY, Key::Id),
             },
-            Row {
+            Member {
                 name: "VoteVariation",
                 required: false,
                 kind: Kind::One(Leaf::Listed(Listing::VoteVariation)),
             },
         ],
-        Class::BallotMeasureSelection => &[Row {
+        Class::BallotMeasureSelection => &[Member {
             name: "@id",
             required: true,
             kind: Kind::One(Leaf::Name),
         }],
         Class::CandidateSelection => &[
-            Row {
+            Member {
                 name: "@id",
                 required: true,
                 kind: Kind::One(Leaf::Name),
             },
-            Row {
+            Member {
                 name: "CandidateIds",
                 required: false,
                 kind: Kind::Array(Leaf::Text, 0, ANY, Key::Free),
             },
-            Row {
+            Member {
                 name: "IsWriteIn",
                 required: false,
                 kind: Kind::One(Leaf::Truth),
             },
         ],
-        Class::ContestSelection => &[Row {
+        Class::ContestSelection => &[Member {
             name: "@id",
             required: true,
             kind: Kind::One(Leaf::Name),
         }],
         Class::PartySelection => &[
-            Row {
+            Member {
                 name: "@id",
                 required: true,
                 kind: Kind::One(Leaf::Name),
             },
-            Row {
+            Member {
                 name: "PartyIds",
                 required: false,
                 kind: Kind::Array(Leaf::Text, 0, ANY, Key::Free),
             },
         ],
         Class::Candidate => &[
-            Row {
+            Member {
                 name: "@id",
                 required: true,
                 kind: Kind::One(Leaf::Name),
             },
-            Row {
+            Member {
                 name: "PartyId",
                 required: false,
                 kind: Kind::One(Leaf::Text),
             },
         ],
-        Class::GpUnit => &[Row {
+        Class::GpUnit => &[Member {
             name: "@id",
             required: true,
             kind: Kind::One(Leaf::Name),
         }],
-        Class::Party => &[Row {
+        Class::Party => &[Member {
             name: "@id",
             required: true,
             kind: Kind::One(Leaf::Name),
         }],
-        Class::ReportingDevice => &[Row {
+        Class::ReportingDevice => &[Member {
             name: "@id",
             required: true,
             kind: Kind::One(Leaf::Name),

@@ -13,7 +13,7 @@ ghost use Rattle.cdf_form.specs.Tables.{entry_of, entries_of};
 use crate::float::has_fraction;
 use crate::found::{Step, Stop};
 use crate::leaf::{class_of, plain_rule};
-use crate::table::{Group, Key, Kind, Leaf, Row, rows};
+use crate::table::{Group, Key, Kind, Leaf, Member, class_members};
 use cdf_types::Rule;
 use serde_json::{Map, Value};
 use std::alloc::{AllocError, Global};
@@ -133,7 +133,7 @@ fn walk_object(alloc: Global, value: &Value, group: Group, mark: Key) -> Result<
     let class = class_of(alloc, group, value)?;
     match value.as_object() {
         None => Ok(false),
-        Some(members) => walk_members(alloc, members, rows(class), mark),
+        Some(members) => walk_members(alloc, members, class_members(class), mark),
     }
 }
 
@@ -142,7 +142,7 @@ fn walk_object(alloc: Global, value: &Value, group: Group, mark: Key) -> Result<
 fn walk_members(
     alloc: Global,
     members: &Map<String, Value>,
-    rows: &'static [Row],
+    rows: &'static [Member],
     mark: Key,
 ) -> Result<bool, Stop<'static>>
     requires { is_in_order (entries_of rows.now) ≡ true }
@@ -170,9 +170,9 @@ fn walk_entry(
     alloc: Global,
     name: &str,
     member: &Value,
-    rows: &'static [Row],
+    rows: &'static [Member],
     mark: Key,
-) -> Result<(bool, &'static [Row]), Stop<'static>>
+) -> Result<(bool, &'static [Member]), Stop<'static>>
     ensures none { OnOk result
         (first (entry_faults name.now (view member.now) mark (entries_of rows.now)) ≡ None) }
     ensures fraction { IfOk result (λ p. p.0 ≡ has_float (view member.now)) }
@@ -198,7 +198,7 @@ fn walk_entry(
 
 // A member that a row lists.
 #[cycle(walk)]
-fn walk_member(alloc: Global, member: &Value, row: Row, mark: Key) -> Result<bool, Stop<'static>>
+fn walk_member(alloc: Global, member: &Value, row: Member, mark: Key) -> Result<bool, Stop<'static>>
     ensures none { OnOk result
         (first (member_faults (view member.now) mark (entry_of row)) ≡ None) }
     ensures fraction { IfOk result (λ fraction. fraction ≡ has_float (view member.now)) }
@@ -220,7 +220,7 @@ fn missing(alloc: Global, name: &'static str) -> Stop<'static>
 }
 
 // No member is left for these rows.
-fn find_missing(alloc: Global, rows: &'static [Row]) -> Result<(), Stop<'static>>
+fn find_missing(alloc: Global, rows: &'static [Member]) -> Result<(), Stop<'static>>
     ensures none { OnOk result
         (first (missing_faults (entries_of rows.now)) ≡ None) }
     ensures fault { IfErr result (λ s.

@@ -8,7 +8,7 @@ use Rattle.serde_json.specs.Find.{as_array, as_object}
 use Rattle.serde_json.specs.Events.{items_len}
 use Rattle.serde_json.specs.Written.{has_float, members_have_float}
 use Rattle.serde_json.proofs.Views.{Entry, items_len-items_view}
-use Rattle.cdf_form.specs.declared.table.Row.{Row}
+use Rattle.cdf_form.specs.declared.table.Member.{Member}
 use Rattle.cdf_form.specs.declared.table.Kind.TheVariants as kind
 use Rattle.cdf_form.specs.declared.table.Leaf.TheVariants as leaf
 use Rattle.cdf_form.specs.Tables.{table, entries_of}
@@ -57,7 +57,7 @@ walk_object-returns-in-Some-clause-none t c =
     let ms = members_view c.in-Some.members.now.entries in
     let is : as_object d ≡ Some ms = search rules in
     let own = one_rows d (leaf.Object c.args.group) c.args.mark c.in_ok-class.class c.in_ok-class.ensures.ok c.in_ok-class.ensures.class in
-    let rows = ap (λ rs. first (rows_faults (member_look (object ms)) c.args.mark rs)) c.rows.ensures in
+    let rows = ap (λ rs. first (rows_faults (member_look (object ms)) c.args.mark rs)) c.class_members.ensures in
     let whole = ap (λ e. first (rows_faults (member_look e) c.args.mark (table c.in_ok-class.class))) (sym (object-as_object d ms is)) in
     ok_as c.walk_members.result _ _ (rows ∙ whole ∙ own) c.walk_members.ensures.none
 
@@ -67,7 +67,7 @@ walk_object-returns-in-Some-clause-fault t c =
     let ms = members_view c.in-Some.members.now.entries in
     let is : as_object d ≡ Some ms = search rules in
     let own = one_rows d (leaf.Object c.args.group) c.args.mark c.in_ok-class.class c.in_ok-class.ensures.ok c.in_ok-class.ensures.class in
-    let rows = ap (λ rs. first (rows_faults (member_look (object ms)) c.args.mark rs)) c.rows.ensures in
+    let rows = ap (λ rs. first (rows_faults (member_look (object ms)) c.args.mark rs)) c.class_members.ensures in
     let whole = ap (λ e. first (rows_faults (member_look e) c.args.mark (table c.in_ok-class.class))) (sym (object-as_object d ms is)) in
     err_as c.walk_members.result _ _ (rows ∙ whole ∙ own) c.walk_members.ensures.fault
 
@@ -130,7 +130,7 @@ walk_members-returns-clause-none t c =
 
 -- ---- walk_entry
 
-abbrev no_row : Row
+abbrev no_row : Member
 no_row = record { name = record { ref_ptr = (0, 0); now = [] }; required = false; kind = kind.One leaf.Text }
 
 pub walk_entry-returns-in-Err-clause-fault : goal.walk_entry-returns-in-Err-clause-fault

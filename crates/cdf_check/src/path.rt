@@ -2,36 +2,36 @@ use cdf_form::found::Step;
 use cdf_types::Memory;
 use std::alloc::Global;
 
-/// The steps to a place in a file, the innermost first.
+/// A path that was found in a file.
 #[derive(Drop)]
-pub struct Place {
+pub struct Path {
     /// The steps, the innermost first.
     pub steps: Vec<Step<'static>>,
 }
 
-impl Place {
+impl Path {
     ghost use Rattle.std.specs.Prelude.{◌≡◌, ◌∷◌, [], IfOk};
     ghost use Rattle.cdf_form.specs.Found.{step_of};
-    ghost use Rattle.cdf_check.specs.Placed.{path_of};
+    ghost use Rattle.cdf_check.specs.Paths.{path_of};
 
     /// The value itself. Takes no memory.
-    pub fn here(alloc: Global) -> Place
+    pub fn here(alloc: Global) -> Path
         ensures { path_of result ≡ [] }
     {
-        Place {
+        Path {
             steps: Vec::new(alloc),
         }
     }
 
-    /// The same place, told from the value that the step leads out of.
+    /// The same path, told from the value that the step leads out of.
     ///
     /// # Errors
     /// `Memory` where a growth was refused.
-    pub fn under(self, step: Step<'static>) -> Result<Place, Memory>
+    pub fn under(self, step: Step<'static>) -> Result<Path, Memory>
         ensures { IfOk result (λ p. path_of p ≡ step_of step.entry ∷ path_of self) }
     {
-        let Place { mut steps } = self;
+        let Path { mut steps } = self;
         steps.push(step)?;
-        Ok(Place { steps })
+        Ok(Path { steps })
     }
 }
