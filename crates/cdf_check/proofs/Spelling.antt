@@ -18,9 +18,8 @@ use Rattle.json.specs.Lex.{Mode, between, in_word, in_string, in_escape, lex_byt
 use Rattle.json.specs.Lex.{Place, fresh, after_value, after_comma, after_key, begins_colon, may_begin, may_close, if_allowed, place_token, punctuate, tokens}
 use Rattle.json.specs.Json as json
 use Rattle.json.specs.Json.{Json, Parse, parse_map, after_end_array, read_key, items_step, members_step, items, members, value_with, value}
-use Rattle.serde_json.specs.Data.{Num, Data, null, boolean, number, string, array, object, Items, no_items, item, Members, no_members, member, put}
+use Rattle.serde_json.specs.Data.{Num, Data, number, array, object, item, Members, no_members, member, put}
 use Rattle.serde_json.specs.Read.{number_of, of_json, of_items, of_members, read, max_depth}
-use Rattle.cdf_form.specs.Reading.{value_of}
 use Rattle.cdf_check.specs.Utf8.{HasUtf8, ItemsHaveUtf8, MembersHaveUtf8, ReadUtf8Law}
 use Rattle.cdf_check.proofs.Contents.{cut, string_utf8}
 

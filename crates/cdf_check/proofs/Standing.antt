@@ -1,36 +1,32 @@
 -- The bodies of an accepted file stand.
-use Rattle.std.proofs.Common.{◌≡◌, ◌≤◌, ℕ, suc, List, [], ◌∷◌, map, Contains, Bool, true, false, Option, Some, None, IsSome}
+use Rattle.std.proofs.Common.{◌≡◌, ℕ, List, [], map, Contains, Some, IsSome}
 use Rattle.std.proofs.Common.{option_and_then, unwrap_or, codes, refl, sym, ap, ◌∙◌, subst, arith}
-use Rattle.std.specs.Prelude.{⊤}
 use Rattle.serde_json.specs.Data.{Data, null, string, object, Members}
-use Rattle.serde_json.specs.Find.{get, get_member, as_str}
-use Rattle.serde_json.specs.Read.{read, max_depth}
+use Rattle.serde_json.specs.Find.{get, as_str}
+use Rattle.serde_json.specs.Read.{read}
 use Rattle.serde_json.specs.Written.{compact_text}
-use Rattle.cdf_form.specs.declared.table.Class.{Class}
 use Rattle.cdf_form.specs.declared.table.Class.TheVariants as class
-use Rattle.cdf_form.specs.declared.table.Group.{Group}
 use Rattle.cdf_form.specs.declared.table.Group.TheVariants as group
 use Rattle.cdf_form.specs.declared.table.Leaf.TheVariants as leaf
 use Rattle.cdf_form.specs.declared.table.Key.TheVariants as key
 use Rattle.cdf_form.specs.declared.table.Kind.TheVariants.{One, Array}
 use Rattle.cdf_form.specs.Tables.{Entry, table, required, optional, any, classes_of}
-use Rattle.cdf_form.specs.Form.{class_in, find_class}
+use Rattle.cdf_form.specs.Form.{find_class}
 use Rattle.cdf_form.specs.HasForm.{HasForm, IsRow}
 use Rattle.cdf_form.specs.Parts.{array_at, ids_at, id_of, text_at, the_election}
 use Rattle.cdf_form.specs.Places.{Texts, contest_of}
 use Rattle.cdf_form.specs.Proper.{MembersAreWell, IsProper}
 use Rattle.cdf_form.specs.Removing.{without}
 use Rattle.cdf_form.specs.Reading.{value_of}
-use Rattle.cdf_form.proofs.FormParts.{AllClasses, find_row, HasRow, has_class, class_of_group, only_class, row_of, is_object, must_be_text, items_have_form}
+use Rattle.cdf_form.proofs.FormParts.{HasRow, has_class, class_of_group, only_class, row_of, is_object, must_be_text, items_have_form}
 use Rattle.cdf_form.proofs.Removing.{gone, others_stay, without_well, without_proper}
 use Rattle.cdf_typed.specs.Typed.{header_of}
-use Rattle.cdf_check.specs.References.{Scope, scope_of, missing, in_cvr, in_snapshot}
+use Rattle.cdf_check.specs.References.{Scope, scope_of, in_cvr, in_snapshot}
 use Rattle.cdf_check.specs.Paths.{each}
 use Rattle.cdf_check.specs.Frame.{Frame, scope_in}
-use Rattle.cdf_check.specs.Agreement.{Agrees}
 use Rattle.cdf_check.specs.Sound.{IsFrame}
 use Rattle.cdf_check.specs.Acceptance.{IsReport, Valid, value_in}
-use Rattle.cdf_check.specs.Bodies.{IsKept, HasHeaderForm, DeviceStands, HeaderStands, SnapshotStands}
+use Rattle.cdf_check.specs.Bodies.{HasHeaderForm, DeviceStands, HeaderStands, SnapshotStands}
 use Rattle.cdf_check.specs.Laws.{ReferencesLaw, SameElectionLaw, DevicesStandLaw, HeadersStandLaw, SnapshotsStandLaw}
 use Rattle.cdf_check.proofs.Empty.{left_nil}
 use Rattle.cdf_check.proofs.Wider.{Includes, Wider, IsHeaderOf, cvr_parts, differ, is_kept, each_at, snapshot_wider, header_wider, agreed_wider}

@@ -1,7 +1,7 @@
 -- The compact texts of the parts of a file's value are UTF-8.
-use Rattle.std.proofs.Common.{◌≡◌, ◌<◌, ◌^◌, ℕ, zero, suc, pos, negsuc, List, [], ◌∷◌, ◌++◌, length, slice_index_or, Contains}
-use Rattle.std.proofs.Common.{Bool, true, false, Option, Some, None, option_map, option_and_then, unwrap_or, IsUtf8, codes}
-use Rattle.std.proofs.Common.{Ordering, Less, Equal, Greater, nat_cmp, refl, sym, ap, ◌∙◌, subst, arith}
+use Rattle.std.proofs.Common.{◌≡◌, ◌<◌, ℕ, zero, suc, pos, negsuc, List, [], ◌∷◌, ◌++◌, Contains}
+use Rattle.std.proofs.Common.{Bool, true, false, Option, Some, None, option_and_then, unwrap_or, IsUtf8, codes}
+use Rattle.std.proofs.Common.{Ordering, Less, Equal, Greater, nat_cmp, refl, ap, subst, arith}
 use Rattle.std.proofs.lemmas.Bool.{or_parts}
 use Rattle.std.proofs.lemmas.Fmt.{IsAscii-decimal, IsAscii-signed}
 use Rattle.std.proofs.lemmas.Str.{IsUtf8-append, IsUtf8-nil, IsUtf8-from_ascii}
@@ -11,9 +11,9 @@ use Rattle.json.specs.Print.{quoted}
 use Rattle.json.proofs.Printed.Utf8.{IsUtf8-are_ascii, IsUtf8-quoted, IsUtf8-boolean}
 use Rattle.serde_json.specs.Data.{Num, unsigned, negative, float}
 use Rattle.serde_json.specs.Data.{Data, null, boolean, number, string, array, object, Items, no_items, item, Members, no_members, member}
-use Rattle.serde_json.specs.Find.{get, at, get_member, get_item, as_str, as_array, is_float}
+use Rattle.serde_json.specs.Find.{get, at, get_member, get_item, as_str, is_float}
 use Rattle.serde_json.specs.Written.{number_text, comma_if, compact_text, items_text, members_text, has_float, items_have_float, members_have_float}
-use Rattle.cdf_form.specs.Parts.{array_at, id_of, text_at}
+use Rattle.cdf_form.specs.Parts.{array_at}
 use Rattle.cdf_form.specs.PartOf.{IsPart, itself, of_member, of_item}
 use Rattle.cdf_form.specs.Proper.{NumFits, IsWell, ItemsAreWell, MembersAreWell, IsProper}
 use Rattle.cdf_form.specs.Reading.{value_of}
@@ -23,9 +23,9 @@ use Rattle.cdf_form.proofs.ReadsBack.{inside}
 use Rattle.cdf_form.proofs.Removing.{without_proper}
 use Rattle.cdf_form.proofs.WasRead.{proper_read}
 use Rattle.cdf_typed.specs.Typed.{header_of}
-use Rattle.cdf_check.specs.Acceptance.{Valid, value_in}
+use Rattle.cdf_check.specs.Acceptance.{value_in}
 use Rattle.cdf_check.specs.Utf8.{HasUtf8, ItemsHaveUtf8, MembersHaveUtf8, PartUtf8Law, TextUtf8Law}
-use Rattle.cdf_check.specs.Utf8.{DeviceIsUtf8, HeaderIsUtf8, SnapshotIsUtf8, BodiesAreUtf8, BodiesUtf8Law}
+use Rattle.cdf_check.specs.Utf8.{DeviceIsUtf8, HeaderIsUtf8, SnapshotIsUtf8, BodiesUtf8Law}
 use Rattle.cdf_check.proofs.Contents.{of_ascii}
 use Rattle.cdf_check.proofs.Depths.{was_read}
 use Rattle.cdf_check.proofs.Spelling.{file_utf8}

@@ -1,15 +1,14 @@
 -- References that name something still do where more can be named.
-use Rattle.std.proofs.Common.{◌≡◌, ℕ, zero, suc, ◌+◌, ◌<◌, List, [], ◌∷◌, ◌++◌, map, length, slice_index_or, Contains}
+use Rattle.std.proofs.Common.{◌≡◌, ℕ, List, [], ◌∷◌, ◌++◌, map, Contains}
 use Rattle.std.proofs.Common.{Bool, true, false, cond, ◌||◌, bytes_eq, Option, Some, None, codes, true≢false}
-use Rattle.std.proofs.Common.{refl, sym, ap, ◌∙◌, subst, arith}
+use Rattle.std.proofs.Common.{refl, sym, ap, ◌∙◌, subst}
 use Rattle.std.proofs.lemmas.Slice.Eq.{bytes_eq-Decides}
 use Rattle.std.specs.List.{list_any}
 use Rattle.std.specs.Prelude.{option_and_then, unwrap_or, option_map}
-use Rattle.std.specs.Map.{lookup}
 use Rattle.serde_json.specs.Data.{Data}
 use Rattle.serde_json.specs.Find.{get, as_str, as_array}
 use Rattle.serde_json.specs.Written.{compact_text}
-use Rattle.cdf_form.specs.Form.{Step, at_member, at_item}
+use Rattle.cdf_form.specs.Form.{at_member}
 use Rattle.cdf_form.specs.Parts.{array_at, ids_at, id_of, list_of, text_at, text_in}
 use Rattle.cdf_form.specs.Places.{Texts, Contest, contest_ids, selections_of}
 use Rattle.cdf_check.specs.Paths.{Path, below, unless, places, each}
