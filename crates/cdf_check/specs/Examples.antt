@@ -1,9 +1,9 @@
 -- Worked examples of references, of agreement and of equal definitions: a report that has each reference, and what is told of reports
 -- that differ from it in a text. (Members whose value is an @id: NIST SP 1500-103; what is told is this project's own.)
-use Rattle.std.specs.Prelude.{◌≡◌, ℕ, List, [], ◌∷◌, ◌++◌, map, if◌then◌else◌, Option, Some, None, option_map, bytes_eq, codes}
+use Rattle.std.specs.Prelude.{◌≡◌, ◌≢◌, ℕ, List, [], ◌∷◌, ◌++◌, length, map, if◌then◌else◌, Option, Some, None, option_map, bytes_eq, codes}
 use Rattle.serde_json.specs.Read.{read}
 use Rattle.cdf_types.specs.declared.fault.ReadFault.{ReadFault}
-use Rattle.cdf_types.specs.declared.fault.ReadFault.TheVariants.{Disagrees}
+use Rattle.cdf_types.specs.declared.fault.ReadFault.TheVariants.{TooLong, NotJson, Disagrees}
 use Rattle.cdf_form.specs.Path.{path_text}
 use Rattle.cdf_check.specs.References.{missing}
 use Rattle.cdf_check.specs.Frame.{IsSame}
@@ -84,6 +84,23 @@ report at =
     codes "],\"GeneratedDate\":\"2024-11-05T20:00:00Z\",\"GpUnit\":[" ++ unit at ++ codes "],\"Party\":[" ++ party at ++ codes "]" ++
     members at (codes "CastVoteRecordReport") (codes "ReportGeneratingDeviceIds") (codes "s1") ++ codes ",\"ReportingDevice\":[" ++ device at ++ codes "],\"Version\":\"1.0.0\"}"
 
+-- ---- files
+
+-- the plain report is accepted
+abbrev pub Plain : Type 0
+Plain = first_unsound (report plain) ≡ None
+
+-- an object that isn't ended is no JSON
+abbrev pub NotAllOfIt : Type 0
+NotAllOfIt = first_unsound (codes "{\"@type\":\"CVR.CastVoteRecordReport\"") ≡ Some NotJson
+
+-- a file of one byte more than 67,108,864 is too long, whatever it holds, and one of so many isn't
+abbrev pub OneByteMore : Type 0
+OneByteMore = (bytes : List ℕ) → length bytes ≡ 67_108_865 → first_unsound bytes ≡ Some TooLong
+
+abbrev pub LongestFile : Type 0
+LongestFile = (bytes : List ℕ) → length bytes ≡ 67_108_864 → first_unsound bytes ≢ Some TooLong
+
 -- ---- references
 
 -- the paths of the texts that name nothing
@@ -93,10 +110,6 @@ unnamed text = option_map (λ d. map path_text (missing d)) (read text)
 -- with this text at the member, the path of that member alone is told
 abbrev pub NamesNothing : List ℕ → List ℕ → List ℕ → Type 0
 NamesNothing changed other path = unnamed (report (but changed other)) ≡ Some (path ∷ [])
-
--- the plain report is accepted
-abbrev pub Plain : Type 0
-Plain = first_unsound (report plain) ≡ None
 
 -- each text names nothing where it is the id of an object of another class, or of another whole
 

@@ -1,6 +1,7 @@
 // Worked examples of references, of agreement and of equal definitions. Each is the contract of a function that does nothing.
-ghost use Rattle.cdf_check.specs.Examples.{Plain, GeneratingDevice, CreatingDevice, ElectionScope, BallotStyleUnit, PartyOfCandidate, PartyOfSelection, PartyOfRecord};
-ghost use Rattle.cdf_check.specs.Examples.{CandidateOfSelection, ElectionOfRecord, CurrentSnapshot, ContestOfRecord, SelectionOfContest, AllUnknown};
+ghost use Rattle.cdf_check.specs.Examples.{Plain, NotAllOfIt, OneByteMore, LongestFile, AllUnknown};
+ghost use Rattle.cdf_check.specs.Examples.{GeneratingDevice, CreatingDevice, ElectionScope, BallotStyleUnit, PartyOfCandidate, PartyOfSelection, PartyOfRecord};
+ghost use Rattle.cdf_check.specs.Examples.{CandidateOfSelection, ElectionOfRecord, CurrentSnapshot, ContestOfRecord, SelectionOfContest};
 ghost use Rattle.cdf_check.specs.Examples.{OtherElection, OtherUnit, OtherParty, OtherDevice};
 ghost use Rattle.cdf_check.specs.Examples.{SameWithOtherDevice, SameWithOtherRecord, OtherByElection, OtherByUnit, OtherByParty};
 
@@ -8,6 +9,13 @@ ghost use Rattle.cdf_check.specs.Examples.{SameWithOtherDevice, SameWithOtherRec
 pub fn reports()
     ensures plain { Plain }
     ensures all_unknown { AllUnknown }
+{}
+
+/// What is no JSON text, and what is too long.
+pub fn files()
+    ensures no_json { NotAllOfIt }
+    ensures too_long { OneByteMore }
+    ensures longest { LongestFile }
 {}
 
 /// Each reference to a device, a unit, a Party or a Candidate, with the id of another object.
