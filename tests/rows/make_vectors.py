@@ -81,8 +81,8 @@ def report(*cvrs):
     return report_on(election(), [], cvrs)
 
 
-def report_with_parties(*cvrs):
-    return report_on(election_with_parties(), [listing('Party', [choice('Party', 'red'), choice('Party', 'blue')])], cvrs)
+def report_with_parties(held, *cvrs):
+    return report_on(held, [listing('Party', [choice('Party', 'red'), choice('Party', 'blue')])], cvrs)
 
 
 def position(indication='yes', votes=1, allocable=None, metric=None):
@@ -110,9 +110,14 @@ def snapshot(name, kind, contests, moment=None):
     return item('CVRSnapshot', *(members + [listing('CVRContest', contests), text('Type', kind)]))
 
 
+def vote_on(held, name, kind, choice, moment=None):
+    """A snapshot with one vote in a contest."""
+    return snapshot(name, kind, [contest(held, [selection(choice, position())])], moment)
+
+
 def vote(name, kind, choice, moment=None):
     """A snapshot with one vote for mayor."""
-    return snapshot(name, kind, [contest('mayor', [selection(choice, position())])], moment)
+    return vote_on('mayor', name, kind, choice, moment)
 
 
 def cvr_members(unit, snapshots, current):
@@ -166,6 +171,30 @@ def of_a_party():
         text('CurrentSnapshotId', 'm'), text('ElectionId', 'e'), naming('PartyIds', 'blue'), text('UniqueId', 'u1'))
 
 
+def election_of_every_class():
+    """An election with contests and selections of each class; nothing names the last one of each."""
+    judges = [choice('CandidateSelection', 'for-cora', naming('CandidateIds', 'cora')), choice('CandidateSelection', 'for-dan')]
+    contests = [choice(kind, name, listing('ContestSelection', choices)) for kind, name, choices in [
+        ('CandidateContest', 'judge', judges),
+        ('BallotMeasureContest', 'question', [choice('BallotMeasureSelection', 'no')]),
+        ('CandidateContest', 'seat', [choice('CandidateSelection', 'for-eve')]),
+        ('Contest', 'other', [choice('ContestSelection', 'none')]),
+        ('PartyContest', 'board', [choice('PartySelection', 'red-list', naming('PartyIds', 'red'))]),
+        ('RetentionContest', 'stay', [choice('BallotMeasureSelection', 'yes')])]]
+    candidates = [choice('Candidate', 'cora'), choice('Candidate', 'dan')]
+    return item('Election', text('@id', 'e'), listing('Candidate', candidates), listing('Contest', contests),
+                text('ElectionScopeId', 'p1'))
+
+
+def of_every_class():
+    """A record with an object of each class that a record may have; nothing names its last snapshot."""
+    place = item('SelectionPosition', '"CVRWriteIn":' + item('CVRWriteIn'), text('HasIndication', 'yes'), number('NumberVotes', 1))
+    scan = item(
+        'CVRSnapshot', text('@id', 'o'), listing('Annotation', [item('Annotation')]),
+        listing('CVRContest', [contest('judge', [selection('for-cora', place)])]), text('Type', 'original'))
+    return cvr('p1', vote_on('judge', 'm', 'modified', 'for-cora') + ',' + scan, 'm')
+
+
 def with_unknown_members(whole):
     """The first scan with one unknown member in its snapshot and one at the top."""
     return (whole.replace('"Type":"original"', '"Type":"original","vxNote":"x"')
@@ -194,8 +223,9 @@ def vectors():
         'f10d.json': adjudicated('m4', 'bob', '2024-11-06T04:30:00Z'),
         'f11.json': report(every_kind()),
         'f20.json': report(with_image()),
-        'parties-def.json': report_with_parties(),
-        'parties.json': report_with_parties(of_a_party()),
+        'parties-def.json': report_with_parties(election_with_parties()),
+        'parties.json': report_with_parties(election_with_parties(), of_a_party()),
+        'classes.json': report_with_parties(election_of_every_class(), of_every_class()),
     }
     return {name: content.encode('utf-8') for name, content in texts.items()}
 

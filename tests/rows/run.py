@@ -13,7 +13,8 @@ import sys
 import tempfile
 
 sys.dont_write_bytecode = True
-import make_vectors  # noqa: E402 (it stands beside this file)
+import make_vectors  # noqa: E402
+import members       # noqa: E402 (both stand beside this file)
 
 HERE = os.path.dirname(os.path.abspath(__file__))
 VECTORS = make_vectors.vectors()
@@ -216,7 +217,7 @@ def main():
     right = wrong = 0
     if vectors_differ():
         wrong += 1
-    for where, row, short in all_rows():
+    for where, row, short in all_rows() + [('members.py', row, {}) for row in members.rows()]:
         if words.only and not row['name'].startswith(words.only):
             continue
         found = tried(cvr, row, short)

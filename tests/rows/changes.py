@@ -1,0 +1,286 @@
+#!/usr/bin/env python3
+"""changes.py [-v]
+
+Which changes of the format's rules would no row notice? The rules are those of docs/FORMAT.md, as rules.py reads them. First
+they have to give every row's refusals as the row states them. Then one thing of them is changed at a time: a member is no
+longer walked, or demanded, or is demanded, or is of another kind; a class or a listed text is taken, or no longer; a bound
+is moved by one; ids may repeat, or may not; a text has to name something, or another thing, or need not; an object need not
+be the definition's. A row notices a change where its refusals are no longer those that it states. With -v each change is
+told with the row that notices it.
+
+The last line is `changes: N noticed, M not`; the status is 0 only where M is 0 and N is not."""
+import hashlib
+import itertools
+import multiprocessing
+import os
+import re
+import sys
+
+sys.dont_write_bytecode = True
+HERE = os.path.dirname(os.path.abspath(__file__))
+sys.path.insert(0, HERE)
+import members                # noqa: E402
+import rules as format_rules  # noqa: E402
+import run as rows            # noqa: E402 (all three stand beside this file)
+
+LONG = 1000000              # bytes of a row's files, above which it is asked last, and of bounds alone
+COMMANDS = ('currents', 'check', 'conflicts', 'tally')
+
+
+class Row:
+    """A row's files, and the refusals that it states."""
+    read = {}               # what reading a file gives, a value or its refusal, by its content
+
+    def __init__(self, where, row, short):
+        self.is_of_limits = where == 'limits.json'
+        self.name, self.short, self.files = row['name'], short, row.get('files', {})
+        self.stated = rows.spelled(row['err'], short).replace('out: X1\n', '')
+        self.paths = row['words'][1:]
+        self.size = sum(len(self.data(path)) for path in self.paths)
+        self.marks = {}
+
+    def data(self, path):
+        name = os.path.normpath(path)
+        return rows.content(self.files[name], self.short) if name in self.files else rows.VECTORS[name]
+
+    def value(self, rules, path):
+        """What reading a file gives. It is kept while the rules of reading are not changed."""
+        if rules.is_read_otherwise:
+            return tried(rules, self.data(path))
+        if path not in self.marks:
+            data = self.data(path)
+            self.marks[path] = hashlib.sha256(data).digest()
+            if self.marks[path] not in Row.read:
+                Row.read[self.marks[path]] = tried(rules, data)
+        return Row.read[self.marks[path]]
+
+    def refusals(self, rules):
+        """The lines of the log that the rules give, one by one."""
+        known = self.value(rules, self.paths[0])
+        fault = fault_in(rules, known, None)
+        if fault:
+            yield '%s: %s\n' % (self.paths[0], fault)
+            return
+        for path in self.paths[1:]:
+            fault = fault_in(rules, self.value(rules, path), known)
+            if fault:
+                yield '%s: %s\n' % (path, fault)
+
+    def is_as_stated(self, rules):
+        """Whether the rules give the refusals that the row states; no file is looked at after the first difference."""
+        left = self.stated
+        for line in self.refusals(rules):
+            if not left.startswith(line):
+                return False
+            left = left[len(line):]
+        return not left
+
+
+def tried(rules, data):
+    try:
+        return format_rules.read(rules, data)
+    except format_rules.Fault as fault:
+        return fault
+
+
+def fault_in(rules, value, definition):
+    """The fault that the rules give. Changed ones may accept a form of which no references can be read: a fault of its own."""
+    try:
+        return format_rules.fault_in(rules, value, definition)
+    except (AttributeError, KeyError, TypeError):
+        return 'a form that no row has'
+
+
+def is_asked(row, short):
+    """Whether the words of a row fit a command, and its files can be read to their end."""
+    lines = rows.spelled(row['err'], short).splitlines()
+    return (len(row['words']) > 1 and row['words'][0] in COMMANDS and '/dev/zero' not in row['words']
+            and not any(': K' in line or line == 'words' for line in lines))
+
+
+def asked():
+    """The rows that try the format."""
+    every = rows.all_rows() + [('members.py', row, {}) for row in members.rows()]
+    return [Row(*it) for it in every if is_asked(*it[1:])]
+
+
+# ---- changes: a name, and what is done to a copy of the rules
+
+LEAVES = [['text'], ['name'], ['count'], ['whole'], ['truth'], ['moment'], ['fractional']]
+
+
+def kinds_changed(rules, kind):
+    """The kinds that are one change away, each with its name."""
+    word = kind[0]
+    if word == 'array':
+        _, inner, least, most = kind
+        yield 'is no array', inner
+        yield from (('has items of which each ' + name, ['array', changed, least, most]) for name, changed in kinds_changed(rules, inner))
+        yield from ((name, ['array', inner] + changed) for name, changed in bounds_changed(least, most))
+        return
+    yield 'is an array', ['array', kind, 0, None]
+    if word == 'classes':
+        for name in rules.classes:
+            if kind[1] != [name]:
+                yield ('takes no ' if name in kind[1] else 'takes a ') + name, ['classes', sorted(set(kind[1]) ^ {name})]
+    else:
+        leaves = LEAVES + [['listed', name] for name in rules.lists]
+        yield from (('is of kind %s' % ' '.join(leaf), leaf) for leaf in leaves if not is_same(rules, leaf, kind))
+
+
+def is_same(rules, leaf, kind):
+    return leaf == kind or leaf[0] == kind[0] == 'listed' and rules.lists[leaf[1]] == rules.lists[kind[1]]
+
+
+def bounds_changed(least, most):
+    yield 'wants one item more', [least + 1, most]
+    if least:
+        yield 'wants one item less', [least - 1, most]
+    if most is not None:
+        yield 'takes one item more', [least, most + 1]
+        yield 'takes one item less', [least, most - 1]
+        yield 'takes any number', [least, None]
+
+
+def set_row(name, member, row):
+    def change(rules):
+        if row is None:
+            del rules.classes[name][member]
+        else:
+            rules.classes[name][member] = row
+    return change
+
+
+def changes_of_rows(rules):
+    for name, table in rules.classes.items():
+        for member, (is_required, kind, rule) in table.items():
+            what = '%s.%s ' % (name, member)
+            yield what + 'is not walked', set_row(name, member, None)
+            yield what + ('is optional' if is_required else 'is required'), set_row(name, member, [not is_required, kind, rule])
+            if kind[0] == 'array' and kind[3] != 1:
+                for other, may in ((0, 'may repeat ids'), (12, 'may not repeat @id'), (13, 'may not repeat ContestId')):
+                    if other != rule and (kind[1][0] == 'classes' or not other):
+                        yield what + may, set_row(name, member, [is_required, kind, other])
+            for told, changed in kinds_changed(rules, kind):
+                yield what + told, set_row(name, member, [is_required, changed, rule])
+
+
+def set_item(table, key, value):
+    """Sets a key of one of the tables of the rules, or drops it where there is no value."""
+    def change(rules):
+        held = getattr(rules, table)
+        held.pop(key)
+        held.update({} if value is None else {key: value})
+    return change
+
+
+def changes_of_lists(rules):
+    for name, texts in rules.lists.items():
+        for text in texts:
+            yield '%s lacks %s' % (name, text), set_item('lists', name, [it for it in texts if it != text])
+        for more in ('', 'x', texts[0].title(), texts[0] + ' '):
+            if more not in texts:
+                yield '%s has %r' % (name, more), set_item('lists', name, texts + [more])
+
+
+def set_bound(name, value):
+    def change(rules):
+        setattr(rules, name, value)
+        rules.is_read_otherwise = name not in ('most_count', 'agreeing')
+    return change
+
+
+def changes_of_bounds(rules):
+    for name in ('most_bytes', 'most_nested', 'most_count', 'least_whole', 'most_whole'):
+        for by in (-1, 1):
+            yield '%s is changed by %d' % (name, by), set_bound(name, getattr(rules, name) + by)
+
+
+def set_target(name, member, target):
+    def change(rules):
+        rules.references[name, member] = target
+    return change
+
+
+def changes_of_looks(rules):
+    targets = sorted(set(rules.references.values())) + ['any selection', 'any CVRSnapshot']
+    for name, table in rules.classes.items():
+        for member, (_, kind, _) in table.items():
+            named = rules.references.get((name, member))
+            if named:
+                yield '%s.%s may name nothing' % (name, member), set_item('references', (name, member), None)
+            if (kind[1] if kind[0] == 'array' else kind)[0] in ('text', 'name') and member != '@id':
+                for target in targets:
+                    if target != named and is_near(name, target):
+                        yield '%s.%s has to name: %s' % (name, member, target), set_target(name, member, target)
+
+
+def is_near(name, target):
+    """Whether what may be named is known in an object of a class: a selection inside a CVRContest, a snapshot inside a CVR."""
+    return {'selection': name == 'CVRContestSelection', 'CVRSnapshot': name in ('CVR', 'CVRSnapshot', 'CVRContest')}.get(target, True)
+
+
+def changes_of_agreement(rules):
+    held = rules.agreeing
+    for number in range(len(held)):
+        for other in itertools.permutations(held, number):
+            yield 'of the definition are only: ' + ' '.join(other), set_bound('agreeing', list(other))
+    for other in itertools.permutations(held):
+        if list(other) != held:
+            yield 'the definition is held against in the order: ' + ' '.join(other), set_bound('agreeing', list(other))
+    yield 'ReportingDevice has to be the definition\'s', set_bound('agreeing', held + ['ReportingDevice'])
+
+
+def all_changes(rules):
+    for changes in (changes_of_rows, changes_of_lists, changes_of_bounds, changes_of_looks, changes_of_agreement):
+        yield from changes(rules)
+
+
+def noticing(held, rules, name):
+    """The first row that notices, or None. The row of the member that is changed comes first, where a bound is changed then
+    those of the limits, and then the row that noticed last. Long rows are asked of bounds alone."""
+    mine, is_bound = 'member ' + name.split(' ')[0], bool(re.search('one item|any number|changed by', name))
+    for row in sorted(held, key=lambda row: (row.name != mine, is_bound and not row.is_of_limits, row.size > LONG)):
+        if (is_bound or row.size <= LONG) and not row.is_as_stated(rules):
+            held.insert(0, held.pop(held.index(row)))
+            return row.name
+    return None
+
+
+def read_otherwise(held, rules):
+    """How many rows state other refusals than the rules give, each told."""
+    wrong = 0
+    for row in held:
+        if not row.is_as_stated(rules):
+            wrong += 1
+            print('READ OTHERWISE %s: %r, stated %r' % (row.name, ''.join(row.refusals(rules))[:300], row.stated[:300]))
+    return wrong
+
+
+def by_place(place):
+    return notice(place)
+
+
+def main():
+    rules, held = format_rules.Rules(), asked()
+    every = list(all_changes(rules))
+    wrong, noticed = read_otherwise(held, rules), 0
+
+    global notice                       # the processes of the pool are copies of this one, and find it there
+
+    def notice(place):
+        changed = rules.copy()
+        every[place][1](changed)
+        return every[place][0], noticing(held, changed, every[place][0])
+
+    with multiprocessing.get_context('fork').Pool(len(os.sched_getaffinity(0))) as pool:
+        for name, row in pool.imap(by_place, range(0 if wrong else len(every)), 40):
+            noticed, wrong = noticed + bool(row), wrong + (not row)
+            if not row or '-v' in sys.argv[1:]:
+                print('%s: %s' % (name, row or 'NO ROW NOTICES'), flush=True)
+    print('changes: %d noticed, %d not' % (noticed, wrong))
+    sys.exit(0 if noticed and not wrong else 1)
+
+
+if __name__ == '__main__':
+    main()
