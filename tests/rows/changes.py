@@ -99,9 +99,10 @@ def is_asked(row, short):
 
 
 def asked():
-    """The rows that try the format."""
+    """The rows that try the format. Of the long ones those of the limits do, which alone try a rule by their length."""
     every = rows.all_rows() + [('members.py', row, {}) for row in members.rows()]
-    return [Row(*it) for it in every if is_asked(*it[1:])]
+    held = (Row(*it) for it in every if is_asked(*it[1:]))
+    return [row for row in held if row.size <= LONG or row.is_of_limits]
 
 
 # ---- changes: a name, and what is done to a copy of the rules
@@ -209,15 +210,21 @@ def changes_of_looks(rules):
             named = rules.references.get((name, member))
             if named:
                 yield '%s.%s may name nothing' % (name, member), set_item('references', (name, member), None)
-            if (kind[1] if kind[0] == 'array' else kind)[0] in ('text', 'name') and member != '@id':
+            if (kind[1] if kind[0] == 'array' else kind)[0] in ('text', 'name'):
                 for target in targets:
-                    if target != named and is_near(name, target):
+                    if target != named and is_near(name, target) and not (member == '@id' and is_own(name, target)):
                         yield '%s.%s has to name: %s' % (name, member, target), set_target(name, member, target)
 
 
 def is_near(name, target):
     """Whether what may be named is known in an object of a class: a selection inside a CVRContest, a snapshot inside a CVR."""
     return {'selection': name == 'CVRContestSelection', 'CVRSnapshot': name in ('CVR', 'CVRSnapshot', 'CVRContest')}.get(target, True)
+
+
+def is_own(name, target):
+    """Whether the objects of a class are what may be named: then each `@id` names its own object, and no answer changes."""
+    return (target == name or target == 'any ' + name or target == 'contest' and name.endswith('Contest')
+            or target == 'any selection' and name.endswith('Selection'))
 
 
 def changes_of_agreement(rules):

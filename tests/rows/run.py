@@ -28,16 +28,18 @@ class BadRow(Exception):
 
 
 def spelled(part, short):
-    """The text of a TEXT: a string with the short names expanded, a list of texts, or a repeated text."""
+    """The text of a TEXT: a string with the short names expanded, a list of texts, or a repeated text, numbered or not."""
     if isinstance(part, str):
         for name, long in short.items():
             part = part.replace(name, long)
         return part
     if isinstance(part, list):
         return ''.join(spelled(one, short) for one in part)
-    if set(part) - {'repeat', 'times', 'between'}:
+    if set(part) - {'repeat', 'times', 'between', 'number'}:
         raise BadRow('no text: %r' % part)
-    return spelled(part.get('between', ''), short).join([spelled(part['repeat'], short)] * part['times'])
+    one = spelled(part['repeat'], short)
+    every = [one.replace(part['number'], '%d' % n) for n in range(part['times'])] if 'number' in part else [one] * part['times']
+    return spelled(part.get('between', ''), short).join(every)
 
 
 def replaced(text, old, new):
@@ -126,10 +128,11 @@ def rows_of(path):
 
 
 def lay(folder, row, short):
-    """Lays the vectors and the row's own files into the folder."""
+    """Lays the vectors that a word names and the row's own files into the folder."""
     for name, data in VECTORS.items():
-        with open(os.path.join(folder, name), 'wb') as file:
-            file.write(data)
+        if any(name in word for word in row['words']):
+            with open(os.path.join(folder, name), 'wb') as file:
+                file.write(data)
     for name in row.get('folders', []):
         os.makedirs(os.path.join(folder, name))
     for name, part in row.get('files', {}).items():
