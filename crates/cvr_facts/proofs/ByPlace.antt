@@ -1,18 +1,20 @@
 -- A list in order of place: sorted, where each place is taken once at most.
-use Rattle.std.proofs.Common.{◌≡◌, ◌<◌, ◌≤◌, ◌+◌, ℕ, zero, suc, List, [], ◌∷◌, ◌++◌, map, length, get_or, Bool, true, false, cond, Contains, refl, sym, ap, ap₂, subst, ◌∙◌, ⊎_elim, arith, eq-eqb, ne_eqb}
+use Rattle.std.proofs.Common.{◌≡◌, ◌<◌, ◌≤◌, ◌+◌, ℕ, zero, suc, List, [], ◌∷◌, ◌++◌, map, length, get_or, Bool, true, false, cond, Contains, refl, sym, ap, ap₂, subst, ◌∙◌, ⊎_elim, arith, eq-eqb, ne_eqb, eqb-true, nat_cmp, Less}
 use Rattle.std.specs.Prelude.{◌==◌}
 use Rattle.std.specs.List.{All, AllByRecursion, IsDistinct, filter, count_by}
-use Rattle.std.specs.List.Sorted.{IsPermutation, IsNonDecreasingBy}
+use Rattle.std.specs.Cmp.{nat_cmp_is}
+use Rattle.std.specs.List.Sorted.{IsPermutation, IsNonDecreasingBy, IsStrictlySortedBy}
 use Rattle.std.proofs.lemmas.Bool.{cases_eq, eqb-false}
 use Rattle.std.proofs.lemmas.List.{map-append, length-map, get_or-map}
 use Rattle.std.proofs.lemmas.List.Elements.{All-nil, All-cons, All-map, All-from_recursion, Contains-get_or, All-head, All-tail, All-contains, All-filter, filter_passes, All-weaker}
-use Rattle.std.proofs.lemmas.List.Sorted.{All-permutation, IsPermutation-sym, IsPermutation-map, sum_by-IsPermutation}
+use Rattle.std.proofs.lemmas.List.Sorted.{All-permutation, IsPermutation-refl, IsPermutation-sym, IsPermutation-trans, IsPermutation-cons, IsPermutation-middle, IsPermutation-append_right, IsPermutation-map, sum_by-IsPermutation}
 use Rattle.std.proofs.lemmas.List.Sums.{length-filter, sum_by-cons}
 use Rattle.std.proofs.lemmas.Map.Keys.{IsDistinct-head, IsDistinct-tail, IsDistinct-IsPermutation}
 use Rattle.cdf_types.specs.declared.report.ContestVote.{ContestVote}
 use Rattle.cdf_form.specs.Places.{Contest}
 use Rattle.cvr_facts.specs.declared.sums.VoteSums.{VoteSums}
 use Rattle.cvr_facts.specs.Sums.{sums_of, by_place, sums_in, AreInRange}
+use Rattle.cvr_facts.specs.SumLaws.{EachOnceLaw, InOrderLaw}
 
 -- those at n places from a place on, in order of place
 abbrev pub places : {X : Type 0} → (X → ℕ) → ℕ → ℕ → List X → List X
@@ -139,6 +141,81 @@ module _ {X : Type 0} (key : X → ℕ) where
   places-IsPermutation (suc n) p xs ys same once =
       ap₂ ◌++◌ (filter-IsPermutation (λ x. key x == p) xs ys same (one_of xs once p)) (places-IsPermutation n (suc p) xs ys same once)
 
+  -- ---- they are all there, in rising order
+
+  put_in_place : (n p : ℕ) (x : X) (xs : List X) → p ≤ key x → key x < p + n → IsPermutation (x ∷ places key p n xs) (places key p n (x ∷ xs))
+  put_in_place zero p x xs low high = absurd (omega arith)
+  put_in_place (suc n) p x xs low high =
+      let here = filter (λ y. key y == p) xs in
+      let later = places key (suc p) n xs in
+      ⊎_elim
+      (λ e.
+      rw (eq-eqb (key x) p e) (subst (λ ys. IsPermutation (x ∷ (here ++ later)) (x ∷ (here ++ ys))) (sym (places-below n (suc p) x xs (omega arith))) (IsPermutation-refl (x ∷ (here ++ later)))))
+      (λ ne.
+      rw (ne_eqb (key x) p ne)
+      (IsPermutation-trans (x ∷ (here ++ later)) (here ++ x ∷ later) (here ++ places key (suc p) n (x ∷ xs))
+      (IsPermutation-sym (here ++ x ∷ later) (x ∷ (here ++ later)) (IsPermutation-middle here x later))
+      (IsPermutation-append_right here (x ∷ later) (places key (suc p) n (x ∷ xs)) (put_in_place n (suc p) x xs (omega (arith, low, ne)) (omega (arith, high))))))
+      (cases_eq (key x) p)
+
+  places-nil : (n p : ℕ) → places key p n [] ≡ []
+  places-nil zero p = refl
+  places-nil (suc n) p = places-nil n (suc p)
+
+  pub places-all : (n : ℕ) (xs : List X) → All (λ x. key x < n) xs → IsPermutation xs (places key 0 n xs)
+  places-all n [] below = subst (IsPermutation []) (sym (places-nil n 0)) (IsPermutation-refl [])
+  places-all n (x ∷ xs) below =
+      IsPermutation-trans (x ∷ xs) (x ∷ places key 0 n xs) (places key 0 n (x ∷ xs))
+      (IsPermutation-cons x xs (places key 0 n xs) (places-all n xs (All-tail (λ y. key y < n) x xs below)))
+      (put_in_place n 0 x xs (omega arith) (omega (arith, All-head (λ y. key y < n) x xs below)))
+
+  -- in strict order
+  abbrev Mounts : List X → Type 0
+  Mounts xs = IsStrictlySortedBy nat_cmp (map key xs)
+
+  all_above : (p : ℕ) (xs : List X) → AllByRecursion (λ x. suc p ≤ key x) xs → AllByRecursion (λ k. nat_cmp p k ≡ Less) (map key xs)
+  all_above p [] h = tt
+  all_above p (x ∷ xs) h = (sym (nat_cmp_is p (key x) Less h.0), all_above p xs h.1)
+
+  above_joined : (p : ℕ) (xs ys : List X) → AllByRecursion (λ x. p ≤ key x) xs → AllByRecursion (λ x. p ≤ key x) ys → AllByRecursion (λ x. p ≤ key x) (xs ++ ys)
+  above_joined p [] ys h k = k
+  above_joined p (x ∷ xs) ys h k = (h.0, above_joined p xs ys h.1 k)
+
+  above_lower : (p q : ℕ) (xs : List X) → p ≤ q → AllByRecursion (λ x. q ≤ key x) xs → AllByRecursion (λ x. p ≤ key x) xs
+  above_lower p q [] le h = tt
+  above_lower p q (x ∷ xs) le h = (omega (arith, le, h.0), above_lower p q xs le h.1)
+
+  at_place : (p : ℕ) (xs : List X) → AllByRecursion (λ x. key x ≡ p) (filter (λ x. key x == p) xs)
+  at_place p [] = tt
+  at_place p (x ∷ xs) =
+      elim (key x == p) as (λ b. (key x == p) ≡ b → AllByRecursion (λ x. key x ≡ p) (cond b (x ∷ filter (λ x. key x == p) xs) (filter (λ x. key x == p) xs))) [
+        | true ↦ λ e. (eqb-true (key x) p e, at_place p xs)
+        | false ↦ λ _. at_place p xs
+      ] refl
+
+  places-above : (n p : ℕ) (xs : List X) → AllByRecursion (λ x. p ≤ key x) (places key p n xs)
+  places-above zero p xs = tt
+  places-above (suc n) p xs =
+      above_joined p (filter (λ x. key x == p) xs) (places key (suc p) n xs) (from_same (filter (λ x. key x == p) xs) (at_place p xs))
+      (above_lower p (suc p) (places key (suc p) n xs) (omega arith) (places-above n (suc p) xs))
+    where
+      from_same : (ys : List X) → AllByRecursion (λ x. key x ≡ p) ys → AllByRecursion (λ x. p ≤ key x) ys
+      from_same [] h = tt
+      from_same (y ∷ ys) h = (omega (arith, h.0), from_same ys h.1)
+
+  few_first : (p : ℕ) (xs ys : List X) → length xs ≤ 1 → AllByRecursion (λ x. key x ≡ p) xs → AllByRecursion (λ y. suc p ≤ key y) ys → Mounts ys → Mounts (xs ++ ys)
+  unfolding IsStrictlySortedBy
+  few_first p [] ys few at above up = up
+  few_first p (x ∷ []) ys few at above up = (subst (λ k. AllByRecursion (λ j. nat_cmp k j ≡ Less) (map key ys)) (sym at.0) (all_above p ys above), up)
+  few_first p (x ∷ z ∷ xs) ys few at above up = absurd (omega (arith, few))
+
+  pub places-mount : (n p : ℕ) (xs : List X) → Once xs → Mounts (places key p n xs)
+  unfolding IsStrictlySortedBy
+  places-mount zero p xs once = tt
+  places-mount (suc n) p xs once =
+      few_first p (filter (λ x. key x == p) xs) (places key (suc p) n xs) (omega (arith, length-filter (λ x. key x == p) xs, one_of xs once p)) (at_place p xs)
+      (places-above n (suc p) xs) (places-mount n (suc p) xs once)
+
   pub sorted_by_place : (n : ℕ) (xs ys : List X) → IsPermutation xs ys → IsNonDecreasingBy key ys → Once xs → All (λ x. key x < n) xs
       → ys ≡ places key 0 n xs
   sorted_by_place n xs ys same sorted once below =
@@ -165,6 +242,20 @@ places-sums contests (suc n) p votes =
 map-contest : (contests : List Contest) (votes : List ContestVote) → map (λ s. s.contest) (map (sums_of contests) votes) ≡ map (λ v. v.contest) votes
 map-contest contests [] = refl
 map-contest contests (v ∷ votes) = ap (λ l. v.contest ∷ l) (map-contest contests votes)
+
+-- those of each contest once
+pub each_once : EachOnceLaw
+each_once contests votes h =
+    let below : All (λ v. v.contest < length contests) votes = λ k d less. (h.each _ (Contains-get_or votes k d less)).place in
+    subst (IsPermutation (map (sums_of contests) votes)) (places-sums contests (length contests) 0 votes)
+    (places-all (λ s. s.contest) (length contests) (map (sums_of contests) votes) (All-map (λ s. s.contest < length contests) (sums_of contests) votes below))
+
+-- in order of place
+pub in_order : InOrderLaw
+in_order contests votes h =
+    let once : IsDistinct ◌==◌ (map (λ s. s.contest) (map (sums_of contests) votes)) = rw (map-contest contests votes) h.once in
+    subst (λ sums. IsStrictlySortedBy nat_cmp (map (λ s. s.contest) sums)) (places-sums contests (length contests) 0 votes)
+    (places-mount (λ s. s.contest) (length contests) 0 (map (sums_of contests) votes) once)
 
 -- sorted by contest they are in order of place
 pub sorted_sums : (contests : List Contest) (votes : List ContestVote) → AreInRange contests votes → (sums sorted : List VoteSums)

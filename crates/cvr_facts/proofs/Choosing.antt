@@ -6,7 +6,7 @@ use Rattle.std.specs.declared.cmp.Ordering.{Ordering}
 use Rattle.std.specs.declared.cmp.Ordering.TheVariants.{Less, Equal, Greater}
 use Rattle.std.specs.Ordering.{nat_cmp, int_cmp, ordering_then}
 use Rattle.std.specs.Option.{option_cmp}
-use Rattle.std.specs.Cmp.{IsTotalOrder}
+use Rattle.std.specs.Cmp.{IsTotalOrder, nat_cmp_is, int_cmp_is}
 use Rattle.std.specs.Cmp.Lexicographic.{options_total}
 use Rattle.std.specs.FinMap.{IsAntisymmetric, nat_cmp-IsAntisymmetric, int_cmp-IsAntisymmetric, slice_cmp-IsAntisymmetric}
 use Rattle.cdf_types.specs.SnapshotKind.{snapshot_kind_rank}
@@ -16,7 +16,7 @@ use Rattle.cvr_facts.specs.declared.snapshot.SnapshotFact.{SnapshotFact}
 use Rattle.cvr_facts.specs.Facts.{text_cmp}
 use Rattle.cvr_facts.specs.Choosing.{data_of, choice_cmp, fact_choice, snapshot_bodies}
 use Rattle.cvr_facts.specs.Sums.{sums_in}
-use Rattle.cvr_facts.specs.Laws.{ChoosingLaw, EqualLaw, BodiesLaw, ExactLaw, CurrentLaw, OneCurrentLaw}
+use Rattle.cvr_facts.specs.Laws.{ChoosingLaw, EqualLaw, RankLaw, UndatedLaw, EarlierLaw, BytesLaw, BodiesLaw, ExactLaw, CurrentLaw, OneCurrentLaw}
 use Rattle.cvr_facts.proofs.Greatest.{one_greatest, greatest_iff, has_greatest}
 
 -- ---- parts of an order
@@ -83,6 +83,32 @@ module _ (a b : SnapshotFact) where
 
 pub equal : EqualLaw
 equal a b = (λ e. (ranks_equal a b e, moments_equal a b e, bodies_equal a b e), λ h. all_tied a b h.0 h.1 h.2)
+
+pub rank : RankLaw
+rank a b lower =
+    ap (λ r. ordering_then (ordering_then r (option_cmp int_cmp a.moment b.moment)) (text_cmp a.body b.body))
+    (sym (nat_cmp_is (snapshot_kind_rank a.kind) (snapshot_kind_rank b.kind) Less lower))
+
+-- of one kind, the moments decide first
+of_one_kind : (a b : SnapshotFact) → a.kind ≡ b.kind → fact_choice a b ≡ ordering_then (option_cmp int_cmp a.moment b.moment) (text_cmp a.body b.body)
+of_one_kind a b kind =
+    let ranks : nat_cmp (snapshot_kind_rank a.kind) (snapshot_kind_rank b.kind) ≡ Equal =
+    ap (λ k. nat_cmp (snapshot_kind_rank a.kind) (snapshot_kind_rank k)) (sym kind) ∙ tied_itself nat_cmp_total (snapshot_kind_rank a.kind) in
+    ap (λ r. ordering_then (ordering_then r (option_cmp int_cmp a.moment b.moment)) (text_cmp a.body b.body)) ranks
+
+pub undated : UndatedLaw
+undated a b m kind none some = of_one_kind a b kind ∙ (λ i. ordering_then (option_cmp int_cmp (none i) (some i)) (text_cmp a.body b.body))
+
+pub earlier : EarlierLaw
+earlier a b m n kind one other less =
+    of_one_kind a b kind
+    ∙ ((λ i. ordering_then (option_cmp int_cmp (one i) (other i)) (text_cmp a.body b.body))
+    ∙ ap (λ r. ordering_then r (text_cmp a.body b.body)) (sym (int_cmp_is m n Less less)))
+
+pub bytes : BytesLaw
+bytes a b kind moment =
+    let tied : option_cmp int_cmp a.moment b.moment ≡ Equal = ap (option_cmp int_cmp a.moment) (sym moment) ∙ tied_itself (options_total int_cmp_total) a.moment in
+    of_one_kind a b kind ∙ ap (λ r. ordering_then r (text_cmp a.body b.body)) tied
 
 pub bodies : BodiesLaw
 bodies contests a b sa sb = rw (sa.kind, sa.moment, sb.kind, sb.moment) refl

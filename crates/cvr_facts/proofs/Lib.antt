@@ -12,8 +12,11 @@ pub mod Whole
 pub mod Greatest
 pub mod Choosing
 pub mod Records
+pub mod Moments
 pub mod Bounds
 pub mod Counting
+pub mod Positions
+pub mod AddingUp
 pub mod ByPlace
 pub mod Gathering
 pub mod WorkedRows

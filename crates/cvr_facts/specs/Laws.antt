@@ -1,19 +1,22 @@
 -- Laws of the order of choosing, of sums and of facts. (This project's own.)
-use Rattle.std.specs.Prelude.{◌≡◌, ◌≢◌, ◌↔◌, ℕ, List, [], true, Some, codes}
-use Rattle.std.specs.declared.cmp.Ordering.TheVariants.{Equal}
+use Rattle.std.specs.Prelude.{◌≡◌, ◌≢◌, ◌↔◌, ◌<◌, ◌<ℤ◌, ℕ, ℤ, List, [], true, Some, None, codes}
+use Rattle.std.specs.List.{Contains}
+use Rattle.std.specs.declared.cmp.Ordering.TheVariants.{Less, Equal}
 use Rattle.std.specs.Cmp.{IsTotalOrder}
 use Rattle.std.specs.FinSet.{contains, union, empty}
+use Rattle.serde_json.specs.Data.{Data}
 use Rattle.cdf_types.specs.declared.report.ContestVote.{ContestVote}
 use Rattle.cdf_types.specs.SnapshotKind.{snapshot_kind_rank}
-use Rattle.cdf_form.specs.Parts.{ids_at}
+use Rattle.cdf_form.specs.Parts.{array_at, ids_at}
 use Rattle.cdf_form.specs.Places.{Contest}
 use Rattle.cdf_typed.specs.Range.{ContestInRange}
+use Rattle.cdf_typed.specs.Typed.{instant_in, moment_of}
 use Rattle.cdf_check.specs.Sound.{IsFrame}
 use Rattle.cdf_check.specs.Frame.{Frame, scope_in}
 use Rattle.cdf_check.specs.Acceptance.{Valid, value_in}
 use Rattle.cvr_facts.specs.declared.name.RecordName.{RecordName}
 use Rattle.cvr_facts.specs.declared.snapshot.SnapshotFact.{SnapshotFact}
-use Rattle.cvr_facts.specs.Facts.{Fact, Facts, fact_cmp}
+use Rattle.cvr_facts.specs.Facts.{Fact, Facts, fact_cmp, text_cmp}
 use Rattle.cvr_facts.specs.Sets.{JoinLaws}
 use Rattle.cvr_facts.specs.Reports.{facts}
 use Rattle.cvr_facts.specs.Choosing.{choice_cmp, fact_choice, snapshot_bodies, current, IsGreatest}
@@ -34,6 +37,22 @@ ChoosingLaw = IsTotalOrder fact_choice
 abbrev pub EqualLaw : Type 0
 EqualLaw = (a b : SnapshotFact) → (fact_choice a b ≡ Equal) ↔ ((snapshot_kind_rank a.kind ≡ snapshot_kind_rank b.kind) × (a.moment ≡ b.moment) × (a.body ≡ b.body))
 
+-- a lower rank is less, whatever the moments and bodies
+abbrev pub RankLaw : Type 0
+RankLaw = (a b : SnapshotFact) → snapshot_kind_rank a.kind < snapshot_kind_rank b.kind → fact_choice a b ≡ Less
+
+-- of one kind, no moment is less than any
+abbrev pub UndatedLaw : Type 0
+UndatedLaw = (a b : SnapshotFact) (m : ℤ) → a.kind ≡ b.kind → a.moment ≡ None → b.moment ≡ Some m → fact_choice a b ≡ Less
+
+-- of one kind, an earlier moment is less
+abbrev pub EarlierLaw : Type 0
+EarlierLaw = (a b : SnapshotFact) (m n : ℤ) → a.kind ≡ b.kind → a.moment ≡ Some m → b.moment ≡ Some n → m <ℤ n → fact_choice a b ≡ Less
+
+-- of one kind and moment, they go by the bytes of their bodies
+abbrev pub BytesLaw : Type 0
+BytesLaw = (a b : SnapshotFact) → a.kind ≡ b.kind → a.moment ≡ b.moment → fact_choice a b ≡ text_cmp a.body b.body
+
 -- it is that of the bodies
 abbrev pub BodiesLaw : Type 0
 BodiesLaw = (contests : List Contest) (a b : SnapshotFact) → IsSpelledSnapshot contests a → IsSpelledSnapshot contests b → fact_choice a b ≡ choice_cmp a.body b.body
@@ -50,6 +69,22 @@ CurrentLaw = (s : Facts) (key : RecordName) (body : List ℕ) → (current s key
 abbrev pub OneCurrentLaw : Type 0
 OneCurrentLaw = (s : Facts) (key : RecordName) → snapshot_bodies s key ≢ [] → (body : List ℕ) × IsGreatest choice_cmp (snapshot_bodies s key) body
     × ((other : List ℕ) → IsGreatest choice_cmp (snapshot_bodies s key) other → other ≡ body)
+
+-- ---- moments
+
+-- one of a snapshot's annotations has this instant
+pub record IsAnnotatedAt (snapshot : Data) (m : ℤ) : Type 0 where
+  pub annotation : Data
+  pub listed : Contains (array_at (codes "Annotation") snapshot) annotation
+  pub instant : instant_in annotation ≡ Some m
+
+-- the moment of a snapshot is the instant of one of its annotations, and none has a later one
+abbrev pub MomentLaw : Type 0
+MomentLaw = (snapshot : Data) (m : ℤ) → (moment_of snapshot ≡ Some m) ↔ (IsAnnotatedAt snapshot m × ((n : ℤ) → IsAnnotatedAt snapshot n → ¬ (m <ℤ n)))
+
+-- it has none exactly where no annotation has an instant
+abbrev pub NoMomentLaw : Type 0
+NoMomentLaw = (snapshot : Data) → (moment_of snapshot ≡ None) ↔ ((m : ℤ) → ¬ IsAnnotatedAt snapshot m)
 
 -- ---- sums
 

@@ -8,4 +8,5 @@ pub mod Sums
 pub mod Lists
 pub mod Stands
 pub mod Laws
+pub mod SumLaws
 pub mod Rows

@@ -1,5 +1,5 @@
 -- Worked examples: files of one election, and the facts, sums, headers and current snapshots that they give. (This project's own.)
-use Rattle.std.specs.Prelude.{◌≡◌, ℕ, List, [], ◌∷◌, ◌++◌, map, Some, None, codes}
+use Rattle.std.specs.Prelude.{◌≡◌, ℕ, pos, List, [], ◌∷◌, ◌++◌, map, Some, None, codes}
 use Rattle.std.specs.List.{flat_map}
 use Rattle.std.specs.declared.cmp.Ordering.TheVariants.{Less, Equal}
 use Rattle.std.specs.FinSet.{empty, from_list, union, len}
@@ -97,6 +97,50 @@ measure =
 abbrev pub every_kind : List ℕ
 every_kind = snapshot_with (codes "x") (codes "") (mayor ++ codes "," ++ measure) (codes "interpreted")
 
+-- ---- numbers that all differ
+
+-- one marked position, and one that is pending, with these votes
+abbrev pub marked_with : List ℕ → List ℕ
+marked_with votes = position (codes "yes") (codes "") votes
+
+abbrev pub pending_with : List ℕ → List ℕ
+pending_with votes = position (codes "yes") (codes "\"IsAllocable\":\"unknown\",") votes
+
+-- for mayor: overvotes 1, undervotes 2, write-ins 3; 4 pending and 5 that count under no name; Ann twice, with 7 and 9 that count and 64 pending; Bob with 10, the write-in with 11
+abbrev pub numbered_mayor : List ℕ
+numbered_mayor =
+    contest (codes "mayor") (selection (codes "") (pending_with (codes "4") ++ codes "," ++ marked_with (codes "5")) ++ codes "," ++
+    choice (codes "ann") (marked_with (codes "7")) ++ codes "," ++ choice (codes "bob") (marked_with (codes "10")) ++ codes "," ++
+    choice (codes "ann") (pending_with (codes "64") ++ codes "," ++ marked_with (codes "9")) ++ codes "," ++ choice (codes "wi") (marked_with (codes "11")))
+    (codes ",\"Overvotes\":1,\"Undervotes\":2,\"WriteIns\":3")
+
+-- for the measure: each IsAllocable (absent, no, unknown, yes) with each HasIndication (no, unknown, yes), with votes that are powers of 2, so that a sum tells which of them are in it; and a selection with 6
+abbrev pub three_with : List ℕ → List ℕ → List ℕ → List ℕ → List ℕ
+three_with allocable first second third =
+    position (codes "no") allocable first ++ codes "," ++ position (codes "unknown") allocable second ++ codes "," ++ position (codes "yes") allocable third
+
+abbrev pub twelve_positions : List ℕ
+twelve_positions =
+    three_with (codes "") (codes "1") (codes "2") (codes "4") ++ codes "," ++
+    three_with (codes "\"IsAllocable\":\"no\",") (codes "8") (codes "16") (codes "32") ++ codes "," ++
+    three_with (codes "\"IsAllocable\":\"unknown\",") (codes "64") (codes "128") (codes "256") ++ codes "," ++
+    three_with (codes "\"IsAllocable\":\"yes\",") (codes "512") (codes "1024") (codes "2048")
+
+abbrev pub numbered_measure : List ℕ
+numbered_measure =
+    contest (codes "q1") (choice (codes "no") (marked_with (codes "6")) ++ codes "," ++ choice (codes "yes") twelve_positions) (codes "")
+
+-- three annotations that differ below a second, of which the one in the middle is the latest
+abbrev pub three_times : List ℕ
+three_times =
+    codes "\"Annotation\":[{\"@type\":\"CVR.Annotation\",\"TimeStamp\":\"2024-11-05T20:00:00.25Z\"}," ++
+    codes "{\"@type\":\"CVR.Annotation\",\"TimeStamp\":\"2024-11-05T21:00:00.75+01:00\"}," ++
+    codes "{\"@type\":\"CVR.Annotation\",\"TimeStamp\":\"2024-11-05T20:00:00.5Z\"}],"
+
+-- a dated reading, with the measure before the election's first contest
+abbrev pub numbered : List ℕ
+numbered = snapshot_with (codes "n") three_times (numbered_measure ++ codes "," ++ numbered_mayor) (codes "interpreted")
+
 -- ---- files
 
 -- a record of a unit with one snapshot, whose id is given
@@ -127,6 +171,9 @@ spaced_file = report (
 
 abbrev pub every_kind_file : List ℕ
 every_kind_file = file (codes "x") every_kind
+
+abbrev pub numbered_file : List ℕ
+numbered_file = file (codes "n") numbered
 
 -- the same scan in another unit
 abbrev pub moved_file : List ℕ
@@ -165,6 +212,17 @@ mayor_sums = record { contest = 0; votes = 1 ∷ 0 ∷ 0 ∷ []; overvotes = 0; 
 abbrev pub measure_sums : VoteSums
 measure_sums = record { contest = 1; votes = 2 ∷ 0 ∷ []; overvotes = 0; undervotes = 0; write_ins = 0; pending = 0; unassigned = 0 }
 
+abbrev pub numbered_report : Report
+numbered_report = report_in contests numbered_file
+
+-- Ann has 7 and 9
+abbrev pub numbered_mayor_sums : VoteSums
+numbered_mayor_sums = record { contest = 0; votes = 16 ∷ 10 ∷ 11 ∷ []; overvotes = 1; undervotes = 2; write_ins = 3; pending = 68; unassigned = 5 }
+
+-- 4, 512, 1024 and 2048 count; 256 is pending
+abbrev pub numbered_measure_sums : VoteSums
+numbered_measure_sums = record { contest = 1; votes = 3588 ∷ 6 ∷ []; overvotes = 0; undervotes = 0; write_ins = 0; pending = 256; unassigned = 0 }
+
 -- ---- the answers
 
 abbrev pub FactsOfFile : Type 0
@@ -183,6 +241,19 @@ abbrev pub SnapshotOfReport : Type 0
 SnapshotOfReport =
     flat_map (told_snapshots contests) every_kind_report.cvrs
     ≡ record { key = the_record; id = codes "x"; kind = Interpreted; moment = None; votes = mayor_sums ∷ measure_sums ∷ []; body = every_kind } ∷ []
+
+-- each number in its place, and the latest instant: 20,032 days, 20 hours and three quarters of a second after 1970-01-01T00:00:00Z
+abbrev pub NumbersOfReport : Type 0
+NumbersOfReport =
+    flat_map (told_snapshots contests) numbered_report.cvrs
+    ≡ record {
+      key = the_record;
+      id = codes "n";
+      kind = Interpreted;
+      moment = Some (pos 1_730_836_800_750_000_000);
+      votes = numbered_mayor_sums ∷ numbered_measure_sums ∷ [];
+      body = numbered;
+    } ∷ []
 
 -- three devices, a header that stands twice, and two snapshots
 abbrev pub FactsOfTwoCvrs : Type 0
@@ -222,6 +293,13 @@ adjudicated_files = scan_file ∷ file (codes "m") for_bob ∷ []
 
 abbrev pub Adjudicated : Type 0
 Adjudicated = (current (facts_of_files adjudicated_files) the_record ≡ Some for_bob) × (len (facts_of_files adjudicated_files) ≡ 6)
+
+-- what was adjudicated is current without a time, beside a reading that has one
+abbrev pub dated_files : List (List ℕ)
+dated_files = file (codes "m") for_bob ∷ numbered_file ∷ []
+
+abbrev pub DatedReading : Type 0
+DatedReading = current (facts_of_files dated_files) the_record ≡ Some for_bob
 
 -- a file's own CurrentSnapshotId makes no snapshot current
 abbrev pub reading_files : List (List ℕ)

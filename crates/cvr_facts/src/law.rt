@@ -1,15 +1,35 @@
 //! Laws of joining, of the order of choosing, of sums and of the facts of a file.
-ghost use Rattle.cvr_facts.specs.Laws.{ChoosingLaw, EqualLaw, BodiesLaw, ExactLaw, CurrentLaw, OneCurrentLaw, FactsStandLaw, JoiningLaw, RecordsWholeLaw, SumsLaw};
+ghost use Rattle.std.specs.Prelude.{◌≡◌};
+ghost use Rattle.cvr_facts.specs.Facts.{name_cmp};
+ghost use Rattle.cvr_facts.specs.Lists.{device_cmp};
+ghost use Rattle.cvr_facts.specs.Laws.{ChoosingLaw, EqualLaw, RankLaw, UndatedLaw, EarlierLaw, BytesLaw, BodiesLaw, ExactLaw, CurrentLaw, OneCurrentLaw, MomentLaw, NoMomentLaw, FactsStandLaw, JoiningLaw, RecordsWholeLaw, SumsLaw};
+ghost use Rattle.cvr_facts.specs.SumLaws.{ApartLaw, MarkedLaw, AbsentLaw, VotesLaw, EachOnceLaw, InOrderLaw};
+
+use crate::device::DeviceFact;
+use crate::name::RecordName;
 
 /// To join facts is commutative, associative and idempotent, and to join nothing changes nothing.
 pub fn joining()
     ensures { JoiningLaw }
 {}
 
-/// The order of choosing is a total order of snapshots, and that of their bodies. Two are equal in
-/// it where rank, moment and body are, and so two of one record only where they are the same.
+/// Names of records are ordered by device, then by unique; devices as facts by id, then by body;
+/// each by bytes.
+pub fn names_are_ordered_by_bytes()
+    ensures names { (a b : RecordName) → ⟦<RecordName as Ord>⟧.cmp a b ≡ name_cmp a b }
+    ensures devices { (a b : DeviceFact) → ⟦<DeviceFact as Ord>⟧.cmp a b ≡ device_cmp a b }
+{}
+
+/// The order of choosing is a total order of snapshots, and that of their bodies. A lower rank is
+/// less; of one kind, no moment is less than any, and an earlier moment is less; of one kind and
+/// moment, bodies go by their bytes. Two are equal in it where rank, moment and body are, and so two
+/// of one record only where they are the same.
 pub fn choosing()
     ensures total { ChoosingLaw }
+    ensures rank { RankLaw }
+    ensures undated { UndatedLaw }
+    ensures earlier { EarlierLaw }
+    ensures bytes { BytesLaw }
     ensures equal { EqualLaw }
     ensures bodies { BodiesLaw }
     ensures exact { ExactLaw }
@@ -20,6 +40,29 @@ pub fn choosing()
 pub fn currents()
     ensures current { CurrentLaw }
     ensures one { OneCurrentLaw }
+{}
+
+/// The moment of a snapshot is the instant of one of its annotations, and none of them has a later
+/// one; it has no moment exactly where none of them has an instant.
+pub fn moments()
+    ensures moment { MomentLaw }
+    ensures none { NoMomentLaw }
+{}
+
+/// No position both counts and is pending, and only a marked one is pending. Without IsAllocable a
+/// position counts exactly where it is marked.
+pub fn positions()
+    ensures apart { ApartLaw }
+    ensures marked { MarkedLaw }
+    ensures absent { AbsentLaw }
+{}
+
+/// The votes of a contest's selections and the unassigned ones add up to the votes of its counting
+/// positions. A snapshot has the sums of each of its contests once, in order of place.
+pub fn sums_add_up()
+    ensures votes { VotesLaw }
+    ensures once { EachOnceLaw }
+    ensures order { InOrderLaw }
 {}
 
 /// The sums of a contest in one snapshot stay below 2^54.

@@ -1,5 +1,5 @@
-ghost use Rattle.cvr_facts.specs.Rows.{FactsOfFile, FactsToldOfReport, HeaderOfReport, SnapshotOfReport, FactsOfTwoCvrs, OtherSpelling, OrderOfChoosing};
-ghost use Rattle.cvr_facts.specs.Rows.{Instants, SameInstant, Adjudicated, FileCallsAnotherCurrent, OneIdTwoBodies, UnitMoves};
+ghost use Rattle.cvr_facts.specs.Rows.{FactsOfFile, FactsToldOfReport, HeaderOfReport, SnapshotOfReport, NumbersOfReport, FactsOfTwoCvrs, OtherSpelling, OrderOfChoosing};
+ghost use Rattle.cvr_facts.specs.Rows.{Instants, SameInstant, Adjudicated, DatedReading, FileCallsAnotherCurrent, OneIdTwoBodies, UnitMoves};
 
 /// Worked examples: files of one election, and the facts, sums, headers and current snapshots that
 /// they give.
@@ -8,12 +8,14 @@ pub fn worked_rows()
     ensures facts_told_of_report { FactsToldOfReport }
     ensures header_of_report { HeaderOfReport }
     ensures snapshot_of_report { SnapshotOfReport }
+    ensures numbers_of_report { NumbersOfReport }
     ensures facts_of_two_cvrs { FactsOfTwoCvrs }
     ensures other_spelling { OtherSpelling }
     ensures order_of_choosing { OrderOfChoosing }
     ensures instants { Instants }
     ensures same_instant { SameInstant }
     ensures adjudicated { Adjudicated }
+    ensures dated_reading { DatedReading }
     ensures file_calls_another_current { FileCallsAnotherCurrent }
     ensures one_id_two_bodies { OneIdTwoBodies }
     ensures unit_moves { UnitMoves }

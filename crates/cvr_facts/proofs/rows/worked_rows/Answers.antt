@@ -22,12 +22,16 @@ returns c = record {
   snapshot_of_report =
       both-ascii (λ d file. let contests = (frame_of d).contests in flat_map (told_snapshots contests) (report_of contests file).cvrs)
       definition_file row.every_kind_file _ refl refl refl;
+  numbers_of_report =
+      both-ascii (λ d file. let contests = (frame_of d).contests in flat_map (told_snapshots contests) (report_of contests file).cvrs)
+      definition_file row.numbered_file _ refl refl refl;
   facts_of_two_cvrs = len-file row.two_cvrs_file _ refl refl;
   other_spelling = facts-ascii row.spaced_file refl ∙ sym (facts-ascii row.scan_file refl);
   order_of_choosing = (refl, refl, refl, refl);
   instants = current-files row.instant_files row.the_record _ refl refl;
   same_instant = current-files row.same_instant_files row.the_record _ refl refl;
   adjudicated = (current-files row.adjudicated_files row.the_record _ refl refl, len-files row.adjudicated_files _ refl refl);
+  dated_reading = current-files row.dated_files row.the_record _ refl refl;
   file_calls_another_current = current-files row.reading_files row.the_record _ refl refl;
   one_id_two_bodies = (current-files row.two_bodies_files row.the_record _ refl refl, len-files row.two_bodies_files _ refl refl);
   unit_moves = (header-files row.moved_files row.the_record _ refl refl, len-files row.moved_files _ refl refl);
