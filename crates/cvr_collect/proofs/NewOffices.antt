@@ -114,7 +114,7 @@ module _ {Office : Type 0} (held : Office → Facts) (defined : Office → Frame
     same_definition = sym (of_one p other (within p other also)) ∙ sym (defined_was p other also)
 
 pub same_files_law : {Office : Type 0} (held : Office → Facts) (defined : Office → Frame) → SameFilesLaw held defined
-same_files_law held defined before after files past o p one other new played same at also =
+same_files_law held defined before after files past new played o p one other at also same =
     let content = same_content held defined before after files past new played o p one other at also same in
     let definition = same_definition held defined before after files past new played o p one other at also in
-    (content, answer_alike (defined one) (defined other) (held one) (held other) (ap (λ f. f.contests) definition) content)
+    record { contents = content; answers = answer_alike (defined one) (defined other) (held one) (held other) (ap (λ f. f.contests) definition) content }

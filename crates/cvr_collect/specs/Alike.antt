@@ -52,12 +52,20 @@ pub record ArePlayed {Office : Type 0} (held : Office → Facts) (defined : Offi
 abbrev pub HaveSameFiles : History → ℕ → ℕ → Type 0
 HaveSameFiles past o p = (f : ℕ) → (contains (reached past o) (File f) ≡ true) ↔ (contains (reached past p) (File f) ≡ true)
 
--- new offices of one definition, after any events: two that the same files have reached hold the same and answer alike
+-- two offices hold the same, and answer alike
+pub record AreAlike {Office : Type 0} (held : Office → Facts) (defined : Office → Frame) (one other : Office) : Type 0 where
+  pub contents : held one ≡ held other
+  pub answers : AnswerAlike (defined one) (defined other) (held one) (held other)
+
+-- any two of these offices that the same files have reached are alike
+abbrev pub AreAlikeByFiles : {Office : Type 0} → (Office → Facts) → (Office → Frame) → History → List Office → Type 0
+AreAlikeByFiles {Office} held defined past offices = (o p : ℕ) (one other : Office) → slice_get offices o ≡ Some one → slice_get offices p ≡ Some other
+    → HaveSameFiles past o p → AreAlike held defined one other
+
+-- new offices of one definition, after any events: two that the same files have reached are alike
 abbrev pub SameFilesLaw : {Office : Type 0} → (Office → Facts) → (Office → Frame) → Type 0
-SameFilesLaw {Office} held defined = (before after : List Office) (files : List (List ℕ)) (past : History) (o p : ℕ) (one other : Office)
-    → AreNewOfOne held defined before → ArePlayed held defined before after files past → HaveSameFiles past o p
-    → slice_get after o ≡ Some one → slice_get after p ≡ Some other
-    → (held one ≡ held other) × AnswerAlike (defined one) (defined other) (held one) (held other)
+SameFilesLaw {Office} held defined = (before after : List Office) (files : List (List ℕ)) (past : History)
+    → AreNewOfOne held defined before → ArePlayed held defined before after files past → AreAlikeByFiles held defined past after
 
 -- ---- offices that are the same
 

@@ -7,6 +7,7 @@ ghost use Rattle.cvr_facts.specs.Reports.{facts};
 ghost use Rattle.cvr_collect.specs.declared.fault.JoinFault.TheVariants as join_fault;
 ghost use Rattle.cvr_collect.specs.Readers.{growth};
 ghost use Rattle.cvr_collect.specs.Reach.{content, history};
+ghost use Rattle.cvr_collect.specs.Alike.{AreNewOfOne, AreAlikeByFiles};
 ghost use Rattle.cvr_collect.specs.Outcomes.{IsOutcome, IsImportOutcome, IsExchangeOutcome, AreOutcomes, contents_after, held_after, due};
 
 use crate::event::{Cause, Event, Outcome};
@@ -16,6 +17,10 @@ use std::alloc::Global;
 
 /// Plays events in order, and answers the outcome of each. A refused event changes nothing, and the
 /// next one follows.
+///
+/// Where the offices were new and of one definition (devices included), any two that the same files
+/// have reached hold the same facts afterwards, whatever the events, and have the same current
+/// snapshots with their votes, headers, conflicts and rows, and the same text of the tally.
 ///
 /// # Errors
 /// `Memory` where there was no room for the outcomes. No event has then happened.
@@ -31,6 +36,8 @@ pub fn play<O: Office>(
     ensures outcomes { IfOk result (λ outcomes.
         AreOutcomes (map O.held offices.old) (map O.defined offices.old) (map (λ f. f.items) files.now) (history events.now outcomes.items)) }
     ensures definitions { map O.defined offices.new ≡ map O.defined offices.old }
+    ensures same_files { IfOk result (λ outcomes. AreNewOfOne O.held O.defined offices.old
+        → AreAlikeByFiles O.held O.defined (history events.now outcomes.items) offices.new) }
     ensures unchanged { OnErr result (offices.new ≡ offices.old) }
 {
     let mut outcomes = Vec::with_capacity(alloc, events.len())?;

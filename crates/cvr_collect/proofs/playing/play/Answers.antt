@@ -1,10 +1,12 @@
 use Rattle.std.proofs.Common.{◌≡◌, ◌<◌, ◌∙◌, ◌+◌, ◌∷◌, ℕ, List, [], ap, sym, subst, refl, length, map, get_or, take, arith}
-use Rattle.std.proofs.lemmas.List.{length-map, length-append}
+use Rattle.std.proofs.lemmas.List.{length-map, length-append, take_all}
 use Rattle.std.specs.FinSet.{empty}
 use Rattle.cvr_collect.specs.Reach.{content, history}
 use Rattle.cvr_collect.specs.Outcomes.{AreOutcomes, IsOutcome}
+use Rattle.cvr_collect.specs.Alike.{ArePlayed}
 use Rattle.cvr_collect.specs.declared.event.Event.TheVariants.{Import}
 use Rattle.cvr_collect.specs.declared.event.Outcome.{Outcome}
+use Rattle.cvr_collect.proofs.NewOffices.{same_files_law}
 use Rattle.cvr_collect.proofs.Reached.{content-none}
 use Rattle.cvr_collect.proofs.Turns.{content_turn, outcomes_turn}
 use Rattle.cvr_collect.proofs.playing.play.Goals as goal
@@ -51,3 +53,17 @@ loop-event-preserved g c =
           (outcomes_turn starts frames files es rs i (Import 0 0) e h.result held v.listed c.loop-event-test.true refl (omega arith) here out v.outcomes);
       definitions = h.ensures.definitions ∙ v.definitions;
     }
+
+pub returns-clause-same_files : goal.returns-clause-same_files
+returns-clause-same_files g c = λ new.
+    let held = g.O.Office.held in
+    let defined = g.O.Office.defined in
+    let v = c.loop-event.invariant in
+    let files = map (λ f. f.items) c.args.files.now in
+    let before = c.args.offices.now in
+    let after = c.loop-event.offices in
+    let rs = c.loop-event.outcomes.items in
+    let played : ArePlayed held defined before after files (history c.args.events.now rs) =
+    subst (λ es. ArePlayed held defined before after files (history es rs)) (take_all _ _ c.loop-event-test.false)
+    (record { contents = v.content; outcomes = v.outcomes; definitions = v.definitions }) in
+    same_files_law held defined before after files (history c.args.events.now rs) new played
