@@ -28,18 +28,19 @@ less_is Less h = refl
 less_is Equal h = absurd h
 less_is Greater h = absurd h
 
-module _ {K : Type 0} (R : K → K → Ordering) where
-  below_is : (k : K) (es : List (K × Unit {0})) → T (below_all R k es) → AllByRecursion (λ y. R k y ≡ Less) (map (λ x. x.0) es)
+module _ {K X : Type 0} (R : K → K → Ordering) where
+  below_is : (k : K) (es : List (K × X)) → T (below_all R k es) → AllByRecursion (λ y. R k y ≡ Less) (map (λ x. x.0) es)
   below_is k [] h = tt
   below_is k (x ∷ es) h = (less_is (R k x.0) (both_left (is_lt (R k x.0)) _ h), below_is k es (both_right (is_lt (R k x.0)) _ h))
 
-  rises : (es : List (K × Unit {0})) → T (is_sorted R es) → IsStrictlySortedBy R (map (λ x. x.0) es)
+  -- the keys of sorted entries rise
+  pub keys_rise : (es : List (K × X)) → T (is_sorted R es) → IsStrictlySortedBy R (map (λ x. x.0) es)
   unfolding IsStrictlySortedBy
-  rises [] h = tt
-  rises (x ∷ es) h = (below_is x.0 es (both_left (below_all R x.0 es) _ h), rises es (both_right (below_all R x.0 es) _ h))
+  keys_rise [] h = tt
+  keys_rise (x ∷ es) h = (below_is x.0 es (both_left (below_all R x.0 es) _ h), keys_rise es (both_right (below_all R x.0 es) _ h))
 
-  pub ordered_rises : (ks : List K) → IsStrictlySortedBy R (ordered R ks)
-  ordered_rises ks = rises (entries (keys_of R ks)) (entries_sorted (keys_of R ks))
+pub ordered_rises : {K : Type 0} (R : K → K → Ordering) (ks : List K) → IsStrictlySortedBy R (ordered R ks)
+ordered_rises R ks = keys_rise R (entries (keys_of R ks)) (entries_sorted (keys_of R ks))
 
 module _ {K : Type 0} {R : K → K → Ordering} (t : IsTotalOrder R) where
   found : (ks : List K) (q : K) → is_some (map_of.get (keys_of R ks) q) ≡ list_any (eq_by_cmp R q) ks

@@ -1,4 +1,4 @@
-ghost use Rattle.std.specs.Prelude.{◌≡◌, ℕ, ◌+◌, OnOk, OnErr, IfOk};
+ghost use Rattle.std.specs.Prelude.{◌≡◌, ◌⊎◌, ℕ, ◌+◌, OnOk, OnErr, IfOk};
 ghost use Rattle.cvr_facts.specs.Sets.{JoinLaws};
 
 use cdf_types::Memory;
@@ -28,7 +28,8 @@ pub trait Join {
 /// # Errors
 /// `Memory` where a growth was refused; the set then holds what it held, or that and the first's.
 pub fn join_both<J: Join>(set: &mut J, one: &J, other: &J) -> Result<(), Memory>
-    ensures { OnOk result (set.new ≡ J.joined set.old (J.joined one.now other.now)) }
+    ensures ok { OnOk result (set.new ≡ J.joined set.old (J.joined one.now other.now)) }
+    ensures err { OnErr result ((set.new ≡ set.old) ⊎ (set.new ≡ J.joined set.old one.now)) }
 {
     set.join(one)?;
     set.join(other)?;
