@@ -6,3 +6,4 @@ pub mod Kept
 pub mod Maps
 pub mod Pushes
 pub mod Votes
+pub mod Given

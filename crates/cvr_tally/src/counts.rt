@@ -20,6 +20,13 @@ impl Model for Counts {
 impl Counts {
     ghost use Rattle.std.specs.Prelude.{◌≡◌, IfOk, replicate};
 
+    /// These numbers. Takes no memory.
+    pub fn new(items: Vec<u128>) -> Counts
+        ensures { result ≡ items.items }
+    {
+        Counts { items }
+    }
+
     // That many zeros.
     pub(crate) fn zeros(alloc: Global, count: usize) -> Result<Counts, Memory>
         ensures { IfOk result (λ c. c ≡ replicate count 0) }
@@ -43,5 +50,12 @@ impl Counts {
         ensures { result.now ≡ self.now }
     {
         self.items.as_slice()
+    }
+
+    /// The numbers, given back. Takes no memory.
+    pub fn into_vec(self) -> Vec<u128>
+        ensures { result.items ≡ self }
+    {
+        self.items
     }
 }

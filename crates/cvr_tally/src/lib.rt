@@ -4,7 +4,9 @@
 mod changes;
 mod contest_ids;
 mod counts;
+pub mod examples;
 mod key;
+pub mod law;
 mod moves;
 mod row;
 mod tally;

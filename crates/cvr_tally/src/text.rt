@@ -1,4 +1,4 @@
-ghost use Rattle.std.specs.Prelude.{◌≡◌, ◌++◌, IfOk, OnOk, string_bytes};
+ghost use Rattle.std.specs.Prelude.{◌≡◌, ◌⊎◌, ◌++◌, IfOk, OnOk, OnErr, string_bytes};
 ghost use Rattle.json.specs.Print.{quoted};
 ghost use Rattle.cvr_tally.specs.Text.{word};
 
@@ -20,9 +20,10 @@ pub fn quoted(alloc: Global, text: &str) -> Result<String, Memory>
 /// Adds a text as a JSON string, and a space.
 ///
 /// # Errors
-/// `Memory` where a growth was refused. The text is then a front of the longer one.
+/// `Memory` where a growth was refused. The text is then as it was, or lacks the space alone.
 pub fn push_word(alloc: Global, text: &mut String, name: &str) -> Result<(), Memory>
-    ensures { OnOk result (string_bytes text.new ≡ string_bytes text.old ++ word name.now) }
+    ensures ok { OnOk result (string_bytes text.new ≡ string_bytes text.old ++ word name.now) }
+    ensures err { OnErr result ((string_bytes text.new ≡ string_bytes text.old) ⊎ (string_bytes text.new ≡ string_bytes text.old ++ quoted name.now)) }
 {
     text.push_str(quoted(alloc, name)?.as_str())?;
     text.push_str(" ")?;

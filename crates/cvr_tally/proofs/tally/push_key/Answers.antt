@@ -7,4 +7,4 @@ use Rattle.cvr_tally.proofs.tally.push_key.Goals as goal
 pub returns : goal.returns
 returns c =
     let id = c.as_str.ensures ∙ sym (id_at c.args.contests.now c.args.key.now.contest c.index-contests-key.result c.requires) in
-    after_three _ _ _ _ _ _ _ (c.in_ok-push_word.ensures ∙ ap (λ name. string_bytes c.args.text.now ++ word name) id) c.in_ok-push_part.ensures c.in_ok-push_part-2.ensures
+    after_three _ _ _ _ _ _ _ (c.in_ok-push_word.ensures.ok ∙ ap (λ name. string_bytes c.args.text.now ++ word name) id) c.in_ok-push_part.ensures c.in_ok-push_part-2.ensures

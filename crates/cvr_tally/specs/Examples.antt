@@ -1,0 +1,62 @@
+-- A worked example: rows of three contests, and the text of their tally. (This project's own.)
+use Rattle.std.specs.Prelude.{◌≡◌, ℕ, List, [], ◌∷◌, ◌++◌, get_or, Option, Some, None, codes}
+use Rattle.std.specs.FinMap.{from_entries}
+use Rattle.cdf_form.specs.Places.{Contest}
+use Rattle.cvr_tally.specs.declared.key.RowKey.{RowKey}
+use Rattle.cvr_tally.specs.declared.row.Row.{Row}
+use Rattle.cvr_tally.specs.Text.{tally_text}
+
+-- a ballot box, U+1F5F3, and a halfwidth dot, U+FF65, in UTF-8: by bytes the dot comes first, by UTF-16 it would come last
+abbrev pub ballot_box : List ℕ
+ballot_box = 240 ∷ 159 ∷ 151 ∷ 179 ∷ []
+
+abbrev pub dot : List ℕ
+dot = 239 ∷ 189 ∷ 165 ∷ []
+
+-- the first with two selections, one with a quote in its id; the second with one; the third with none
+abbrev pub contests : List Contest
+contests = (codes "mayor", codes "ann" ∷ codes "b\"o" ∷ []) ∷ (ballot_box, dot ∷ []) ∷ (codes "q", []) ∷ []
+
+-- of a contest, a unit and a batch: ballots, overvotes, undervotes, write-ins, pending and unassigned votes, then those of selections
+abbrev pub row_at : ℕ → Option (List ℕ) → Option (List ℕ) → List ℕ → List ℕ → RowKey × Row
+row_at contest unit batch numbers votes = (
+  record { contest = contest; unit = unit; batch = batch },
+  record {
+    ballots = get_or numbers 0 0;
+    overvotes = get_or numbers 1 0;
+    undervotes = get_or numbers 2 0;
+    write_ins = get_or numbers 3 0;
+    pending = get_or numbers 4 0;
+    unassigned = get_or numbers 5 0;
+    votes = votes;
+  },
+)
+
+-- in no order, all numbers different
+abbrev pub some_rows : List (RowKey × Row)
+some_rows =
+    row_at 1 (Some ballot_box) (Some (codes "b")) (12 ∷ 1 ∷ 2 ∷ 3 ∷ 4 ∷ 5 ∷ []) (6 ∷ []) ∷
+    row_at 0 (Some (codes "pp")) (None) (13 ∷ 14 ∷ 15 ∷ 16 ∷ 17 ∷ 18 ∷ []) (19 ∷ 20 ∷ []) ∷
+    row_at 0 (Some (codes "p")) (Some (codes "b2")) (21 ∷ 22 ∷ 23 ∷ 24 ∷ 25 ∷ 26 ∷ []) (27 ∷ 28 ∷ []) ∷
+    row_at 2 (None) (None) (29 ∷ 30 ∷ 31 ∷ 32 ∷ 33 ∷ 34 ∷ []) ([]) ∷
+    row_at 0 (Some ballot_box) (None) (35 ∷ 36 ∷ 37 ∷ 38 ∷ 39 ∷ 40 ∷ []) (41 ∷ 42 ∷ []) ∷
+    row_at 0 (Some (codes "p")) (None) (43 ∷ 44 ∷ 45 ∷ 46 ∷ 47 ∷ 48 ∷ []) (49 ∷ 50 ∷ []) ∷
+    row_at 0 (None) (Some (codes "z")) (51 ∷ 52 ∷ 53 ∷ 54 ∷ 55 ∷ 56 ∷ []) (57 ∷ 58 ∷ []) ∷
+    row_at 0 (Some dot) (None) (59 ∷ 60 ∷ 61 ∷ 62 ∷ 63 ∷ 64 ∷ []) (65 ∷ 66 ∷ []) ∷
+    row_at 0 (Some (codes "p")) (Some (codes "b10")) (67 ∷ 68 ∷ 69 ∷ 70 ∷ 71 ∷ 72 ∷ []) (340_282_366_920_938_463_463_374_607_431_768_211_455 ∷ 0 ∷ []) ∷ []
+
+-- a line for each, in order
+abbrev pub expected : List ℕ
+expected =
+    codes "\"mayor\" null \"z\" 51 52 53 54 55 56 \"ann\" 57 \"b\\\"o\" 58\n" ++
+    codes "\"mayor\" \"p\" null 43 44 45 46 47 48 \"ann\" 49 \"b\\\"o\" 50\n" ++
+    codes "\"mayor\" \"p\" \"b10\" 67 68 69 70 71 72 \"ann\" 340282366920938463463374607431768211455 \"b\\\"o\" 0\n" ++
+    codes "\"mayor\" \"p\" \"b2\" 21 22 23 24 25 26 \"ann\" 27 \"b\\\"o\" 28\n" ++
+    codes "\"mayor\" \"pp\" null 13 14 15 16 17 18 \"ann\" 19 \"b\\\"o\" 20\n" ++
+    codes "\"mayor\" \"" ++ dot ++ codes "\" null 59 60 61 62 63 64 \"ann\" 65 \"b\\\"o\" 66\n" ++
+    codes "\"mayor\" \"" ++ ballot_box ++ codes "\" null 35 36 37 38 39 40 \"ann\" 41 \"b\\\"o\" 42\n" ++
+    codes "\"" ++ ballot_box ++ codes "\" \"" ++ ballot_box ++ codes "\" \"b\" 12 1 2 3 4 5 \"" ++ dot ++ codes "\" 6\n" ++
+    codes "\"q\" null null 29 30 31 32 33 34\n"
+
+abbrev pub TextOfTally : Type 0
+TextOfTally = tally_text contests (from_entries some_rows) ≡ expected
