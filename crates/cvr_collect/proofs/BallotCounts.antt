@@ -1,14 +1,13 @@
 -- The ballots of all rows of a contest are the records whose current snapshot has it.
-use Rattle.std.proofs.Common.{◌≡◌, ◌+◌, ◌==◌, ℕ, Bool, true, false, cond, ◌&&◌, List, [], ◌∷◌, length, map, Contains, Option, Some, None, is_some, Ordering, Less, Equal, inl, inr, refl, sym, ap, ◌∙◌, subst, arith, ne_eqb, eq-eqb, true≢false, T}
-use Rattle.std.specs.List.{filter, find, sum_by, count_by, AllByRecursion}
+use Rattle.std.proofs.Common.{◌≡◌, ◌+◌, ◌==◌, ℕ, Bool, true, false, cond, ◌&&◌, List, [], ◌∷◌, length, map, Contains, Option, Some, None, is_some, Ordering, Less, Equal, inl, inr, refl, sym, ap, ◌∙◌, subst, arith, ne_eqb, eq-eqb, true≢false}
+use Rattle.std.specs.List.{filter, find, sum_by, count_by}
 use Rattle.std.specs.List.Sorted.{IsStrictlySortedBy}
 use Rattle.std.specs.Cmp.{IsTotalOrder, Equal-is, tied_itself}
 use Rattle.std.specs.Cmp.Lexicographic.{nat_list_cmp_total, options_total}
 use Rattle.std.specs.FinMap as map_of
 use Rattle.std.specs.FinMap.{IsAntisymmetric, entries, entries_sorted, get-entries, contains_key-keys}
-use Rattle.std.specs.FinMap.Entries.{is_sorted, below_all}
 use Rattle.std.specs.Option.{option_map_or}
-use Rattle.std.specs.Ordering.{is_eq, is_lt, nat_cmp, eq_by_cmp, ordering_then}
+use Rattle.std.specs.Ordering.{is_eq, nat_cmp, eq_by_cmp, ordering_then}
 use Rattle.std.proofs.lemmas.Bool.{eqb-true}
 use Rattle.std.proofs.lemmas.Cmp.{nat_cmp_total}
 use Rattle.std.proofs.lemmas.List.Elements.{All-contains, All-from_recursion}
@@ -23,6 +22,7 @@ use Rattle.cvr_facts.specs.Choosing.{header, current, header_bodies, snapshot_bo
 use Rattle.cvr_facts.proofs.Choosing.{text_total, text_exact, choice_total}
 use Rattle.cvr_facts.proofs.Greatest.{greatest_is, is_greatest, has_greatest}
 use Rattle.cvr_facts.proofs.Members.{none_listed, at_head, at_tail, head_or_tail, in_map}
+use Rattle.cvr_facts.proofs.Ordered.{keys_rise}
 use Rattle.cvr_facts.proofs.Records.{Contains-header_bodies, Contains-snapshot_bodies}
 use Rattle.cvr_tally.specs.declared.key.RowKey.{RowKey}
 use Rattle.cvr_tally.specs.declared.row.Row.{Row}
@@ -74,19 +74,6 @@ both : (a b : Bool) → (a && b) ≡ true → (a ≡ true) × (b ≡ true)
 both true b e = (refl, e)
 both false b e = Prim.cc e
 
-both_left : (a b : Bool) → T (a && b) → T a
-both_left true b h = tt
-both_left false b h = h
-
-both_right : (a b : Bool) → T (a && b) → T b
-both_right true b h = h
-both_right false b h = absurd h
-
-less_is : (o : Ordering) → T (is_lt o) → o ≡ Less
-less_is Less h = refl
-less_is Equal h = absurd h
-less_is _ h = absurd h
-
 module _ {K : Type 0} {R : K → K → Ordering} (t : IsTotalOrder R) (e : IsAntisymmetric R) where
   not_later : (x j : K) (ks : List K) → IsStrictlySortedBy R (x ∷ ks) → Contains ks j → j ≡ x → ⊥
   not_later x j ks rises at is =
@@ -119,15 +106,6 @@ module _ {K : Type 0} {R : K → K → Ordering} (t : IsTotalOrder R) (e : IsAnt
   -- ---- entries of a map
 
   module _ {X : Type 0} where
-    below_is : (k : K) (es : List (K × X)) → T (below_all R k es) → AllByRecursion (λ y. R k y ≡ Less) (map (λ x. x.0) es)
-    below_is k [] h = tt
-    below_is k (x ∷ es) h = (less_is (R k x.0) (both_left (is_lt (R k x.0)) _ h), below_is k es (both_right (is_lt (R k x.0)) _ h))
-
-    keys_rise : (es : List (K × X)) → T (is_sorted R es) → IsStrictlySortedBy R (map (λ x. x.0) es)
-    unfolding IsStrictlySortedBy
-    keys_rise [] h = tt
-    keys_rise (x ∷ es) h = (below_is x.0 es (both_left (below_all R x.0 es) _ h), keys_rise es (both_right (below_all R x.0 es) _ h))
-
     found_at : (es : List (K × X)) → IsStrictlySortedBy R (map (λ x. x.0) es) → (x : K × X) → Contains es x → map_of.find R x.0 es ≡ Some x.1
     found_at [] rises x at = absurd (none_listed x at)
     found_at (y ∷ es) rises x at =
@@ -147,7 +125,7 @@ module _ (frame : Frame) (s : Facts) (c : ℕ) where
   table = rows frame.contests s
 
   abbrev rising : IsStrictlySortedBy key_cmp (map_of.keys table)
-  rising = keys_rise keys_total keys_exact (entries table) (entries_sorted table)
+  rising = keys_rise key_cmp (entries table) (entries_sorted table)
 
   -- the keys of the contest
   abbrev keys : List RowKey

@@ -26,6 +26,7 @@ pub mod Firsts
 pub mod Upward
 pub mod NextNames
 pub mod NextInFacts
+pub mod NextLaws
 pub mod Highest
 pub mod CountedRecords
 pub mod Sides
@@ -54,3 +55,4 @@ pub mod RecordWalk
 pub mod MoreFacts
 pub mod SeveralBodies
 pub mod BallotCounts
+pub mod GivenFacts

@@ -1,13 +1,17 @@
--- Laws of what offices keep, and of rows. (This project's own.)
-use Rattle.std.specs.Prelude.{◌≡◌, ◌<◌, ℕ, List, Some}
+-- Laws of what offices keep, of the next name, and of rows. (This project's own.)
+use Rattle.std.specs.Prelude.{◌≡◌, ◌≢◌, ◌↔◌, ◌<◌, ℕ, List, true, Option, Some, None, ⊤}
+use Rattle.std.specs.List.{Contains}
+use Rattle.std.specs.declared.cmp.Ordering.{Ordering}
+use Rattle.std.specs.declared.cmp.Ordering.TheVariants.{Less, Greater}
 use Rattle.std.specs.FinMap.{get}
-use Rattle.std.specs.FinSet.{union}
+use Rattle.std.specs.FinSet.{contains, union}
 use Rattle.cdf_form.specs.Places.{Contest}
 use Rattle.cdf_check.specs.Frame.{Frame, IsSame}
 use Rattle.cdf_check.specs.Sound.{IsFrame}
 use Rattle.cdf_check.specs.Acceptance.{Valid}
-use Rattle.cvr_facts.specs.Facts.{Facts}
+use Rattle.cvr_facts.specs.Facts.{Fact, Facts}
 use Rattle.cvr_facts.specs.Reports.{facts}
+use Rattle.cvr_collect.specs.Readers.{next}
 use Rattle.cvr_collect.specs.Keeps.{Keeps, starting}
 use Rattle.cvr_tally.specs.declared.key.RowKey.{RowKey}
 use Rattle.cvr_tally.specs.declared.row.Row.{Row}
@@ -23,6 +27,31 @@ ImportLaw = (frame : Frame) (s : Facts) (bytes : List ℕ) → Valid frame bytes
 
 abbrev pub JoinLaw : Type 0
 JoinLaw = (frame other : Frame) (s t : Facts) → IsSame frame other → Keeps frame s → Keeps other t → Keeps frame (union s t)
+
+-- ---- names in order
+
+-- what is listed of facts is exactly what this tells of one of them
+abbrev pub ListedLaw : {K : Type 0} → (Fact → Option K) → (Facts → List K) → Type 0
+ListedLaw {K} told list = (s : Facts) (k : K) → Contains (list s) k ↔ ((f : Fact) × (contains s f ≡ true) × (told f ≡ Some k))
+
+-- above a given one, or any where none is given
+abbrev pub IsAbove : {K : Type 0} → (K → K → Ordering) → Option K → K → Type 0
+IsAbove R None k = ⊤
+IsAbove R (Some given) k = R k given ≡ Greater
+
+-- one of the list above the given one, and none of these is less
+pub record IsLeastAbove {K : Type 0} (R : K → K → Ordering) (ks : List K) (after : Option K) (k : K) : Type 0 where
+  pub listed : Contains ks k
+  pub above : IsAbove R after k
+  pub least : (other : K) → Contains ks other → IsAbove R after other → R other k ≢ Less
+
+-- the next one is the least above the given one, or the least of all
+abbrev pub NextLaw : {K : Type 0} → (K → K → Ordering) → (Facts → List K) → Type 0
+NextLaw {K} R list = (s : Facts) (after : Option K) (k : K) → (next R (list s) after ≡ Some k) ↔ IsLeastAbove R (list s) after k
+
+-- there is none exactly where none is above it
+abbrev pub NoNextLaw : {K : Type 0} → (K → K → Ordering) → (Facts → List K) → Type 0
+NoNextLaw {K} R list = (s : Facts) (after : Option K) → (next R (list s) after ≡ None) ↔ ((k : K) → Contains (list s) k → ¬ IsAbove R after k)
 
 -- ---- rows
 

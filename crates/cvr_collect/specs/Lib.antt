@@ -13,3 +13,4 @@ pub mod Tallied
 pub mod Adding
 pub mod Alike
 pub mod Counting
+pub mod Examples

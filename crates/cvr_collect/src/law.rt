@@ -1,6 +1,8 @@
 //! Laws of offices: what they keep, how files reach them, and which hold and answer the same.
 ghost use Rattle.cvr_collect.specs.Reach.{ReachLaw};
-ghost use Rattle.cvr_collect.specs.Laws.{StartLaw, ImportLaw, JoinLaw, RowsLaw, BallotsLaw};
+ghost use Rattle.cvr_facts.specs.Facts.{text_cmp, name_cmp};
+ghost use Rattle.cvr_collect.specs.Names.{record_of, records, device_in, devices};
+ghost use Rattle.cvr_collect.specs.Laws.{StartLaw, ImportLaw, JoinLaw, ListedLaw, NextLaw, NoNextLaw, RowsLaw, BallotsLaw};
 ghost use Rattle.cvr_collect.specs.Alike.{SameFilesLaw, SameOfficesLaw, NewOfficeLaw};
 ghost use Rattle.cvr_collect.specs.Counting.{GrowthLaw, ConflictsLaw, AddUpLaw};
 
@@ -35,6 +37,17 @@ pub fn keeping()
     ensures start { StartLaw }
     ensures import { ImportLaw }
     ensures join { JoinLaw }
+{}
+
+/// The records are exactly those that some fact is of. The next one is the least above the given
+/// one, or the least of all; there is none exactly where none is above it. The same of the devices.
+pub fn next_names()
+    ensures records { ListedLaw record_of records }
+    ensures next_record { NextLaw name_cmp records }
+    ensures no_record { NoNextLaw name_cmp records }
+    ensures devices { ListedLaw device_in devices }
+    ensures next_device { NextLaw text_cmp devices }
+    ensures no_device { NoNextLaw text_cmp devices }
 {}
 
 /// The map of rows has the row of each key and nothing else, and each row has a ballot.

@@ -6,6 +6,7 @@ mod conflict;
 mod conflicts;
 mod devices;
 mod event;
+pub mod examples;
 mod fault;
 pub mod law;
 mod names;

@@ -135,14 +135,15 @@ pub trait Office {
 
     /// The row of the tally for a key: what the current snapshots of the records add up to whose
     /// header has the key's unit and batch and whose current snapshot has its contest. None where
-    /// there is no such record.
+    /// there is no such record. Each number is below 2^118.
     ///
     /// # Errors
     /// `Memory` where a growth was refused.
     fn row(&self, alloc: Global, key: &RowKey) -> Result<Option<Row>, Memory>
-        ensures { IfOk result (λ found. found ≡ row (defined self.now).contests (held self.now) key.now) };
+        ensures row { IfOk result (λ found. found ≡ row (defined self.now).contests (held self.now) key.now) }
+        ensures below { IfOk result (λ found. IfSome found (IsBelow total_limit)) };
 
-    /// The rows of the tally, each that has a ballot.
+    /// The rows of the tally, each that has a ballot. Each number is below 2^118.
     ///
     /// # Errors
     /// `Memory` where a growth was refused.

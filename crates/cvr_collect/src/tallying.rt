@@ -46,7 +46,8 @@ pub(crate) fn row_in(
     key: &RowKey,
 ) -> Result<Option<Row>, Memory>
     requires { IsPlain definition.now facts.now }
-    ensures { IfOk result (λ found. found ≡ row definition.now.contests (set_of facts.now) key.now) }
+    ensures row { IfOk result (λ found. found ≡ row definition.now.contests (set_of facts.now) key.now) }
+    ensures below { IfOk result (λ found. IfSome found (IsBelow total_limit)) }
 {
     let totals = totals_in(alloc, definition, facts)?;
     match totals.row(key) {

@@ -1,0 +1,171 @@
+-- What is told of a set of facts that is given by a list.
+use Rattle.std.proofs.Common.{◌≡◌, ℕ, ◌==◌, ◌&&◌, Bool, true, cond, List, [], ◌∷◌, map, length, find, get_or, is_some, Contains, Option, Some, None, option_map, Ordering, nat_le, refl, sym, ap, ◌∙◌, subst}
+use Rattle.std.specs.List.{filter, filter_map, flat_map, sum_by, range_with_len}
+use Rattle.std.specs.Option.{option_map_or}
+use Rattle.std.specs.Cmp.{IsTotalOrder, eq_by_cmp_equiv}
+use Rattle.std.specs.FinMap as map_of
+use Rattle.std.specs.FinMap.{IsAntisymmetric, from_entries}
+use Rattle.std.specs.FinSet.{items, from_list, contains-items, contains-from_list}
+use Rattle.std.proofs.lemmas.Map.Views.{Contains-from_any, list_any-from_Contains, tells_apart}
+use Rattle.cdf_form.specs.Places.{Contest, selections_at}
+use Rattle.cdf_typed.specs.Greatest.{greatest}
+use Rattle.cvr_facts.specs.declared.name.RecordName.{RecordName}
+use Rattle.cvr_facts.specs.declared.sums.VoteSums.{VoteSums}
+use Rattle.cvr_facts.specs.Facts.{Fact, Facts, fact_total, fact_exact, text_cmp, name_cmp}
+use Rattle.cvr_facts.specs.Ordered.{keys_of, ordered}
+use Rattle.cvr_facts.specs.Choosing.{choice_cmp, header_body, snapshot_body}
+use Rattle.cvr_facts.proofs.Choosing.{text_total, text_exact, choice_total, choice_exact}
+use Rattle.cvr_facts.proofs.Greatest.{greatest_is, is_greatest}
+use Rattle.cvr_facts.proofs.Members.{in_map, from_map}
+use Rattle.cvr_facts.proofs.Ordered.{ordered_rises}
+use Rattle.cvr_facts.proofs.Records.{Contains-filter_map, from-filter_map}
+use Rattle.cvr_tally.specs.declared.key.RowKey.{RowKey}
+use Rattle.cvr_tally.specs.declared.row.Row.{Row}
+use Rattle.cvr_tally.specs.Keys.{key_cmp, keys_total}
+use Rattle.cvr_tally.specs.Text.{row_line}
+use Rattle.cvr_tally.proofs.Given.{placed, entries-given}
+use Rattle.cvr_collect.specs.declared.conflict.ConflictName.{ConflictName}
+use Rattle.cvr_collect.specs.declared.conflict.Conflict.{Conflict}
+use Rattle.cvr_collect.specs.Names.{name_of, body_of, conflict_cmp, is_named, record_of, names, records, conflicts}
+use Rattle.cvr_collect.specs.Tallied.{unit_of, batch_of, sums_of_body, is_headed, rows, tally}
+use Rattle.cvr_collect.proofs.Firsts.{in_ordered, from_ordered, ordered-members}
+use Rattle.cvr_collect.proofs.NameOrder.{conflict_total, conflict_exact}
+use Rattle.cvr_collect.proofs.NextInFacts.{name_total, name_exact}
+use Rattle.cvr_collect.proofs.RecordMembers.{from_filter, in_filter}
+
+-- ---- lists in order
+
+-- each put in its place
+abbrev pub sorted : {K : Type 0} → (K → K → Ordering) → List K → List K
+sorted R ks = map (λ e. e.0) (placed R (map (λ k. (k, tt {0})) ks))
+
+keys_given : {K : Type 0} (R : K → K → Ordering) (ks : List K) → keys_of R ks ≡ from_entries (map (λ k. (k, tt {0})) ks)
+keys_given R [] = refl
+keys_given R (k ∷ ks) = ap (λ m. map_of.insert m k tt) (keys_given R ks)
+
+ordered-is : {K : Type 0} {R : K → K → Ordering} → IsTotalOrder R → (ks : List K) → ordered R ks ≡ sorted R ks
+ordered-is {R = R} t ks = ap map_of.keys (keys_given R ks) ∙ ap (map (λ e. e.0)) (entries-given t (map (λ k. (k, tt {0})) ks))
+
+-- the members alone tell the list in order, and the greatest
+record HaveSame {K : Type 0} (xs ys : List K) : Type 0 where
+  there : (k : K) → Contains xs k → Contains ys k
+  back : (k : K) → Contains ys k → Contains xs k
+
+sorted-same : {K : Type 0} {R : K → K → Ordering} → IsTotalOrder R → IsAntisymmetric R → (xs ys : List K) → HaveSame xs ys → ordered R xs ≡ sorted R ys
+sorted-same {R = R} t e xs ys same =
+    ordered-members t e xs (ordered R ys) (ordered_rises R ys) (λ k at. in_ordered t e ys k (same.there k at)) (λ k at. same.back k (from_ordered t e ys k at))
+    ∙ ordered-is t ys
+
+greatest-same : {K : Type 0} {R : K → K → Ordering} → IsTotalOrder R → IsAntisymmetric R → (xs ys : List K) → HaveSame xs ys → greatest R xs ≡ greatest R ys
+greatest-same {R = R} t e xs ys same =
+    elim (greatest R xs) as (λ o. greatest R xs ≡ o → o ≡ greatest R ys) [
+      | Some x ↦ λ is. let top = greatest_is t xs x is in sym (is_greatest t e ys x (record { listed = same.there x top.listed; top = λ y at. top.top y (same.back y at) }))
+      | None ↦ λ is. elim (greatest R ys) as (λ o. greatest R ys ≡ o → None ≡ o) [
+        | Some y ↦ λ also. let top = greatest_is t ys y also in
+            let found = is_greatest t e xs y (record { listed = same.back y top.listed; top = λ z at. top.top z (same.there z at) }) in
+            sym is ∙ found
+        | None ↦ λ _. refl
+      ] refl
+    ] refl
+
+-- ---- a set that is given by a list
+
+module _ (fs : List Fact) where
+  abbrev pub given : Facts
+  given = from_list fs
+
+  members : HaveSame (items given) fs
+  members = record {
+    there = λ f at. Contains-from_any (tells_apart fact_exact) f fs
+        (sym (contains-from_list fact_total fs f) ∙ (contains-items given f ∙ list_any-from_Contains (eq_by_cmp_equiv fact_total) f (items given) at));
+    back = λ f at. Contains-from_any (tells_apart fact_exact) f (items given)
+        (sym (contains-items given f) ∙ (contains-from_list fact_total fs f ∙ list_any-from_Contains (eq_by_cmp_equiv fact_total) f fs at));
+  }
+
+  picked : {K : Type 0} (pick : Fact → Option K) → HaveSame (filter_map pick (items given)) (filter_map pick fs)
+  picked pick = record {
+    there = λ k at. let f = from-filter_map pick (items given) k at in Contains-filter_map pick fs f.0 k (members.there f.0 f.1) f.2;
+    back = λ k at. let f = from-filter_map pick fs k at in Contains-filter_map pick (items given) f.0 k (members.back f.0 f.1) f.2;
+  }
+
+  names_told : HaveSame (map name_of (items given)) (map name_of fs)
+  names_told = record {
+    there = λ n at. let f = from_map name_of n (items given) at in told n fs f.0 (members.there f.0 f.1) f.2;
+    back = λ n at. let f = from_map name_of n fs at in told n (items given) f.0 (members.back f.0 f.1) f.2;
+  }
+    where
+      told : (n : ConflictName) (xs : List Fact) (f : Fact) → Contains xs f → name_of f ≡ n → Contains (map name_of xs) n
+      told n xs f at is = subst (Contains (map name_of xs)) is (in_map name_of f xs at)
+
+  bodies_told : (n : ConflictName) → HaveSame (map body_of (filter (is_named n) (items given))) (map body_of (filter (is_named n) fs))
+  bodies_told n = record {
+    there = λ b at. let f = from_map body_of b (filter (is_named n) (items given)) at in
+        let own = from_filter (is_named n) (items given) f.0 f.1 in told b fs f.0 (members.there f.0 own.0) own.1 f.2;
+    back = λ b at. let f = from_map body_of b (filter (is_named n) fs) at in
+        let own = from_filter (is_named n) fs f.0 f.1 in told b (items given) f.0 (members.back f.0 own.0) own.1 f.2;
+  }
+    where
+      told : (b : List ℕ) (xs : List Fact) (f : Fact) → Contains xs f → is_named n f ≡ true → body_of f ≡ b → Contains (map body_of (filter (is_named n) xs)) b
+      told b xs f at own is = subst (Contains (map body_of (filter (is_named n) xs))) is (in_map body_of f (filter (is_named n) xs) (in_filter (is_named n) xs f at own))
+
+-- ---- conflicts
+
+-- the names with several bodies among these, each with their number
+abbrev counted : List Fact → ConflictName → Conflict
+counted fs n = record { name = n; bodies = length (sorted text_cmp (map body_of (filter (is_named n) fs))) }
+
+abbrev pub conflicts_in : List Fact → List Conflict
+conflicts_in fs = filter (λ c. nat_le 2 c.bodies) (map (counted fs) (sorted conflict_cmp (map name_of fs)))
+
+pub conflicts-given : (fs : List Fact) → conflicts (given fs) ≡ conflicts_in fs
+conflicts-given fs =
+    let all : names (given fs) ≡ sorted conflict_cmp (map name_of fs) = sorted-same conflict_total conflict_exact _ _ (names_told fs) in
+    λ i. filter (λ (c : Conflict). nat_le 2 c.bodies)
+    (map (λ (n : ConflictName). record { name = n; bodies = length (sorted-same text_total text_exact _ _ (bodies_told fs n) i) }) (all i))
+
+-- ---- the tally
+
+-- rows of these records, by what their header and their current snapshot spell
+module _ (contests : List Contest) (rs : List RecordName) (head now : RecordName → Option (List ℕ)) where
+  abbrev sums : ℕ → RecordName → Option VoteSums
+  sums c r = find (λ v. v.contest == c) (option_map_or (sums_of_body contests) (now r) [])
+
+  abbrev stands : RowKey → RecordName → Bool
+  stands q r = is_headed q (head r) && is_some (sums q.contest r)
+
+  abbrev total : ℕ → (VoteSums → ℕ) → List RecordName → ℕ
+  total c f xs = sum_by (λ r. option_map_or f (sums c r) 0) xs
+
+  abbrev row_of_all : ℕ → List RecordName → Row
+  row_of_all c xs = record {
+    ballots = length xs;
+    overvotes = total c (λ v. v.overvotes) xs;
+    undervotes = total c (λ v. v.undervotes) xs;
+    write_ins = total c (λ v. v.write_ins) xs;
+    pending = total c (λ v. v.pending) xs;
+    unassigned = total c (λ v. v.unassigned) xs;
+    votes = map (λ i. total c (λ v. get_or v.votes i 0) xs) (range_with_len 0 (length (selections_at contests c)));
+  }
+
+  abbrev row_with : RowKey → List RecordName → Option Row
+  row_with q xs = cond (length xs == 0) None (Some (row_of_all q.contest xs))
+
+  abbrev keys_with : RecordName → List RowKey
+  keys_with r = option_map_or (λ h. map (λ v. record { contest = v.contest; unit = unit_of h; batch = batch_of h }) (option_map_or (sums_of_body contests) (now r) [])) (head r) []
+
+  abbrev found_rows : List (RowKey × Row)
+  found_rows = filter_map (λ q. option_map (λ r. (q, r)) (row_with q (filter (stands q) rs))) (flat_map keys_with rs)
+
+abbrev pub rows_in : List Contest → List Fact → List (RowKey × Row)
+rows_in contests fs = found_rows contests (sorted name_cmp (filter_map record_of fs)) (λ r. greatest text_cmp (filter_map (header_body r) fs)) (λ r. greatest choice_cmp (filter_map (snapshot_body r) fs))
+
+rows-given : (contests : List Contest) (fs : List Fact) → rows contests (given fs) ≡ from_entries (rows_in contests fs)
+rows-given contests fs =
+    let all : records (given fs) ≡ sorted name_cmp (filter_map record_of fs) = sorted-same name_total name_exact _ _ (picked fs record_of) in
+    λ i. from_entries {R = key_cmp} (found_rows contests (all i) (λ r. greatest-same text_total text_exact _ _ (picked fs (header_body r)) i)
+    (λ r. greatest-same choice_total choice_exact _ _ (picked fs (snapshot_body r)) i))
+
+pub tally-given : (contests : List Contest) (fs : List Fact) → tally contests (given fs) ≡ flat_map (row_line contests) (placed key_cmp (rows_in contests fs))
+tally-given contests fs =
+    ap (λ m. flat_map (row_line contests) (map_of.entries m)) (rows-given contests fs)
+    ∙ ap (flat_map (row_line contests)) (entries-given keys_total (rows_in contests fs))
