@@ -52,11 +52,17 @@ check_lines definition [] files = []
 check_lines definition (path ∷ paths) [] = []
 check_lines definition (path ∷ paths) (file ∷ files) = check_line definition path file ++ check_lines definition paths files
 
+-- the text of a task over facts: `check` prints nothing of them
+abbrev pub facts_text : Frame → Task → Facts → List ℕ
+facts_text definition Currents facts = currents facts
+facts_text definition Conflicts facts = conflict_text (conflicts facts)
+facts_text definition Tally facts = tally definition.contests facts
+facts_text definition Check facts = []
+
+-- the text of a task over files
 abbrev pub task_text : Frame → Task → List (List ℕ) → List (List ℕ) → List ℕ
-task_text definition Currents paths files = currents (held definition files)
 task_text definition Check paths files = check_lines definition paths files
-task_text definition Conflicts paths files = conflict_text (conflicts (held definition files))
-task_text definition Tally paths files = tally definition.contests (held definition files)
+task_text definition task paths files = facts_text definition task (held definition files)
 
 -- the text of a run: nothing where the file of the definition is refused
 abbrev pub run_text : Task → List ℕ → List (List ℕ) → List (List ℕ) → List ℕ

@@ -2,10 +2,7 @@ ghost use Rattle.std.specs.Prelude.{◌≡◌, ◌≢◌, ◌⊎◌, ◌++◌, l
 ghost use Rattle.std.specs.List.{list_any};
 ghost use Rattle.cdf_types.specs.Device.{appended, AppendsFront};
 ghost use Rattle.cvr_cli.specs.Accepted.{is_refused};
-ghost use Rattle.cvr_cli.specs.Outcome.{held, check_lines, task_text, run_text, any_refused, bytes_of, IsWhole};
-ghost use Rattle.cvr_collect.specs.Names.{conflicts};
-ghost use Rattle.cvr_collect.specs.Tallied.{tally};
-ghost use Rattle.cvr_cli.specs.Currents.{currents, conflict_text};
+ghost use Rattle.cvr_cli.specs.Outcome.{held, check_lines, facts_text, task_text, run_text, any_refused, bytes_of, IsWhole};
 ghost use Rattle.cvr_cli.specs.declared.status.Status.TheVariants.{Done, Refused, CommandLine, Device, Memory as NoMemory};
 ghost use Rattle.cvr_cli.specs.Ends.{Ends};
 
@@ -100,40 +97,23 @@ fn collect_all<O: Office + Drop, L: Sink>(
     Ok((office, refusals))
 }
 
-// Prints the current snapshots.
-fn run_currents<O: Office + Drop, W: Sink, L: Sink>(
-    alloc: Global,
-    definition: Definition,
-    paths: &[Body],
-    files: &[Vec<u8>],
-    out: &mut W,
-    log: &mut L,
-) -> Status
-    requires working { W.has_failed out.old ≡ false }
-    requires named { length paths.now ≡ length files.now }
-    ensures { Ends (W.taken out.old) (W.taken out.new) (W.has_failed out.new)
-        (currents (held definition (bytes_of files.now))) (list_any (is_refused definition) (bytes_of files.now)) result }
+// The text of an office for a task; `check` prints nothing of it.
+fn office_text<O: Office>(alloc: Global, office: &O, task: Task) -> Result<String, Memory>
+    ensures { IfOk result (λ text. string_bytes text ≡ facts_text (O.defined office.now) task (O.held office.now)) }
 {
-    match collect_all::<O, L>(alloc, definition, paths, files, log) {
-        Ok((office, refusals)) => match currents_text(alloc, &office) {
-            Ok(text) => end_with(text.as_str(), refusals, out, log),
-            Err(Memory) => end_in_memory(log),
-        },
-        Err(status) => status,
+    match task {
+        Task::Currents => currents_text(alloc, office),
+        Task::Conflicts => conflicts_text(alloc, &office.conflicts(alloc)?),
+        Task::Tally => tally_text(alloc, &office.totals(alloc)?),
+        Task::Check => Ok(String::new(alloc)),
     }
 }
 
-// The lines of the conflicts of an office.
-fn text_of_conflicts<O: Office>(alloc: Global, office: &O) -> Result<String, Memory>
-    ensures { IfOk result (λ text. string_bytes text ≡ conflict_text (conflicts (O.held office.now))) }
-{
-    conflicts_text(alloc, &office.conflicts(alloc)?)
-}
-
-// Prints the conflicts.
-fn run_conflicts<O: Office + Drop, W: Sink, L: Sink>(
+// Prints the text of one office with all files that aren't refused.
+fn run_office<O: Office + Drop, W: Sink, L: Sink>(
     alloc: Global,
     definition: Definition,
+    task: Task,
     paths: &[Body],
     files: &[Vec<u8>],
     out: &mut W,
@@ -142,40 +122,10 @@ fn run_conflicts<O: Office + Drop, W: Sink, L: Sink>(
     requires working { W.has_failed out.old ≡ false }
     requires named { length paths.now ≡ length files.now }
     ensures { Ends (W.taken out.old) (W.taken out.new) (W.has_failed out.new)
-        (conflict_text (conflicts (held definition (bytes_of files.now)))) (list_any (is_refused definition) (bytes_of files.now)) result }
+        (facts_text definition task (held definition (bytes_of files.now))) (list_any (is_refused definition) (bytes_of files.now)) result }
 {
     match collect_all::<O, L>(alloc, definition, paths, files, log) {
-        Ok((office, refusals)) => match text_of_conflicts(alloc, &office) {
-            Ok(text) => end_with(text.as_str(), refusals, out, log),
-            Err(Memory) => end_in_memory(log),
-        },
-        Err(status) => status,
-    }
-}
-
-// The lines of the tally of an office.
-fn text_of_tally<O: Office>(alloc: Global, office: &O) -> Result<String, Memory>
-    ensures { IfOk result (λ text. string_bytes text ≡ tally (O.defined office.now).contests (O.held office.now)) }
-{
-    tally_text(alloc, &office.totals(alloc)?)
-}
-
-// Prints the tally.
-fn run_tally<O: Office + Drop, W: Sink, L: Sink>(
-    alloc: Global,
-    definition: Definition,
-    paths: &[Body],
-    files: &[Vec<u8>],
-    out: &mut W,
-    log: &mut L,
-) -> Status
-    requires working { W.has_failed out.old ≡ false }
-    requires named { length paths.now ≡ length files.now }
-    ensures { Ends (W.taken out.old) (W.taken out.new) (W.has_failed out.new)
-        (tally definition.contests (held definition (bytes_of files.now))) (list_any (is_refused definition) (bytes_of files.now)) result }
-{
-    match collect_all::<O, L>(alloc, definition, paths, files, log) {
-        Ok((office, refusals)) => match text_of_tally(alloc, &office) {
+        Ok((office, refusals)) => match office_text(alloc, &office, task) {
             Ok(text) => end_with(text.as_str(), refusals, out, log),
             Err(Memory) => end_in_memory(log),
         },
@@ -225,9 +175,15 @@ fn run_task<O: Office + Drop, W: Sink, L: Sink>(
 {
     let paths = request.paths.as_slice();
     match request.task {
-        Task::Currents => run_currents::<O, W, L>(alloc, definition, paths, files, out, log),
-        Task::Conflicts => run_conflicts::<O, W, L>(alloc, definition, paths, files, out, log),
-        Task::Tally => run_tally::<O, W, L>(alloc, definition, paths, files, out, log),
+        Task::Currents | Task::Conflicts | Task::Tally => run_office::<O, W, L>(
+            alloc,
+            definition,
+            request.task,
+            paths,
+            files,
+            out,
+            log,
+        ),
         Task::Check => run_check(alloc, &definition, paths, files, out, log),
     }
 }

@@ -1,5 +1,5 @@
 use Rattle.cvr_cli.proofs.Endings.{ends_in_memory}
-use Rattle.cvr_cli.proofs.tasks.run_tally.Goals as goal
+use Rattle.cvr_cli.proofs.tasks.run_office.Goals as goal
 
 pub returns-in-Ok : goal.returns-in-Ok
 returns-in-Ok g c = ends_in_memory _ _ _ _ _ c.requires.working c.end_in_memory.ensures
