@@ -1,7 +1,8 @@
 -- The imports of files into one office, where none lacked memory.
-use Rattle.std.proofs.Common.{◌≡◌, ℕ, zero, suc, ◌<◌, ◌≤◌, List, [], ◌∷◌, ◌++◌, length, get_or, map, take, reverse, length-take, add-one, false, ◌||◌, Option, Some, None, inl, inr, refl, sym, ap, ◌∙◌, subst, arith, true≢false}
+use Rattle.std.proofs.Common.{◌≡◌, ℕ, zero, suc, ◌<◌, ◌≤◌, List, [], ◌∷◌, ◌++◌, length, get_or, map, take, reverse, length-take, add-one, false, ◌||◌, Option, Some, None, ◌⊎◌, inl, inr, refl, sym, ap, ◌∙◌, subst, arith, true≢false}
 use Rattle.std.specs.Prelude.{is_some}
-use Rattle.std.proofs.lemmas.List.{take_more, take_all, reverse-append}
+use Rattle.std.proofs.lemmas.List.{take_more, take_all, reverse-append, length-map, get_or-map}
+use Rattle.std.proofs.lemmas.Bool.{cases_lt}
 use Rattle.std.proofs.lemmas.List.Folds.{list_any_more, list_any_at}
 use Rattle.std.specs.List.{zip, list_any}
 use Rattle.cdf_types.specs.declared.fault.ReadFault.{ReadFault}
@@ -19,8 +20,13 @@ use Rattle.cvr_collect.specs.Readers.{growth}
 use Rattle.cvr_collect.specs.Reach.{History, history, content}
 use Rattle.cvr_collect.specs.Outcomes.{due, AreOutcomes}
 use Rattle.cvr_cli.specs.Accepted.{is_refused}
-use Rattle.cvr_cli.specs.Refusals.{is_refusal, is_want}
+use Rattle.cvr_cli.specs.Refusals.{fault_in, is_refusal, is_want, AreDue}
+use Rattle.cvr_cli.specs.Told.{faults_of}
 use Rattle.cvr_cli.specs.Outcome.{imports, held}
+
+fault_in-due : (first : Option ReadFault) (n : ℕ) → fault_in (due first n) ≡ first
+fault_in-due None n = refl
+fault_in-due (Some fault) n = refl
 
 is_refusal-due : (first : Option ReadFault) (n : ℕ) → is_refusal (due first n) ≡ is_some first
 is_refusal-due None n = refl
@@ -41,8 +47,7 @@ get_or-one told_of other (x ∷ y ∷ offices) office one is = absurd (omega ari
 -- the events es, an import of each file, had the outcomes rs
 module _ (definition : Frame) (files : List (List ℕ)) (es : List Event) (rs : List Outcome)
     (many : length es ≡ length files) (also : length rs ≡ length files)
-    (each : (k : ℕ) → k < length files → get_or es k (Exchange 0 0) ≡ Import 0 k)
-    (working : list_any is_want rs ≡ false) where
+    (each : (k : ℕ) → k < length files → get_or es k (Exchange 0 0) ≡ Import 0 k) where
   -- the first n of them
   abbrev first : ℕ → History
   first n = history (take n es) (take n rs)
@@ -59,49 +64,90 @@ module _ (definition : Frame) (files : List (List ℕ)) (es : List Event) (rs : 
       ∙ (reverse-append (zip (take n es) (take n rs)) ((get_or es n (Exchange 0 0), get_or rs n (Accepted 0)) ∷ [])
       ∙ ap (λ e. (e, get_or rs n (Accepted 0)) ∷ history (take n es) (take n rs)) (each n lt)))
 
-  not_wanting : (n : ℕ) → n < length files → outcome n ≡ Refused (Read read.Memory) → ⊥
-  not_wanting n lt is = true≢false (sym (list_any_at is_want rs n (Accepted 0) (omega arith) (ap is_want is)) ∙ working)
+  -- the facts of the whole history, told of its first n
+  abbrev Whole : Type 0
+  Whole = AreOutcomes (starting definition ∷ []) (definition ∷ []) files (history es rs)
 
-  -- they are the imports of the first n files, and tell which of these were refused
-  record Follows (n : ℕ) : Type 0 where
-    pub past_is : first n ≡ imports definition files n
-    pub some : list_any is_refusal (take n rs) ≡ list_any (is_refused definition) (take n files)
+  all_first : Whole → AreOutcomes (starting definition ∷ []) (definition ∷ []) files (first (length files))
+  all_first out = subst (AreOutcomes (starting definition ∷ []) (definition ∷ []) files) (λ i. history (sym (take_all (length files) es (omega arith)) i) (sym (take_all (length files) rs (omega arith)) i)) out
 
-  -- what is due after the past
-  abbrev turn : ℕ → History → Outcome
-  turn n past = due (first_refusal definition (get_or files n [])) (growth (content (starting definition ∷ []) files past 0) (facts (get_or files n [])))
+  -- ---- the faults that they tell
 
-  follows-more : (n : ℕ) → n < length files → outcome n ≡ turn n (first n) → Follows n → Follows (suc n)
-  follows-more n lt is before = record {
-    past_is = first-more n lt
-        ∙ (ap (λ r. (Import 0 n, r) ∷ first n) is
-        ∙ ap (λ past. (Import 0 n, turn n past) ∷ past) before.past_is);
-    some = let told : is_refusal (get_or rs n (Accepted 0)) ≡ is_refused definition (get_or files n []) = ap is_refusal is ∙ is_refusal-due (first_refusal definition (get_or files n [])) _ in
-        rw (← add-one) (list_any_more is_refusal rs n (Accepted 0) (omega arith)
-        ∙ ((λ i. before.some i || told i) ∙ sym (list_any_more (is_refused definition) files n [] lt)));
-  }
+  abbrev IsTold : ℕ → Type 0
+  IsTold k = (fault_in (outcome k) ≡ first_refusal definition (get_or files k [])) ⊎ (fault_in (outcome k) ≡ Some read.Memory)
 
-  follows : (n : ℕ) → n ≤ length files → AreOutcomes (starting definition ∷ []) (definition ∷ []) files (first n) → Follows n
-  follows zero le out = record { past_is = refl; some = refl }
-  follows (suc n) le out =
+  told_at : (n : ℕ) → n ≤ length files → AreOutcomes (starting definition ∷ []) (definition ∷ []) files (first n) → (k : ℕ) → k < n → IsTold k
+  told_at zero le out k below = absurd (omega arith)
+  told_at (suc n) le out k below =
       let lt : n < length files = omega arith in
       let both = subst (AreOutcomes (starting definition ∷ []) (definition ∷ []) files) (first-more n lt) out in
-      elim (both.0.there (omega arith) lt) [
-        | inl is ↦ follows-more n lt is (follows n (omega arith) both.1)
-        | inr want ↦ absurd (not_wanting n lt want)
+      elim (cases_lt k n) [
+        | inl before ↦ told_at n (omega arith) both.1 k before
+        | inr after ↦
+            let same : n ≡ k = omega (arith, below, after) in
+            subst IsTold same (elim (both.0.there (omega arith) lt) [
+              | inl is ↦ inl (ap fault_in is ∙ fault_in-due (first_refusal definition (get_or files n [])) _)
+              | inr want ↦ inr (ap fault_in want)
+            ])
       ]
 
-  module _ (out : AreOutcomes (starting definition ∷ []) (definition ∷ []) files (history es rs)) where
-    all : Follows (length files)
-    all = follows (length files) (omega arith)
-        (subst (AreOutcomes (starting definition ∷ []) (definition ∷ []) files) (λ i. history (sym (take_all (length files) es (omega arith)) i) (sym (take_all (length files) rs (omega arith)) i)) out)
+  pub are_due : Whole → AreDue (faults_of definition files) rs
+  are_due out = record {
+    count = length-map files (first_refusal definition) ∙ sym also;
+    each = λ k below.
+        let lt : k < length files = omega (arith, below, also) in
+        let here = get_or-map (first_refusal definition) files k [] None lt in
+        elim (told_at (length files) (omega arith) (all_first out) k lt) [
+          | inl is ↦ inl (is ∙ sym here)
+          | inr want ↦ inr want
+        ];
+  }
 
-    pub content_held : content (starting definition ∷ []) files (history es rs) 0 ≡ held definition files
-    content_held =
-        ap (λ past. content (starting definition ∷ []) files past 0)
-        ((λ i. history (sym (take_all (length files) es (omega arith)) i) (sym (take_all (length files) rs (omega arith)) i)) ∙ all.past_is)
+  -- ---- where none lacked memory
 
-    pub refused_some : list_any is_refusal rs ≡ list_any (is_refused definition) files
-    refused_some =
-        ap (list_any is_refusal) (sym (take_all (length files) rs (omega arith)))
-        ∙ (all.some ∙ ap (list_any (is_refused definition)) (take_all (length files) files (omega arith)))
+  module _ (working : list_any is_want rs ≡ false) where
+    not_wanting : (n : ℕ) → n < length files → outcome n ≡ Refused (Read read.Memory) → ⊥
+    not_wanting n lt is = true≢false (sym (list_any_at is_want rs n (Accepted 0) (omega arith) (ap is_want is)) ∙ working)
+
+    -- they are the imports of the first n files, and tell which of these were refused
+    record Follows (n : ℕ) : Type 0 where
+      pub past_is : first n ≡ imports definition files n
+      pub some : list_any is_refusal (take n rs) ≡ list_any (is_refused definition) (take n files)
+
+    -- what is due after the past
+    abbrev turn : ℕ → History → Outcome
+    turn n past = due (first_refusal definition (get_or files n [])) (growth (content (starting definition ∷ []) files past 0) (facts (get_or files n [])))
+
+    follows-more : (n : ℕ) → n < length files → outcome n ≡ turn n (first n) → Follows n → Follows (suc n)
+    follows-more n lt is before = record {
+      past_is = first-more n lt
+          ∙ (ap (λ r. (Import 0 n, r) ∷ first n) is
+          ∙ ap (λ past. (Import 0 n, turn n past) ∷ past) before.past_is);
+      some = let told : is_refusal (get_or rs n (Accepted 0)) ≡ is_refused definition (get_or files n []) = ap is_refusal is ∙ is_refusal-due (first_refusal definition (get_or files n [])) _ in
+          rw (← add-one) (list_any_more is_refusal rs n (Accepted 0) (omega arith)
+          ∙ ((λ i. before.some i || told i) ∙ sym (list_any_more (is_refused definition) files n [] lt)));
+    }
+
+    follows : (n : ℕ) → n ≤ length files → AreOutcomes (starting definition ∷ []) (definition ∷ []) files (first n) → Follows n
+    follows zero le out = record { past_is = refl; some = refl }
+    follows (suc n) le out =
+        let lt : n < length files = omega arith in
+        let both = subst (AreOutcomes (starting definition ∷ []) (definition ∷ []) files) (first-more n lt) out in
+        elim (both.0.there (omega arith) lt) [
+          | inl is ↦ follows-more n lt is (follows n (omega arith) both.1)
+          | inr want ↦ absurd (not_wanting n lt want)
+        ]
+
+    module _ (out : Whole) where
+      all : Follows (length files)
+      all = follows (length files) (omega arith) (all_first out)
+
+      pub content_held : content (starting definition ∷ []) files (history es rs) 0 ≡ held definition files
+      content_held =
+          ap (λ past. content (starting definition ∷ []) files past 0)
+          ((λ i. history (sym (take_all (length files) es (omega arith)) i) (sym (take_all (length files) rs (omega arith)) i)) ∙ all.past_is)
+
+      pub refused_some : list_any is_refusal rs ≡ list_any (is_refused definition) files
+      refused_some =
+          ap (list_any is_refusal) (sym (take_all (length files) rs (omega arith)))
+          ∙ (all.some ∙ ap (list_any (is_refused definition)) (take_all (length files) files (omega arith)))

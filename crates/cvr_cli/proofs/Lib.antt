@@ -6,3 +6,5 @@ pub mod Endings
 pub mod CurrentLines
 pub mod Most
 mod Pieces
+pub mod Outcomes
+pub mod Telling

@@ -5,5 +5,6 @@ pub mod Outcome
 pub mod Log
 pub mod Status
 pub mod Refusals
+pub mod Told
 pub mod Ends
 pub mod Laws

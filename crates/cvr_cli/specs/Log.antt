@@ -32,7 +32,8 @@ has_path Memory = false
 abbrev pub memory_line : List ℕ
 memory_line = codes "memory\n"
 
--- a log that had taken `before` has taken `after`: the line, or a front of it where the log has failed
-pub record Logs (before after : Option (List ℕ)) (has_failed : Bool) (line : List ℕ) : Type 0 where
-  pub whole : has_failed ≡ false → after ≡ appended before line
-  pub front : AppendsFront before after line
+-- a log that had taken `before` has taken `after`: the text, or a front of it where the log has failed; one that had failed takes no more
+pub record Logs (before : Option (List ℕ)) (had_failed : Bool) (after : Option (List ℕ)) (has_failed : Bool) (text : List ℕ) : Type 0 where
+  pub whole : has_failed ≡ false → after ≡ appended before text
+  pub front : AppendsFront before after text
+  pub silent : had_failed ≡ true → (after ≡ before) × (has_failed ≡ true)

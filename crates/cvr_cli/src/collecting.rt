@@ -1,13 +1,14 @@
-ghost use Rattle.std.specs.Prelude.{◌≡◌, ℕ, ◌<◌, false, length, get_or, IfOk};
+ghost use Rattle.std.specs.Prelude.{◌≡◌, ℕ, ◌<◌, List, false, length, get_or, Option, option_map, IfOk, OnErr};
 ghost use Rattle.std.specs.List.{list_any};
 ghost use Rattle.cvr_collect.specs.declared.event.Event.TheVariants.{Import, Exchange};
 ghost use Rattle.cvr_cli.specs.Accepted.{is_refused};
 ghost use Rattle.cvr_cli.specs.Outcome.{held, bytes_of};
-ghost use Rattle.cvr_cli.specs.Refusals.{is_refusal, is_want};
+ghost use Rattle.cvr_cli.specs.Refusals.{fault_in, is_refusal, is_want, AreDue};
+ghost use Rattle.cvr_cli.specs.Told.{faults_of, Tells};
 
 use crate::refusals::Refusals;
 use cdf_check::Definition;
-use cdf_types::{Body, Memory, Sink};
+use cdf_types::{Body, Memory, ReadFault, Sink};
 use cvr_collect::{Cause, Event, Office, Outcome, play};
 use std::alloc::Global;
 
@@ -23,6 +24,16 @@ fn imports_of(alloc: Global, files: usize) -> Result<Vec<Event>, Memory>
     Ok(events)
 }
 
+// The fault for which a file was refused.
+fn fault_in(outcome: &Outcome) -> Option<&ReadFault>
+    ensures { option_map (λ f. f.now) result ≡ fault_in outcome.now }
+{
+    match outcome {
+        Outcome::Refused(Cause::Read(fault)) => Some(fault),
+        _ => None,
+    }
+}
+
 // Tells each file that was refused to the log.
 fn note_refused<L: Sink>(
     alloc: Global,
@@ -33,10 +44,12 @@ fn note_refused<L: Sink>(
     requires { length paths.now ≡ length outcomes.now }
     ensures some { result.some ≡ list_any is_refusal outcomes.now }
     ensures lacking { result.lacking ≡ list_any is_want outcomes.now }
+    ensures log { (faults : List (Option ReadFault)) → AreDue faults outcomes.now
+        → Tells paths.now faults (length outcomes.now) result (L.taken log.old) (L.has_failed log.old) (L.taken log.new) (L.has_failed log.new) }
 {
     let mut refusals = Refusals::none();
     for (place, outcome) in outcomes.iter().enumerate() {
-        if let Outcome::Refused(Cause::Read(fault)) = outcome {
+        if let Some(fault) = fault_in(outcome) {
             refusals.note(alloc, log, paths[place].as_str(), fault);
         }
     }
@@ -59,6 +72,9 @@ pub fn collect<O: Office + Drop, L: Sink>(
     ensures definition { IfOk result (λ r. O.defined r.0 ≡ definition) }
     ensures content { IfOk result (λ r. r.1.lacking ≡ false → O.held r.0 ≡ held definition (bytes_of files.now)) }
     ensures some { IfOk result (λ r. r.1.lacking ≡ false → r.1.some ≡ list_any (is_refused definition) (bytes_of files.now)) }
+    ensures log { IfOk result (λ r. Tells paths.now (faults_of definition (bytes_of files.now)) (length files.now) r.1
+        (L.taken log.old) (L.has_failed log.old) (L.taken log.new) (L.has_failed log.new)) }
+    ensures unchanged { OnErr result (log.new ≡ log.old) }
 {
     let mut offices = Vec::new(alloc);
     offices.push(O::new(alloc, definition)?)?;

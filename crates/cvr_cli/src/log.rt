@@ -10,7 +10,7 @@ use std::alloc::Global;
 /// Writes a line to the log, piece by piece, unless the log has failed. A log that fails gets a front
 /// of it. Takes no memory.
 pub fn say<L: Sink>(log: &mut L, pieces: &[&[u8]])
-    ensures { Logs (L.taken log.old) (L.taken log.new) (L.has_failed log.new) (flat_map (λ p. p.now) pieces.now) }
+    ensures { Logs (L.taken log.old) (L.has_failed log.old) (L.taken log.new) (L.has_failed log.new) (flat_map (λ p. p.now) pieces.now) }
 {
     if log.failed() {
         return;
@@ -24,7 +24,7 @@ pub fn say<L: Sink>(log: &mut L, pieces: &[&[u8]])
 
 /// Tells want of memory to the log. Takes no memory.
 pub fn say_memory<L: Sink>(log: &mut L)
-    ensures { Logs (L.taken log.old) (L.taken log.new) (L.has_failed log.new) memory_line }
+    ensures { Logs (L.taken log.old) (L.has_failed log.old) (L.taken log.new) (L.has_failed log.new) memory_line }
 {
     say(log, &[b"memory\n"]);
 }
@@ -49,7 +49,7 @@ pub fn tell<L: Sink>(
     what: &str,
     fault: &ReadFault,
 ) -> Result<(), Memory>
-    ensures line { OnOk result (Logs (L.taken log.old) (L.taken log.new) (L.has_failed log.new) (fault_line what.now fault.now)) }
+    ensures line { OnOk result (Logs (L.taken log.old) (L.has_failed log.old) (L.taken log.new) (L.has_failed log.new) (fault_line what.now fault.now)) }
     ensures unchanged { OnErr result (log.new ≡ log.old) }
     ensures pathless { has_path fault.now ≡ false → IsOk result }
 {

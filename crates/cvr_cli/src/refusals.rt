@@ -38,11 +38,9 @@ impl Refusals {
     pub fn note<L: Sink>(&mut self, alloc: Global, log: &mut L, what: &str, fault: &ReadFault)
         ensures some { self.new.some ≡ true }
         ensures lacking { self.new.lacking ≡ (self.old.lacking || is_memory fault.now) }
-        ensures unlogged { self.old.unlogged ≡ true → self.new.unlogged ≡ true }
-        ensures pathless { has_path fault.now ≡ false → self.new.unlogged ≡ self.old.unlogged }
-        ensures told { Logs (L.taken log.old) (L.taken log.new) (L.has_failed log.new) (fault_line what.now fault.now)
+        ensures told { (self.new.unlogged ≡ self.old.unlogged) × Logs (L.taken log.old) (L.has_failed log.old) (L.taken log.new) (L.has_failed log.new) (fault_line what.now fault.now)
             ⊎ (has_path fault.now ≡ true) × (self.new.unlogged ≡ true)
-            × Logs (L.taken log.old) (L.taken log.new) (L.has_failed log.new) memory_line }
+            × Logs (L.taken log.old) (L.has_failed log.old) (L.taken log.new) (L.has_failed log.new) memory_line }
     {
         self.some = true;
         if let ReadFault::Memory = fault {

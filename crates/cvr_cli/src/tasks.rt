@@ -1,10 +1,13 @@
-ghost use Rattle.std.specs.Prelude.{◌≡◌, ◌≢◌, ◌⊎◌, ◌++◌, length, map, true, false, IfOk, IfErr, string_bytes};
+ghost use Rattle.std.specs.Prelude.{◌≡◌, ◌≢◌, ◌⊎◌, ◌↔◌, ◌++◌, ℕ, length, map, true, false, IfOk, IfErr, OnErr, string_bytes};
 ghost use Rattle.std.specs.List.{list_any};
 ghost use Rattle.cdf_types.specs.Device.{appended, AppendsFront};
 ghost use Rattle.cvr_cli.specs.Accepted.{is_refused};
 ghost use Rattle.cvr_cli.specs.Outcome.{held, check_lines, facts_text, task_text, run_text, any_refused, bytes_of, IsWhole};
 ghost use Rattle.cvr_cli.specs.declared.status.Status.TheVariants.{Done, Refused, CommandLine, Device, Memory as NoMemory};
+ghost use Rattle.cvr_cli.specs.declared.refusals.Refusals.{Refusals};
 ghost use Rattle.cvr_cli.specs.Ends.{Ends};
+ghost use Rattle.cvr_cli.specs.Log.{memory_line, Logs};
+ghost use Rattle.cvr_cli.specs.Told.{faults_of, run_lines, out_line, Tells, TellsRun, IsCutShort, IsRunCutShort, LogsSome};
 
 use crate::check::push_count;
 use crate::collecting::collect;
@@ -34,6 +37,10 @@ fn count_files<L: Sink>(
     ensures some { IfOk result (λ r. r.lacking ≡ false → r.some ≡ list_any (is_refused definition.now) (bytes_of files.now)) }
     ensures text { IfOk result (λ r. r.lacking ≡ false
         → string_bytes text.new ≡ string_bytes text.old ++ check_lines definition.now paths.now (bytes_of files.now)) }
+    ensures log { IfOk result (λ r. Tells paths.now (faults_of definition.now (bytes_of files.now)) (length files.now) r
+        (L.taken log.old) (L.has_failed log.old) (L.taken log.new) (L.has_failed log.new)) }
+    ensures cut_short { OnErr result ((n : ℕ) × (r : Refusals) × Tells paths.now (faults_of definition.now (bytes_of files.now)) n r
+        (L.taken log.old) (L.has_failed log.old) (L.taken log.new) (L.has_failed log.new)) }
 {
     let mut refusals = Refusals::none();
     for (place, file) in files.iter().enumerate() {
@@ -48,7 +55,8 @@ fn count_files<L: Sink>(
 
 // Ends a run with no text, for want of memory.
 fn end_in_memory<L: Sink>(log: &mut L) -> Status
-    ensures { result ≡ NoMemory }
+    ensures status { result ≡ NoMemory }
+    ensures log { Logs (L.taken log.old) (L.has_failed log.old) (L.taken log.new) (L.has_failed log.new) memory_line }
 {
     say_memory(log);
     Status::Memory
@@ -58,7 +66,9 @@ fn end_in_memory<L: Sink>(log: &mut L) -> Status
 fn end_with<W: Sink, L: Sink>(text: &str, refusals: Refusals, out: &mut W, log: &mut L) -> Status
     requires working { W.has_failed out.old ≡ false }
     requires whole { refusals.lacking ≡ false }
-    ensures { Ends (W.taken out.old) (W.taken out.new) (W.has_failed out.new) text.now refusals.some result }
+    ensures ends { Ends (W.taken out.old) (W.taken out.new) (W.has_failed out.new) text.now refusals.some result }
+    ensures wanting { (result ≡ NoMemory) ↔ (refusals.unlogged ≡ true) }
+    ensures log { Logs (L.taken log.old) (L.has_failed log.old) (L.taken log.new) (L.has_failed log.new) (out_line (W.has_failed out.new)) }
 {
     match write_all(out, text.as_bytes()) {
         Ok(()) => refusals.status(),
@@ -87,6 +97,10 @@ fn collect_all<O: Office + Drop, L: Sink>(
     ensures some { IfOk result (λ r. r.1.some ≡ list_any (is_refused definition) (bytes_of files.now)) }
     ensures whole { IfOk result (λ r. r.1.lacking ≡ false) }
     ensures status { IfErr result (λ s. s ≡ NoMemory) }
+    ensures log { IfOk result (λ r. Tells paths.now (faults_of definition (bytes_of files.now)) (length files.now) r.1
+        (L.taken log.old) (L.has_failed log.old) (L.taken log.new) (L.has_failed log.new)) }
+    ensures cut_short { OnErr result (LogsSome (IsCutShort paths.now (faults_of definition (bytes_of files.now)) false)
+        (L.taken log.old) (L.has_failed log.old) (L.taken log.new) (L.has_failed log.new)) }
 {
     let Ok((office, refusals)) = collect::<O, L>(alloc, definition, paths, files, log) else {
         return Err(end_in_memory(log));
@@ -121,8 +135,10 @@ fn run_office<O: Office + Drop, W: Sink, L: Sink>(
 ) -> Status
     requires working { W.has_failed out.old ≡ false }
     requires named { length paths.now ≡ length files.now }
-    ensures { Ends (W.taken out.old) (W.taken out.new) (W.has_failed out.new)
+    ensures ends { Ends (W.taken out.old) (W.taken out.new) (W.has_failed out.new)
         (facts_text definition task (held definition (bytes_of files.now))) (list_any (is_refused definition) (bytes_of files.now)) result }
+    ensures log { TellsRun paths.now (faults_of definition (bytes_of files.now)) (result ≡ NoMemory) (W.has_failed out.new)
+        (L.taken log.old) (L.has_failed log.old) (L.taken log.new) (L.has_failed log.new) }
 {
     match collect_all::<O, L>(alloc, definition, paths, files, log) {
         Ok((office, refusals)) => match office_text(alloc, &office, task) {
@@ -144,8 +160,10 @@ fn run_check<W: Sink, L: Sink>(
 ) -> Status
     requires working { W.has_failed out.old ≡ false }
     requires named { length paths.now ≡ length files.now }
-    ensures { Ends (W.taken out.old) (W.taken out.new) (W.has_failed out.new)
+    ensures ends { Ends (W.taken out.old) (W.taken out.new) (W.has_failed out.new)
         (check_lines definition.now paths.now (bytes_of files.now)) (list_any (is_refused definition.now) (bytes_of files.now)) result }
+    ensures log { TellsRun paths.now (faults_of definition.now (bytes_of files.now)) (result ≡ NoMemory) (W.has_failed out.new)
+        (L.taken log.old) (L.has_failed log.old) (L.taken log.new) (L.has_failed log.new) }
 {
     let mut text = String::new(alloc);
     match count_files(alloc, definition, paths, files, &mut text, log) {
@@ -169,9 +187,11 @@ fn run_task<O: Office + Drop, W: Sink, L: Sink>(
 ) -> Status
     requires working { W.has_failed out.old ≡ false }
     requires named { length request.now.paths ≡ length files.now }
-    ensures { Ends (W.taken out.old) (W.taken out.new) (W.has_failed out.new)
+    ensures ends { Ends (W.taken out.old) (W.taken out.new) (W.has_failed out.new)
         (task_text definition request.now.task request.now.paths (bytes_of files.now))
         (list_any (is_refused definition) (bytes_of files.now)) result }
+    ensures log { TellsRun request.now.paths (faults_of definition (bytes_of files.now)) (result ≡ NoMemory) (W.has_failed out.new)
+        (L.taken log.old) (L.has_failed log.old) (L.taken log.new) (L.has_failed log.new) }
 {
     let paths = request.paths.as_slice();
     match request.task {
@@ -211,6 +231,11 @@ pub fn run<W: Sink, L: Sink>(
     ensures device { result ≡ Device → W.has_failed out.new ≡ true }
     ensures failed { W.has_failed out.new ≡ true → (result ≡ Device) ⊎ (result ≡ NoMemory) }
     ensures no_words { result ≢ CommandLine }
+    ensures log { result ≢ NoMemory → Logs (L.taken log.old) (L.has_failed log.old) (L.taken log.new) (L.has_failed log.new)
+        (run_lines request.now.def def.now request.now.paths (bytes_of files.now) ++ out_line (W.has_failed out.new)) }
+    ensures cut_short { result ≡ NoMemory
+        → LogsSome (IsRunCutShort request.now.def def.now request.now.paths (bytes_of files.now) (W.has_failed out.new))
+        (L.taken log.old) (L.has_failed log.old) (L.taken log.new) (L.has_failed log.new) }
 {
     match Definition::read(alloc, def) {
         Err(fault) => {

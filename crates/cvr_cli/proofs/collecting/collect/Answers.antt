@@ -7,8 +7,9 @@ use Rattle.cvr_collect.specs.Keeps.{starting}
 use Rattle.cvr_collect.specs.Reach.{content, history}
 use Rattle.cvr_collect.specs.Outcomes.{AreOutcomes}
 use Rattle.cvr_cli.specs.Outcome.{bytes_of}
-use Rattle.cvr_cli.specs.Refusals.{is_refusal, is_want}
-use Rattle.cvr_cli.proofs.Imports.{get_or-one, content_held, refused_some}
+use Rattle.cvr_cli.specs.Refusals.{is_refusal, is_want, AreDue}
+use Rattle.cvr_cli.specs.Told.{faults_of, Tells}
+use Rattle.cvr_cli.proofs.Imports.{get_or-one, content_held, refused_some, are_due}
 use Rattle.cvr_cli.proofs.collecting.collect.Goals as goal
 
 pub returns : goal.returns
@@ -49,4 +50,9 @@ returns g c =
           told.some
           ∙ (ap (list_any is_refusal) c.as_slice-2.ensures.value
           ∙ refused_some def files es rs many also each (wants working) out);
+      log =
+          subst (λ n. Tells c.args.paths.now (faults_of def files) n c.note_refused-refusals.result (g.L.Sink.taken c.args.log.now) (g.L.Sink.has_failed c.args.log.now) (g.L.Sink.taken c.note_refused-refusals.new.log) (g.L.Sink.has_failed c.note_refused-refusals.new.log))
+          (ap length c.as_slice-2.ensures.value ∙ (also ∙ files_count))
+          (told.log (faults_of def files) (subst (AreDue (faults_of def files)) (sym c.as_slice-2.ensures.value) (are_due def files es rs many also each out)));
+      unchanged = tt;
     }

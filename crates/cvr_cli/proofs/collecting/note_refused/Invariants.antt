@@ -1,11 +1,15 @@
-use Rattle.std.proofs.Common.{◌≡◌, take}
+use Rattle.std.proofs.Common.{◌≡◌, List, Option, take}
 use Rattle.std.specs.List.{list_any}
-use Rattle.cvr_cli.specs.Refusals.{is_refusal, is_want}
+use Rattle.cdf_types.specs.declared.fault.ReadFault.{ReadFault}
+use Rattle.cvr_cli.specs.Refusals.{is_refusal, is_want, AreDue}
+use Rattle.cvr_cli.specs.Told.{Tells}
 use Rattle.cvr_cli.proofs.collecting.note_refused.Given as goal
 
--- what the outcomes so far say
+-- what the outcomes so far say, and what was told of them
 abbrev pub invariant-loop-place : goal.invariant-loop-place
 invariant-loop-place g l = record {
   some : l.refusals.some ≡ list_any is_refusal (take l.place l.outcomes);
   lacking : l.refusals.lacking ≡ list_any is_want (take l.place l.outcomes);
+  log : (faults : List (Option ReadFault)) → AreDue faults l.outcomes
+      → Tells l.paths faults l.place l.refusals (g.L.Sink.taken l.initial.log) (g.L.Sink.has_failed l.initial.log) (g.L.Sink.taken l.log) (g.L.Sink.has_failed l.log);
 }

@@ -8,6 +8,7 @@ returns-then-is_err g c =
     let err = sym c.is_err.ensures.value ∙ c.if-is_err.true in
     let told = where_err _ c.write_all.result err c.write_all.ensures.front in record {
       whole = failed_works _ _ (where_err _ c.write_all.result err c.write_all.ensures.failed);
+      silent = λ had. failed_works _ _ had (sym c.failed.ensures ∙ c.if-failed.false);
       front = front_of_piece _ _ _ _ _ _ _ (next_piece c.args.pieces.now c.loop-piece.piece-index _ c.loop-piece.invariant.1 c.loop-piece-test.true c.loop-piece.invariant.2) c.loop-piece.invariant.3 told;
     }
 
