@@ -22,7 +22,9 @@ use Rattle.cvr_collect.specs.Outcomes.{due, AreOutcomes}
 use Rattle.cvr_cli.specs.Accepted.{is_refused}
 use Rattle.cvr_cli.specs.Refusals.{fault_in, is_refusal, is_want, AreDue}
 use Rattle.cvr_cli.specs.Told.{faults_of}
-use Rattle.cvr_cli.specs.Outcome.{imports, held}
+use Rattle.cvr_cli.specs.Laws.{imports}
+use Rattle.cvr_cli.specs.Outcome.{held}
+use Rattle.cvr_cli.proofs.Members.{content_is_held}
 
 fault_in-due : (first : Option ReadFault) (n : ℕ) → fault_in (due first n) ≡ first
 fault_in-due None n = refl
@@ -146,6 +148,7 @@ module _ (definition : Frame) (files : List (List ℕ)) (es : List Event) (rs : 
       content_held =
           ap (λ past. content (starting definition ∷ []) files past 0)
           ((λ i. history (sym (take_all (length files) es (omega arith)) i) (sym (take_all (length files) rs (omega arith)) i)) ∙ all.past_is)
+          ∙ content_is_held definition files
 
       pub refused_some : list_any is_refusal rs ≡ list_any (is_refused definition) files
       refused_some =

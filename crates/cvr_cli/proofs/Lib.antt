@@ -1,7 +1,7 @@
 pub mod Files
 pub mod Accepted
-pub mod Imports
 pub mod Members
+pub mod Imports
 pub mod Endings
 pub mod CurrentLines
 pub mod Most

@@ -1,11 +1,30 @@
--- Neither the order of files nor a file that comes again changes what is held of them. (This project's own.)
-use Rattle.std.specs.Prelude.{◌≡◌, ◌↔◌, ℕ, List}
+-- What is held of files is what an office holds after their imports; neither their order nor a file that comes again changes it. (This project's own.)
+use Rattle.std.specs.Prelude.{◌≡◌, ◌↔◌, ℕ, zero, suc, length, get_or, List, [], ◌∷◌}
 use Rattle.std.specs.List.{Contains}
 use Rattle.cdf_check.specs.Frame.{Frame}
+use Rattle.cdf_check.specs.Acceptance.{first_refusal}
+use Rattle.cvr_facts.specs.Reports.{facts}
+use Rattle.cvr_collect.specs.declared.event.Event.TheVariants.{Import}
+use Rattle.cvr_collect.specs.Keeps.{starting}
+use Rattle.cvr_collect.specs.Readers.{growth}
+use Rattle.cvr_collect.specs.Reach.{History, content}
+use Rattle.cvr_collect.specs.Outcomes.{due}
 use Rattle.cvr_collect.specs.Names.{conflicts}
 use Rattle.cvr_collect.specs.Tallied.{tally}
 use Rattle.cvr_cli.specs.Currents.{currents}
 use Rattle.cvr_cli.specs.Outcome.{held}
+
+-- the imports of the first n files into one new office, each with the outcome that is due, the newest first
+abbrev pub imports : Frame → List (List ℕ) → ℕ → History
+imports definition files zero = []
+imports definition files (suc n) =
+    let past = imports definition files n in
+    let file = get_or files n [] in
+    (Import 0 n, due (first_refusal definition file) (growth (content (starting definition ∷ []) files past 0) (facts file))) ∷ past
+
+-- what that office holds after all of them is the devices of the definition, and the facts of the accepted files
+abbrev pub HeldLaw : Type 0
+HeldLaw = (definition : Frame) (files : List (List ℕ)) → content (starting definition ∷ []) files (imports definition files (length files)) 0 ≡ held definition files
 
 -- the two lists have the same files, in any order and however often
 abbrev pub HaveSameFiles : List (List ℕ) → List (List ℕ) → Type 0

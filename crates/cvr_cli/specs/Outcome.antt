@@ -1,11 +1,12 @@
 -- What a run has to print, over the bytes of its files. (This project's own.)
-use Rattle.std.specs.Prelude.{◌≡◌, ℕ, zero, suc, length, get_or, List, [], ◌∷◌, ◌++◌, Bool, ◌||◌, if◌then◌else◌, map, decimal, ◌⊎◌}
+use Rattle.std.specs.Prelude.{◌≡◌, ℕ, List, [], ◌∷◌, ◌++◌, Bool, ◌||◌, if◌then◌else◌, map, decimal, ◌⊎◌}
 use Rattle.std.specs.Global.{Vec}
 use Rattle.std.specs.List.{list_any}
+use Rattle.std.specs.FinSet.{union, empty}
 use Rattle.std.specs.Option.{option_map_or}
 use Rattle.cdf_form.specs.Parts.{record_count}
 use Rattle.cdf_check.specs.Frame.{Frame}
-use Rattle.cdf_check.specs.Acceptance.{frame_in, first_refusal}
+use Rattle.cdf_check.specs.Acceptance.{frame_in}
 use Rattle.cvr_facts.specs.Facts.{Facts}
 use Rattle.cvr_facts.specs.Reports.{facts}
 use Rattle.cvr_cli.specs.declared.request.Task.{Task}
@@ -13,28 +14,21 @@ use Rattle.cvr_cli.specs.declared.request.Task.TheVariants.{Currents, Check, Con
 use Rattle.cvr_cli.specs.declared.status.Status.{Status}
 use Rattle.cvr_cli.specs.declared.status.Status.TheVariants.{Done, Refused}
 use Rattle.cvr_cli.specs.Accepted.{is_unsound, is_refused, accepted}
-use Rattle.cvr_collect.specs.declared.event.Event.TheVariants.{Import}
 use Rattle.cvr_collect.specs.Names.{conflicts}
 use Rattle.cvr_collect.specs.Tallied.{tally}
 use Rattle.cvr_collect.specs.Keeps.{starting}
-use Rattle.cvr_collect.specs.Readers.{growth}
-use Rattle.cvr_collect.specs.Reach.{History, content}
-use Rattle.cvr_collect.specs.Outcomes.{due}
+use Rattle.cvr_collect.specs.Reach.{union_over}
 use Rattle.cvr_cli.specs.Currents.{currents, conflict_text}
 
 -- ---- what a run holds
 
--- the imports of the first n files into one new office, each with the outcome that is due, the newest first
-abbrev pub imports : Frame → List (List ℕ) → ℕ → History
-imports definition files zero = []
-imports definition files (suc n) =
-    let past = imports definition files n in
-    let file = get_or files n [] in
-    (Import 0 n, due (first_refusal definition file) (growth (content (starting definition ∷ []) files past 0) (facts file))) ∷ past
+-- the facts of a file that is accepted beside the definition, and none of another
+abbrev pub accepted_facts : Frame → List ℕ → Facts
+accepted_facts definition file = if is_refused definition file then empty else facts file
 
--- what the office holds after all of them
+-- the devices of the definition, and the facts of the accepted files
 abbrev pub held : Frame → List (List ℕ) → Facts
-held definition files = content (starting definition ∷ []) files (imports definition files (length files)) 0
+held definition files = union (starting definition) (union_over (accepted_facts definition) files)
 
 -- ---- texts
 

@@ -1,7 +1,13 @@
 ghost use Rattle.std.specs.Prelude.{◌≡◌, ◌+◌};
 ghost use Rattle.cdf_form.specs.Reading.{max_file};
 ghost use Rattle.cvr_cli.specs.File.{held_bytes};
-ghost use Rattle.cvr_cli.specs.Laws.{SameFactsLaw, SameCurrentsLaw, SameConflictsLaw, SameTallyLaw};
+ghost use Rattle.cvr_cli.specs.Laws.{HeldLaw, SameFactsLaw, SameCurrentsLaw, SameConflictsLaw, SameTallyLaw};
+
+/// What a run holds, the devices of the definition and the facts of the accepted files, is the content
+/// of one new office after the import of each file.
+pub fn held_is_the_content_after_imports()
+    ensures { HeldLaw }
+{}
 
 /// Lists of the same files, in any order and however often each comes, hold the same facts and have
 /// the same current snapshots, the same conflicts and the same tally.

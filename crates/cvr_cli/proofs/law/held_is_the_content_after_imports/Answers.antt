@@ -1,0 +1,5 @@
+use Rattle.cvr_cli.proofs.Members.{content_is_held}
+use Rattle.cvr_cli.proofs.law.held_is_the_content_after_imports.Goals as goal
+
+pub returns : goal.returns
+returns c = content_is_held
