@@ -1,0 +1,35 @@
+-- A heading, or why there is none. (This project's own.)
+use Rattle.std.specs.Prelude.{◌≡◌, ℕ, List, Bool, true, false, bytes_eq}
+use Rattle.std.specs.List.{list_any}
+use Rattle.std.specs.Coded.{Coded, code_by, coded×, coded_list, coded_ℕ}
+use Rattle.std.proofs.Common.{refl}
+use Rattle.cdf_form.specs.Form.{is_moment}
+use Rattle.cdf_check.specs.Frame.{Frame}
+use Rattle.cdf_check.specs.Named.{ids_of}
+use Rattle.cvr_report.specs.declared.heading.HeadFault.{HeadFault}
+use Rattle.cvr_report.specs.declared.heading.HeadFault.TheVariants.{NotMoment, NoDevice, Memory}
+
+-- the date of a volume and the id of the device that makes it
+pub record Head : Type 0 where
+  pub date : List ℕ
+  pub device : List ℕ
+
+abbrev pub coded_head : Coded Head
+coded_head = code_by (List ℕ × List ℕ) (coded× (coded_list coded_ℕ) (coded_list coded_ℕ)) (λ h. (h.date, h.device)) (λ p. record { date = p.0; device = p.1 }) (λ _. refl)
+
+-- whether the definition has a device of this id
+abbrev pub is_device_of : Frame → List ℕ → Bool
+is_device_of frame device = list_any (bytes_eq device) (ids_of frame.devices)
+
+-- the fault that applies
+abbrev pub IsFault : Frame → List ℕ → List ℕ → HeadFault → Type 0
+IsFault frame date device NotMoment = is_moment date ≡ false
+IsFault frame date device NoDevice = (is_moment date ≡ true) × (is_device_of frame device ≡ false)
+IsFault frame date device Memory = (is_moment date ≡ true) × (is_device_of frame device ≡ true)
+
+-- the heading of a moment and a device of the definition
+pub record IsHead (frame : Frame) (date device : List ℕ) (h : Head) : Type 0 where
+  pub date_is : h.date ≡ date
+  pub device_is : h.device ≡ device
+  pub moment : is_moment date ≡ true
+  pub listed : is_device_of frame device ≡ true

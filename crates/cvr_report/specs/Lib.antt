@@ -1,0 +1,9 @@
+pub mod Record
+pub mod Scan
+pub mod Writes
+pub mod Page
+pub mod Volume
+pub mod Pieces
+pub mod Head
+pub mod Found
+pub mod Laws

@@ -1,0 +1,14 @@
+//! Headings, and volumes of what an office holds as reports.
+#![tactic(auto)]
+
+mod fault;
+mod heading;
+pub mod law;
+mod record;
+mod scan;
+mod shown;
+mod volume;
+
+pub use fault::WriteFault;
+pub use heading::{HeadFault, Heading};
+pub use volume::{volumes, write_volume};

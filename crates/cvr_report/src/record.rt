@@ -1,0 +1,107 @@
+// A record of a volume, as text.
+ghost use Rattle.std.specs.Prelude.{◌≡◌, ◌<◌, ◌++◌, ℕ, List, length, OnOk, false};
+ghost use Rattle.json.specs.Print.{quoted};
+ghost use Rattle.serde_json.specs.Data.{object, Items, Members};
+ghost use Rattle.serde_json.specs.Written.{compact_text, comma_if};
+ghost use Rattle.cdf_form.specs.Proper.{MembersAreWell};
+ghost use Rattle.cdf_check.specs.Frame.{Frame};
+ghost use Rattle.cvr_facts.specs.declared.name.RecordName.{RecordName};
+ghost use Rattle.cvr_facts.specs.Facts.{Facts};
+ghost use Rattle.cvr_collect.specs.Keeps.{Keeps};
+ghost use Rattle.cvr_collect.specs.Readers.{AreFactsOf};
+ghost use Rattle.cvr_report.specs.Record.{IsHeader, record_of, texts_of, joined};
+ghost use Rattle.cvr_report.specs.Page.{shown_record};
+ghost use Rattle.cvr_report.specs.Volume.{record_data};
+ghost use Rattle.cvr_report.specs.Found.{HaveSnapshots, CanShow, shown_bodies};
+
+use crate::scan::cut;
+use crate::shown::{shown_current, shown_header, shown_snapshot};
+use cdf_types::{Body, Memory};
+use cvr_collect::{IdFacts, RecordFacts};
+use cvr_tally::text::quoted;
+use std::alloc::Global;
+
+// Adds a text, with a comma before it unless it is the first.
+fn push_later(out: &mut Vec<u8>, later: bool, text: &Body) -> Result<(), Memory>
+    ensures { OnOk result (out.new.items ≡ out.old.items ++ (comma_if later ++ text.now)) }
+{
+    if later {
+        out.extend_from_slice(b",")?;
+    }
+    out.extend_from_slice(text.as_str().as_bytes())?;
+    Ok(())
+}
+
+// Adds texts with commas between them.
+pub(crate) fn push_joined(out: &mut Vec<u8>, texts: &[Body]) -> Result<(), Memory>
+    ensures { OnOk result (out.new.items ≡ out.old.items ++ joined false texts.now) }
+{
+    let mut later = false;
+    for text in texts {
+        push_later(out, later, text)?;
+        later = true;
+    }
+    Ok(())
+}
+
+// Adds the snapshots that volume `i` shows, with commas between them.
+fn push_snapshots(out: &mut Vec<u8>, ids: &[IdFacts<'_>], i: usize) -> Result<(), Memory>
+    requires number { 0 < i }
+    requires some { HaveSnapshots ids.now }
+    ensures { OnOk result (out.new.items ≡ out.old.items ++ joined false (shown_bodies i ids.now)) }
+{
+    let mut later = false;
+    for under in ids {
+        push_later(out, later, &shown_snapshot(under, i).body)?;
+        later = true;
+    }
+    Ok(())
+}
+
+// Adds the record that a header, the snapshots that volume `i` shows and the quoted id of the
+// current one make.
+fn push_record(
+    out: &mut Vec<u8>,
+    header: &Body,
+    ids: &[IdFacts<'_>],
+    i: usize,
+    current: &str,
+) -> Result<(), Memory>
+    requires header { 0 < length header.now }
+    requires number { 0 < i }
+    requires some { HaveSnapshots ids.now }
+    ensures { OnOk result ((ms : Members) (ds : Items) (id : List ℕ) → MembersAreWell ms → IsHeader ms
+        → header.now ≡ compact_text (object ms) → shown_bodies i ids.now ≡ texts_of ds → current.now ≡ quoted id
+        → out.new.items ≡ out.old.items ++ compact_text (record_of ms ds id)) }
+{
+    let text = header.as_str().as_bytes();
+    let (front, rest) = text.split_at(cut(text, 1, b"CVRSnapshot"));
+    let (middle, end) = rest.split_at(cut(rest, 0, b"CurrentSnapshotId"));
+    out.extend_from_slice(front)?;
+    out.extend_from_slice(b",\"CVRSnapshot\":[")?;
+    push_snapshots(out, ids, i)?;
+    out.extend_from_slice(b"]")?;
+    out.extend_from_slice(middle)?;
+    out.extend_from_slice(b",\"CurrentSnapshotId\":")?;
+    out.extend_from_slice(current.as_bytes())?;
+    out.extend_from_slice(end)?;
+    Ok(())
+}
+
+// Adds the record that volume `i` shows of these facts.
+pub(crate) fn push_shown(
+    alloc: Global,
+    out: &mut Vec<u8>,
+    found: &RecordFacts<'_>,
+    i: usize,
+) -> Result<(), Memory>
+    requires number { 0 < i }
+    requires some { CanShow found.now }
+    ensures { OnOk result ((frame : Frame) (s : Facts) (key : RecordName) → Keeps frame s → AreFactsOf frame.contests s key found.now
+        → out.new.items ≡ out.old.items ++ compact_text (record_data (shown_record s i key))) }
+{
+    let header = shown_header(found.headers.as_slice(), i);
+    let ids = found.ids.as_slice();
+    let current = quoted(alloc, shown_current(ids, i))?;
+    push_record(out, &header.body, ids, i, current.as_str())
+}
