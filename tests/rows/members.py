@@ -2,7 +2,8 @@
 """members.py: rows for every member of every class, made of the tables of docs/FORMAT.md.
 
 Each row is one run of `check` over many files: vectors/classes.json with one value after another at one member. A file is
-called by the value. The answers are worked out from the tables by rules.py, and not by the program."""
+called by the value. The answers are worked out from the tables by rules.py, and not by the program. Where the form of a
+changed Election, GpUnit or Party is right, it isn't the definition's, and the answer is E5."""
 import copy
 import json
 

@@ -14,6 +14,7 @@ FORMAT = os.path.join(TOP, 'docs', 'FORMAT.md')
 # A date-time as `jiff` reads it, with an offset.
 MOMENT = re.compile(r'(?P<year>\d{4})-?(?P<month>\d\d)-?(?P<day>\d\d)[Tt ](?P<hour>\d\d)(:?(?P<minute>\d\d)'
                     r'(:?(?P<second>\d\d)([.,]\d{1,9})?)?)?([Zz]|[+-](?P<off>\d\d)(:?(?P<offm>\d\d)(:?(?P<offs>\d\d))?)?)')
+TEXT = re.compile(r'"(?:[^"\\]|\\.)*"', re.S)
 STEPS = {ord('['): 1, ord('{'): 1, ord(']'): -1, ord('}'): -1}
 NO_BRACKETS = bytes(set(range(256)) - set(STEPS))
 
@@ -137,8 +138,8 @@ def read(rules, data):
         if is_deeper(data, rules.most_nested):
             no_json()
         value = json.loads(data.decode('utf-8'), parse_int=integer, parse_float=fraction, parse_constant=no_json)
-        if b'\\u' in data:      # half a pair of surrogates is no text
-            json.dumps(value, ensure_ascii=False, default=lambda _: 0).encode('utf-8')
+        for text in TEXT.findall(data.decode('utf-8')) if b'\\u' in data else ():
+            json.loads(text).encode('utf-8')        # half a pair of surrogates is no text, in a member that doesn't count neither
     except (ValueError, RecursionError):
         raise Fault('E2') from None
     if bad:
