@@ -11,6 +11,7 @@ import os
 import subprocess
 import sys
 import tempfile
+from concurrent.futures import ThreadPoolExecutor
 
 sys.dont_write_bytecode = True
 import make_vectors  # noqa: E402
@@ -19,6 +20,7 @@ import members       # noqa: E402 (both stand beside this file)
 HERE = os.path.dirname(os.path.abspath(__file__))
 VECTORS = make_vectors.vectors()
 SECONDS = 300
+SIDE_BY_SIDE = 4            # rows at most; the largest takes some 600 MB
 SHOWN = 1200
 ROW_MEMBERS = {'name', 'words', 'files', 'folders', 'out', 'err', 'status', 'full', 'file', 'fault', 'cvrs', 'why'}
 
@@ -220,10 +222,10 @@ def main():
     right = wrong = 0
     if vectors_differ():
         wrong += 1
-    for where, row, short in all_rows() + [('members.py', row, {}) for row in members.rows()]:
-        if words.only and not row['name'].startswith(words.only):
-            continue
-        found = tried(cvr, row, short)
+    chosen = [it for it in all_rows() + [('members.py', row, {}) for row in members.rows()]
+              if it[1]['name'].startswith(words.only or '')]
+    pool = ThreadPoolExecutor(min(SIDE_BY_SIDE, len(os.sched_getaffinity(0))))
+    for (where, row, short), found in zip(chosen, pool.map(lambda it: tried(cvr, *it[1:]), chosen)):
         if found:
             wrong += 1
             print('WRONG %s: %s: cvr %s' % (where, row['name'], ' '.join(row['words'])[:200]))
