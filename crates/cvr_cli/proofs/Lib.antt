@@ -8,3 +8,4 @@ pub mod Most
 mod Pieces
 pub mod Outcomes
 pub mod Telling
+pub mod ToldRows

@@ -8,3 +8,4 @@ pub mod Refusals
 pub mod Told
 pub mod Ends
 pub mod Laws
+pub mod Rows

@@ -12,6 +12,7 @@ mod over;
 mod reading;
 mod refusals;
 mod request;
+pub mod rows;
 mod status;
 mod tasks;
 

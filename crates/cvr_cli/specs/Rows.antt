@@ -1,0 +1,25 @@
+-- Worked examples: what a run tells of refused files. (This project's own.)
+use Rattle.std.specs.Prelude.{◌≡◌, ℕ, List, [], ◌∷◌, ◌++◌, codes}
+use Rattle.cdf_check.specs.Rows as file
+use Rattle.cvr_cli.specs.Told.{run_lines}
+
+-- a cast vote record without UniqueId, one that is accepted, and one with a selection of another contest
+abbrev pub three_paths : List (List ℕ)
+three_paths = codes "a.json" ∷ codes "b.json" ∷ codes "c.json" ∷ []
+
+abbrev pub three_files : List (List ℕ)
+three_files = file.two_faults_file ∷ file.one_file ∷ file.other_selection_file ∷ []
+
+-- a line for each of the two that are refused, in order
+abbrev pub TwoRefused : Type 0
+TwoRefused =
+    run_lines (codes "def.json") file.definition_file three_paths three_files
+    ≡ codes "a.json: E3 /CVR/0/UniqueId 2\n" ++ codes "c.json: E4 /CVR/0/CVRSnapshot/0/CVRContest/0/CVRContestSelection/0/ContestSelectionId\n"
+
+-- and of one with another election
+abbrev pub OtherElection : Type 0
+OtherElection = run_lines (codes "def.json") file.definition_file (codes "d.json" ∷ []) (file.other_election_file ∷ []) ≡ codes "d.json: E5 /Election/0\n"
+
+-- of a definition that is refused its line alone, under its own path
+abbrev pub DefinitionRefused : Type 0
+DefinitionRefused = run_lines (codes "def.json") file.two_faults_file three_paths three_files ≡ codes "def.json: E3 /CVR/0/UniqueId 2\n"
