@@ -114,7 +114,7 @@ module _ (definition : Frame) (files : List (List ℕ)) (es : List Event) (rs : 
     -- they are the imports of the first n files, and tell which of these were refused
     record Follows (n : ℕ) : Type 0 where
       pub past_is : first n ≡ imports definition files n
-      pub some : list_any is_refusal (take n rs) ≡ list_any (is_refused definition) (take n files)
+      pub any_refusal : list_any is_refusal (take n rs) ≡ list_any (is_refused definition) (take n files)
 
     -- what is due after the past
     abbrev turn : ℕ → History → Outcome
@@ -125,13 +125,13 @@ module _ (definition : Frame) (files : List (List ℕ)) (es : List Event) (rs : 
       past_is = first-more n lt
           ∙ (ap (λ r. (Import 0 n, r) ∷ first n) is
           ∙ ap (λ past. (Import 0 n, turn n past) ∷ past) before.past_is);
-      some = let told : is_refusal (get_or rs n (Accepted 0)) ≡ is_refused definition (get_or files n []) = ap is_refusal is ∙ is_refusal-due (first_refusal definition (get_or files n [])) _ in
+      any_refusal = let told : is_refusal (get_or rs n (Accepted 0)) ≡ is_refused definition (get_or files n []) = ap is_refusal is ∙ is_refusal-due (first_refusal definition (get_or files n [])) _ in
           rw (← add-one) (list_any_more is_refusal rs n (Accepted 0) (omega arith)
-          ∙ ((λ i. before.some i || told i) ∙ sym (list_any_more (is_refused definition) files n [] lt)));
+          ∙ ((λ i. before.any_refusal i || told i) ∙ sym (list_any_more (is_refused definition) files n [] lt)));
     }
 
     follows : (n : ℕ) → n ≤ length files → AreOutcomes (starting definition ∷ []) (definition ∷ []) files (first n) → Follows n
-    follows zero le out = record { past_is = refl; some = refl }
+    follows zero le out = record { past_is = refl; any_refusal = refl }
     follows (suc n) le out =
         let lt : n < length files = omega arith in
         let both = subst (AreOutcomes (starting definition ∷ []) (definition ∷ []) files) (first-more n lt) out in
@@ -153,4 +153,4 @@ module _ (definition : Frame) (files : List (List ℕ)) (es : List Event) (rs : 
       pub refused_some : list_any is_refusal rs ≡ list_any (is_refused definition) files
       refused_some =
           ap (list_any is_refusal) (sym (take_all (length files) rs (omega arith)))
-          ∙ (all.some ∙ ap (list_any (is_refused definition)) (take_all (length files) files (omega arith)))
+          ∙ (all.any_refusal ∙ ap (list_any (is_refused definition)) (take_all (length files) files (omega arith)))

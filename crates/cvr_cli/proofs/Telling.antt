@@ -97,20 +97,20 @@ any-push test ts t = list_any-append test ts (t ∷ []) ∙ ap (λ b. list_any t
 -- ---- a run so far
 
 -- of no file yet
-pub tells_none : (paths : List (List ℕ)) (faults : List (Option ReadFault)) (b : Option (List ℕ)) (f : Bool) (r : Refusals) → r.lacking ≡ false → r.unlogged ≡ false → Tells paths faults 0 r b f b f
+pub tells_none : (paths : List (List ℕ)) (faults : List (Option ReadFault)) (b : Option (List ℕ)) (f : Bool) (r : Refusals) → r.file_lacking ≡ false → r.path_unspelled ≡ false → Tells paths faults 0 r b f b f
 tells_none paths faults b f r lacking unlogged = record {
   tellings = [];
   count = refl;
   possible = refl;
-  lacking = lacking;
-  unlogged = unlogged;
+  file_lacking = lacking;
+  path_unspelled = unlogged;
   logs = logs_none b f;
 }
 
 module _ (paths : List (List ℕ)) (faults : List (Option ReadFault)) (b m : Option (List ℕ)) (f g : Bool) where
   -- of one more, in this way
   tells_more : (n : ℕ) (r s : Refusals) (a : Option (List ℕ)) (h : Bool) (t : Telling) → Tells paths faults n r b f m g → n < length paths → n < length faults
-      → can_be t (get_or faults n None) ≡ true → s.lacking ≡ (r.lacking || is_lacking t) → s.unlogged ≡ (r.unlogged || is_unspelled t)
+      → can_be t (get_or faults n None) ≡ true → s.file_lacking ≡ (r.file_lacking || is_lacking t) → s.path_unspelled ≡ (r.path_unspelled || is_unspelled t)
       → Logs m g a h (told_line t (get_or paths n []) (get_or faults n None)) → Tells paths faults (n + 1) s b f a h
   tells_more n r s a h t so_far lp lf can lacking unlogged logs =
       let ts = so_far.tellings in
@@ -119,8 +119,8 @@ module _ (paths : List (List ℕ)) (faults : List (Option ReadFault)) (b m : Opt
         tellings = ts ++ t ∷ [];
         count = omega (arith, length_push ts t, count);
         possible = can_all-more ts t faults so_far.possible (omega (arith, count, lf)) (subst (λ k. can_be t (get_or faults k None) ≡ true) (sym count) can);
-        lacking = lacking ∙ (ap (λ x. x || is_lacking t) so_far.lacking ∙ sym (any-push is_lacking ts t));
-        unlogged = unlogged ∙ (ap (λ x. x || is_unspelled t) so_far.unlogged ∙ sym (any-push is_unspelled ts t));
+        file_lacking = lacking ∙ (ap (λ x. x || is_lacking t) so_far.file_lacking ∙ sym (any-push is_lacking ts t));
+        path_unspelled = unlogged ∙ (ap (λ x. x || is_unspelled t) so_far.path_unspelled ∙ sym (any-push is_unspelled ts t));
         logs =
             subst (Logs b f a h) (sym (told_lines-more ts t paths faults (omega (arith, count, lp)) (omega (arith, count, lf))))
             (logs_then b m a f g h (told_lines ts paths faults) _ so_far.logs (subst (λ k. Logs m g a h (told_line t (get_or paths k []) (get_or faults k None))) (sym count) logs));
@@ -129,7 +129,7 @@ module _ (paths : List (List ℕ)) (faults : List (Option ReadFault)) (b m : Opt
   -- of one more that is accepted
   pub tells_accepted : (n : ℕ) (r : Refusals) → Tells paths faults n r b f m g → n < length paths → n < length faults → get_or faults n None ≡ None → Tells paths faults (n + 1) r b f m g
   tells_accepted n r so_far lp lf none =
-      tells_more n r r m g AsDue so_far lp lf refl (sym (or-false r.lacking)) (sym (or-false r.unlogged))
+      tells_more n r r m g AsDue so_far lp lf refl (sym (or-false r.file_lacking)) (sym (or-false r.path_unspelled))
       (subst (λ fault. Logs m g m g (refusal_line (get_or paths n []) fault)) (sym none) (logs_none m g))
 
 -- ---- one more that is refused
@@ -194,22 +194,22 @@ or_true false = refl
 -- what a note told of a fault
 abbrev pub Noted : Refusals → Refusals → Option (List ℕ) → Bool → Option (List ℕ) → Bool → List ℕ → ReadFault → Type 0
 Noted r s m g a h what fault =
-    ((s.unlogged ≡ r.unlogged) × Logs m g a h (fault_line what fault)) ⊎ ((has_path fault ≡ true) × (s.unlogged ≡ true) × Logs m g a h memory_line)
+    ((s.path_unspelled ≡ r.path_unspelled) × Logs m g a h (fault_line what fault)) ⊎ ((has_path fault ≡ true) × (s.path_unspelled ≡ true) × Logs m g a h memory_line)
 
 pub tells_noted : (paths : List (List ℕ)) (faults : List (Option ReadFault)) (b m a : Option (List ℕ)) (f g h : Bool) (n : ℕ) (r s : Refusals) (what : List ℕ) (fault : ReadFault)
     → Tells paths faults n r b f m g → n < length paths → n < length faults → what ≡ get_or paths n [] → ((fault ≡ Memory → ⊥) → get_or faults n None ≡ Some fault)
-    → s.lacking ≡ (r.lacking || is_memory fault) → Noted r s m g a h what fault → Tells paths faults (n + 1) s b f a h
+    → s.file_lacking ≡ (r.file_lacking || is_memory fault) → Noted r s m g a h what fault → Tells paths faults (n + 1) s b f a h
 tells_noted paths faults b m a f g h n r s what fault so_far lp lf named due lacking (inl (same, logs)) =
     let at = get_or faults n None in
     tells_more paths faults b m f g n r s a h (telling_of fault) so_far lp lf (can_be-telling_of fault at)
-    (lacking ∙ ap (λ x. r.lacking || x) (lacking-telling_of fault))
-    (same ∙ (sym (or-false r.unlogged) ∙ ap (λ x. r.unlogged || x) (unspelled-telling_of fault)))
+    (lacking ∙ ap (λ x. r.file_lacking || x) (lacking-telling_of fault))
+    (same ∙ (sym (or-false r.path_unspelled) ∙ ap (λ x. r.path_unspelled || x) (unspelled-telling_of fault)))
     (subst (λ w. Logs m g a h (told_line (telling_of fault) w at)) named (subst (Logs m g a h) (line_of_telling fault what at due) logs))
 tells_noted paths faults b m a f g h n r s what fault so_far lp lf named due lacking (inr (path, unspelled, logs)) =
     let is = due (has_path-not_memory fault path) in
     tells_more paths faults b m f g n r s a h Unspelled so_far lp lf (ap (can_be Unspelled) is ∙ path)
-    (lacking ∙ ap (λ x. r.lacking || x) (not_lacking fault path))
-    (unspelled ∙ or_true r.unlogged)
+    (lacking ∙ ap (λ x. r.file_lacking || x) (not_lacking fault path))
+    (unspelled ∙ or_true r.path_unspelled)
     logs
 
 -- ---- how a run ends
@@ -259,21 +259,21 @@ module _ (paths : List (List ℕ)) (faults : List (Option ReadFault)) (n : ℕ) 
   )
 
   -- with the text printed, or an output that failed
-  pub printed : (wanting : Type 0) (out_failed : Bool) → n ≡ length faults → r.lacking ≡ false → (wanting → r.unlogged ≡ true) → (r.unlogged ≡ true → wanting)
+  pub printed : (wanting : Type 0) (out_failed : Bool) → n ≡ length faults → r.file_lacking ≡ false → (wanting → r.path_unspelled ≡ true) → (r.path_unspelled ≡ true → wanting)
       → Logs m g a h (out_line out_failed) → TellsRun paths faults wanting out_failed b f a h
   printed wanting out_failed all working is not logs = record {
     log = λ no.
-        let spelled = bool_false r.unlogged (λ e. no (not e)) in
-        subst (λ l. Logs b f a h (l ++ out_line out_failed)) (as_due so_far.tellings paths faults (sym so_far.lacking ∙ working) (sym so_far.unlogged ∙ spelled) (so_far.count ∙ all))
+        let spelled = bool_false r.path_unspelled (λ e. no (not e)) in
+        subst (λ l. Logs b f a h (l ++ out_line out_failed)) (as_due so_far.tellings paths faults (sym so_far.file_lacking ∙ working) (sym so_far.path_unspelled ∙ spelled) (so_far.count ∙ all))
         (logs_then b m a f g h _ _ so_far.logs logs);
-    cut_short = λ want. cut_in_files out_failed all (short_unspelled so_far.tellings (sym so_far.unlogged ∙ is want)) logs;
+    cut_short = λ want. cut_in_files out_failed all (short_unspelled so_far.tellings (sym so_far.path_unspelled ∙ is want)) logs;
   }
 
 -- with a file lacking
-pub lacks : (paths : List (List ℕ)) (faults : List (Option ReadFault)) (n : ℕ) (r : Refusals) (b m : Option (List ℕ)) (f g : Bool) → Tells paths faults n r b f m g → n ≡ length faults → r.lacking ≡ true
+pub lacks : (paths : List (List ℕ)) (faults : List (Option ReadFault)) (n : ℕ) (r : Refusals) (b m : Option (List ℕ)) (f g : Bool) → Tells paths faults n r b f m g → n ≡ length faults → r.file_lacking ≡ true
     → LogsSome (IsCutShort paths faults false) b f m g
 lacks paths faults n r b m f g so_far all lacking =
-    cut_in_files paths faults n r b m m f g g so_far false all (short_lacking so_far.tellings (sym so_far.lacking ∙ lacking)) (logs_none m g)
+    cut_in_files paths faults n r b m m f g g so_far false all (short_lacking so_far.tellings (sym so_far.file_lacking ∙ lacking)) (logs_none m g)
 
 -- a run that ended for want of memory, before it has printed anything
 pub wanted : (paths : List (List ℕ)) (faults : List (Option ReadFault)) (wanting : Type 0) (out_failed : Bool) (b a : Option (List ℕ)) (f h : Bool) → wanting → out_failed ≡ false
@@ -311,10 +311,10 @@ status_wanting false false false want = absurd (cc)
 
 module _ (what def : List ℕ) (paths files : List (List ℕ)) (fault : ReadFault) (none r : Refusals) (b a : Option (List ℕ)) (f h : Bool) (told : List ℕ) (out_failed : Bool)
     (named : told ≡ what) where
-  pub definition_log : out_failed ≡ false → ((fault ≡ Memory → ⊥) → first_unsound def ≡ Some fault) → none.lacking ≡ false → none.unlogged ≡ false → r.lacking ≡ (none.lacking || is_memory fault)
+  pub definition_log : out_failed ≡ false → ((fault ≡ Memory → ⊥) → first_unsound def ≡ Some fault) → none.file_lacking ≡ false → none.path_unspelled ≡ false → r.file_lacking ≡ (none.file_lacking || is_memory fault)
       → Noted none r b f a h told fault → (status_of r ≡ status.Memory → ⊥) → Logs b f a h (run_lines what def paths files ++ out_line out_failed)
   definition_log working first lacks spelled lacking (inl (same, logs)) whole =
-      let parts = status_whole r.lacking r.unlogged r.some whole in
+      let parts = status_whole r.file_lacking r.path_unspelled r.any_refusal whole in
       let other : fault ≡ Memory → ⊥ = λ is. true≢false (sym (ap is_memory is) ∙ (sym (ap (λ x. x || is_memory fault) lacks) ∙ (sym lacking ∙ parts.0))) in
       let due = first other in
       subst (Logs b f a h)
@@ -323,13 +323,13 @@ module _ (what def : List ℕ) (paths files : List (List ℕ)) (fault : ReadFaul
       ∙ ap (λ l. l ++ out_line out_failed) (sym (unsound_lines what def paths files fault due))))
       logs
   definition_log working first lacks spelled lacking (inr (path, unspelled, logs)) whole =
-      absurd (true≢false (sym unspelled ∙ (status_whole r.lacking r.unlogged r.some whole).1))
+      absurd (true≢false (sym unspelled ∙ (status_whole r.file_lacking r.path_unspelled r.any_refusal whole).1))
 
-  pub definition_cut_short : ((fault ≡ Memory → ⊥) → first_unsound def ≡ Some fault) → none.lacking ≡ false → none.unlogged ≡ false → r.lacking ≡ (none.lacking || is_memory fault)
+  pub definition_cut_short : ((fault ≡ Memory → ⊥) → first_unsound def ≡ Some fault) → none.file_lacking ≡ false → none.path_unspelled ≡ false → r.file_lacking ≡ (none.file_lacking || is_memory fault)
       → Noted none r b f a h told fault → status_of r ≡ status.Memory → LogsSome (IsRunCutShort what def paths files out_failed) b f a h
   definition_cut_short first lacks spelled lacking (inl (same, logs)) want =
-      let short : (r.lacking || r.unlogged) ≡ true = status_wanting r.lacking r.unlogged r.some want in
-      let is : (r.lacking || r.unlogged) ≡ is_short (telling_of fault) = λ i. (lacking ∙ (ap (λ x. x || is_memory fault) lacks ∙ lacking-telling_of fault)) i || (same ∙ (spelled ∙ unspelled-telling_of fault)) i in (
+      let short : (r.file_lacking || r.path_unspelled) ≡ true = status_wanting r.file_lacking r.path_unspelled r.any_refusal want in
+      let is : (r.file_lacking || r.path_unspelled) ≡ is_short (telling_of fault) = λ i. (lacking ∙ (ap (λ x. x || is_memory fault) lacks ∙ lacking-telling_of fault)) i || (same ∙ (spelled ∙ unspelled-telling_of fault)) i in (
         told_line (telling_of fault) what (first_unsound def),
         inl (telling_of fault, can_be-telling_of fault (first_unsound def), sym is ∙ short, refl),
         subst (λ w. Logs b f a h (told_line (telling_of fault) w (first_unsound def))) named (subst (Logs b f a h) (line_of_telling fault told (first_unsound def) first) logs),

@@ -42,4 +42,4 @@ pub record AreDue (faults : List (Option ReadFault)) (outcomes : List Outcome) :
 
 -- want of memory is worst, then a refusal
 abbrev pub status_of : Refusals → Status
-status_of r = if r.lacking || r.unlogged then status.Memory else (if r.some then status.Refused else status.Done)
+status_of r = if r.file_lacking || r.path_unspelled then status.Memory else (if r.any_refusal then status.Refused else status.Done)

@@ -88,8 +88,8 @@ pub record Tells (paths : List (List ℕ)) (faults : List (Option ReadFault)) (n
   pub tellings : List Telling
   pub count : length tellings ≡ n
   pub possible : can_all tellings faults ≡ true
-  pub lacking : refusals.lacking ≡ list_any is_lacking tellings
-  pub unlogged : refusals.unlogged ≡ list_any is_unspelled tellings
+  pub file_lacking : refusals.file_lacking ≡ list_any is_lacking tellings
+  pub path_unspelled : refusals.path_unspelled ≡ list_any is_unspelled tellings
   pub logs : Logs before had_failed after has_failed (told_lines tellings paths faults)
 
 -- what is told of files in a run that ends for want of memory: of the first ones, and then `memory`; or of all, and memory was wanting for one

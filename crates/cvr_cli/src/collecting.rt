@@ -42,8 +42,8 @@ fn note_refused<L: Sink>(
     log: &mut L,
 ) -> Refusals
     requires { length paths.now ≡ length outcomes.now }
-    ensures some { result.some ≡ list_any is_refusal outcomes.now }
-    ensures lacking { result.lacking ≡ list_any is_want outcomes.now }
+    ensures any_refusal { result.any_refusal ≡ list_any is_refusal outcomes.now }
+    ensures file_lacking { result.file_lacking ≡ list_any is_want outcomes.now }
     ensures log { (faults : List (Option ReadFault)) → AreDue faults outcomes.now
         → Tells paths.now faults (length outcomes.now) result (L.taken log.old) (L.has_failed log.old) (L.taken log.new) (L.has_failed log.new) }
 {
@@ -70,8 +70,8 @@ pub fn collect<O: Office + Drop, L: Sink>(
 ) -> Result<(O, Refusals), Memory>
     requires { length paths.now ≡ length files.now }
     ensures definition { IfOk result (λ r. O.defined r.0 ≡ definition) }
-    ensures content { IfOk result (λ r. r.1.lacking ≡ false → O.held r.0 ≡ held definition (bytes_of files.now)) }
-    ensures some { IfOk result (λ r. r.1.lacking ≡ false → r.1.some ≡ list_any (is_refused definition) (bytes_of files.now)) }
+    ensures content { IfOk result (λ r. r.1.file_lacking ≡ false → O.held r.0 ≡ held definition (bytes_of files.now)) }
+    ensures any_refusal { IfOk result (λ r. r.1.file_lacking ≡ false → r.1.any_refusal ≡ list_any (is_refused definition) (bytes_of files.now)) }
     ensures log { IfOk result (λ r. Tells paths.now (faults_of definition (bytes_of files.now)) (length files.now) r.1
         (L.taken log.old) (L.has_failed log.old) (L.taken log.new) (L.has_failed log.new)) }
     ensures unchanged { OnErr result (log.new ≡ log.old) }

@@ -10,11 +10,11 @@ use std::alloc::Global;
 #[derive(Clone, Copy, Debug, PartialEq, Eq)]
 pub struct Refusals {
     /// Something was refused.
-    pub some: bool,
+    pub any_refusal: bool,
     /// A file was refused for want of memory, so that a text would lack it.
-    pub lacking: bool,
+    pub file_lacking: bool,
     /// A path could not be spelled for a log line, for want of memory.
-    pub unlogged: bool,
+    pub path_unspelled: bool,
 }
 
 impl Refusals {
@@ -22,32 +22,32 @@ impl Refusals {
 
     /// Nothing was refused. Takes no memory.
     pub fn none() -> Refusals
-        ensures some { result.some ≡ false }
-        ensures lacking { result.lacking ≡ false }
-        ensures unlogged { result.unlogged ≡ false }
+        ensures any_refusal { result.any_refusal ≡ false }
+        ensures file_lacking { result.file_lacking ≡ false }
+        ensures path_unspelled { result.path_unspelled ≡ false }
     {
         Refusals {
-            some: false,
-            lacking: false,
-            unlogged: false,
+            any_refusal: false,
+            file_lacking: false,
+            path_unspelled: false,
         }
     }
 
     /// Notes a refusal, and tells it to the log. Where its path can't be spelled for want of memory,
     /// that is told in its place.
     pub fn note<L: Sink>(&mut self, alloc: Global, log: &mut L, what: &str, fault: &ReadFault)
-        ensures some { self.new.some ≡ true }
-        ensures lacking { self.new.lacking ≡ (self.old.lacking || is_memory fault.now) }
-        ensures told { (self.new.unlogged ≡ self.old.unlogged) × Logs (L.taken log.old) (L.has_failed log.old) (L.taken log.new) (L.has_failed log.new) (fault_line what.now fault.now)
-            ⊎ (has_path fault.now ≡ true) × (self.new.unlogged ≡ true)
+        ensures any_refusal { self.new.any_refusal ≡ true }
+        ensures file_lacking { self.new.file_lacking ≡ (self.old.file_lacking || is_memory fault.now) }
+        ensures told { (self.new.path_unspelled ≡ self.old.path_unspelled) × Logs (L.taken log.old) (L.has_failed log.old) (L.taken log.new) (L.has_failed log.new) (fault_line what.now fault.now)
+            ⊎ (has_path fault.now ≡ true) × (self.new.path_unspelled ≡ true)
             × Logs (L.taken log.old) (L.has_failed log.old) (L.taken log.new) (L.has_failed log.new) memory_line }
     {
-        self.some = true;
+        self.any_refusal = true;
         if let ReadFault::Memory = fault {
-            self.lacking = true;
+            self.file_lacking = true;
         }
         if let Err(Memory) = tell(alloc, log, what, fault) {
-            self.unlogged = true;
+            self.path_unspelled = true;
             say_memory(log);
         }
     }
@@ -56,9 +56,9 @@ impl Refusals {
     pub fn status(&self) -> Status
         ensures { result ≡ status_of self.now }
     {
-        if self.lacking || self.unlogged {
+        if self.file_lacking || self.path_unspelled {
             Status::Memory
-        } else if self.some {
+        } else if self.any_refusal {
             Status::Refused
         } else {
             Status::Done

@@ -34,8 +34,8 @@ fn count_files<L: Sink>(
     log: &mut L,
 ) -> Result<Refusals, Memory>
     requires { length paths.now ≡ length files.now }
-    ensures some { IfOk result (λ r. r.lacking ≡ false → r.some ≡ list_any (is_refused definition.now) (bytes_of files.now)) }
-    ensures text { IfOk result (λ r. r.lacking ≡ false
+    ensures any_refusal { IfOk result (λ r. r.file_lacking ≡ false → r.any_refusal ≡ list_any (is_refused definition.now) (bytes_of files.now)) }
+    ensures text { IfOk result (λ r. r.file_lacking ≡ false
         → string_bytes text.new ≡ string_bytes text.old ++ check_lines definition.now paths.now (bytes_of files.now)) }
     ensures log { IfOk result (λ r. Tells paths.now (faults_of definition.now (bytes_of files.now)) (length files.now) r
         (L.taken log.old) (L.has_failed log.old) (L.taken log.new) (L.has_failed log.new)) }
@@ -65,16 +65,16 @@ fn end_in_memory<L: Sink>(log: &mut L) -> Status
 // Hands the text to the output, and ends the run. No text lacks a file.
 fn end_with<W: Sink, L: Sink>(text: &str, refusals: Refusals, out: &mut W, log: &mut L) -> Status
     requires working { W.has_failed out.old ≡ false }
-    requires whole { refusals.lacking ≡ false }
-    ensures ends { Ends (W.taken out.old) (W.taken out.new) (W.has_failed out.new) text.now refusals.some result }
-    ensures wanting { (result ≡ NoMemory) ↔ (refusals.unlogged ≡ true) }
+    requires whole { refusals.file_lacking ≡ false }
+    ensures ends { Ends (W.taken out.old) (W.taken out.new) (W.has_failed out.new) text.now refusals.any_refusal result }
+    ensures wanting { (result ≡ NoMemory) ↔ (refusals.path_unspelled ≡ true) }
     ensures log { Logs (L.taken log.old) (L.has_failed log.old) (L.taken log.new) (L.has_failed log.new) (out_line (W.has_failed out.new)) }
 {
     match write_all(out, text.as_bytes()) {
         Ok(()) => refusals.status(),
         Err(DeviceFault) => {
             say(log, &[b"out: X1\n"]);
-            if refusals.unlogged {
+            if refusals.path_unspelled {
                 Status::Memory
             } else {
                 Status::Device
@@ -94,8 +94,8 @@ fn collect_all<O: Office + Drop, L: Sink>(
     requires { length paths.now ≡ length files.now }
     ensures definition { IfOk result (λ r. O.defined r.0 ≡ definition) }
     ensures content { IfOk result (λ r. O.held r.0 ≡ held definition (bytes_of files.now)) }
-    ensures some { IfOk result (λ r. r.1.some ≡ list_any (is_refused definition) (bytes_of files.now)) }
-    ensures whole { IfOk result (λ r. r.1.lacking ≡ false) }
+    ensures any_refusal { IfOk result (λ r. r.1.any_refusal ≡ list_any (is_refused definition) (bytes_of files.now)) }
+    ensures whole { IfOk result (λ r. r.1.file_lacking ≡ false) }
     ensures status { IfErr result (λ s. s ≡ NoMemory) }
     ensures log { IfOk result (λ r. Tells paths.now (faults_of definition (bytes_of files.now)) (length files.now) r.1
         (L.taken log.old) (L.has_failed log.old) (L.taken log.new) (L.has_failed log.new)) }
@@ -105,7 +105,7 @@ fn collect_all<O: Office + Drop, L: Sink>(
     let Ok((office, refusals)) = collect::<O, L>(alloc, definition, paths, files, log) else {
         return Err(end_in_memory(log));
     };
-    if refusals.lacking {
+    if refusals.file_lacking {
         return Err(Status::Memory);
     }
     Ok((office, refusals))
@@ -167,7 +167,7 @@ fn run_check<W: Sink, L: Sink>(
 {
     let mut text = String::new(alloc);
     match count_files(alloc, definition, paths, files, &mut text, log) {
-        Ok(refusals) => if refusals.lacking {
+        Ok(refusals) => if refusals.file_lacking {
             Status::Memory
         } else {
             end_with(text.as_str(), refusals, out, log)

@@ -36,7 +36,7 @@ returns g c =
     let also : length rs ≡ length files = c.in_ok-outcomes.ensures.count ∙ (ap length same_events ∙ many) in
     let each : (k : ℕ) → k < length files → get_or es k (Exchange 0 0) ≡ Import 0 k = λ k lt. c.in_ok-events.ensures.each k (omega (arith, lt, files_count)) in
     let told = c.note_refused-refusals.ensures in
-    let wants : c.note_refused-refusals.result.lacking ≡ false → list_any is_want rs ≡ false = λ working. ap (list_any is_want) (sym c.as_slice-2.ensures.value) ∙ (sym told.lacking ∙ working) in
+    let wants : c.note_refused-refusals.result.file_lacking ≡ false → list_any is_want rs ≡ false = λ working. ap (list_any is_want) (sym c.as_slice-2.ensures.value) ∙ (sym told.file_lacking ∙ working) in
     record {
       definition =
           sym (get_or-one g.O.Office.defined def after office one is)
@@ -46,8 +46,8 @@ returns g c =
           ∙ (c.in_ok-outcomes.ensures.content 0 (omega (arith, ap length started))
           ∙ ((λ i. content (held_are i) files (history (same_events i) rs) 0)
           ∙ content_held def files es rs many also each (wants working) out));
-      some = λ working.
-          told.some
+      any_refusal = λ working.
+          told.any_refusal
           ∙ (ap (list_any is_refusal) c.as_slice-2.ensures.value
           ∙ refused_some def files es rs many also each (wants working) out);
       log =

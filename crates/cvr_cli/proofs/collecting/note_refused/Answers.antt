@@ -9,9 +9,9 @@ use Rattle.cvr_cli.proofs.collecting.note_refused.Goals.{in-Some, in_default}
 
 pub loop-place-init : goal.loop-place-init
 loop-place-init g c = record {
-  some = search rules;
-  lacking = search rules;
-  log = λ faults due. tells_none _ faults _ _ c.none-refusals.result c.none-refusals.ensures.lacking c.none-refusals.ensures.unlogged;
+  any_refusal = search rules;
+  file_lacking = search rules;
+  log = λ faults due. tells_none _ faults _ _ c.none-refusals.result c.none-refusals.ensures.file_lacking c.none-refusals.ensures.path_unspelled;
 }
 
 pub loop-place-preserved : goal.loop-place-preserved
@@ -29,19 +29,19 @@ loop-place-preserved g c =
           let told : Some fault ≡ fault_in o = sym (ap (option_map (λ f. f.now)) w.in-Some.is) ∙ c.fault_in.ensures in
           let now = w.note.new.self in
           record {
-            some = ap (λ r. r.some) w.refusals-is ∙ refused_here rs n o lt at fault before.some now.some told was.some w.note.ensures.some;
-            lacking = ap (λ r. r.lacking) w.refusals-is ∙ wanted_here rs n o lt at fault before.lacking now.lacking told was.lacking w.note.ensures.lacking;
+            any_refusal = ap (λ r. r.any_refusal) w.refusals-is ∙ refused_here rs n o lt at fault before.any_refusal now.any_refusal told was.any_refusal w.note.ensures.any_refusal;
+            file_lacking = ap (λ r. r.file_lacking) w.refusals-is ∙ wanted_here rs n o lt at fault before.file_lacking now.file_lacking told was.file_lacking w.note.ensures.file_lacking;
             log = λ faults due.
                 subst (λ r. Tells c.args.paths.now faults (n + 1) r (g.L.Sink.taken c.args.log.now) (g.L.Sink.has_failed c.args.log.now) (g.L.Sink.taken c.match-fault_in.log) (g.L.Sink.has_failed c.match-fault_in.log)) (sym w.refusals-is)
                 (subst (λ l. Tells c.args.paths.now faults (n + 1) now (g.L.Sink.taken c.args.log.now) (g.L.Sink.has_failed c.args.log.now) (g.L.Sink.taken l) (g.L.Sink.has_failed l)) (sym w.log-is)
                 (tells_noted c.args.paths.now faults _ _ _ _ _ _ n before now w.as_str.result.now fault (was.log faults due) (omega (arith, lt, c.requires)) (omega (arith, lt, due.count))
-                (w.as_str.ensures ∙ (w.index-paths-place.is ∙ get_or_default c.args.paths.now n w.index-paths-place.result [] (omega (arith, lt, c.requires)))) (due_where_told rs n o lt at faults due fault told) w.note.ensures.lacking w.note.ensures.told));
+                (w.as_str.ensures ∙ (w.index-paths-place.is ∙ get_or_default c.args.paths.now n w.index-paths-place.result [] (omega (arith, lt, c.requires)))) (due_where_told rs n o lt at faults due fault told) w.note.ensures.file_lacking w.note.ensures.told));
           }
       | in_default w ↦
           let told : None ≡ fault_in o = sym (ap (option_map (λ f. f.now)) w.in_default.is) ∙ c.fault_in.ensures in
           record {
-            some = ap (λ r. r.some) w.refusals-is ∙ accepted_here rs n o lt at before.some told was.some;
-            lacking = ap (λ r. r.lacking) w.refusals-is ∙ unwanted_here rs n o lt at before.lacking told was.lacking;
+            any_refusal = ap (λ r. r.any_refusal) w.refusals-is ∙ accepted_here rs n o lt at before.any_refusal told was.any_refusal;
+            file_lacking = ap (λ r. r.file_lacking) w.refusals-is ∙ unwanted_here rs n o lt at before.file_lacking told was.file_lacking;
             log = λ faults due.
                 subst (λ r. Tells c.args.paths.now faults (n + 1) r (g.L.Sink.taken c.args.log.now) (g.L.Sink.has_failed c.args.log.now) (g.L.Sink.taken c.match-fault_in.log) (g.L.Sink.has_failed c.match-fault_in.log)) (sym w.refusals-is)
                 (subst (λ l. Tells c.args.paths.now faults (n + 1) before (g.L.Sink.taken c.args.log.now) (g.L.Sink.has_failed c.args.log.now) (g.L.Sink.taken l) (g.L.Sink.has_failed l)) (sym w.log-is)

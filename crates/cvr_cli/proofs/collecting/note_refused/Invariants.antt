@@ -8,8 +8,8 @@ use Rattle.cvr_cli.proofs.collecting.note_refused.Given as goal
 -- what the outcomes so far say, and what was told of them
 abbrev pub invariant-loop-place : goal.invariant-loop-place
 invariant-loop-place g l = record {
-  some : l.refusals.some ≡ list_any is_refusal (take l.place l.outcomes);
-  lacking : l.refusals.lacking ≡ list_any is_want (take l.place l.outcomes);
+  any_refusal : l.refusals.any_refusal ≡ list_any is_refusal (take l.place l.outcomes);
+  file_lacking : l.refusals.file_lacking ≡ list_any is_want (take l.place l.outcomes);
   log : (faults : List (Option ReadFault)) → AreDue faults l.outcomes
       → Tells l.paths faults l.place l.refusals (g.L.Sink.taken l.initial.log) (g.L.Sink.has_failed l.initial.log) (g.L.Sink.taken l.log) (g.L.Sink.has_failed l.log);
 }

@@ -12,9 +12,9 @@ use Rattle.cvr_cli.proofs.tasks.count_files.Goals.{in-Ok+in_ok-push_count-in-Ok,
 
 pub loop-place-init : goal.loop-place-init
 loop-place-init g c = record {
-  some = search rules;
+  any_refusal = search rules;
   text = search rules;
-  log = tells_none _ (faults_of c.args.definition.now (bytes_of c.args.files.now)) _ _ c.none-refusals.result c.none-refusals.ensures.lacking c.none-refusals.ensures.unlogged;
+  log = tells_none _ (faults_of c.args.definition.now (bytes_of c.args.files.now)) _ _ c.none-refusals.result c.none-refusals.ensures.file_lacking c.none-refusals.ensures.path_unspelled;
 }
 
 pub loop-place-preserved : goal.loop-place-preserved
@@ -33,37 +33,37 @@ loop-place-preserved g c =
     let told = λ (r : Refusals) (l : g.row.L.Denot). Tells paths faults (n + 1) r (g.L.Sink.taken c.args.log.now) (g.L.Sink.has_failed c.args.log.now) (g.L.Sink.taken l) (g.L.Sink.has_failed l) in
     elim c.match-count_records.branch [
       | in-Ok+in_ok-push_count-in-Ok w ↦ record {
-        some = grind (arith, common_steps);
+        any_refusal = grind (arith, common_steps);
         text = grind (arith, common_steps);
         log = subst (λ r. told r c.match-count_records.log) (sym w.refusals-is) (subst (told before) (sym w.log-is)
             (tells_accepted paths faults _ _ _ _ n before was.log also within (here ∙ w.in-Ok.ensures.accepted)));
       }
       | in-Err+in-Schema-1 w ↦ record {
-        some = grind (arith, common_steps);
+        any_refusal = grind (arith, common_steps);
         text = grind (arith, common_steps);
         log = subst (λ r. told r c.match-count_records.log) (sym w.refusals-is) (subst (told w.note.new.self) (sym w.log-is)
             (tells_noted paths faults _ _ _ _ _ _ n before w.note.new.self c.as_str-path.result.now w.in-Err.fault was.log also within named
-            (λ other. here ∙ w.in-Err.ensures.fault other) w.note.ensures.lacking w.note.ensures.told));
+            (λ other. here ∙ w.in-Err.ensures.fault other) w.note.ensures.file_lacking w.note.ensures.told));
       }
       | in-Err+in-Reference-1 w ↦ record {
-        some = grind (arith, common_steps);
+        any_refusal = grind (arith, common_steps);
         text = grind (arith, common_steps);
         log = subst (λ r. told r c.match-count_records.log) (sym w.refusals-is) (subst (told w.note.new.self) (sym w.log-is)
             (tells_noted paths faults _ _ _ _ _ _ n before w.note.new.self c.as_str-path.result.now w.in-Err.fault was.log also within named
-            (λ other. here ∙ w.in-Err.ensures.fault other) w.note.ensures.lacking w.note.ensures.told));
+            (λ other. here ∙ w.in-Err.ensures.fault other) w.note.ensures.file_lacking w.note.ensures.told));
       }
       | in-Err+in-Disagrees-1 w ↦ record {
-        some = grind (arith, common_steps);
+        any_refusal = grind (arith, common_steps);
         text = grind (arith, common_steps);
         log = subst (λ r. told r c.match-count_records.log) (sym w.refusals-is) (subst (told w.note.new.self) (sym w.log-is)
             (tells_noted paths faults _ _ _ _ _ _ n before w.note.new.self c.as_str-path.result.now w.in-Err.fault was.log also within named
-            (λ other. here ∙ w.in-Err.ensures.fault other) w.note.ensures.lacking w.note.ensures.told));
+            (λ other. here ∙ w.in-Err.ensures.fault other) w.note.ensures.file_lacking w.note.ensures.told));
       }
       | in-Err+in-TooLong-1 w ↦ record {
-        some = grind (arith, common_steps);
+        any_refusal = grind (arith, common_steps);
         text = grind (arith, common_steps);
         log = subst (λ r. told r c.match-count_records.log) (sym w.refusals-is) (subst (told w.note.new.self) (sym w.log-is)
             (tells_noted paths faults _ _ _ _ _ _ n before w.note.new.self c.as_str-path.result.now w.in-Err.fault was.log also within named
-            (λ other. here ∙ w.in-Err.ensures.fault other) w.note.ensures.lacking w.note.ensures.told));
+            (λ other. here ∙ w.in-Err.ensures.fault other) w.note.ensures.file_lacking w.note.ensures.told));
       }
     ]

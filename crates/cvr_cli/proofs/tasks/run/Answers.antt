@@ -24,12 +24,12 @@ returns-in-Ok-clause-done g c = λ done. none_refused_beside c.args.def.now c.in
 pub returns-in-Err-clause-log : goal.returns-in-Err-clause-log
 returns-in-Err-clause-log g c = λ whole.
     definition_log c.args.request.now.def c.args.def.now c.args.request.now.paths (bytes_of c.args.files.now) c.in-Err.fault c.none-refusals.result c.note.new.self _ _ _ _ c.as_str.result.now _
-    c.as_str.ensures c.requires.working c.in-Err.ensures.first c.none-refusals.ensures.lacking c.none-refusals.ensures.unlogged c.note.ensures.lacking c.note.ensures.told (λ e. whole (c.status.ensures ∙ e))
+    c.as_str.ensures c.requires.working c.in-Err.ensures.first c.none-refusals.ensures.file_lacking c.none-refusals.ensures.path_unspelled c.note.ensures.file_lacking c.note.ensures.told (λ e. whole (c.status.ensures ∙ e))
 
 pub returns-in-Err-clause-cut_short : goal.returns-in-Err-clause-cut_short
 returns-in-Err-clause-cut_short g c = λ want.
     definition_cut_short c.args.request.now.def c.args.def.now c.args.request.now.paths (bytes_of c.args.files.now) c.in-Err.fault c.none-refusals.result c.note.new.self _ _ _ _ c.as_str.result.now _
-    c.as_str.ensures c.in-Err.ensures.first c.none-refusals.ensures.lacking c.none-refusals.ensures.unlogged c.note.ensures.lacking c.note.ensures.told (sym c.status.ensures ∙ want)
+    c.as_str.ensures c.in-Err.ensures.first c.none-refusals.ensures.file_lacking c.none-refusals.ensures.path_unspelled c.note.ensures.file_lacking c.note.ensures.told (sym c.status.ensures ∙ want)
 
 pub returns-in-Ok-clause-log : goal.returns-in-Ok-clause-log
 returns-in-Ok-clause-log g c = λ whole.
