@@ -90,27 +90,29 @@ other_reading =
     snapshot ballot_box (codes "\"Annotation\":[{\"@type\":\"CVR.Annotation\",\"TimeStamp\":\"2024-11-05T20:00:00Z\"}],") (contest (codes "mayor") (choice (codes "bob") (codes "91")) (codes ""))
     (codes "interpreted")
 
--- of a third record, in the first one's unit: 20 for Ann, overvotes 30
-abbrev pub third_scan : List ℕ
-third_scan = snapshot (codes "a") (codes "") (contest (codes "mayor") (choice (codes "ann") (codes "20")) (codes ",\"Overvotes\":30")) (codes "original")
+-- of a third record and a fourth one: a scan with these votes for Ann, and the text of one more member
+abbrev pub scan_for_ann : List ℕ → List ℕ → List ℕ
+scan_for_ann votes more = snapshot (codes "a") (codes "") (contest (codes "mayor") (choice (codes "ann") votes) more) (codes "original")
 
--- two bodies of the first record's header and of its adjudication: p2 and 8 stand
-abbrev pub of_three : List Fact
-of_three =
+-- two bodies of the first record's header and of its adjudication: p2 and 8 stand. The third record is in its unit, the other one too, in a batch
+abbrev pub of_four : List Fact
+of_four =
     Snapshot (codes "s1") (codes "u1") (codes "m") (adjudicated (codes "8")) ∷ Header (codes "s1") (codes "u1") (header (codes "") (codes "p1") (codes "u1")) ∷
     Snapshot (codes "s1") ballot_box ballot_box other_reading ∷ Snapshot (codes "s1") (codes "u1") (codes "aa") scanned ∷
-    Header (codes "s1") ballot_box (header (codes "\"BatchId\":\"b1\",") (codes "p1") ballot_box) ∷ Snapshot (codes "s1") (codes "u10") (codes "a") third_scan ∷
+    Header (codes "s1") ballot_box (header (codes "\"BatchId\":\"b1\",") (codes "p2") ballot_box) ∷ Snapshot (codes "s1") (codes "u10") (codes "a") (scan_for_ann (codes "20") (codes ",\"Overvotes\":30")) ∷
+    Snapshot (codes "s1") (codes "u2") (codes "a") (scan_for_ann (codes "40") (codes "")) ∷ Header (codes "s1") (codes "u2") (header (codes "") (codes "p1") (codes "u2")) ∷
     Snapshot (codes "s1") (codes "u1") (codes "m") (adjudicated (codes "7")) ∷ Header (codes "s1") (codes "u10") (header (codes "") (codes "p2") (codes "u10")) ∷
     Snapshot (codes "s1") ballot_box dot other_adjudicated ∷ Header (codes "s1") (codes "u1") (header (codes "") (codes "p2") (codes "u1")) ∷
     Device (codes "s1") (codes "{\"@id\":\"s1\",\"@type\":\"CVR.ReportingDevice\"}") ∷ []
 
--- Ann has 8 and 20 in p2, overvotes are 1 and 30
+-- outside of batches Ann has 8 and 20 in p2, and overvotes are 1 and 30
 abbrev pub expected_tally : List ℕ
 expected_tally =
-    codes "\"mayor\" \"p1\" \"b1\" 1 0 0 0 0 0 \"ann\" 11 \"bob\" 0\n" ++
+    codes "\"mayor\" \"p1\" null 1 0 0 0 0 0 \"ann\" 40 \"bob\" 0\n" ++
     codes "\"mayor\" \"p2\" null 2 31 2 3 5 4 \"ann\" 28 \"bob\" 9\n" ++
+    codes "\"mayor\" \"p2\" \"b1\" 1 0 0 0 0 0 \"ann\" 11 \"bob\" 0\n" ++
     codes "\"" ++ ballot_box ++ codes "\" \"p2\" null 1 0 0 0 0 0 \"" ++ dot ++ codes "\" 10\n" ++
-    codes "\"q\" \"p1\" \"b1\" 1 0 12 0 0 0\n"
+    codes "\"q\" \"p2\" \"b1\" 1 0 12 0 0 0\n"
 
-abbrev pub TallyOfThree : Type 0
-TallyOfThree = tally contests (from_list of_three) ≡ expected_tally
+abbrev pub TallyOfFour : Type 0
+TallyOfFour = tally contests (from_list of_four) ≡ expected_tally
