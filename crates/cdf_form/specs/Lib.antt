@@ -19,3 +19,4 @@ pub mod PartOf
 pub mod PartLaws
 pub mod TextExamples
 pub mod FormExamples
+pub mod TableExamples

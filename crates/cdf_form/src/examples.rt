@@ -5,6 +5,9 @@ ghost use Rattle.cdf_form.specs.FormExamples.{WrongKind, NotListed, EmptyText, N
 ghost use Rattle.cdf_form.specs.FormExamples.{CountTooGreat, CountBelowZero, Fractional, NotWhole, NegativeZero};
 ghost use Rattle.cdf_form.specs.FormExamples.{TooFew, TooMany, OneElection, SomeSnapshot, MostPositions, MostContestSelections};
 ghost use Rattle.cdf_form.specs.FormExamples.{RepeatedId, RepeatedContest};
+ghost use Rattle.cdf_form.specs.TableExamples.{AnswersCastVoteRecordReport, AnswersElection, AnswersCandidate, AnswersGpUnit, AnswersParty, AnswersReportingDevice};
+ghost use Rattle.cdf_form.specs.TableExamples.{AnswersCvr, AnswersCvrSnapshot, AnswersAnnotation, AnswersCvrContest, AnswersCvrContestSelection, AnswersSelectionPosition, AnswersCvrWriteIn};
+ghost use Rattle.cdf_form.specs.TableExamples.{AnswersBallotMeasureContest, AnswersCandidateContest, AnswersContest, AnswersPartyContest, AnswersRetentionContest, AnswersBallotMeasureSelection, AnswersCandidateSelection, AnswersContestSelection, AnswersPartySelection};
 
 /// Reports without a fault.
 pub fn no_fault()
@@ -56,4 +59,38 @@ pub fn arrays()
 pub fn repeats()
     ensures id { RepeatedId }
     ensures contest { RepeatedContest }
+{}
+
+/// The members of a report, its elections and the objects beside them.
+pub fn report_members()
+    ensures cast_vote_record_report { AnswersCastVoteRecordReport }
+    ensures election { AnswersElection }
+    ensures candidate { AnswersCandidate }
+    ensures gp_unit { AnswersGpUnit }
+    ensures party { AnswersParty }
+    ensures reporting_device { AnswersReportingDevice }
+{}
+
+/// The members of a record and its parts.
+pub fn record_members()
+    ensures cvr { AnswersCvr }
+    ensures cvr_snapshot { AnswersCvrSnapshot }
+    ensures annotation { AnswersAnnotation }
+    ensures cvr_contest { AnswersCvrContest }
+    ensures cvr_contest_selection { AnswersCvrContestSelection }
+    ensures selection_position { AnswersSelectionPosition }
+    ensures cvr_write_in { AnswersCvrWriteIn }
+{}
+
+/// The members of contests and their selections.
+pub fn contest_members()
+    ensures ballot_measure_contest { AnswersBallotMeasureContest }
+    ensures candidate_contest { AnswersCandidateContest }
+    ensures contest { AnswersContest }
+    ensures party_contest { AnswersPartyContest }
+    ensures retention_contest { AnswersRetentionContest }
+    ensures ballot_measure_selection { AnswersBallotMeasureSelection }
+    ensures candidate_selection { AnswersCandidateSelection }
+    ensures contest_selection { AnswersContestSelection }
+    ensures party_selection { AnswersPartySelection }
 {}
