@@ -210,3 +210,54 @@ AnswersCandidate = HasAnswers group.Candidates class.Candidate (codes "Candidate
     (codes "@id", 2, 6, 3, 3) ∷
     (codes "PartyId", 0, 0, 3, 3) ∷
     [])
+
+-- ---- lists and repeats
+
+-- what is told of a member with this value
+abbrev pub told_of : Group → List ℕ → List ℕ → List ℕ → ℕ
+told_of g type name value = told_at g type name (with_value name value)
+
+-- each list takes a text that it alone has, but for those of marks, which are the same
+abbrev pub OwnTexts : Type 0
+OwnTexts = (
+    told_of group.Reports (codes "CastVoteRecordReport") (codes "ReportType") (codes "[\"rcv-round\"]") ∷
+    told_of group.Reports (codes "CastVoteRecordReport") (codes "Version") (codes "\"1.0.0\"") ∷
+    told_of group.Snapshots (codes "CVRSnapshot") (codes "Status") (codes "[\"needs-adjudication\"]") ∷
+    told_of group.Snapshots (codes "CVRSnapshot") (codes "Type") (codes "\"interpreted\"") ∷
+    told_of group.CvrContests (codes "CVRContest") (codes "Status") (codes "[\"undervoted\"]") ∷
+    told_of group.CvrContestSelections (codes "CVRContestSelection") (codes "Status") (codes "[\"generated-rules\",\"needs-adjudication\"]") ∷
+    told_of group.SelectionPositions (codes "SelectionPosition") (codes "HasIndication") (codes "\"unknown\"") ∷
+    told_of group.SelectionPositions (codes "SelectionPosition") (codes "IsAllocable") (codes "\"unknown\"") ∷
+    told_of group.SelectionPositions (codes "SelectionPosition") (codes "Status") (codes "[\"adjudicated\",\"generated-rules\"]") ∷
+    told_of group.Contests (codes "Contest") (codes "VoteVariation") (codes "\"borda\"") ∷ [])
+    ≡ 0 ∷ 0 ∷ 0 ∷ 0 ∷ 0 ∷ 0 ∷ 0 ∷ 0 ∷ 0 ∷ 0 ∷ []
+
+-- a snapshot's status is none of a selection's
+abbrev pub OtherList : Type 0
+OtherList = told_of group.Snapshots (codes "CVRSnapshot") (codes "Status") (codes "[\"generated-rules\"]") ≡ 4
+
+-- an array of an object twice
+abbrev pub twice : List ℕ → List ℕ
+twice object = codes "[" ++ object ++ codes "," ++ object ++ codes "]"
+
+-- an object of a class with an id
+abbrev pub with_id : List ℕ → List ℕ
+with_id type = codes "{\"@id\":\"a\",\"@type\":\"CVR." ++ type ++ codes "\",\"Type\":\"original\"}"
+
+-- no object with an id may come twice in an array, nor a CVRContest; an annotation may
+abbrev pub Repeats : Type 0
+Repeats = (
+    told_of group.Reports (codes "CastVoteRecordReport") (codes "GpUnit") (twice (with_id (codes "GpUnit"))) ∷
+    told_of group.Reports (codes "CastVoteRecordReport") (codes "Party") (twice (with_id (codes "Party"))) ∷
+    told_of group.Reports (codes "CastVoteRecordReport") (codes "ReportingDevice") (twice (with_id (codes "ReportingDevice"))) ∷
+    told_of group.Elections (codes "Election") (codes "Candidate") (twice (with_id (codes "Candidate"))) ∷
+    told_of group.Elections (codes "Election") (codes "Contest") (twice (with_id (codes "Contest"))) ∷
+    told_of group.Contests (codes "BallotMeasureContest") (codes "ContestSelection") (twice (with_id (codes "PartySelection"))) ∷
+    told_of group.Contests (codes "CandidateContest") (codes "ContestSelection") (twice (with_id (codes "PartySelection"))) ∷
+    told_of group.Contests (codes "Contest") (codes "ContestSelection") (twice (with_id (codes "PartySelection"))) ∷
+    told_of group.Contests (codes "PartyContest") (codes "ContestSelection") (twice (with_id (codes "PartySelection"))) ∷
+    told_of group.Contests (codes "RetentionContest") (codes "ContestSelection") (twice (with_id (codes "PartySelection"))) ∷
+    told_of group.Cvrs (codes "CVR") (codes "CVRSnapshot") (twice (with_id (codes "CVRSnapshot"))) ∷
+    told_of group.Snapshots (codes "CVRSnapshot") (codes "CVRContest") (twice (codes "{\"@type\":\"CVR.CVRContest\",\"ContestId\":\"m\"}")) ∷
+    told_of group.Snapshots (codes "CVRSnapshot") (codes "Annotation") (twice (with_id (codes "Annotation"))) ∷ [])
+    ≡ 12 ∷ 12 ∷ 12 ∷ 12 ∷ 12 ∷ 12 ∷ 12 ∷ 12 ∷ 12 ∷ 12 ∷ 12 ∷ 13 ∷ 0 ∷ []

@@ -8,6 +8,7 @@ ghost use Rattle.cdf_form.specs.FormExamples.{RepeatedId, RepeatedContest};
 ghost use Rattle.cdf_form.specs.TableExamples.{AnswersCastVoteRecordReport, AnswersElection, AnswersCandidate, AnswersGpUnit, AnswersParty, AnswersReportingDevice};
 ghost use Rattle.cdf_form.specs.TableExamples.{AnswersCvr, AnswersCvrSnapshot, AnswersAnnotation, AnswersCvrContest, AnswersCvrContestSelection, AnswersSelectionPosition, AnswersCvrWriteIn};
 ghost use Rattle.cdf_form.specs.TableExamples.{AnswersBallotMeasureContest, AnswersCandidateContest, AnswersContest, AnswersPartyContest, AnswersRetentionContest, AnswersBallotMeasureSelection, AnswersCandidateSelection, AnswersContestSelection, AnswersPartySelection};
+ghost use Rattle.cdf_form.specs.TableExamples.{OwnTexts, OtherList, Repeats};
 
 /// Reports without a fault.
 pub fn no_fault()
@@ -93,4 +94,11 @@ pub fn contest_members()
     ensures candidate_selection { AnswersCandidateSelection }
     ensures contest_selection { AnswersContestSelection }
     ensures party_selection { AnswersPartySelection }
+{}
+
+/// Which list a member has, and in which arrays nothing may come twice.
+pub fn lists_and_repeats()
+    ensures own { OwnTexts }
+    ensures other { OtherList }
+    ensures repeats { Repeats }
 {}
