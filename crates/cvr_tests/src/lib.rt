@@ -18,3 +18,5 @@ mod runs;
 mod sets;
 #[cfg(test)]
 mod texts;
+#[cfg(test)]
+mod volumes;

@@ -1,0 +1,139 @@
+//! Volumes of a few files, and headings.
+use crate::files::*;
+use cdf_types::MemorySink;
+use cvr_collect::{Office, PlainOffice};
+use cvr_report::{HeadFault, Heading, WriteFault, volumes, write_volume};
+use std::process::Abort;
+
+const DATE: &str = "2024-11-06T08:00:00Z";
+
+// A volume's members behind its records.
+const REST: &str =
+    r#""Election":[{"@id":"e","@type":"CVR.Election","Contest":[{"@id":"mayor","@type":"CVR.CandidateContest","ContestSelection":[{"@id":"ann","@type":"CVR.CandidateSelection"},{"@id":"bob","@type":"CVR.CandidateSelection"},{"@id":"wi","@type":"CVR.CandidateSelection","IsWriteIn":true}]},{"@id":"q1","@type":"CVR.BallotMeasureContest","ContestSelection":[{"@id":"yes","@type":"CVR.BallotMeasureSelection"},{"@id":"no","@type":"CVR.BallotMeasureSelection"}]}],"ElectionScopeId":"p1"}],"GeneratedDate":"2024-11-06T08:00:00Z","GpUnit":[{"@id":"p1","@type":"CVR.GpUnit"},{"@id":"p2","@type":"CVR.GpUnit"}],"ReportGeneratingDeviceIds":["desk"],"ReportType":["aggregated"],"ReportingDevice":[{"@id":"desk","@type":"CVR.ReportingDevice"},{"@id":"s1","@type":"CVR.ReportingDevice"},{"@id":"s2","@type":"CVR.ReportingDevice"}],"Version":"1.0.0"}"#;
+
+// The record of the scan, as a volume has it.
+const SCANNED: &str =
+    r#""CVR":[{"@type":"CVR.CVR","BallotStyleUnitId":"p1","CVRSnapshot":[{"@id":"a","@type":"CVR.CVRSnapshot","CVRContest":[{"@type":"CVR.CVRContest","CVRContestSelection":[{"@type":"CVR.CVRContestSelection","ContestSelectionId":"ann","SelectionPosition":[{"@type":"CVR.SelectionPosition","HasIndication":"yes","NumberVotes":1}]}],"ContestId":"mayor"}],"Type":"original"}],"CreatingDeviceId":"s1","CurrentSnapshotId":"a","ElectionId":"e","UniqueId":"u1"}],"#;
+
+// The record with its snapshot for the write-in, which is the greater of the two under `m`.
+const FIRST: &str =
+    r#""CVR":[{"@type":"CVR.CVR","BallotStyleUnitId":"p1","CVRSnapshot":[{"@id":"a","@type":"CVR.CVRSnapshot","CVRContest":[{"@type":"CVR.CVRContest","CVRContestSelection":[{"@type":"CVR.CVRContestSelection","ContestSelectionId":"ann","SelectionPosition":[{"@type":"CVR.SelectionPosition","HasIndication":"yes","NumberVotes":1}]}],"ContestId":"mayor"}],"Type":"original"},{"@id":"m","@type":"CVR.CVRSnapshot","CVRContest":[{"@type":"CVR.CVRContest","CVRContestSelection":[{"@type":"CVR.CVRContestSelection","ContestSelectionId":"wi","SelectionPosition":[{"@type":"CVR.SelectionPosition","HasIndication":"yes","NumberVotes":1}]}],"ContestId":"mayor"}],"Type":"modified"}],"CreatingDeviceId":"s1","CurrentSnapshotId":"m","ElectionId":"e","UniqueId":"u1"}],"#;
+
+// The record with its snapshot for Bob.
+const SECOND: &str =
+    r#""CVR":[{"@type":"CVR.CVR","BallotStyleUnitId":"p1","CVRSnapshot":[{"@id":"a","@type":"CVR.CVRSnapshot","CVRContest":[{"@type":"CVR.CVRContest","CVRContestSelection":[{"@type":"CVR.CVRContestSelection","ContestSelectionId":"ann","SelectionPosition":[{"@type":"CVR.SelectionPosition","HasIndication":"yes","NumberVotes":1}]}],"ContestId":"mayor"}],"Type":"original"},{"@id":"m","@type":"CVR.CVRSnapshot","CVRContest":[{"@type":"CVR.CVRContest","CVRContestSelection":[{"@type":"CVR.CVRContestSelection","ContestSelectionId":"bob","SelectionPosition":[{"@type":"CVR.SelectionPosition","HasIndication":"yes","NumberVotes":1}]}],"ContestId":"mayor"}],"Type":"modified"}],"CreatingDeviceId":"s1","CurrentSnapshotId":"m","ElectionId":"e","UniqueId":"u1"}],"#;
+
+// The text of a volume with this member of records, or none.
+fn text_of(rt: &(impl Abort + AllocGlobal), records: &str) -> String {
+    let text = format!(in rt.alloc(); r#"{{"@type":"CVR.CastVoteRecordReport",{records}{REST}"#);
+    text.expect(rt, "no memory")
+}
+
+// What the writing of a volume left.
+#[derive(Drop)]
+struct Writing {
+    answer: Result<(), WriteFault>,
+    out: MemorySink,
+}
+
+// Writes volume `i` to a sink that takes so many bytes a call and fails at a call, or never (0).
+fn write(
+    rt: &(impl Abort + AllocGlobal),
+    office: &PlainOffice,
+    i: usize,
+    per_call: usize,
+    fails: usize,
+) -> Writing {
+    assert!(rt; 0 < i && i <= volumes(office) && per_call > 0);
+    let heading = Heading::new(rt.alloc(), office.definition(), DATE, "desk").expect(
+        rt,
+        "no heading",
+    );
+    assert!(rt; office.definition().device(heading.device()));
+    let mut out = MemorySink::new(rt.alloc(), per_call, fails);
+    let answer = write_volume(rt.alloc(), office, &heading, i, &mut out);
+    Writing { answer, out }
+}
+
+// Whether volume `i` of an office is that of these records.
+fn is_written(
+    rt: &(impl Abort + AllocGlobal),
+    office: &PlainOffice,
+    i: usize,
+    records: &str,
+) -> bool {
+    let ending = write(rt, office, i, 100, 0);
+    ending.answer == Ok(()) && ending.out.taken() == text_of(rt, records).as_bytes()
+}
+
+#[test]
+fn an_office_of_no_files_writes_no_records(rt: HostRuntime) {
+    let office = office_of(&rt, &[]);
+    assert_eq!(rt; volumes(&office), 1);
+    assert!(rt; is_written(&rt, &office, 1, ""));
+}
+
+#[test]
+fn a_record_is_written_with_its_snapshot(rt: HostRuntime) {
+    let office = office_of(&rt, &[SCAN]);
+    assert_eq!(rt; volumes(&office), 1);
+    assert!(rt; is_written(&rt, &office, 1, SCANNED));
+}
+
+#[test]
+fn two_bodies_under_one_id_make_two_volumes(rt: HostRuntime) {
+    let office = office_of(&rt, &[SCAN, ADJUDICATED, FOR_WRITE_IN]);
+    assert_eq!(rt; volumes(&office), 2);
+    assert!(rt; is_written(&rt, &office, 1, FIRST));
+    assert!(rt; is_written(&rt, &office, 2, SECOND));
+}
+
+// Whether a sink of one byte a call that fails at a call has taken the bytes before it.
+fn is_cut_short(
+    rt: &(impl Abort + AllocGlobal),
+    office: &PlainOffice,
+    fails: usize,
+    before: &[u8],
+) -> bool {
+    let ending = write(rt, office, 1, 1, fails);
+    ending.answer == Err(WriteFault::Device) && ending.out.taken() == before
+}
+
+#[test]
+fn a_sink_that_fails_has_taken_a_front(rt: HostRuntime) {
+    let office = office_of(&rt, &[SCAN, ADJUDICATED, FOR_WRITE_IN]);
+    let text = text_of(&rt, FIRST);
+    let bytes = text.as_bytes();
+    for taken in 0..bytes.len() {
+        assert!(rt;
+            is_cut_short(&rt, &office, taken + 1, &bytes[..taken]),
+            "{taken}"
+        );
+    }
+}
+
+// What is wrong with a heading.
+fn fault_of(
+    rt: &(impl Abort + AllocGlobal),
+    office: &PlainOffice,
+    date: &str,
+    device: &str,
+) -> Option<HeadFault> {
+    Heading::new(rt.alloc(), office.definition(), date, device).err()
+}
+
+#[test]
+fn a_heading_has_a_moment_and_a_device_of_the_definition(rt: HostRuntime) {
+    let office = office_of(&rt, &[WITH_THIRD]);
+    assert!(rt; fault_of(&rt, &office, "2024-11-06", "desk") == Some(HeadFault::NotMoment));
+    assert!(rt;
+        fault_of(&rt, &office, "2024-11-06T08:00:00Z[UTC]", "desk") == Some(HeadFault::NotMoment)
+    );
+    assert!(rt; fault_of(&rt, &office, "2024-11-06", "s9") == Some(HeadFault::NotMoment));
+    assert!(rt; fault_of(&rt, &office, DATE, "s3") == Some(HeadFault::NoDevice));
+    let heading = Heading::new(rt.alloc(), office.definition(), DATE, "s1").expect(
+        &rt,
+        "no heading",
+    );
+    assert!(rt; heading.date() == DATE && heading.device() == "s1");
+}
