@@ -15,6 +15,7 @@ mod same;
 mod table;
 mod tellings;
 mod trying;
+mod writing;
 
 use std::process::ExitCode;
 use table::try_all;

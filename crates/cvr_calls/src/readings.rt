@@ -8,10 +8,12 @@ use crate::same::{
 };
 use crate::tellings::row_of;
 use crate::trying::Reading;
+use crate::writing::{DATE, DEVICE};
 use cdf_check::Definition;
 use cdf_types::{Memory, ReadFault};
 use cvr_collect::{Office, PlainOffice};
 use cvr_facts::{BodySet, DeviceFact, HeaderFact, SnapshotFact};
+use cvr_report::{HeadFault, Heading};
 use cvr_tally::RowKey;
 use cvr_tally::text::{push_word, quoted};
 use std::alloc::Global;
@@ -117,13 +119,14 @@ fn are_facts_made(alloc: Global, records: &Records<'_>) -> Result<bool, ReadFaul
     Ok(are_same_facts(&facts, records.facts))
 }
 
-/// Sets, texts and a new office.
+/// Sets, texts, a new office and a heading.
 pub enum Making {
     BodySet,
     JoinBoth,
     Quoted,
     Word,
     Office,
+    Heading,
 }
 
 impl Reading for Making {
@@ -134,6 +137,7 @@ impl Reading for Making {
             Making::Quoted => quoted(alloc, "a\"b")?.as_str() == "\"a\\\"b\"",
             Making::Word => is_word_pushed(alloc)?,
             Making::Office => is_office_made(alloc, records.definition)?,
+            Making::Heading => is_heading_made(alloc, records.definition)?,
         };
         Ok(is_right)
     }
@@ -160,4 +164,13 @@ fn is_office_made(alloc: Global, definition: &Definition) -> Result<bool, Memory
     let copy = definition.copy(alloc)?;
     let office = PlainOffice::new(alloc, copy)?;
     Ok(office.record_count() == 0 && office.fact_count() == definition.devices().len())
+}
+
+// Whether a heading has the date and the device that it was made of.
+fn is_heading_made(alloc: Global, definition: &Definition) -> Result<bool, Memory> {
+    match Heading::new(alloc, definition, DATE, DEVICE) {
+        Ok(heading) => Ok(heading.date() == DATE && heading.device() == DEVICE),
+        Err(HeadFault::Memory) => Err(Memory),
+        Err(_) => Ok(false),
+    }
 }

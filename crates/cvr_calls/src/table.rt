@@ -7,6 +7,7 @@ use crate::records::{Records, try_new_records};
 use crate::running::try_running;
 use crate::tellings::{Telling, try_telling};
 use crate::trying::{Ended, Reading, try_reading};
+use crate::writing::try_writing;
 use cvr_cli::Task;
 
 // The scripts. Each public call that can answer want of memory stands in the name of one of them.
@@ -30,12 +31,13 @@ static FILINGS: [(&str, Filing); 3] = [
     ("check_report, facts_of", Filing::Facts),
 ];
 
-static MAKINGS: [(&str, Making); 5] = [
+static MAKINGS: [(&str, Making); 6] = [
     ("BodySet::new", Making::BodySet),
     ("join_both", Making::JoinBoth),
     ("quoted", Making::Quoted),
     ("push_word", Making::Word),
     ("Office::new", Making::Office),
+    ("Heading::new", Making::Heading),
 ];
 
 static TELLINGS: [(&str, Telling); 6] = [
@@ -45,6 +47,11 @@ static TELLINGS: [(&str, Telling); 6] = [
     ("Office::conflicts, conflicts_text", Telling::Conflicts),
     ("currents_text", Telling::Currents),
     ("Office::totals, tally_text", Telling::Tally),
+];
+
+static VOLUMES: [(&str, usize); 2] = [
+    ("write_volume, the first", 1),
+    ("write_volume, the second", 2),
 ];
 
 static RUNS: [(&str, Task); 4] = [
@@ -88,6 +95,7 @@ pub fn try_records(rt: &HostRuntime, records: &Records<'_>) -> Result<(), Ended>
     try_readings(rt, records, &FILINGS)?;
     try_readings(rt, records, &MAKINGS)?;
     try_tellings(rt, records)?;
+    try_volumes(rt, records)?;
     try_runs(rt, records)
 }
 
@@ -105,6 +113,13 @@ fn try_readings<R: Reading>(
 fn try_tellings(rt: &HostRuntime, records: &Records<'_>) -> Result<(), Ended> {
     for (name, telling) in &TELLINGS {
         try_telling(rt, name, records, telling)?;
+    }
+    Ok(())
+}
+
+fn try_volumes(rt: &HostRuntime, records: &Records<'_>) -> Result<(), Ended> {
+    for (name, i) in &VOLUMES {
+        try_writing(rt, name, records, *i)?;
     }
     Ok(())
 }

@@ -1,0 +1,75 @@
+use crate::records::Records;
+use crate::trying::{Ended, Reading, try_reading};
+use cdf_types::{Memory, MemorySink, ReadFault, Sink};
+use cvr_collect::{Office, PlainOffice};
+use cvr_report::{Heading, WriteFault, volumes, write_volume};
+use std::alloc::Global;
+
+/// The date and the device of a heading.
+pub const DATE: &str = "2024-11-06T08:00:00Z";
+
+pub const DEVICE: &str = "desk";
+
+// So few bytes that a record is written by several calls.
+const PIECE: usize = 64;
+
+// How the writing of a volume ended, and what its output took.
+#[derive(Drop)]
+struct Written {
+    answer: Result<(), WriteFault>,
+    out: MemorySink,
+}
+
+// Writes volume `i` of an office, which has it.
+fn write_over(alloc: Global, office: &PlainOffice, i: usize) -> Result<Written, Memory> {
+    let Ok(heading) = Heading::new(alloc, office.definition(), DATE, DEVICE) else {
+        return Err(Memory);
+    };
+    if i == 0 || i > volumes(office) || !office.definition().device(heading.device()) {
+        return Err(Memory);
+    }
+    let mut out = MemorySink::new(alloc, PIECE, 0);
+    let answer = write_volume(alloc, office, &heading, i, &mut out);
+    Ok(Written { answer, out })
+}
+
+// A volume beside the one that was written before.
+#[derive(Drop)]
+struct Rewriting {
+    i: usize,
+    before: MemorySink,
+}
+
+impl Reading for Rewriting {
+    // Want of memory is right where a front was taken, and where it is the output's own growth that
+    // was refused is told as the output's failure.
+    fn is_right(&self, alloc: Global, records: &Records<'_>) -> Result<bool, ReadFault> {
+        let written = write_over(alloc, records.office, self.i)?;
+        let (taken, whole) = (written.out.taken(), self.before.taken());
+        match written.answer {
+            Ok(()) => Ok(taken == whole),
+            Err(fault) => if whole.starts_with(taken)
+                && written.out.failed() == (fault == WriteFault::Device)
+            {
+                Err(ReadFault::Memory)
+            } else {
+                Ok(false)
+            },
+        }
+    }
+}
+
+/// Tries the writing of a volume.
+pub fn try_writing(
+    rt: &HostRuntime,
+    name: &str,
+    records: &Records<'_>,
+    i: usize,
+) -> Result<(), Ended> {
+    let written = write_over(rt.alloc(), records.office, i)?;
+    let Ok(()) = written.answer else {
+        return Err(Ended::NotBuilt);
+    };
+    let before = written.out;
+    try_reading(rt, name, records, &Rewriting { i, before })
+}
