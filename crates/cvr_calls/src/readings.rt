@@ -12,10 +12,10 @@ use crate::writing::{DATE, DEVICE};
 use cdf_check::Definition;
 use cdf_types::{Memory, ReadFault};
 use cvr_collect::{Office, PlainOffice};
+use cvr_facts::text::{push_word, quoted};
 use cvr_facts::{BodySet, DeviceFact, HeaderFact, SnapshotFact};
 use cvr_report::{HeadFault, Heading};
 use cvr_tally::RowKey;
-use cvr_tally::text::{push_word, quoted};
 use std::alloc::Global;
 
 /// Copies.

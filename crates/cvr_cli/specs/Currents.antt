@@ -7,11 +7,11 @@ use Rattle.cdf_typed.specs.Typed.{kind_of}
 use Rattle.cvr_facts.specs.declared.name.RecordName.{RecordName}
 use Rattle.cvr_facts.specs.Facts.{Facts}
 use Rattle.cvr_facts.specs.Choosing.{data_of, current}
+use Rattle.cvr_facts.specs.Text.{word}
 use Rattle.cvr_collect.specs.declared.conflict.Conflict.{Conflict}
 use Rattle.cvr_collect.specs.declared.conflict.ConflictName.{ConflictName}
 use Rattle.cvr_collect.specs.declared.conflict.ConflictName.TheVariants as name
 use Rattle.cvr_collect.specs.Names.{records, most}
-use Rattle.cvr_tally.specs.Text.{word}
 
 -- ---- current snapshots
 

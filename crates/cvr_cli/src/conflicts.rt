@@ -1,12 +1,12 @@
 ghost use Rattle.std.specs.Prelude.{◌≡◌, ◌++◌, OnOk, IfOk, string_bytes};
 ghost use Rattle.std.specs.List.{flat_map};
-ghost use Rattle.cvr_tally.specs.Text.{word};
+ghost use Rattle.cvr_facts.specs.Text.{word};
 ghost use Rattle.cvr_cli.specs.Currents.{words_of, conflict_line, volumes_of, conflict_text};
 
 use cdf_types::Memory;
 use cvr_collect::{Conflict, ConflictList, ConflictName};
 use cvr_facts::RecordName;
-use cvr_tally::text::push_word;
+use cvr_facts::text::push_word;
 use std::alloc::Global;
 
 // Adds the name of a record.

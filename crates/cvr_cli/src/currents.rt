@@ -1,13 +1,13 @@
 ghost use Rattle.std.specs.Prelude.{◌≡◌, ◌++◌, ◌∷◌, [], OnOk, IfOk, string_bytes};
 ghost use Rattle.cdf_types.specs.SnapshotKind.{snapshot_kind_text};
 ghost use Rattle.cvr_facts.specs.Choosing.{current};
-ghost use Rattle.cvr_tally.specs.Text.{word};
+ghost use Rattle.cvr_facts.specs.Text.{word};
 ghost use Rattle.cvr_cli.specs.Currents.{line_of, currents};
 
 use cdf_types::Memory;
 use cvr_collect::Office;
+use cvr_facts::text::push_word;
 use cvr_facts::{RecordName, SnapshotFact};
-use cvr_tally::text::push_word;
 use std::alloc::Global;
 
 // Adds the line of a snapshot.

@@ -3,7 +3,7 @@ ghost use Rattle.std.specs.List.{flat_map};
 ghost use Rattle.cvr_cli.specs.Log.{fault_line, memory_line, has_path, Logs};
 
 use cdf_types::{Memory, ReadFault, Sink, write_all};
-use cvr_tally::text::quoted;
+use cvr_facts::text::quoted;
 use itoa::Buffer;
 use std::alloc::Global;
 

@@ -1,6 +1,7 @@
 pub mod Facts
 pub mod Ordered
 pub mod Sets
+pub mod Text
 pub mod Unions
 pub mod Reports
 pub mod Choosing

@@ -11,11 +11,12 @@ ghost use Rattle.cvr_facts.specs.Reports.{facts};
 ghost use Rattle.cvr_facts.specs.Stands.{AreSpelled};
 
 use crate::device::DeviceFact;
-use crate::header::{HeaderFact, copy_optional};
+use crate::header::HeaderFact;
 use crate::list::FactList;
 use crate::name::RecordName;
 use crate::snapshot::SnapshotFact;
 use crate::sums::sums_in;
+use crate::text::copy_optional;
 use cdf_check::Definition;
 use cdf_types::{Cvr, Memory, Report, ReportingDevice, Seq, Snapshot};
 use std::alloc::Global;

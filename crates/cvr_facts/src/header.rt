@@ -5,6 +5,7 @@ ghost use Rattle.std.proofs.Common.{rules};
 ghost use Rattle.cvr_facts.specs.Lists.{header_cmp};
 
 use crate::name::RecordName;
+use crate::text::copy_optional;
 use cdf_types::{Body, Memory};
 use std::cmp::Ordering;
 
@@ -36,16 +37,6 @@ impl HeaderFact {
             batch: copy_optional(&self.batch)?,
             body: self.body.copy()?,
         })
-    }
-}
-
-// An equal text, where there is one.
-pub(crate) fn copy_optional(text: &Option<Body>) -> Result<Option<Body>, Memory>
-    ensures { IfOk result (λ copy. copy ≡ text.now) }
-{
-    match text {
-        Some(body) => Ok(Some(body.copy()?)),
-        None => Ok(None),
     }
 }
 

@@ -14,6 +14,7 @@ mod name;
 pub mod rows;
 mod snapshot;
 mod sums;
+pub mod text;
 
 pub use bodies::BodySet;
 pub use choice::choice_cmp;

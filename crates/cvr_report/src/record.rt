@@ -18,7 +18,7 @@ use crate::scan::cut;
 use crate::shown::{shown_current, shown_header, shown_snapshot};
 use cdf_types::{Body, Memory};
 use cvr_collect::{IdFacts, RecordFacts};
-use cvr_tally::text::quoted;
+use cvr_facts::text::quoted;
 use std::alloc::Global;
 
 // Adds a text, with a comma before it unless it is the first.

@@ -21,7 +21,7 @@ use cdf_check::Definition;
 use cdf_types::{Body, Memory, Sink, write_all};
 use cvr_collect::Office;
 use cvr_facts::RecordName;
-use cvr_tally::text::quoted;
+use cvr_facts::text::quoted;
 use std::alloc::Global;
 
 /// How many volumes the content of an office makes: the greatest number of bodies under one name,

@@ -4,13 +4,10 @@ use Rattle.std.specs.List.{flat_map, zip}
 use Rattle.std.specs.FinMap.{entries}
 use Rattle.json.specs.Print.{quoted}
 use Rattle.cdf_form.specs.Places.{Contest, contest_ids, selections_at}
+use Rattle.cvr_facts.specs.Text.{word}
 use Rattle.cvr_tally.specs.declared.key.RowKey.{RowKey}
 use Rattle.cvr_tally.specs.declared.row.Row.{Row}
 use Rattle.cvr_tally.specs.Rows.{Rows}
-
--- a text as a JSON string, and a space
-abbrev pub word : List ℕ → List ℕ
-word text = quoted text ++ 32 ∷ []
 
 -- a unit or a batch, `null` where there is none, and a space
 abbrev pub part : Option (List ℕ) → List ℕ

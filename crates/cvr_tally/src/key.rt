@@ -2,6 +2,7 @@ ghost use Rattle.std.specs.Prelude.{◌≡◌, IfOk};
 
 use cdf_types::{Body, Memory};
 use cvr_facts::HeaderFact;
+use cvr_facts::text::copy_optional;
 
 /// What a row of the tally is of: a contest, and the unit and the batch of the records (members
 /// BallotStyleUnitId and BatchId of class CVR in NIST SP 1500-103). Keys are ordered by contest,
@@ -26,8 +27,8 @@ impl RowKey {
     {
         Ok(RowKey {
             contest,
-            unit: copy_part(&header.unit)?,
-            batch: copy_part(&header.batch)?,
+            unit: copy_optional(&header.unit)?,
+            batch: copy_optional(&header.batch)?,
         })
     }
 
@@ -40,18 +41,8 @@ impl RowKey {
     {
         Ok(RowKey {
             contest: self.contest,
-            unit: copy_part(&self.unit)?,
-            batch: copy_part(&self.batch)?,
+            unit: copy_optional(&self.unit)?,
+            batch: copy_optional(&self.batch)?,
         })
-    }
-}
-
-// An equal text, where there is one.
-fn copy_part(text: &Option<Body>) -> Result<Option<Body>, Memory>
-    ensures { IfOk result (λ t. t ≡ text.now) }
-{
-    match text {
-        Some(body) => Ok(Some(body.copy()?)),
-        None => Ok(None),
     }
 }

@@ -10,7 +10,6 @@ pub mod law;
 mod moves;
 mod row;
 mod tally;
-pub mod text;
 mod totals;
 
 pub use counts::Counts;

@@ -6,9 +6,9 @@ ghost use Rattle.cvr_tally.specs.Text.{part, number, numbers, selection, key_wor
 use crate::contest_ids::ContestIds;
 use crate::key::RowKey;
 use crate::row::Row;
-use crate::text::{push_word, quoted};
 use crate::totals::Totals;
 use cdf_types::{Body, Memory};
+use cvr_facts::text::{push_word, quoted};
 use itoa::Buffer;
 use std::alloc::Global;
 

@@ -1,10 +1,23 @@
 ghost use Rattle.std.specs.Prelude.{◌≡◌, ◌⊎◌, ◌++◌, IfOk, OnOk, OnErr, string_bytes};
 ghost use Rattle.json.specs.Print.{quoted};
-ghost use Rattle.cvr_tally.specs.Text.{word};
+ghost use Rattle.cvr_facts.specs.Text.{word};
 
-use cdf_types::Memory;
+use cdf_types::{Body, Memory};
 use serde_json::Value;
 use std::alloc::Global;
+
+/// An equal text, where there is one.
+///
+/// # Errors
+/// `Memory` where a growth was refused.
+pub fn copy_optional(text: &Option<Body>) -> Result<Option<Body>, Memory>
+    ensures { IfOk result (λ copy. copy ≡ text.now) }
+{
+    match text {
+        Some(body) => Ok(Some(body.copy()?)),
+        None => Ok(None),
+    }
+}
 
 /// A text as a JSON string (RFC 8259), with its quotes.
 ///
