@@ -20,3 +20,4 @@ pub mod AddingUp
 pub mod ByPlace
 pub mod Gathering
 pub mod WorkedRows
+pub mod Printed

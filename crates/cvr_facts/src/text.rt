@@ -3,8 +3,10 @@ ghost use Rattle.json.specs.Print.{quoted};
 ghost use Rattle.cvr_facts.specs.Text.{word};
 
 use cdf_types::{Body, Memory};
+use json::Writer;
 use serde_json::Value;
 use std::alloc::Global;
+use std::mem;
 
 /// An equal text, where there is one.
 ///
@@ -28,6 +30,21 @@ pub fn quoted(alloc: Global, text: &str) -> Result<String, Memory>
 {
     let value = Value::String(String::from_str(alloc, text)?);
     Ok(value.to_string(alloc)?)
+}
+
+/// Adds a text as a JSON string (RFC 8259), with its quotes, to bytes.
+///
+/// # Errors
+/// `Memory` where a growth was refused. The bytes are then as they were.
+#[tactic(auto, using(crate::proofs::Printed::none_printed, crate::proofs::Printed::text_printed))]
+pub fn push_quoted(alloc: Global, out: &mut Vec<u8>, text: &str) -> Result<(), Memory>
+    ensures ok { OnOk result (out.new.items ≡ out.old.items ++ quoted text.now) }
+    ensures err { OnErr result (out.new.items ≡ out.old.items) }
+{
+    let mut writer = Writer::new(mem::replace(out, Vec::new(alloc)));
+    let done = writer.string(text);
+    *out = writer.into_inner();
+    Ok(done?)
 }
 
 /// Adds a text as a JSON string, and a space.

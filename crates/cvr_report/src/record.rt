@@ -1,6 +1,5 @@
 // A record of a volume, as text.
-ghost use Rattle.std.specs.Prelude.{◌≡◌, ◌<◌, ◌++◌, ℕ, List, length, OnOk, false};
-ghost use Rattle.json.specs.Print.{quoted};
+ghost use Rattle.std.specs.Prelude.{◌≡◌, ◌<◌, ◌++◌, length, OnOk, false};
 ghost use Rattle.serde_json.specs.Data.{object, Items, Members};
 ghost use Rattle.serde_json.specs.Written.{compact_text, comma_if};
 ghost use Rattle.cdf_form.specs.Proper.{MembersAreWell};
@@ -18,7 +17,7 @@ use crate::scan::cut;
 use crate::shown::{shown_current, shown_header, shown_snapshot};
 use cdf_types::{Body, Memory};
 use cvr_collect::{IdFacts, RecordFacts};
-use cvr_facts::text::quoted;
+use cvr_facts::text::push_quoted;
 use std::alloc::Global;
 
 // Adds a text, with a comma before it unless it is the first.
@@ -58,9 +57,10 @@ fn push_snapshots(out: &mut Vec<u8>, ids: &[IdFacts<'_>], i: usize) -> Result<()
     Ok(())
 }
 
-// Adds the record that a header, the snapshots that volume `i` shows and the quoted id of the
-// current one make.
+// Adds the record that a header, the snapshots that volume `i` shows and the id of the current one
+// make.
 fn push_record(
+    alloc: Global,
     out: &mut Vec<u8>,
     header: &Body,
     ids: &[IdFacts<'_>],
@@ -70,9 +70,9 @@ fn push_record(
     requires header { 0 < length header.now }
     requires number { 0 < i }
     requires some { HaveSnapshots ids.now }
-    ensures { OnOk result ((ms : Members) (ds : Items) (id : List ℕ) → MembersAreWell ms → IsHeader ms
-        → header.now ≡ compact_text (object ms) → shown_bodies i ids.now ≡ texts_of ds → current.now ≡ quoted id
-        → out.new.items ≡ out.old.items ++ compact_text (record_of ms ds id)) }
+    ensures { OnOk result ((ms : Members) (ds : Items) → MembersAreWell ms → IsHeader ms
+        → header.now ≡ compact_text (object ms) → shown_bodies i ids.now ≡ texts_of ds
+        → out.new.items ≡ out.old.items ++ compact_text (record_of ms ds current.now)) }
 {
     let text = header.as_str().as_bytes();
     let (front, rest) = text.split_at(cut(text, 1, b"CVRSnapshot"));
@@ -83,7 +83,7 @@ fn push_record(
     out.extend_from_slice(b"]")?;
     out.extend_from_slice(middle)?;
     out.extend_from_slice(b",\"CurrentSnapshotId\":")?;
-    out.extend_from_slice(current.as_bytes())?;
+    push_quoted(alloc, out, current)?;
     out.extend_from_slice(end)?;
     Ok(())
 }
@@ -102,6 +102,5 @@ pub(crate) fn push_shown(
 {
     let header = shown_header(found.headers.as_slice(), i);
     let ids = found.ids.as_slice();
-    let current = quoted(alloc, shown_current(ids, i))?;
-    push_record(out, &header.body, ids, i, current.as_str())
+    push_record(alloc, out, &header.body, ids, i, shown_current(ids, i))
 }

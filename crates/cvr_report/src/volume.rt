@@ -21,7 +21,7 @@ use cdf_check::Definition;
 use cdf_types::{Body, Memory, Sink, write_all};
 use cvr_collect::Office;
 use cvr_facts::RecordName;
-use cvr_facts::text::quoted;
+use cvr_facts::text::push_quoted;
 use std::alloc::Global;
 
 /// How many volumes the content of an office makes: the greatest number of bodies under one name,
@@ -142,13 +142,13 @@ fn push_middle(
     buffer.extend_from_slice(b",\"Election\":[")?;
     buffer.extend_from_slice(definition.election().as_str().as_bytes())?;
     buffer.extend_from_slice(b"],\"GeneratedDate\":")?;
-    buffer.extend_from_slice(quoted(alloc, heading.date())?.as_bytes())?;
+    push_quoted(alloc, buffer, heading.date())?;
     buffer.extend_from_slice(b",\"GpUnit\":[")?;
     push_joined(buffer, definition.units())?;
     buffer.extend_from_slice(b"]")?;
     push_parties(buffer, definition.parties())?;
     buffer.extend_from_slice(b",\"ReportGeneratingDeviceIds\":[")?;
-    buffer.extend_from_slice(quoted(alloc, heading.device())?.as_bytes())?;
+    push_quoted(alloc, buffer, heading.device())?;
     buffer.extend_from_slice(b"],\"ReportType\":[\"aggregated\"],\"ReportingDevice\":[")?;
     Ok(())
 }

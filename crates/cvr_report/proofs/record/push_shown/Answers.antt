@@ -1,5 +1,4 @@
 use Rattle.std.proofs.Common.{Bor, ◌≡◌, ◌++◌, List, map, Result, Ok, Err, OnOk, Contains, sym, ap, ◌∙◌, subst}
-use Rattle.json.specs.Print.{quoted}
 use Rattle.serde_json.specs.Written.{compact_text}
 use Rattle.cvr_facts.specs.declared.header.HeaderFact.{HeaderFact}
 use Rattle.cvr_collect.specs.Readers.{header_list}
@@ -28,6 +27,7 @@ returns c =
     let body : h.body ≡ shown i (header_list s key) = c.shown_header-header.ensures.body ∙ (ap (λ (xs : List (Bor HeaderFact)). shown i (map (λ h. h.now.body) xs)) hs ∙ ap (shown i) are.bodies) in
     let ds = values_of (map (λ (s : Shown). s.body) (shown_snapshots s i key)) in
     let id = current_id (shown_snapshots s i key) in
-    let all = wrote kept.0 ds id kept.1.well kept.1.header kept.1.text (ap (shown_bodies i) ids ∙ texts_are frame s keeps key r are i c.requires.number)
-    (c.as_str.ensures.value ∙ (c.in_ok-current.ensures ∙ ap quoted (c.shown_current.ensures ∙ (ap (current_of i) ids ∙ current_is frame.contests s key r are i c.requires.number c.requires.some.shot)))) in
-    all ∙ ap (λ ms. c.args.out.now.items ++ compact_text (record_of ms ds id)) (sym (ap members_in (sym body) ∙ kept.1.members)))
+    let current : c.shown_current.result.now ≡ id = c.shown_current.ensures ∙ (ap (current_of i) ids ∙ current_is frame.contests s key r are i c.requires.number c.requires.some.shot) in
+    let members = sym (ap members_in (sym body) ∙ kept.1.members) in
+    let all = wrote kept.0 ds kept.1.well kept.1.header kept.1.text (ap (shown_bodies i) ids ∙ texts_are frame s keeps key r are i c.requires.number) in
+    all ∙ (λ j. c.args.out.now.items ++ compact_text (record_of (members j) ds (current j))))

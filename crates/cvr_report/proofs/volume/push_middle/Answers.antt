@@ -21,20 +21,20 @@ returns c =
     let t = c.as_bytes.result.now in
     let u = joined false (texts_of def.units) in
     let p = party_text (texts_of def.parties) in
-    let all : c.extend_from_slice-9.new.self.items ≡ ((((((((((o ++ a) ++ t) ++ b) ++ c.as_bytes-2.result.now) ++ d) ++ joined false c.units.result.now) ++ e) ++ party_text c.parties.result.now) ++ f) ++ c.as_bytes-3.result.now) ++ h =
-    c.in_ok-extend_from_slice-9.ensures.items
-    ∙ ap (λ s. s ++ h) (c.in_ok-extend_from_slice-8.ensures.items
-    ∙ ap (λ s. s ++ c.as_bytes-3.result.now) (c.in_ok-extend_from_slice-7.ensures.items
+    let all : c.extend_from_slice-7.new.self.items ≡ ((((((((((o ++ a) ++ t) ++ b) ++ quoted c.date.result.now) ++ d) ++ joined false c.units.result.now) ++ e) ++ party_text c.parties.result.now) ++ f) ++ quoted c.device.result.now) ++ h =
+    c.in_ok-extend_from_slice-7.ensures.items
+    ∙ ap (λ s. s ++ h) (c.in_ok-push_quoted-2.ensures.ok
+    ∙ ap (λ s. s ++ quoted c.device.result.now) (c.in_ok-extend_from_slice-6.ensures.items
     ∙ ap (λ s. s ++ f) (c.in_ok-push_parties.ensures
-    ∙ ap (λ s. s ++ party_text c.parties.result.now) (c.in_ok-extend_from_slice-6.ensures.items
+    ∙ ap (λ s. s ++ party_text c.parties.result.now) (c.in_ok-extend_from_slice-5.ensures.items
     ∙ ap (λ s. s ++ e) (c.in_ok-push_joined.ensures
-    ∙ ap (λ s. s ++ joined false c.units.result.now) (c.in_ok-extend_from_slice-5.ensures.items
-    ∙ ap (λ s. s ++ d) (c.in_ok-extend_from_slice-4.ensures.items
-    ∙ ap (λ s. s ++ c.as_bytes-2.result.now) (c.in_ok-extend_from_slice-3.ensures.items
+    ∙ ap (λ s. s ++ joined false c.units.result.now) (c.in_ok-extend_from_slice-4.ensures.items
+    ∙ ap (λ s. s ++ d) (c.in_ok-push_quoted.ensures.ok
+    ∙ ap (λ s. s ++ quoted c.date.result.now) (c.in_ok-extend_from_slice-3.ensures.items
     ∙ ap (λ s. s ++ b) (c.in_ok-extend_from_slice-2.ensures.items
     ∙ ap (λ s. s ++ t) c.in_ok-extend_from_slice.ensures.items))))))))) in
     let one : t ≡ joined false (texts_of def.elections) = c.as_bytes.ensures.value ∙ (c.as_str.ensures ∙ (sym (append-nil c.election.result.now) ∙ ap (joined false) (sym c.election.ensures))) in
-    let date : c.as_bytes-2.result.now ≡ quoted c.args.heading.now.date = c.as_bytes-2.ensures.value ∙ (c.in_ok-quoted.ensures ∙ ap quoted c.date.ensures) in
-    let device : c.as_bytes-3.result.now ≡ quoted c.args.heading.now.device = c.as_bytes-3.ensures.value ∙ (c.in_ok-quoted-2.ensures ∙ ap quoted c.device.ensures) in
-    all ∙ (regroup o a t b c.as_bytes-2.result.now d (joined false c.units.result.now) e (party_text c.parties.result.now) f c.as_bytes-3.result.now h
+    let date = ap quoted c.date.ensures in
+    let device = ap quoted c.device.ensures in
+    all ∙ (regroup o a t b (quoted c.date.result.now) d (joined false c.units.result.now) e (party_text c.parties.result.now) f (quoted c.device.result.now) h
     ∙ (λ i. o ++ (a ++ (one i ++ (b ++ (date i ++ (d ++ (joined false (c.units.ensures i) ++ (e ++ (party_text (c.parties.ensures i) ++ (f ++ (device i ++ h))))))))))))
