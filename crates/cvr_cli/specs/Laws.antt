@@ -1,8 +1,9 @@
 -- What is held of files is what an office holds after their imports; neither their order nor a file that comes again changes it. (This project's own.)
-use Rattle.std.specs.Prelude.{◌≡◌, ◌↔◌, ℕ, zero, suc, length, get_or, List, [], ◌∷◌}
-use Rattle.std.specs.List.{Contains}
+use Rattle.std.specs.Prelude.{◌≡◌, ◌≢◌, ◌↔◌, ℕ, zero, suc, length, get_or, List, [], ◌∷◌, ◌++◌, codes, decimal, Option, Some, None}
+use Rattle.std.specs.List.{Contains, flat_map}
 use Rattle.cdf_check.specs.Frame.{Frame}
 use Rattle.cdf_check.specs.Acceptance.{first_refusal}
+use Rattle.cvr_facts.specs.Facts.{Facts}
 use Rattle.cvr_facts.specs.Reports.{facts}
 use Rattle.cvr_collect.specs.declared.event.Event.TheVariants.{Import}
 use Rattle.cvr_collect.specs.Keeps.{starting}
@@ -11,7 +12,12 @@ use Rattle.cvr_collect.specs.Reach.{History, content}
 use Rattle.cvr_collect.specs.Outcomes.{due}
 use Rattle.cvr_collect.specs.Names.{conflicts}
 use Rattle.cvr_collect.specs.Tallied.{tally}
-use Rattle.cvr_cli.specs.Currents.{currents}
+use Rattle.cvr_report.specs.Page.{volumes}
+use Rattle.cvr_report.specs.Volume.{volume}
+use Rattle.cvr_cli.specs.declared.merge.MergeFault.{MergeFault}
+use Rattle.cvr_cli.specs.declared.merge.MergeFault.TheVariants.{NoVolume}
+use Rattle.cvr_cli.specs.Currents.{currents, conflict_line, conflict_text}
+use Rattle.cvr_cli.specs.Merge.{merge_fault, merge_text}
 use Rattle.cvr_cli.specs.Outcome.{held}
 
 -- the imports of the first n files into one new office, each with the outcome that is due, the newest first
@@ -45,3 +51,33 @@ SameConflictsLaw = (definition : Frame) (files others : List (List ℕ)) → Hav
 -- and the same tally
 abbrev pub SameTallyLaw : Type 0
 SameTallyLaw = (definition : Frame) (files others : List (List ℕ)) → HaveSameFiles files others → tally definition.contests (held definition files) ≡ tally definition.contests (held definition others)
+
+-- and a merge of them has the same fault, or none
+abbrev pub SameMergeFaultLaw : Type 0
+SameMergeFaultLaw = (definition : Frame) (date device : List ℕ) (i : ℕ) (files others : List (List ℕ)) → HaveSameFiles files others
+    → merge_fault definition date device i (held definition files) ≡ merge_fault definition date device i (held definition others)
+
+-- and prints the same volume
+abbrev pub SameVolumeLaw : Type 0
+SameVolumeLaw = (definition : Frame) (date device : List ℕ) (i : ℕ) (files others : List (List ℕ)) → HaveSameFiles files others
+    → merge_text definition date device i (held definition files) ≡ merge_text definition date device i (held definition others)
+
+-- ---- a merge
+
+-- one that has no fault prints the volume, which is not empty
+abbrev pub NoFaultLaw : Type 0
+NoFaultLaw = (definition : Frame) (date device : List ℕ) (i : ℕ) (facts : Facts) → merge_fault definition date device i facts ≡ None
+    → (merge_text definition date device i facts ≡ volume definition (record { date = date; device = device }) facts i) × (merge_text definition date device i facts ≢ [])
+
+-- one that has a fault prints nothing
+abbrev pub NoTextLaw : Type 0
+NoTextLaw = (definition : Frame) (date device : List ℕ) (i : ℕ) (facts : Facts) (fault : MergeFault) → merge_fault definition date device i facts ≡ Some fault
+    → merge_text definition date device i facts ≡ []
+
+-- the number that is told is that of the volumes
+abbrev pub ToldNumberLaw : Type 0
+ToldNumberLaw = (definition : Frame) (date device : List ℕ) (i : ℕ) (facts : Facts) (n : ℕ) → merge_fault definition date device i facts ≡ Some (NoVolume n) → n ≡ volumes facts
+
+-- and `conflicts` ends with it
+abbrev pub LastNumberLaw : Type 0
+LastNumberLaw = (facts : Facts) → conflict_text (conflicts facts) ≡ flat_map conflict_line (conflicts facts) ++ (codes "volumes " ++ (decimal (volumes facts) ++ 10 ∷ []))

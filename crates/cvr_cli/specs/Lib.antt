@@ -3,9 +3,11 @@ pub mod Accepted
 pub mod Currents
 pub mod Outcome
 pub mod Log
+pub mod Merge
 pub mod Status
 pub mod Refusals
 pub mod Told
+pub mod Printing
 pub mod Ends
 pub mod Laws
 pub mod Rows

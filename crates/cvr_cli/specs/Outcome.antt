@@ -1,5 +1,6 @@
 -- What a run has to print, over the bytes of its files. (This project's own.)
-use Rattle.std.specs.Prelude.{◌≡◌, ℕ, List, [], ◌∷◌, ◌++◌, Bool, ◌||◌, if◌then◌else◌, map, decimal, ◌⊎◌}
+use Rattle.std.specs.Prelude.{◌≡◌, ℕ, List, [], ◌∷◌, ◌++◌, Bool, ◌||◌, if◌then◌else◌, map, decimal, ◌⊎◌, Option, None, is_some}
+use Rattle.std.specs.Int.NonZero.{non_zero_u32_get}
 use Rattle.std.specs.Global.{Vec}
 use Rattle.std.specs.List.{list_any}
 use Rattle.std.specs.FinSet.{union, empty}
@@ -9,8 +10,9 @@ use Rattle.cdf_check.specs.Frame.{Frame}
 use Rattle.cdf_check.specs.Acceptance.{frame_in}
 use Rattle.cvr_facts.specs.Facts.{Facts}
 use Rattle.cvr_facts.specs.Reports.{facts}
+use Rattle.cvr_cli.specs.declared.merge.MergeFault.{MergeFault}
 use Rattle.cvr_cli.specs.declared.request.Task.{Task}
-use Rattle.cvr_cli.specs.declared.request.Task.TheVariants.{Currents, Check, Conflicts, Tally}
+use Rattle.cvr_cli.specs.declared.request.Task.TheVariants.{Currents, Check, Conflicts, Tally, Merge}
 use Rattle.cvr_cli.specs.declared.status.Status.{Status}
 use Rattle.cvr_cli.specs.declared.status.Status.TheVariants.{Done, Refused}
 use Rattle.cvr_cli.specs.Accepted.{is_unsound, is_refused, accepted}
@@ -19,6 +21,7 @@ use Rattle.cvr_collect.specs.Tallied.{tally}
 use Rattle.cvr_collect.specs.Keeps.{starting}
 use Rattle.cvr_collect.specs.Reach.{union_over}
 use Rattle.cvr_cli.specs.Currents.{currents, conflict_text}
+use Rattle.cvr_cli.specs.Merge.{merge_fault, merge_text}
 
 -- ---- what a run holds
 
@@ -52,6 +55,7 @@ facts_text definition Currents facts = currents facts
 facts_text definition Conflicts facts = conflict_text (conflicts facts)
 facts_text definition Tally facts = tally definition.contests facts
 facts_text definition Check facts = []
+facts_text definition (Merge date device i) facts = merge_text definition date device (non_zero_u32_get i) facts
 
 -- the text of a task over files
 abbrev pub task_text : Frame → Task → List (List ℕ) → List (List ℕ) → List ℕ
@@ -62,9 +66,33 @@ task_text definition task paths files = facts_text definition task (held definit
 abbrev pub run_text : Task → List ℕ → List (List ℕ) → List (List ℕ) → List ℕ
 run_text task def paths files = if is_unsound def then [] else task_text (frame_in def) task paths files
 
--- whether the file of the definition or another is refused
-abbrev pub any_refused : List ℕ → List (List ℕ) → Bool
-any_refused def files = is_unsound def || list_any (is_refused (frame_in def)) files
+-- ---- what is refused
+
+-- why a task prints nothing over facts: `merge` alone may have a fault
+abbrev pub facts_fault : Frame → Task → Facts → Option MergeFault
+facts_fault definition Currents facts = None
+facts_fault definition Conflicts facts = None
+facts_fault definition Tally facts = None
+facts_fault definition Check facts = None
+facts_fault definition (Merge date device i) facts = merge_fault definition date device (non_zero_u32_get i) facts
+
+-- the same over files
+abbrev pub task_fault : Frame → Task → List (List ℕ) → Option MergeFault
+task_fault definition task files = facts_fault definition task (held definition files)
+
+-- and of a run: none where the file of the definition is refused
+abbrev pub run_fault : Task → List ℕ → List (List ℕ) → Option MergeFault
+run_fault task def files = if is_unsound def then None else task_fault (frame_in def) task files
+
+-- whether the task or a file is refused beside a definition
+abbrev pub task_refused : Frame → Task → List (List ℕ) → Bool
+task_refused definition task files = is_some (task_fault definition task files) || list_any (is_refused definition) files
+
+-- whether the file of the definition, the task or another file is refused
+abbrev pub any_refused : Task → List ℕ → List (List ℕ) → Bool
+any_refused task def files = is_unsound def || task_refused (frame_in def) task files
+
+-- ---- files and statuses
 
 -- the bytes of files
 abbrev pub bytes_of : List (Vec ℕ) → List (List ℕ)

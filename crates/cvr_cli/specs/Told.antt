@@ -7,7 +7,9 @@ use Rattle.cdf_check.specs.Frame.{Frame}
 use Rattle.cdf_check.specs.Acceptance.{frame_in, first_refusal, first_unsound}
 use Rattle.cvr_cli.specs.declared.refusals.Refusals.{Refusals}
 use Rattle.cvr_cli.specs.Accepted.{is_unsound}
+use Rattle.cvr_cli.specs.declared.merge.MergeFault.{MergeFault}
 use Rattle.cvr_cli.specs.Log.{fault_line, memory_line, has_path, Logs}
+use Rattle.cvr_cli.specs.Merge.{merge_lines}
 
 -- ---- where memory was not wanting
 
@@ -30,10 +32,14 @@ faults_of definition files = map (first_refusal definition) files
 abbrev pub run_lines : List ℕ → List ℕ → List (List ℕ) → List (List ℕ) → List ℕ
 run_lines what def paths files = if is_unsound def then refusal_line what (first_unsound def) else refusal_lines paths (faults_of (frame_in def) files)
 
--- and last, where the output has failed
+-- where the output has failed
 abbrev pub out_line : Bool → List ℕ
 out_line true = codes "out: X1\n"
 out_line false = []
+
+-- and last: the fault of a merge, or an output that has failed
+abbrev pub last_lines : Option MergeFault → Bool → List ℕ
+last_lines fault out_failed = merge_lines fault ++ out_line out_failed
 
 -- ---- where memory was wanting
 
@@ -92,25 +98,26 @@ pub record Tells (paths : List (List ℕ)) (faults : List (Option ReadFault)) (n
   pub path_unspelled : refusals.path_unspelled ≡ list_any is_unspelled tellings
   pub logs : Logs before had_failed after has_failed (told_lines tellings paths faults)
 
--- what is told of files in a run that ends for want of memory: of the first ones, and then `memory`; or of all, and memory was wanting for one
-pub record IsCutShort (paths : List (List ℕ)) (faults : List (Option ReadFault)) (out_failed : Bool) (text : List ℕ) : Type 0 where
+-- what is told of files in a run that ends for want of memory: of the first ones, and then `memory`; or of all, one of them lacking; or of all, none lacking but one unspelled, and then the rest
+pub record IsCutShort (paths : List (List ℕ)) (faults : List (Option ReadFault)) (rest text : List ℕ) : Type 0 where
   pub tellings : List Telling
   pub possible : can_all tellings faults ≡ true
   pub ends : (text ≡ told_lines tellings paths faults ++ memory_line)
-      ⊎ ((length tellings ≡ length faults) × (list_any is_short tellings ≡ true) × (text ≡ told_lines tellings paths faults ++ out_line out_failed))
+      ⊎ ((length tellings ≡ length faults) × (list_any is_lacking tellings ≡ true) × (text ≡ told_lines tellings paths faults))
+      ⊎ ((length tellings ≡ length faults) × (list_any is_lacking tellings ≡ false) × (list_any is_unspelled tellings ≡ true) × (text ≡ told_lines tellings paths faults ++ rest))
 
 -- the same of a whole run, that of the definition included
-abbrev pub IsRunCutShort : List ℕ → List ℕ → List (List ℕ) → List (List ℕ) → Bool → List ℕ → Type 0
-IsRunCutShort what def paths files out_failed text =
+abbrev pub IsRunCutShort : List ℕ → List ℕ → List (List ℕ) → List (List ℕ) → List ℕ → List ℕ → Type 0
+IsRunCutShort what def paths files rest text =
     ((telling : Telling) × (can_be telling (first_unsound def) ≡ true) × (is_short telling ≡ true) × (text ≡ told_line telling what (first_unsound def)))
-    ⊎ ((is_unsound def ≡ false) × IsCutShort paths (faults_of (frame_in def) files) out_failed text)
+    ⊎ ((is_unsound def ≡ false) × IsCutShort paths (faults_of (frame_in def) files) rest text)
 
 -- the log took the text that one of these is
 abbrev pub LogsSome : (List ℕ → Type 0) → Option (List ℕ) → Bool → Option (List ℕ) → Bool → Type 0
 LogsSome P before had_failed after has_failed = (text : List ℕ) × P text × Logs before had_failed after has_failed text
 
--- of the files of a run: whether memory was wanting for it, and what the log then took
-pub record TellsRun (paths : List (List ℕ)) (faults : List (Option ReadFault)) (wanting : Type 0) (out_failed : Bool)
+-- of the files of a run: whether memory was wanting for it, and what the log then took; after the lines of the files come the rest
+pub record TellsRun (paths : List (List ℕ)) (faults : List (Option ReadFault)) (wanting : Type 0) (rest : List ℕ)
     (before : Option (List ℕ)) (had_failed : Bool) (after : Option (List ℕ)) (has_failed : Bool) : Type 0 where
-  pub log : ¬ wanting → Logs before had_failed after has_failed (refusal_lines paths faults ++ out_line out_failed)
-  pub cut_short : wanting → LogsSome (IsCutShort paths faults out_failed) before had_failed after has_failed
+  pub log : ¬ wanting → Logs before had_failed after has_failed (refusal_lines paths faults ++ rest)
+  pub cut_short : wanting → LogsSome (IsCutShort paths faults rest) before had_failed after has_failed

@@ -1,7 +1,7 @@
 ghost use Rattle.std.specs.Prelude.{◌≡◌, ◌+◌};
 ghost use Rattle.cdf_form.specs.Reading.{max_file};
 ghost use Rattle.cvr_cli.specs.File.{held_bytes};
-ghost use Rattle.cvr_cli.specs.Laws.{HeldLaw, SameFactsLaw, SameCurrentsLaw, SameConflictsLaw, SameTallyLaw};
+ghost use Rattle.cvr_cli.specs.Laws.{HeldLaw, SameFactsLaw, SameCurrentsLaw, SameConflictsLaw, SameTallyLaw, SameMergeFaultLaw, SameVolumeLaw, NoFaultLaw, NoTextLaw, ToldNumberLaw, LastNumberLaw};
 
 /// What a run holds, the devices of the definition and the facts of the accepted files, is the content
 /// of one new office after the import of each file.
@@ -10,12 +10,27 @@ pub fn held_is_the_content_after_imports()
 {}
 
 /// Lists of the same files, in any order and however often each comes, hold the same facts and have
-/// the same current snapshots, the same conflicts and the same tally.
+/// the same current snapshots, the same conflicts, the same tally and the same volumes.
 pub fn order_and_repeats_change_nothing()
     ensures facts { SameFactsLaw }
     ensures currents { SameCurrentsLaw }
     ensures conflicts { SameConflictsLaw }
     ensures tally { SameTallyLaw }
+    ensures merge_fault { SameMergeFaultLaw }
+    ensures volume { SameVolumeLaw }
+{}
+
+/// A merge has a fault or prints a volume, and never both. A fault of a volume that is not there tells
+/// how many there are.
+pub fn a_merge_has_a_fault_or_a_volume()
+    ensures volume { NoFaultLaw }
+    ensures fault { NoTextLaw }
+    ensures number { ToldNumberLaw }
+{}
+
+/// The last line of the conflicts is the number of volumes that can be merged.
+pub fn conflicts_end_with_the_number_of_volumes()
+    ensures { LastNumberLaw }
 {}
 
 /// What is held of a file is one byte more than a file may have.

@@ -1,4 +1,5 @@
 use cdf_types::{Body, Seq};
+use std::num::NonZeroU32;
 
 /// What a run is asked for.
 #[derive(Drop)]
@@ -12,7 +13,7 @@ pub struct Request {
 }
 
 /// What is printed of the files.
-#[derive(Clone, Copy, Debug, PartialEq, Eq)]
+#[derive(Debug, Drop)]
 pub enum Task {
     /// The current snapshot of each cast vote record.
     Currents,
@@ -22,4 +23,13 @@ pub enum Task {
     Tally,
     /// Each accepted file with the number of its cast vote records.
     Check,
+    /// One volume of all that is held, under a heading.
+    Merge {
+        /// When it is made, as given.
+        date: Body,
+        /// The id of the device that makes it, as given.
+        device: Body,
+        /// Its number, from 1.
+        volume: NonZeroU32,
+    },
 }

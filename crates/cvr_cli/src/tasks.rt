@@ -1,27 +1,26 @@
-ghost use Rattle.std.specs.Prelude.{◌≡◌, ◌≢◌, ◌⊎◌, ◌↔◌, ◌++◌, ℕ, length, map, true, false, IfOk, IfErr, OnErr, string_bytes};
+ghost use Rattle.std.specs.Prelude.{◌≡◌, ◌≢◌, ◌⊎◌, ◌++◌, ℕ, List, length, true, false, IfOk, IfErr, OnErr, string_bytes};
 ghost use Rattle.std.specs.List.{list_any};
 ghost use Rattle.cdf_types.specs.Device.{appended, AppendsFront};
 ghost use Rattle.cvr_cli.specs.Accepted.{is_refused};
-ghost use Rattle.cvr_cli.specs.Outcome.{held, check_lines, facts_text, task_text, run_text, any_refused, bytes_of, IsWhole};
+ghost use Rattle.cvr_cli.specs.Outcome.{held, check_lines, facts_text, task_text, run_text, task_fault, run_fault, task_refused, any_refused, bytes_of, IsWhole};
 ghost use Rattle.cvr_cli.specs.declared.status.Status.TheVariants.{Done, Refused, CommandLine, Device, Memory as NoMemory};
 ghost use Rattle.cvr_cli.specs.declared.refusals.Refusals.{Refusals};
 ghost use Rattle.cvr_cli.specs.Ends.{Ends};
 ghost use Rattle.cvr_cli.specs.Log.{memory_line, Logs};
-ghost use Rattle.cvr_cli.specs.Told.{faults_of, run_lines, out_line, Tells, TellsRun, IsCutShort, IsRunCutShort, LogsSome};
+ghost use Rattle.cvr_cli.specs.Printing.{end_line, status_after};
+ghost use Rattle.cvr_cli.specs.Told.{faults_of, run_lines, out_line, last_lines, Tells, TellsRun, IsCutShort, IsRunCutShort, LogsSome};
 
 use crate::check::push_count;
 use crate::collecting::collect;
-use crate::conflicts::conflicts_text;
-use crate::currents::currents_text;
-use crate::log::{say, say_memory};
+use crate::log::say_memory;
+use crate::printing::{PrintFault, print_office, print_text, say_fault};
 use crate::reading::count_records;
 use crate::refusals::Refusals;
 use crate::request::{Request, Task};
 use crate::status::Status;
 use cdf_check::Definition;
-use cdf_types::{Body, DeviceFault, Memory, Sink, write_all};
+use cdf_types::{Body, Memory, Sink};
 use cvr_collect::{Office, PlainOffice};
-use cvr_tally::tally_text;
 use std::alloc::Global;
 
 // Counts the cast vote records of each accepted file.
@@ -62,22 +61,19 @@ fn end_in_memory<L: Sink>(log: &mut L) -> Status
     Status::Memory
 }
 
-// Hands the text to the output, and ends the run. No text lacks a file.
-fn end_with<W: Sink, L: Sink>(text: &str, refusals: Refusals, out: &mut W, log: &mut L) -> Status
-    requires working { W.has_failed out.old ≡ false }
-    requires whole { refusals.file_lacking ≡ false }
-    ensures ends { Ends (W.taken out.old) (W.taken out.new) (W.has_failed out.new) text.now refusals.any_refusal result }
-    ensures wanting { (result ≡ NoMemory) ↔ (refusals.path_unspelled ≡ true) }
-    ensures log { Logs (L.taken log.old) (L.has_failed log.old) (L.taken log.new) (L.has_failed log.new) (out_line (W.has_failed out.new)) }
+// Ends a run after what was printed. No text lacks a file.
+fn end_with<L: Sink>(printed: Result<(), PrintFault>, refusals: Refusals, log: &mut L) -> Status
+    ensures status { result ≡ status_after printed refusals }
+    ensures log { Logs (L.taken log.old) (L.has_failed log.old) (L.taken log.new) (L.has_failed log.new) (end_line printed) }
 {
-    match write_all(out, text.as_bytes()) {
+    match printed {
         Ok(()) => refusals.status(),
-        Err(DeviceFault) => {
-            say(log, &[b"out: X1\n"]);
+        Err(fault) => {
+            say_fault(log, fault);
             if refusals.path_unspelled {
                 Status::Memory
             } else {
-                Status::Device
+                fault.status()
             }
         }
     }
@@ -99,7 +95,7 @@ fn collect_all<O: Office + Drop, L: Sink>(
     ensures status { IfErr result (λ s. s ≡ NoMemory) }
     ensures log { IfOk result (λ r. Tells paths.now (faults_of definition (bytes_of files.now)) (length files.now) r.1
         (L.taken log.old) (L.has_failed log.old) (L.taken log.new) (L.has_failed log.new)) }
-    ensures cut_short { OnErr result (LogsSome (IsCutShort paths.now (faults_of definition (bytes_of files.now)) false)
+    ensures cut_short { OnErr result ((rest : List ℕ) → LogsSome (IsCutShort paths.now (faults_of definition (bytes_of files.now)) rest)
         (L.taken log.old) (L.has_failed log.old) (L.taken log.new) (L.has_failed log.new)) }
 {
     let Ok((office, refusals)) = collect::<O, L>(alloc, definition, paths, files, log) else {
@@ -111,23 +107,11 @@ fn collect_all<O: Office + Drop, L: Sink>(
     Ok((office, refusals))
 }
 
-// The text of an office for a task; `check` prints nothing of it.
-fn office_text<O: Office>(alloc: Global, office: &O, task: Task) -> Result<String, Memory>
-    ensures { IfOk result (λ text. string_bytes text ≡ facts_text (O.defined office.now) task (O.held office.now)) }
-{
-    match task {
-        Task::Currents => currents_text(alloc, office),
-        Task::Conflicts => conflicts_text(alloc, &office.conflicts(alloc)?),
-        Task::Tally => tally_text(alloc, &office.totals(alloc)?),
-        Task::Check => Ok(String::new(alloc)),
-    }
-}
-
 // Prints the text of one office with all files that aren't refused.
 fn run_office<O: Office + Drop, W: Sink, L: Sink>(
     alloc: Global,
     definition: Definition,
-    task: Task,
+    task: &Task,
     paths: &[Body],
     files: &[Vec<u8>],
     out: &mut W,
@@ -136,15 +120,16 @@ fn run_office<O: Office + Drop, W: Sink, L: Sink>(
     requires working { W.has_failed out.old ≡ false }
     requires named { length paths.now ≡ length files.now }
     ensures ends { Ends (W.taken out.old) (W.taken out.new) (W.has_failed out.new)
-        (facts_text definition task (held definition (bytes_of files.now))) (list_any (is_refused definition) (bytes_of files.now)) result }
-    ensures log { TellsRun paths.now (faults_of definition (bytes_of files.now)) (result ≡ NoMemory) (W.has_failed out.new)
+        (facts_text definition task.now (held definition (bytes_of files.now))) (task_refused definition task.now (bytes_of files.now)) result }
+    ensures log { TellsRun paths.now (faults_of definition (bytes_of files.now)) (result ≡ NoMemory)
+        (last_lines (task_fault definition task.now (bytes_of files.now)) (W.has_failed out.new))
         (L.taken log.old) (L.has_failed log.old) (L.taken log.new) (L.has_failed log.new) }
 {
     match collect_all::<O, L>(alloc, definition, paths, files, log) {
-        Ok((office, refusals)) => match office_text(alloc, &office, task) {
-            Ok(text) => end_with(text.as_str(), refusals, out, log),
-            Err(Memory) => end_in_memory(log),
-        },
+        Ok((office, refusals)) => {
+            let printed = print_office(alloc, &office, task, out);
+            end_with(printed, refusals, log)
+        }
         Err(status) => status,
     }
 }
@@ -162,7 +147,7 @@ fn run_check<W: Sink, L: Sink>(
     requires named { length paths.now ≡ length files.now }
     ensures ends { Ends (W.taken out.old) (W.taken out.new) (W.has_failed out.new)
         (check_lines definition.now paths.now (bytes_of files.now)) (list_any (is_refused definition.now) (bytes_of files.now)) result }
-    ensures log { TellsRun paths.now (faults_of definition.now (bytes_of files.now)) (result ≡ NoMemory) (W.has_failed out.new)
+    ensures log { TellsRun paths.now (faults_of definition.now (bytes_of files.now)) (result ≡ NoMemory) (out_line (W.has_failed out.new))
         (L.taken log.old) (L.has_failed log.old) (L.taken log.new) (L.has_failed log.new) }
 {
     let mut text = String::new(alloc);
@@ -170,7 +155,7 @@ fn run_check<W: Sink, L: Sink>(
         Ok(refusals) => if refusals.file_lacking {
             Status::Memory
         } else {
-            end_with(text.as_str(), refusals, out, log)
+            end_with(print_text(text.as_str(), out), refusals, log)
         },
         Err(Memory) => end_in_memory(log),
     }
@@ -189,16 +174,17 @@ fn run_task<O: Office + Drop, W: Sink, L: Sink>(
     requires named { length request.now.paths ≡ length files.now }
     ensures ends { Ends (W.taken out.old) (W.taken out.new) (W.has_failed out.new)
         (task_text definition request.now.task request.now.paths (bytes_of files.now))
-        (list_any (is_refused definition) (bytes_of files.now)) result }
-    ensures log { TellsRun request.now.paths (faults_of definition (bytes_of files.now)) (result ≡ NoMemory) (W.has_failed out.new)
+        (task_refused definition request.now.task (bytes_of files.now)) result }
+    ensures log { TellsRun request.now.paths (faults_of definition (bytes_of files.now)) (result ≡ NoMemory)
+        (last_lines (task_fault definition request.now.task (bytes_of files.now)) (W.has_failed out.new))
         (L.taken log.old) (L.has_failed log.old) (L.taken log.new) (L.has_failed log.new) }
 {
     let paths = request.paths.as_slice();
     match request.task {
-        Task::Currents | Task::Conflicts | Task::Tally => run_office::<O, W, L>(
+        Task::Currents | Task::Conflicts | Task::Tally | Task::Merge { .. } => run_office::<O, W, L>(
             alloc,
             definition,
-            request.task,
+            &request.task,
             paths,
             files,
             out,
@@ -210,7 +196,8 @@ fn run_task<O: Office + Drop, W: Sink, L: Sink>(
 
 /// Runs a request over the bytes of its definition and of its files, in the order of its paths.
 /// A refused file is told to the log, and the rest is done. Where the definition is refused nothing
-/// else is done, and where a file was refused for want of memory nothing is printed.
+/// else is done, and where a file was refused for want of memory nothing is printed, nor any fault of
+/// a merge told. That fault comes after the refused files, and nothing is printed then either.
 pub fn run<W: Sink, L: Sink>(
     alloc: Global,
     request: &Request,
@@ -226,15 +213,17 @@ pub fn run<W: Sink, L: Sink>(
         ≡ appended (W.taken out.old) (run_text request.now.task def.now request.now.paths (bytes_of files.now)) }
     ensures front { AppendsFront (W.taken out.old) (W.taken out.new)
         (run_text request.now.task def.now request.now.paths (bytes_of files.now)) }
-    ensures done { result ≡ Done → any_refused def.now (bytes_of files.now) ≡ false }
-    ensures refused { result ≡ Refused → any_refused def.now (bytes_of files.now) ≡ true }
+    ensures done { result ≡ Done → any_refused request.now.task def.now (bytes_of files.now) ≡ false }
+    ensures refused { result ≡ Refused → any_refused request.now.task def.now (bytes_of files.now) ≡ true }
     ensures device { result ≡ Device → W.has_failed out.new ≡ true }
     ensures failed { W.has_failed out.new ≡ true → (result ≡ Device) ⊎ (result ≡ NoMemory) }
     ensures no_words { result ≢ CommandLine }
     ensures log { result ≢ NoMemory → Logs (L.taken log.old) (L.has_failed log.old) (L.taken log.new) (L.has_failed log.new)
-        (run_lines request.now.def def.now request.now.paths (bytes_of files.now) ++ out_line (W.has_failed out.new)) }
+        (run_lines request.now.def def.now request.now.paths (bytes_of files.now)
+        ++ last_lines (run_fault request.now.task def.now (bytes_of files.now)) (W.has_failed out.new)) }
     ensures cut_short { result ≡ NoMemory
-        → LogsSome (IsRunCutShort request.now.def def.now request.now.paths (bytes_of files.now) (W.has_failed out.new))
+        → LogsSome (IsRunCutShort request.now.def def.now request.now.paths (bytes_of files.now)
+        (last_lines (run_fault request.now.task def.now (bytes_of files.now)) (W.has_failed out.new)))
         (L.taken log.old) (L.has_failed log.old) (L.taken log.new) (L.has_failed log.new) }
 {
     match Definition::read(alloc, def) {

@@ -1,0 +1,70 @@
+-- What was printed of a text, and how a run ends after it. (This project's own.)
+use Rattle.std.specs.Prelude.{◌≡◌, ◌≢◌, ℕ, List, [], Bool, true, false, if◌then◌else◌, Option, Some, None, Result, Ok, Err, MatchResult}
+use Rattle.cdf_types.specs.Device.{appended, AppendsFront}
+use Rattle.cvr_report.specs.declared.fault.WriteFault.{WriteFault}
+use Rattle.cvr_report.specs.declared.fault.WriteFault.TheVariants as write
+use Rattle.cvr_report.specs.declared.heading.HeadFault.{HeadFault}
+use Rattle.cvr_report.specs.declared.heading.HeadFault.TheVariants as head
+use Rattle.cvr_cli.specs.declared.merge.MergeFault.{MergeFault}
+use Rattle.cvr_cli.specs.declared.merge.MergeFault.TheVariants.{NotMoment, NoDevice}
+use Rattle.cvr_cli.specs.declared.printing.PrintFault.{PrintFault}
+use Rattle.cvr_cli.specs.declared.printing.PrintFault.TheVariants.{Merge, Device, Memory}
+use Rattle.cvr_cli.specs.declared.refusals.Refusals.{Refusals}
+use Rattle.cvr_cli.specs.declared.status.Status.{Status}
+use Rattle.cvr_cli.specs.declared.status.Status.TheVariants as status
+use Rattle.cvr_cli.specs.Log.{memory_line}
+use Rattle.cvr_cli.specs.Merge.{merge_line}
+use Rattle.cvr_cli.specs.Refusals.{status_of}
+use Rattle.cvr_cli.specs.Told.{out_line}
+
+-- whether the output failed
+abbrev pub is_output : PrintFault → Bool
+is_output (Merge fault) = false
+is_output Device = true
+is_output Memory = false
+
+-- the fault of a merge, where it is one
+abbrev pub merge_part : PrintFault → Option MergeFault
+merge_part (Merge fault) = Some fault
+merge_part Device = None
+merge_part Memory = None
+
+-- all of the text where the call succeeded, else a front of it; the output has failed exactly where that is the fault; want of memory aside, the merge has the fault that is told, or none
+abbrev pub Prints : {T : Type 0} → Option (List ℕ) → Option (List ℕ) → Bool → Result T PrintFault → Option MergeFault → List ℕ → Type 0
+Prints before after out_failed result fault text =
+    MatchResult result
+    (λ _. (after ≡ appended before text) × (out_failed ≡ false) × (fault ≡ None))
+    (λ e. AppendsFront before after text × (out_failed ≡ is_output e) × (e ≢ Memory → fault ≡ merge_part e))
+
+-- ---- from what faults
+
+abbrev pub of_head : HeadFault → PrintFault
+of_head head.NotMoment = Merge NotMoment
+of_head head.NoDevice = Merge NoDevice
+of_head head.Memory = Memory
+
+abbrev pub of_write : WriteFault → PrintFault
+of_write write.Device = Device
+of_write write.Memory = Memory
+
+-- ---- how a run ends
+
+abbrev pub print_line : PrintFault → List ℕ
+print_line (Merge fault) = merge_line fault
+print_line Device = out_line true
+print_line Memory = memory_line
+
+-- nothing is told where all was printed
+abbrev pub end_line : {T : Type 0} → Result T PrintFault → List ℕ
+end_line (Ok x) = []
+end_line (Err fault) = print_line fault
+
+abbrev pub print_status : PrintFault → Status
+print_status (Merge fault) = status.Refused
+print_status Device = status.Device
+print_status Memory = status.Memory
+
+-- a path that was not spelled is want of memory, whatever the fault
+abbrev pub status_after : {T : Type 0} → Result T PrintFault → Refusals → Status
+status_after (Ok x) refusals = status_of refusals
+status_after (Err fault) refusals = if refusals.path_unspelled then status.Memory else print_status fault
