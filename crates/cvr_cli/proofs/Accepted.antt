@@ -1,13 +1,14 @@
 -- An accepted file, and a run beside a sound definition.
-use Rattle.std.proofs.Common.{◌≡◌, ℕ, List, false, None, refl, sym, ap, ◌∙◌}
-use Rattle.std.specs.List.{list_any}
+use Rattle.std.proofs.Common.{◌≡◌, ℕ, List, [], ◌++◌, Bool, false, Option, Some, None, refl, sym, ap, ◌∙◌}
+use Rattle.std.specs.Prelude.{is_some, if◌then◌else◌}
+use Rattle.cdf_types.specs.declared.fault.ReadFault.{ReadFault}
 use Rattle.cdf_check.specs.Frame.{Frame}
-use Rattle.cdf_check.specs.Acceptance.{Sound, Valid, first_refusal, frame_in}
+use Rattle.cdf_check.specs.Acceptance.{Sound, Valid, first_refusal, first_unsound, frame_in}
 use Rattle.cdf_check.proofs.Accepting.{sound_file, valid_file}
 use Rattle.cvr_cli.specs.declared.request.Task.{Task}
-use Rattle.cvr_cli.specs.Accepted.{is_unsound, is_refused}
-use Rattle.cvr_cli.specs.Outcome.{task_text, run_text, any_refused}
-use Rattle.cvr_cli.specs.Told.{refusal_lines, faults_of, run_lines}
+use Rattle.cvr_cli.specs.Accepted.{is_unsound}
+use Rattle.cvr_cli.specs.Outcome.{task_text, run_text, task_fault, run_fault, task_refused, any_refused}
+use Rattle.cvr_cli.specs.Told.{refusal_lines, faults_of, run_lines, last_lines}
 
 pub none_refuses : (definition : Frame) (bytes : List ℕ) → Valid definition bytes → first_refusal definition bytes ≡ None
 none_refuses definition bytes valid = (valid_file definition bytes).1 valid
@@ -21,10 +22,20 @@ pub text_beside : (task : Task) (def : List ℕ) (definition : Frame) (paths fil
     → task_text definition task paths files ≡ run_text task def paths files
 text_beside task def definition paths files s is = ap (λ d. task_text d task paths files) is ∙ rw (is_sound def s) refl
 
-pub lines_beside : (what def : List ℕ) (definition : Frame) (paths files : List (List ℕ)) → Sound def → definition ≡ frame_in def
-    → refusal_lines paths (faults_of definition files) ≡ run_lines what def paths files
-lines_beside what def definition paths files s is = ap (λ d. refusal_lines paths (faults_of d files)) is ∙ rw (is_sound def s) refl
+pub lines_beside : (task : Task) (what def : List ℕ) (definition : Frame) (paths files : List (List ℕ)) (out_failed : Bool) → Sound def → definition ≡ frame_in def
+    → refusal_lines paths (faults_of definition files) ++ last_lines (task_fault definition task files) out_failed ≡ run_lines what def paths files ++ last_lines (run_fault task def files) out_failed
+lines_beside task what def definition paths files out_failed s is =
+    ap (λ d. refusal_lines paths (faults_of d files) ++ last_lines (task_fault d task files) out_failed) is ∙ rw (is_sound def s) refl
 
-pub none_refused_beside : (def : List ℕ) (definition : Frame) (files : List (List ℕ)) → Sound def → definition ≡ frame_in def
-    → list_any (is_refused definition) files ≡ false → any_refused def files ≡ false
-none_refused_beside def definition files s is none = rw (is_sound def s) (ap (λ d. list_any (is_refused d) files) (sym is) ∙ none)
+pub last_beside : (task : Task) (def : List ℕ) (definition : Frame) (files : List (List ℕ)) (out_failed : Bool) → Sound def → definition ≡ frame_in def
+    → last_lines (task_fault definition task files) out_failed ≡ last_lines (run_fault task def files) out_failed
+last_beside task def definition files out_failed s is = ap (λ d. last_lines (task_fault d task files) out_failed) is ∙ rw (is_sound def s) refl
+
+pub refused_beside : (task : Task) (def : List ℕ) (definition : Frame) (files : List (List ℕ)) → Sound def → definition ≡ frame_in def → task_refused definition task files ≡ any_refused task def files
+refused_beside task def definition files s is = ap (λ d. task_refused d task files) is ∙ rw (is_sound def s) refl
+
+-- ---- and beside one that is refused
+
+-- nothing is told after its line
+pub none_last : (task : Task) (def : List ℕ) (files : List (List ℕ)) (out_failed : Bool) (fault : ReadFault) → out_failed ≡ false → first_unsound def ≡ Some fault → last_lines (run_fault task def files) out_failed ≡ []
+none_last task def files out_failed fault working is = λ i. last_lines (if is_some (is i) then None else task_fault (frame_in def) task files) (working i)

@@ -9,3 +9,6 @@ mod Pieces
 pub mod Outcomes
 pub mod Telling
 pub mod ToldRows
+pub mod Printed
+pub mod Merging
+pub mod Last

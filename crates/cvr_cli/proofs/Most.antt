@@ -6,7 +6,7 @@ use Rattle.cvr_collect.specs.declared.conflict.Conflict.{Conflict}
 use Rattle.cvr_collect.specs.Names.{most}
 use Rattle.cvr_cli.specs.Currents.{volumes_of}
 
-most-cons : (n : ℕ) (ns : List ℕ) → most (n ∷ ns) ≡ max n (most ns)
+pub most-cons : (n : ℕ) (ns : List ℕ) → most (n ∷ ns) ≡ max n (most ns)
 most-cons n ns = grind (arith, nat_tests)
 
 fold-max : (n : ℕ) (ns : List ℕ) → fold max n ns ≡ max n (most ns)

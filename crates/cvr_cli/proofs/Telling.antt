@@ -17,11 +17,11 @@ use Rattle.cvr_cli.specs.declared.refusals.Refusals.{Refusals}
 use Rattle.cvr_cli.specs.Refusals.{is_memory, status_of}
 use Rattle.cvr_cli.specs.Outcome.{bytes_of}
 use Rattle.cvr_cli.specs.Log.{fault_line, memory_line, has_path, Logs}
-use Rattle.cvr_cli.specs.Told.{Telling, AsDue, Lacking, Unspelled, refusal_line, refusal_lines, out_line, told_line, told_lines, can_be, can_all, is_lacking, is_unspelled, is_short, faults_of, run_lines, Tells, TellsRun, IsCutShort, IsRunCutShort, LogsSome}
+use Rattle.cvr_cli.specs.Told.{Telling, AsDue, Lacking, Unspelled, refusal_line, refusal_lines, told_line, told_lines, can_be, can_all, is_lacking, is_unspelled, is_short, faults_of, run_lines, Tells, TellsRun, IsCutShort, IsRunCutShort, LogsSome}
 
 -- ---- logs, one after the other
 
-appended_none : (before : Option (List ℕ)) → before ≡ appended before []
+pub appended_none : (before : Option (List ℕ)) → before ≡ appended before []
 appended_none None = refl
 appended_none (Some t) = sym (ap Some (append-nil t))
 
@@ -225,62 +225,61 @@ as_due (AsDue ∷ ts) (p ∷ ps) (f ∷ fs) lacking unspelled count = ap (λ l. 
 as_due (Lacking ∷ ts) (p ∷ ps) (f ∷ fs) lacking unspelled count = absurd (true≢false lacking)
 as_due (Unspelled ∷ ts) (p ∷ ps) (f ∷ fs) lacking unspelled count = absurd (true≢false unspelled)
 
-short_lacking : (ts : List Telling) → list_any is_lacking ts ≡ true → list_any is_short ts ≡ true
-short_lacking [] h = h
-short_lacking (AsDue ∷ ts) h = short_lacking ts h
-short_lacking (Lacking ∷ ts) h = refl
-short_lacking (Unspelled ∷ ts) h = refl
-
-short_unspelled : (ts : List Telling) → list_any is_unspelled ts ≡ true → list_any is_short ts ≡ true
-short_unspelled [] h = h
-short_unspelled (AsDue ∷ ts) h = short_unspelled ts h
-short_unspelled (Lacking ∷ ts) h = refl
-short_unspelled (Unspelled ∷ ts) h = refl
-
 bool_false : (x : Bool) → (x ≡ true → ⊥) → x ≡ false
 bool_false true h = absurd (h refl)
 bool_false false h = refl
 
 module _ (paths : List (List ℕ)) (faults : List (Option ReadFault)) (n : ℕ) (r : Refusals) (b m a : Option (List ℕ)) (f g h : Bool) (so_far : Tells paths faults n r b f m g) where
   -- with `memory` after what was told
-  pub cut_by_memory : (out_failed : Bool) → Logs m g a h memory_line → LogsSome (IsCutShort paths faults out_failed) b f a h
-  cut_by_memory out_failed logs = (
+  pub cut_by_memory : (rest : List ℕ) → Logs m g a h memory_line → LogsSome (IsCutShort paths faults rest) b f a h
+  cut_by_memory rest logs = (
     told_lines so_far.tellings paths faults ++ memory_line,
     record { tellings = so_far.tellings; possible = so_far.possible; ends = inl refl },
     logs_then b m a f g h _ _ so_far.logs logs,
   )
 
-  -- with all told, and memory wanting for one
-  cut_in_files : (out_failed : Bool) → n ≡ length faults → list_any is_short so_far.tellings ≡ true → Logs m g a h (out_line out_failed) → LogsSome (IsCutShort paths faults out_failed) b f a h
-  cut_in_files out_failed all short logs = (
-    told_lines so_far.tellings paths faults ++ out_line out_failed,
-    record { tellings = so_far.tellings; possible = so_far.possible; ends = inr (so_far.count ∙ all, short, refl) },
+  -- with all told, none lacking, and the path of one unspelled
+  cut_in_files : (rest : List ℕ) → n ≡ length faults → r.file_lacking ≡ false → r.path_unspelled ≡ true → Logs m g a h rest → LogsSome (IsCutShort paths faults rest) b f a h
+  cut_in_files rest all working unspelled logs = (
+    told_lines so_far.tellings paths faults ++ rest,
+    record {
+      tellings = so_far.tellings;
+      possible = so_far.possible;
+      ends = inr (inr (so_far.count ∙ all, sym so_far.file_lacking ∙ working, sym so_far.path_unspelled ∙ unspelled, refl));
+    },
     logs_then b m a f g h _ _ so_far.logs logs,
   )
 
-  -- with the text printed, or an output that failed
-  pub printed : (wanting : Type 0) (out_failed : Bool) → n ≡ length faults → r.file_lacking ≡ false → (wanting → r.path_unspelled ≡ true) → (r.path_unspelled ≡ true → wanting)
-      → Logs m g a h (out_line out_failed) → TellsRun paths faults wanting out_failed b f a h
-  printed wanting out_failed all working is not logs = record {
+  -- with the rest after all files, none of them lacking
+  pub told_whole : (wanting : Type 0) (rest : List ℕ) → n ≡ length faults → r.file_lacking ≡ false → (wanting → r.path_unspelled ≡ true) → (r.path_unspelled ≡ true → wanting)
+      → Logs m g a h rest → TellsRun paths faults wanting rest b f a h
+  told_whole wanting rest all working is not logs = record {
     log = λ no.
         let spelled = bool_false r.path_unspelled (λ e. no (not e)) in
-        subst (λ l. Logs b f a h (l ++ out_line out_failed)) (as_due so_far.tellings paths faults (sym so_far.file_lacking ∙ working) (sym so_far.path_unspelled ∙ spelled) (so_far.count ∙ all))
+        subst (λ l. Logs b f a h (l ++ rest)) (as_due so_far.tellings paths faults (sym so_far.file_lacking ∙ working) (sym so_far.path_unspelled ∙ spelled) (so_far.count ∙ all))
         (logs_then b m a f g h _ _ so_far.logs logs);
-    cut_short = λ want. cut_in_files out_failed all (short_unspelled so_far.tellings (sym so_far.path_unspelled ∙ is want)) logs;
+    cut_short = λ want. cut_in_files rest all working (is want) logs;
   }
 
 -- with a file lacking
 pub lacks : (paths : List (List ℕ)) (faults : List (Option ReadFault)) (n : ℕ) (r : Refusals) (b m : Option (List ℕ)) (f g : Bool) → Tells paths faults n r b f m g → n ≡ length faults → r.file_lacking ≡ true
-    → LogsSome (IsCutShort paths faults false) b f m g
-lacks paths faults n r b m f g so_far all lacking =
-    cut_in_files paths faults n r b m m f g g so_far false all (short_lacking so_far.tellings (sym so_far.file_lacking ∙ lacking)) (logs_none m g)
+    → (rest : List ℕ) → LogsSome (IsCutShort paths faults rest) b f m g
+lacks paths faults n r b m f g so_far all lacking rest = (
+  told_lines so_far.tellings paths faults,
+  record {
+    tellings = so_far.tellings;
+    possible = so_far.possible;
+    ends = inr (inl (so_far.count ∙ all, sym so_far.file_lacking ∙ lacking, refl));
+  },
+  so_far.logs,
+)
 
 -- a run that ended for want of memory, before it has printed anything
-pub wanted : (paths : List (List ℕ)) (faults : List (Option ReadFault)) (wanting : Type 0) (out_failed : Bool) (b a : Option (List ℕ)) (f h : Bool) → wanting → out_failed ≡ false
-    → LogsSome (IsCutShort paths faults false) b f a h → TellsRun paths faults wanting out_failed b f a h
-wanted paths faults wanting out_failed b a f h want working some = record {
+pub wanted : (paths : List (List ℕ)) (faults : List (Option ReadFault)) (wanting : Type 0) (rest : List ℕ) (b a : Option (List ℕ)) (f h : Bool) → wanting
+    → LogsSome (IsCutShort paths faults rest) b f a h → TellsRun paths faults wanting rest b f a h
+wanted paths faults wanting rest b a f h want some = record {
   log = λ no. absurd (no want);
-  cut_short = λ _. subst (λ o. LogsSome (IsCutShort paths faults o) b f a h) (sym working) some;
+  cut_short = λ _. some;
 }
 
 -- as many faults as files
@@ -309,24 +308,24 @@ status_wanting false true s want = refl
 status_wanting false false true want = absurd (cc)
 status_wanting false false false want = absurd (cc)
 
-module _ (what def : List ℕ) (paths files : List (List ℕ)) (fault : ReadFault) (none r : Refusals) (b a : Option (List ℕ)) (f h : Bool) (told : List ℕ) (out_failed : Bool)
+module _ (what def : List ℕ) (paths files : List (List ℕ)) (fault : ReadFault) (none r : Refusals) (b a : Option (List ℕ)) (f h : Bool) (told rest : List ℕ)
     (named : told ≡ what) where
-  pub definition_log : out_failed ≡ false → ((fault ≡ Memory → ⊥) → first_unsound def ≡ Some fault) → none.file_lacking ≡ false → none.path_unspelled ≡ false → r.file_lacking ≡ (none.file_lacking || is_memory fault)
-      → Noted none r b f a h told fault → (status_of r ≡ status.Memory → ⊥) → Logs b f a h (run_lines what def paths files ++ out_line out_failed)
-  definition_log working first lacks spelled lacking (inl (same, logs)) whole =
+  pub definition_log : (first_unsound def ≡ Some fault → rest ≡ []) → ((fault ≡ Memory → ⊥) → first_unsound def ≡ Some fault) → none.file_lacking ≡ false → none.path_unspelled ≡ false → r.file_lacking ≡ (none.file_lacking || is_memory fault)
+      → Noted none r b f a h told fault → (status_of r ≡ status.Memory → ⊥) → Logs b f a h (run_lines what def paths files ++ rest)
+  definition_log last first lacks spelled lacking (inl (same, logs)) whole =
       let parts = status_whole r.file_lacking r.path_unspelled r.any_refusal whole in
       let other : fault ≡ Memory → ⊥ = λ is. true≢false (sym (ap is_memory is) ∙ (sym (ap (λ x. x || is_memory fault) lacks) ∙ (sym lacking ∙ parts.0))) in
       let due = first other in
       subst (Logs b f a h)
       (sym (append-nil (fault_line told fault))
-      ∙ ((λ i. refusal_line (named i) (sym due i) ++ out_line (sym working i))
-      ∙ ap (λ l. l ++ out_line out_failed) (sym (unsound_lines what def paths files fault due))))
+      ∙ ((λ i. refusal_line (named i) (sym due i) ++ sym (last due) i)
+      ∙ ap (λ l. l ++ rest) (sym (unsound_lines what def paths files fault due))))
       logs
-  definition_log working first lacks spelled lacking (inr (path, unspelled, logs)) whole =
+  definition_log last first lacks spelled lacking (inr (path, unspelled, logs)) whole =
       absurd (true≢false (sym unspelled ∙ (status_whole r.file_lacking r.path_unspelled r.any_refusal whole).1))
 
   pub definition_cut_short : ((fault ≡ Memory → ⊥) → first_unsound def ≡ Some fault) → none.file_lacking ≡ false → none.path_unspelled ≡ false → r.file_lacking ≡ (none.file_lacking || is_memory fault)
-      → Noted none r b f a h told fault → status_of r ≡ status.Memory → LogsSome (IsRunCutShort what def paths files out_failed) b f a h
+      → Noted none r b f a h told fault → status_of r ≡ status.Memory → LogsSome (IsRunCutShort what def paths files rest) b f a h
   definition_cut_short first lacks spelled lacking (inl (same, logs)) want =
       let short : (r.file_lacking || r.path_unspelled) ≡ true = status_wanting r.file_lacking r.path_unspelled r.any_refusal want in
       let is : (r.file_lacking || r.path_unspelled) ≡ is_short (telling_of fault) = λ i. (lacking ∙ (ap (λ x. x || is_memory fault) lacks ∙ lacking-telling_of fault)) i || (same ∙ (spelled ∙ unspelled-telling_of fault)) i in (

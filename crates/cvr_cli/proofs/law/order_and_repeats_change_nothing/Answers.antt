@@ -2,6 +2,7 @@ use Rattle.std.proofs.Common.{ap}
 use Rattle.cvr_collect.specs.Names.{conflicts}
 use Rattle.cvr_collect.specs.Tallied.{tally}
 use Rattle.cvr_cli.specs.Currents.{currents}
+use Rattle.cvr_cli.specs.Merge.{merge_fault, merge_text}
 use Rattle.cvr_cli.proofs.Members.{same_held}
 use Rattle.cvr_cli.proofs.law.order_and_repeats_change_nothing.Goals as goal
 
@@ -11,4 +12,6 @@ returns c = record {
   currents = λ definition files others same. ap currents (same_held definition files others same);
   conflicts = λ definition files others same. ap conflicts (same_held definition files others same);
   tally = λ definition files others same. ap (tally definition.contests) (same_held definition files others same);
+  merge_fault = λ definition date device i files others same. ap (merge_fault definition date device i) (same_held definition files others same);
+  volume = λ definition date device i files others same. ap (merge_text definition date device i) (same_held definition files others same);
 }

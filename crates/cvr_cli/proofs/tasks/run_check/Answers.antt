@@ -1,25 +1,41 @@
-use Rattle.std.proofs.Common.{refl, length}
-use Rattle.cvr_cli.specs.Outcome.{bytes_of}
-use Rattle.cvr_cli.specs.Told.{faults_of}
-use Rattle.cvr_cli.proofs.Telling.{lacks, printed, wanted, cut_by_memory, faults_count}
+use Rattle.std.proofs.Common.{◌≡◌, None, refl, length, rules, subst}
+use Rattle.std.specs.List.{list_any}
+use Rattle.cvr_cli.specs.Accepted.{is_refused}
+use Rattle.cvr_cli.specs.Outcome.{check_lines, bytes_of}
+use Rattle.cvr_cli.specs.Printing.{Prints}
+use Rattle.cvr_cli.specs.Told.{faults_of, out_line}
+use Rattle.cvr_cli.proofs.Printed.{ends_after, tells_after}
+use Rattle.cvr_cli.proofs.Telling.{lacks, wanted, cut_by_memory, faults_count}
 use Rattle.cvr_cli.proofs.tasks.run_check.Goals as goal
 
 pub returns-then-refusals-clause-log : goal.returns-then-refusals-clause-log
 returns-then-refusals-clause-log g c =
     let faults = faults_of c.args.definition.now (bytes_of c.args.files.now) in
-    wanted c.args.paths.now faults _ _ _ _ _ _ refl c.requires.working
-    (lacks c.args.paths.now faults (length c.args.files.now) c.in-Ok.refusals _ _ _ _ c.in-Ok.ensures.log (faults_count c.args.definition.now c.args.files.now) c.if-refusals.true)
+    let rest = out_line (g.W.Sink.has_failed c.args.out.now) in
+    wanted c.args.paths.now faults _ rest _ _ _ _ refl
+    (lacks c.args.paths.now faults (length c.args.files.now) c.in-Ok.refusals _ _ _ _ c.in-Ok.ensures.log (faults_count c.args.definition.now c.args.files.now) c.if-refusals.true rest)
+
+pub returns-in-Ok-clause-ends : goal.returns-in-Ok-clause-ends
+returns-in-Ok-clause-ends g c =
+    let definition = c.args.definition.now in
+    let files = bytes_of c.args.files.now in
+    let working = c.if-refusals.false in
+    let text : c.as_str.result.now ≡ check_lines definition c.args.paths.now files = search rules in
+    let prints = subst (Prints (g.W.Sink.taken c.args.out.now) (g.W.Sink.taken c.print_text.new.out) (g.W.Sink.has_failed c.print_text.new.out) c.print_text.result None) text c.print_text.ensures.printed in
+    ends_after _ _ _ c.print_text.result None (check_lines definition c.args.paths.now files) c.in-Ok.refusals (list_any (is_refused definition) files) _ prints
+    (λ m is. absurd (cc)) working (c.in-Ok.ensures.any_refusal working) c.end_with.ensures.status
 
 pub returns-in-Ok-clause-log : goal.returns-in-Ok-clause-log
 returns-in-Ok-clause-log g c =
-    let faults = faults_of c.args.definition.now (bytes_of c.args.files.now) in
-    let wanting = c.end_with.ensures.wanting in
-    printed c.args.paths.now faults (length c.args.files.now) c.in-Ok.refusals _ _ _ _ _ _ c.in-Ok.ensures.log _ _ (faults_count c.args.definition.now c.args.files.now) c.if-refusals.false
-    wanting.0 wanting.1 c.end_with.ensures.log
+    let definition = c.args.definition.now in
+    let faults = faults_of definition (bytes_of c.args.files.now) in
+    tells_after c.args.paths.now faults (length c.args.files.now) c.in-Ok.refusals _ _ _ _ _ _ c.in-Ok.ensures.log (faults_count definition c.args.files.now) c.if-refusals.false
+    _ _ _ c.print_text.result None c.as_str.result.now _ c.print_text.ensures.printed c.end_with.ensures.status c.end_with.ensures.log
 
 pub returns-clause-log : goal.returns-clause-log
 returns-clause-log g c =
     let faults = faults_of c.args.definition.now (bytes_of c.args.files.now) in
     let cut = c.in-Err.ensures.cut_short in
-    wanted c.args.paths.now faults _ _ _ _ _ _ c.end_in_memory.ensures.status c.requires.working
-    (cut_by_memory c.args.paths.now faults cut.0 cut.1 _ _ _ _ _ _ cut.2 _ c.end_in_memory.ensures.log)
+    let rest = out_line (g.W.Sink.has_failed c.args.out.now) in
+    wanted c.args.paths.now faults _ rest _ _ _ _ c.end_in_memory.ensures.status
+    (cut_by_memory c.args.paths.now faults cut.0 cut.1 _ _ _ _ _ _ cut.2 rest c.end_in_memory.ensures.log)

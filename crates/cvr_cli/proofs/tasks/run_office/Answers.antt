@@ -1,25 +1,50 @@
-use Rattle.std.proofs.Common.{length}
-use Rattle.cvr_cli.specs.Outcome.{bytes_of}
-use Rattle.cvr_cli.specs.Told.{faults_of}
+use Rattle.std.proofs.Common.{length, subst}
+use Rattle.std.specs.List.{list_any}
+use Rattle.cvr_cli.specs.Accepted.{is_refused}
+use Rattle.cvr_cli.specs.Outcome.{held, facts_fault, facts_text, task_fault, bytes_of}
+use Rattle.cvr_cli.specs.Printing.{Prints}
+use Rattle.cvr_cli.specs.Told.{faults_of, last_lines}
 use Rattle.cvr_cli.proofs.Endings.{ends_in_memory}
-use Rattle.cvr_cli.proofs.Telling.{printed, wanted, cut_by_memory, faults_count}
+use Rattle.cvr_cli.proofs.Merging.{no_facts_text}
+use Rattle.cvr_cli.proofs.Printed.{ends_after, tells_after}
+use Rattle.cvr_cli.proofs.Telling.{wanted, faults_count}
 use Rattle.cvr_cli.proofs.tasks.run_office.Goals as goal
 
 pub returns-in-Ok-clause-ends : goal.returns-in-Ok-clause-ends
-returns-in-Ok-clause-ends g c = ends_in_memory _ _ _ _ _ c.requires.working c.end_in_memory.ensures.status
-
-pub returns-clause-ends : goal.returns-clause-ends
-returns-clause-ends g c = ends_in_memory _ _ _ _ _ c.requires.working c.in-Err.ensures.status
-
-pub returns-in-Ok-office_text-clause-log : goal.returns-in-Ok-office_text-clause-log
-returns-in-Ok-office_text-clause-log g c =
-    let faults = faults_of c.args.definition (bytes_of c.args.files.now) in
-    let wanting = c.end_with.ensures.wanting in
-    printed c.args.paths.now faults (length c.args.files.now) c.in-Ok.refusals _ _ _ _ _ _ c.in-Ok.ensures.log _ _ (faults_count c.args.definition c.args.files.now) c.in-Ok.ensures.whole
-    wanting.0 wanting.1 c.end_with.ensures.log
+returns-in-Ok-clause-ends g c =
+    let definition = c.args.definition in
+    let task = c.args.task.now in
+    let files = bytes_of c.args.files.now in
+    let before = g.W.Sink.taken c.args.out.now in
+    let after = g.W.Sink.taken c.print_office-printed.new.out in
+    let failed = g.W.Sink.has_failed c.print_office-printed.new.out in
+    let printed = c.print_office-printed.result in
+    let prints =
+    subst (λ h. Prints before after failed printed (facts_fault definition task h) (facts_text definition task h)) c.in-Ok.ensures.content
+    (subst (λ d. Prints before after failed printed (facts_fault d task (g.O.Office.held c.in-Ok.office)) (facts_text d task (g.O.Office.held c.in-Ok.office))) c.in-Ok.ensures.definition c.print_office-printed.ensures) in
+    ends_after before after failed printed (task_fault definition task files) (facts_text definition task (held definition files)) c.in-Ok.refusals (list_any (is_refused definition) files) _ prints
+    (no_facts_text definition task (held definition files)) c.in-Ok.ensures.whole c.in-Ok.ensures.any_refusal c.end_with.ensures.status
 
 pub returns-in-Ok-clause-log : goal.returns-in-Ok-clause-log
 returns-in-Ok-clause-log g c =
-    let faults = faults_of c.args.definition (bytes_of c.args.files.now) in
-    wanted c.args.paths.now faults _ _ _ _ _ _ c.end_in_memory.ensures.status c.requires.working
-    (cut_by_memory c.args.paths.now faults (length c.args.files.now) c.in-Ok.refusals _ _ _ _ _ _ c.in-Ok.ensures.log _ c.end_in_memory.ensures.log)
+    let definition = c.args.definition in
+    let task = c.args.task.now in
+    let files = bytes_of c.args.files.now in
+    let before = g.W.Sink.taken c.args.out.now in
+    let after = g.W.Sink.taken c.print_office-printed.new.out in
+    let failed = g.W.Sink.has_failed c.print_office-printed.new.out in
+    let printed = c.print_office-printed.result in
+    let prints =
+    subst (λ h. Prints before after failed printed (facts_fault definition task h) (facts_text definition task h)) c.in-Ok.ensures.content
+    (subst (λ d. Prints before after failed printed (facts_fault d task (g.O.Office.held c.in-Ok.office)) (facts_text d task (g.O.Office.held c.in-Ok.office))) c.in-Ok.ensures.definition c.print_office-printed.ensures) in
+    tells_after c.args.paths.now (faults_of definition files) (length c.args.files.now) c.in-Ok.refusals _ _ _ _ _ _ c.in-Ok.ensures.log (faults_count definition c.args.files.now) c.in-Ok.ensures.whole
+    before after failed printed (task_fault definition task files) (facts_text definition task (held definition files)) _ prints c.end_with.ensures.status c.end_with.ensures.log
+
+pub returns-in-Err-clause-ends : goal.returns-in-Err-clause-ends
+returns-in-Err-clause-ends g c = ends_in_memory _ _ _ _ _ c.requires.working c.in-Err.ensures.status
+
+pub returns-in-Err-clause-log : goal.returns-in-Err-clause-log
+returns-in-Err-clause-log g c =
+    let definition = c.args.definition in
+    let rest = last_lines (task_fault definition c.args.task.now (bytes_of c.args.files.now)) (g.W.Sink.has_failed c.args.out.now) in
+    wanted c.args.paths.now (faults_of definition (bytes_of c.args.files.now)) _ rest _ _ _ _ c.in-Err.ensures.status (c.in-Err.ensures.cut_short rest)

@@ -1,0 +1,191 @@
+-- A run that ends after a text was printed, or not printed.
+use Rattle.std.proofs.Common.{◌≡◌, ◌≢◌, ℕ, List, [], ◌∷◌, ◌++◌, length, Bool, true, false, ◌||◌, Option, Some, None, Result, Ok, Err, ◌⊎◌, inl, inr, refl, sym, ap, ◌∙◌, subst, append-nil}
+use Rattle.std.specs.Prelude.{is_some, if◌then◌else◌}
+use Rattle.std.specs.Result.{IsErrAnd}
+use Rattle.cdf_types.specs.Device.{appended, AppendsFront}
+use Rattle.cdf_types.specs.declared.fault.ReadFault.{ReadFault}
+use Rattle.cvr_cli.specs.declared.merge.MergeFault.{MergeFault}
+use Rattle.cvr_cli.specs.declared.printing.PrintFault.{PrintFault}
+use Rattle.cvr_cli.specs.declared.printing.PrintFault.TheVariants.{Merge, Device, Memory}
+use Rattle.cvr_cli.specs.declared.refusals.Refusals.{Refusals}
+use Rattle.cvr_cli.specs.declared.status.Status.{Status}
+use Rattle.cvr_cli.specs.declared.status.Status.TheVariants as status
+use Rattle.cvr_cli.specs.Ends.{Ends}
+use Rattle.cvr_cli.specs.Log.{Logs}
+use Rattle.cvr_cli.specs.Merge.{merge_line}
+use Rattle.cvr_cli.specs.Printing.{Prints, is_output, merge_part, end_line, print_line, print_status, status_after}
+use Rattle.cvr_cli.specs.Refusals.{status_of}
+use Rattle.cvr_cli.specs.Told.{out_line, last_lines, Tells, TellsRun}
+use Rattle.cvr_cli.proofs.Telling.{appended_none, told_whole, wanted, cut_by_memory}
+
+-- want of memory before anything was printed
+pub not_printed : {T : Type 0} (before : Option (List ℕ)) (failed : Bool) (r : Result T PrintFault) (fault : Option MergeFault) (text : List ℕ) → IsErrAnd r (λ x. x ≡ Memory) → failed ≡ false
+    → Prints before before failed r fault text
+not_printed before failed (Ok x) fault text h works = absurd h
+not_printed before failed (Err x) fault text h works = (([], text, refl, appended_none before), works ∙ sym (ap is_output h), λ other. absurd (other h))
+
+-- ---- its status
+
+module _ (before after : Option (List ℕ)) (failed : Bool) (text : List ℕ) (refused : Bool) (s : Status) where
+  ends_done : s ≡ status.Done → refused ≡ false → after ≡ appended before text → failed ≡ false → Ends before after failed text refused s
+  ends_done is none taken works = record {
+    done = λ _. none;
+    refused = λ other. absurd (cc);
+    whole = λ _. taken;
+    front = (text, [], sym (append-nil text), taken);
+    device = λ other. absurd (cc);
+    failed = λ e. absurd (cc);
+    no_words = λ other. cc;
+  }
+
+  ends_refused : s ≡ status.Refused → refused ≡ true → after ≡ appended before text → failed ≡ false → Ends before after failed text refused s
+  ends_refused is some taken works = record {
+    done = λ other. absurd (cc);
+    refused = λ _. some;
+    whole = λ _. taken;
+    front = (text, [], sym (append-nil text), taken);
+    device = λ other. absurd (cc);
+    failed = λ e. absurd (cc);
+    no_words = λ other. cc;
+  }
+
+  ends_device : s ≡ status.Device → AppendsFront before after text → failed ≡ true → Ends before after failed text refused s
+  ends_device is front fails = record {
+    done = λ other. absurd (cc);
+    refused = λ other. absurd (cc);
+    whole = λ some. absurd (elim some [
+      | inl one ↦ cc
+      | inr two ↦ cc
+    ]);
+    front = front;
+    device = λ _. fails;
+    failed = λ _. inl is;
+    no_words = λ other. cc;
+  }
+
+  ends_memory : s ≡ status.Memory → AppendsFront before after text → Ends before after failed text refused s
+  ends_memory is front = record {
+    done = λ other. absurd (cc);
+    refused = λ other. absurd (cc);
+    whole = λ some. absurd (elim some [
+      | inl one ↦ cc
+      | inr two ↦ cc
+    ]);
+    front = front;
+    device = λ other. absurd (cc);
+    failed = λ _. inr is;
+    no_words = λ other. cc;
+  }
+
+whole_front : (before after : Option (List ℕ)) (text : List ℕ) → after ≡ appended before text → AppendsFront before after text
+whole_front before after text taken = (text, [], sym (append-nil text), taken)
+
+-- a front of nothing is all of it
+all_of_none : (before after : Option (List ℕ)) (text : List ℕ) → text ≡ [] → AppendsFront before after text → after ≡ appended before text
+all_of_none before after text none ([], rest, cut, taken) = taken ∙ ap (appended before) (sym none)
+all_of_none before after text none (x ∷ front, rest, cut, taken) = absurd (let same : x ∷ (front ++ rest) ≡ [] = sym cut ∙ none in Prim.cc same)
+
+or_some : (fault : Option MergeFault) (some : Bool) (m : MergeFault) → fault ≡ Some m → (is_some fault || some) ≡ true
+or_some fault some m is = ap (λ o. is_some o || some) is
+
+or_none : (fault : Option MergeFault) (some : Bool) → fault ≡ None → (is_some fault || some) ≡ some
+or_none fault some is = ap (λ o. is_some o || some) is
+
+-- after all was printed: by what a run keeps of its refusals
+ends_printed : (before after : Option (List ℕ)) (failed : Bool) (text : List ℕ) (fault : Option MergeFault) (lacking unspelled any some : Bool) (s : Status)
+    → after ≡ appended before text → failed ≡ false → fault ≡ None → lacking ≡ false → any ≡ some
+    → s ≡ (if lacking || unspelled then status.Memory else (if any then status.Refused else status.Done)) → Ends before after failed text (is_some fault || some) s
+ends_printed before after failed text fault true unspelled any some s taken works none working same is = absurd (cc)
+ends_printed before after failed text fault false true any some s taken works none working same is =
+    ends_memory before after failed text _ s is (whole_front before after text taken)
+ends_printed before after failed text fault false false true some s taken works none working same is =
+    ends_refused before after failed text _ s is (or_none fault some none ∙ sym same) taken works
+ends_printed before after failed text fault false false false some s taken works none working same is =
+    ends_done before after failed text _ s is (or_none fault some none ∙ sym same) taken works
+
+-- after a fault: by whether a path was not spelled
+ends_faulty : (before after : Option (List ℕ)) (failed : Bool) (text : List ℕ) (fault : Option MergeFault) (e : PrintFault) (unspelled some : Bool) (s : Status)
+    → AppendsFront before after text → failed ≡ is_output e → (e ≢ Memory → fault ≡ merge_part e) → ((m : MergeFault) → fault ≡ Some m → text ≡ [])
+    → s ≡ (if unspelled then status.Memory else print_status e) → Ends before after failed text (is_some fault || some) s
+ends_faulty before after failed text fault e true some s front fails part empty is = ends_memory before after failed text _ s is front
+ends_faulty before after failed text fault (Merge m) false some s front fails part empty is =
+    let told = part (λ other. cc) in
+    ends_refused before after failed text _ s is (or_some fault some m told) (all_of_none before after text (empty m told) front) fails
+ends_faulty before after failed text fault Device false some s front fails part empty is = ends_device before after failed text _ s is front fails
+ends_faulty before after failed text fault Memory false some s front fails part empty is = ends_memory before after failed text _ s is front
+
+pub ends_after : {T : Type 0} (before after : Option (List ℕ)) (failed : Bool) (result : Result T PrintFault) (fault : Option MergeFault) (text : List ℕ) (r : Refusals) (some : Bool) (s : Status)
+    → Prints before after failed result fault text → ((m : MergeFault) → fault ≡ Some m → text ≡ []) → r.file_lacking ≡ false → r.any_refusal ≡ some → s ≡ status_after result r
+    → Ends before after failed text (is_some fault || some) s
+ends_after before after failed (Ok x) fault text r some s (taken, works, none) empty working same is =
+    ends_printed before after failed text fault r.file_lacking r.path_unspelled r.any_refusal some s taken works none working same is
+ends_after before after failed (Err e) fault text r some s (front, fails, part) empty working same is =
+    ends_faulty before after failed text fault e r.path_unspelled some s front fails part empty is
+
+-- ---- its log
+
+-- the line of the end is the rest, want of memory aside
+rest_is : {T : Type 0} (before after : Option (List ℕ)) (failed : Bool) (result : Result T PrintFault) (fault : Option MergeFault) (text : List ℕ) → Prints before after failed result fault text
+    → (IsErrAnd result (λ e. e ≡ Memory) → ⊥) → end_line result ≡ last_lines fault failed
+rest_is before after failed (Ok x) fault text (taken, works, none) other = λ i. last_lines (sym none i) (sym works i)
+rest_is before after failed (Err (Merge m)) fault text (front, works, part) other =
+    sym (append-nil (merge_line m)) ∙ (λ i. last_lines (sym (part (λ e. cc)) i) (sym works i))
+rest_is before after failed (Err Device) fault text (front, fails, part) other = λ i. last_lines (sym (part (λ e. cc)) i) (sym fails i)
+rest_is before after failed (Err Memory) fault text (front, works, part) other = absurd (other refl)
+
+unspelled_of : (lacking unspelled any : Bool) → lacking ≡ false → (if lacking || unspelled then status.Memory else (if any then status.Refused else status.Done)) ≡ status.Memory → unspelled ≡ true
+unspelled_of true unspelled any working is = absurd (cc)
+unspelled_of false true any working is = refl
+unspelled_of false false true working is = absurd (cc)
+unspelled_of false false false working is = absurd (cc)
+
+memory_of : (lacking unspelled any : Bool) → unspelled ≡ true → (if lacking || unspelled then status.Memory else (if any then status.Refused else status.Done)) ≡ status.Memory
+memory_of true unspelled any is = refl
+memory_of false true any is = refl
+memory_of false false any is = absurd (cc)
+
+faulty_unspelled : (unspelled : Bool) (e : PrintFault) → (e ≡ Memory → ⊥) → (if unspelled then status.Memory else print_status e) ≡ status.Memory → unspelled ≡ true
+faulty_unspelled true e other is = refl
+faulty_unspelled false (Merge m) other is = absurd (cc)
+faulty_unspelled false Device other is = absurd (cc)
+faulty_unspelled false Memory other is = absurd (other refl)
+
+-- memory was wanting exactly where a path was not spelled, unless it was for the text
+wanting_is : {T : Type 0} (result : Result T PrintFault) (r : Refusals) → r.file_lacking ≡ false → (IsErrAnd result (λ e. e ≡ Memory) → ⊥) → status_after result r ≡ status.Memory → r.path_unspelled ≡ true
+wanting_is (Ok x) r working other is = unspelled_of r.file_lacking r.path_unspelled r.any_refusal working is
+wanting_is (Err e) r working other is = faulty_unspelled r.path_unspelled e other is
+
+wanting_where : {T : Type 0} (result : Result T PrintFault) (r : Refusals) → r.path_unspelled ≡ true → status_after result r ≡ status.Memory
+wanting_where (Ok x) r is = memory_of r.file_lacking r.path_unspelled r.any_refusal is
+wanting_where (Err e) r is = ap (λ u. if u then status.Memory else print_status e) is
+
+merge_is_not : (u : MergeFault) → Merge u ≡ Memory → ⊥
+merge_is_not u e = cc
+
+device_is_not : Device ≡ Memory → ⊥
+device_is_not e = cc
+
+status_in_memory : (unspelled : Bool) → (if unspelled then status.Memory else status.Memory) ≡ status.Memory
+status_in_memory true = refl
+status_in_memory false = refl
+
+module _ (paths : List (List ℕ)) (faults : List (Option ReadFault)) (n : ℕ) (r : Refusals) (b m a : Option (List ℕ)) (f g h : Bool) (so_far : Tells paths faults n r b f m g)
+    (all : n ≡ length faults) (working : r.file_lacking ≡ false) where
+  tells_whole : {T : Type 0} (before after : Option (List ℕ)) (failed : Bool) (result : Result T PrintFault) (fault : Option MergeFault) (text : List ℕ) (s : Status)
+      → Prints before after failed result fault text → (IsErrAnd result (λ e. e ≡ Memory) → ⊥) → s ≡ status_after result r → Logs m g a h (end_line result)
+      → TellsRun paths faults (s ≡ status.Memory) (last_lines fault failed) b f a h
+  tells_whole before after failed result fault text s prints other is logs =
+      told_whole paths faults n r b m a f g h so_far (s ≡ status.Memory) (last_lines fault failed) all working
+      (λ want. wanting_is result r working other (sym is ∙ want))
+      (λ unspelled. is ∙ wanting_where result r unspelled)
+      (subst (Logs m g a h) (rest_is before after failed result fault text prints other) logs)
+
+  pub tells_after : {T : Type 0} (before after : Option (List ℕ)) (failed : Bool) (result : Result T PrintFault) (fault : Option MergeFault) (text : List ℕ) (s : Status)
+      → Prints before after failed result fault text → s ≡ status_after result r → Logs m g a h (end_line result)
+      → TellsRun paths faults (s ≡ status.Memory) (last_lines fault failed) b f a h
+  tells_after {T} before after failed (Ok x) fault text s prints is logs = tells_whole {T = T} before after failed (Ok x) fault text s prints (λ e. e) is logs
+  tells_after {T} before after failed (Err (Merge u)) fault text s prints is logs = tells_whole {T = T} before after failed (Err (Merge u)) fault text s prints (merge_is_not u) is logs
+  tells_after {T} before after failed (Err Device) fault text s prints is logs = tells_whole {T = T} before after failed (Err Device) fault text s prints device_is_not is logs
+  tells_after {T} before after failed (Err Memory) fault text s prints is logs =
+      wanted paths faults (s ≡ status.Memory) (last_lines fault failed) b a f h (is ∙ status_in_memory r.path_unspelled)
+      (cut_by_memory paths faults n r b m a f g h so_far (last_lines fault failed) logs)
