@@ -1,5 +1,5 @@
 -- A run that ends after a text was printed, or not printed.
-use Rattle.std.proofs.Common.{◌≡◌, ◌≢◌, ℕ, List, [], ◌∷◌, ◌++◌, length, Bool, true, false, ◌||◌, Option, Some, None, Result, Ok, Err, ◌⊎◌, inl, inr, refl, sym, ap, ◌∙◌, subst, append-nil}
+use Rattle.std.proofs.Common.{◌≡◌, ◌≢◌, ℕ, List, [], ◌∷◌, ◌++◌, length, Bool, true, false, ◌||◌, Option, Some, None, Result, Ok, Err, inl, inr, refl, sym, ap, ◌∙◌, subst, append-nil}
 use Rattle.std.specs.Prelude.{is_some, if◌then◌else◌}
 use Rattle.std.specs.Result.{IsErrAnd}
 use Rattle.cdf_types.specs.Device.{appended, AppendsFront}
@@ -13,9 +13,8 @@ use Rattle.cvr_cli.specs.declared.status.Status.TheVariants as status
 use Rattle.cvr_cli.specs.Ends.{Ends}
 use Rattle.cvr_cli.specs.Log.{Logs}
 use Rattle.cvr_cli.specs.Merge.{merge_line}
-use Rattle.cvr_cli.specs.Printing.{Prints, is_output, merge_part, end_line, print_line, print_status, status_after}
-use Rattle.cvr_cli.specs.Refusals.{status_of}
-use Rattle.cvr_cli.specs.Told.{out_line, last_lines, Tells, TellsRun}
+use Rattle.cvr_cli.specs.Printing.{Prints, is_output, merge_part, end_line, print_status, status_after}
+use Rattle.cvr_cli.specs.Told.{last_lines, Tells, TellsRun}
 use Rattle.cvr_cli.proofs.Telling.{appended_none, told_whole, wanted, cut_by_memory}
 
 -- want of memory before anything was printed

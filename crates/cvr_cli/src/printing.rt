@@ -134,11 +134,7 @@ fn print_conflicts<O: Office, W: Sink>(
 }
 
 // Prints the tally.
-fn print_tally<O: Office, W: Sink>(
-    alloc: Global,
-    office: &O,
-    out: &mut W,
-) -> Result<(), PrintFault>
+fn print_tally<O: Office, W: Sink>(alloc: Global, office: &O, out: &mut W) -> Result<(), PrintFault>
     requires { W.has_failed out.old ≡ false }
     ensures { Prints (W.taken out.old) (W.taken out.new) (W.has_failed out.new) result None (tally (O.defined office.now).contests (O.held office.now)) }
 {

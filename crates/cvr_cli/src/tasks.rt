@@ -181,15 +181,11 @@ fn run_task<O: Office + Drop, W: Sink, L: Sink>(
 {
     let paths = request.paths.as_slice();
     match request.task {
-        Task::Currents | Task::Conflicts | Task::Tally | Task::Merge { .. } => run_office::<O, W, L>(
-            alloc,
-            definition,
-            &request.task,
-            paths,
-            files,
-            out,
-            log,
-        ),
+        Task::Currents | Task::Conflicts | Task::Tally | Task::Merge { .. } => run_office::<
+            O,
+            W,
+            L,
+        >(alloc, definition, &request.task, paths, files, out, log),
         Task::Check => run_check(alloc, &definition, paths, files, out, log),
     }
 }

@@ -1,7 +1,9 @@
 //! Whole runs over two files, and the reading of a file.
 use crate::files::*;
+use crate::volumes::{DATE, SCANNED, text_of};
 use cdf_types::{MemorySink, MemorySource, Seq};
 use cvr_cli::{FileFault, Request, Status, Task, read_file, run};
+use std::num::NonZeroU32;
 use std::process::Abort;
 
 // What a run over two files leaves.
@@ -90,6 +92,36 @@ fn each_task_prints_its_text(rt: HostRuntime) {
             "first.json 1\nsecond.json 1\n"
         )
     );
+}
+
+// A merge of a volume.
+fn merge_of(rt: &(impl Abort + AllocGlobal), date: &str, device: &str, volume: u32) -> Task {
+    Task::Merge {
+        date: body(rt, date),
+        device: body(rt, device),
+        volume: NonZeroU32::new(volume).expect(rt, "no volume 0"),
+    }
+}
+
+#[test]
+fn a_merge_prints_its_volume(rt: HostRuntime) {
+    let text = text_of(&rt, SCANNED);
+    assert!(rt; prints(&rt, merge_of(&rt, DATE, "desk", 1), &[SCAN, SCAN], text.as_str()));
+}
+
+// Whether a merge prints nothing, and tells this.
+fn refuses(rt: &(impl Abort + AllocGlobal), task: Task, told: &str) -> bool {
+    let ending = ran(rt, task, &[SCAN, ADJUDICATED], 0, 0);
+    ending.status == Status::Refused
+        && ending.out.taken().is_empty()
+        && ending.log.taken() == told.as_bytes()
+}
+
+#[test]
+fn a_merge_is_refused_by_its_first_fault(rt: HostRuntime) {
+    assert!(rt; refuses(&rt, merge_of(&rt, "2024-11-06", "s9", 2), "merge: H1\n"));
+    assert!(rt; refuses(&rt, merge_of(&rt, DATE, "s9", 2), "merge: H2\n"));
+    assert!(rt; refuses(&rt, merge_of(&rt, DATE, "desk", 2), "merge: V1 1\n"));
 }
 
 // Whether a run whose second file is refused prints the rest, and tells this in a log that fails at

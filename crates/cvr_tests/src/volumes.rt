@@ -5,14 +5,15 @@ use cvr_collect::{Office, PlainOffice};
 use cvr_report::{HeadFault, Heading, WriteFault, volumes, write_volume};
 use std::process::Abort;
 
-const DATE: &str = "2024-11-06T08:00:00Z";
+/// The date of each volume.
+pub const DATE: &str = "2024-11-06T08:00:00Z";
 
 // A volume's members behind its records.
 const REST: &str =
     r#""Election":[{"@id":"e","@type":"CVR.Election","Contest":[{"@id":"mayor","@type":"CVR.CandidateContest","ContestSelection":[{"@id":"ann","@type":"CVR.CandidateSelection"},{"@id":"bob","@type":"CVR.CandidateSelection"},{"@id":"wi","@type":"CVR.CandidateSelection","IsWriteIn":true}]},{"@id":"q1","@type":"CVR.BallotMeasureContest","ContestSelection":[{"@id":"yes","@type":"CVR.BallotMeasureSelection"},{"@id":"no","@type":"CVR.BallotMeasureSelection"}]}],"ElectionScopeId":"p1"}],"GeneratedDate":"2024-11-06T08:00:00Z","GpUnit":[{"@id":"p1","@type":"CVR.GpUnit"},{"@id":"p2","@type":"CVR.GpUnit"}],"ReportGeneratingDeviceIds":["desk"],"ReportType":["aggregated"],"ReportingDevice":[{"@id":"desk","@type":"CVR.ReportingDevice"},{"@id":"s1","@type":"CVR.ReportingDevice"},{"@id":"s2","@type":"CVR.ReportingDevice"}],"Version":"1.0.0"}"#;
 
-// The record of the scan, as a volume has it.
-const SCANNED: &str =
+/// The record of the scan, as a volume has it.
+pub const SCANNED: &str =
     r#""CVR":[{"@type":"CVR.CVR","BallotStyleUnitId":"p1","CVRSnapshot":[{"@id":"a","@type":"CVR.CVRSnapshot","CVRContest":[{"@type":"CVR.CVRContest","CVRContestSelection":[{"@type":"CVR.CVRContestSelection","ContestSelectionId":"ann","SelectionPosition":[{"@type":"CVR.SelectionPosition","HasIndication":"yes","NumberVotes":1}]}],"ContestId":"mayor"}],"Type":"original"}],"CreatingDeviceId":"s1","CurrentSnapshotId":"a","ElectionId":"e","UniqueId":"u1"}],"#;
 
 // The record with its snapshot for the write-in, which is the greater of the two under `m`.
@@ -23,8 +24,8 @@ const FIRST: &str =
 const SECOND: &str =
     r#""CVR":[{"@type":"CVR.CVR","BallotStyleUnitId":"p1","CVRSnapshot":[{"@id":"a","@type":"CVR.CVRSnapshot","CVRContest":[{"@type":"CVR.CVRContest","CVRContestSelection":[{"@type":"CVR.CVRContestSelection","ContestSelectionId":"ann","SelectionPosition":[{"@type":"CVR.SelectionPosition","HasIndication":"yes","NumberVotes":1}]}],"ContestId":"mayor"}],"Type":"original"},{"@id":"m","@type":"CVR.CVRSnapshot","CVRContest":[{"@type":"CVR.CVRContest","CVRContestSelection":[{"@type":"CVR.CVRContestSelection","ContestSelectionId":"bob","SelectionPosition":[{"@type":"CVR.SelectionPosition","HasIndication":"yes","NumberVotes":1}]}],"ContestId":"mayor"}],"Type":"modified"}],"CreatingDeviceId":"s1","CurrentSnapshotId":"m","ElectionId":"e","UniqueId":"u1"}],"#;
 
-// The text of a volume with this member of records, or none.
-fn text_of(rt: &(impl Abort + AllocGlobal), records: &str) -> String {
+/// The text of a volume with this member of records, or none.
+pub fn text_of(rt: &(impl Abort + AllocGlobal), records: &str) -> String {
     let text = format!(in rt.alloc(); r#"{{"@type":"CVR.CastVoteRecordReport",{records}{REST}"#);
     text.expect(rt, "no memory")
 }

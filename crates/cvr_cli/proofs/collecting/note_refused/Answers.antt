@@ -1,4 +1,4 @@
-use Rattle.std.proofs.Common.{◌≡◌, ◌<◌, ◌+◌, ◌∙◌, length, get_or, Option, Some, None, option_map, sym, ap, subst, arith, rules, []}
+use Rattle.std.proofs.Common.{◌≡◌, ◌+◌, ◌∙◌, length, Some, None, option_map, sym, ap, subst, arith, rules, []}
 use Rattle.std.proofs.lemmas.List.{get_or_default}
 use Rattle.cvr_cli.specs.Refusals.{fault_in}
 use Rattle.cvr_cli.specs.Told.{Tells}

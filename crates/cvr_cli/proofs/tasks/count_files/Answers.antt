@@ -1,7 +1,6 @@
-use Rattle.std.proofs.Common.{◌≡◌, ◌<◌, ◌+◌, ◌∙◌, [], ℕ, List, Option, Some, None, length, get_or, sym, ap, subst, arith, rules}
+use Rattle.std.proofs.Common.{◌<◌, ◌+◌, ◌∙◌, [], length, sym, ap, subst, arith, rules}
 use Rattle.std.proofs.lemmas.Grind.{common_steps}
 use Rattle.std.proofs.lemmas.List.{get_or_default}
-use Rattle.cdf_types.specs.declared.fault.ReadFault.{ReadFault}
 use Rattle.cdf_check.specs.Acceptance.{first_refusal}
 use Rattle.cvr_cli.specs.declared.refusals.Refusals.{Refusals}
 use Rattle.cvr_cli.specs.Outcome.{bytes_of}

@@ -1,4 +1,4 @@
-use Rattle.std.proofs.Common.{◌++◌, inr, ap, sym, ◌∙◌, subst}
+use Rattle.std.proofs.Common.{inr, ap, sym, ◌∙◌, subst}
 use Rattle.cdf_types.specs.Device.{appended, AppendsFront}
 use Rattle.cdf_check.specs.Acceptance.{frame_in}
 use Rattle.cvr_cli.specs.Outcome.{task_fault, run_fault, bytes_of}
@@ -62,7 +62,7 @@ returns-in-Ok-clause-cut_short g c = λ want.
       inr (
         is_sound c.args.def.now sound,
         subst (λ rest. IsCutShort paths (faults_of (frame_in c.args.def.now) files) rest some.0) (last_beside task c.args.def.now c.in-Ok.definition files failed sound frame)
-        (subst (λ d. IsCutShort paths (faults_of d files) (last_lines (task_fault c.in-Ok.definition task files) failed) some.0) frame some.1),
+            (subst (λ d. IsCutShort paths (faults_of d files) (last_lines (task_fault c.in-Ok.definition task files) failed) some.0) frame some.1),
       ),
       some.2,
     )

@@ -1,5 +1,6 @@
-use Rattle.std.proofs.Common.{length, subst}
+use Rattle.std.proofs.Common.{◌≡◌, length, subst}
 use Rattle.std.specs.List.{list_any}
+use Rattle.cvr_cli.specs.declared.status.Status.TheVariants.{Memory}
 use Rattle.cvr_cli.specs.Accepted.{is_refused}
 use Rattle.cvr_cli.specs.Outcome.{held, facts_fault, facts_text, task_fault, bytes_of}
 use Rattle.cvr_cli.specs.Printing.{Prints}
@@ -47,4 +48,4 @@ pub returns-in-Err-clause-log : goal.returns-in-Err-clause-log
 returns-in-Err-clause-log g c =
     let definition = c.args.definition in
     let rest = last_lines (task_fault definition c.args.task.now (bytes_of c.args.files.now)) (g.W.Sink.has_failed c.args.out.now) in
-    wanted c.args.paths.now (faults_of definition (bytes_of c.args.files.now)) _ rest _ _ _ _ c.in-Err.ensures.status (c.in-Err.ensures.cut_short rest)
+    wanted c.args.paths.now (faults_of definition (bytes_of c.args.files.now)) (c.in-Err.status ≡ Memory) rest _ _ _ _ c.in-Err.ensures.status (c.in-Err.ensures.cut_short rest)
