@@ -12,3 +12,6 @@ pub mod ToldRows
 pub mod Printed
 pub mod Merging
 pub mod Last
+pub mod HeldBytes
+pub mod Opened
+pub mod Known

@@ -9,5 +9,9 @@ pub mod Refusals
 pub mod Told
 pub mod Printing
 pub mod Ends
+pub mod Opening
+pub mod MemoryFiles
+pub mod Worked
+pub mod HeldBytes
 pub mod Laws
 pub mod Rows

@@ -1,6 +1,7 @@
 ghost use Rattle.std.specs.Prelude.{◌≡◌, ◌+◌};
 ghost use Rattle.cdf_form.specs.Reading.{max_file};
 ghost use Rattle.cvr_cli.specs.File.{held_bytes};
+ghost use Rattle.cvr_cli.specs.HeldBytes.{HeldTextLaw, HeldLinesLaw, HeldFaultLaw, HeldRefusedLaw};
 ghost use Rattle.cvr_cli.specs.Laws.{HeldLaw, SameFactsLaw, SameCurrentsLaw, SameConflictsLaw, SameTallyLaw, SameMergeFaultLaw, SameVolumeLaw, NoFaultLaw, NoTextLaw, ToldNumberLaw, LastNumberLaw};
 
 /// What a run holds, the devices of the definition and the facts of the accepted files, is the content
@@ -36,4 +37,12 @@ pub fn conflicts_end_with_the_number_of_volumes()
 /// What is held of a file is one byte more than a file may have.
 pub fn held_is_one_more()
     ensures { held_bytes ≡ max_file + 1 }
+{}
+
+/// What is held of files is enough: a run over it prints and tells what one over the files does.
+pub fn held_bytes_are_enough()
+    ensures text { HeldTextLaw }
+    ensures lines { HeldLinesLaw }
+    ensures merge_fault { HeldFaultLaw }
+    ensures refused { HeldRefusedLaw }
 {}

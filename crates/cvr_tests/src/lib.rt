@@ -11,6 +11,8 @@ mod files;
 #[cfg(test)]
 mod offices;
 #[cfg(test)]
+mod opening;
+#[cfg(test)]
 mod playing;
 #[cfg(test)]
 mod runs;

@@ -1,0 +1,97 @@
+-- What was read over an opener, and a run that stops at a file that was not read.
+use Rattle.std.proofs.Common.{◌≡◌, ℕ, ◌<◌, ◌+◌, List, [], ◌∷◌, ◌++◌, length, get_or, take, drop, map, Bool, true, false, Option, Some, Result, Ok, Err, IfSome, IfOk, IfErr, refl, sym, ap, ◌∙◌, subst, true≢false}
+use Rattle.std.specs.Global.{Vec}
+use Rattle.std.proofs.lemmas.List.{take_more, drop_more, take-append-drop, map-append}
+use Rattle.cvr_cli.specs.declared.file.FileFault.{FileFault}
+use Rattle.cvr_cli.specs.declared.status.Status.{Status}
+use Rattle.cvr_cli.specs.declared.status.Status.TheVariants.{Memory}
+use Rattle.cvr_cli.specs.File.{held_bytes, is_device}
+use Rattle.cvr_cli.specs.Log.{memory_line, Logs}
+use Rattle.cvr_cli.specs.Opening.{At, Unknown, Absent, Has, has_file, IsOpened, IsRead, AreRead, SomeFailed, FailedAt}
+use Rattle.cvr_cli.specs.Outcome.{bytes_of}
+use Rattle.cvr_cli.specs.Worked.{unread_status, unread_line, IsUnread, Stop, Unread, NoRoom, CanStop, Stops}
+
+-- ---- one file
+
+is_read : (at : At) (left : Option (List ℕ)) (bytes : List ℕ) → IsOpened at left → IfSome left (λ all. bytes ≡ take held_bytes all) → IsRead at bytes
+is_read Unknown left bytes opened given = tt
+is_read Absent left bytes opened given = opened
+is_read (Has all) left bytes opened given = subst (λ o. IfSome o (λ all. bytes ≡ take held_bytes all)) opened given
+
+-- what a source gave is what was read of its file
+pub read_of : (at : At) (left : Option (List ℕ)) (answer : Result (Vec ℕ) FileFault) → IsOpened at left → IfOk answer (λ v. IfSome left (λ all. v.items ≡ take held_bytes all)) → IfOk answer (λ v. IsRead at v.items)
+read_of at left (Ok v) opened given = is_read at left v.items opened given
+read_of at left (Err e) opened given = tt
+
+pub failed_to_open : (at : At) (some_failed : Type 0) → has_file at ≡ false → FailedAt at some_failed
+failed_to_open Unknown some_failed none = tt
+failed_to_open Absent some_failed none = tt
+failed_to_open (Has bytes) some_failed none = absurd (true≢false none)
+
+failed_source : (Source : Type 0) (has_failed : Source → Bool) (source : Source) (at : At) → has_failed source ≡ true → FailedAt at (SomeFailed Source has_failed)
+failed_source Source has_failed source Unknown is = tt
+failed_source Source has_failed source Absent is = tt
+failed_source Source has_failed source (Has bytes) is = (source, is)
+
+-- where the reading failed by a device, its source has failed
+pub failed_of : (Source : Type 0) (has_failed : Source → Bool) (source : Source) (at : At) (answer : Result (Vec ℕ) FileFault) → IfErr answer (λ e. has_failed source ≡ is_device e)
+    → IfErr answer (λ e. is_device e ≡ true → FailedAt at (SomeFailed Source has_failed))
+failed_of Source has_failed source at (Ok v) told = tt
+failed_of Source has_failed source at (Err e) told = λ device. failed_source Source has_failed source at (told ∙ device)
+
+-- ---- files in order
+
+read_last : (file_at : List ℕ → At) (paths files : List (List ℕ)) (path file : List ℕ) → AreRead file_at paths files → IsRead (file_at path) file → AreRead file_at (paths ++ path ∷ []) (files ++ file ∷ [])
+read_last file_at [] [] path file before last = (last, tt)
+read_last file_at [] (f ∷ files) path file before last = absurd before
+read_last file_at (p ∷ paths) [] path file before last = absurd before
+read_last file_at (p ∷ paths) (f ∷ files) path file before last = (before.0, read_last file_at paths files path file before.1 last)
+
+-- one more of them
+pub read_one_more : (file_at : List ℕ → At) (paths : List (List ℕ)) (n : ℕ) (path : List ℕ) (files : List (Vec ℕ)) (file : Vec ℕ) → n < length paths → path ≡ get_or paths n path
+    → AreRead file_at (take n paths) (bytes_of files) → IsRead (file_at path) file.items → AreRead file_at (take (n + 1) paths) (bytes_of (files ++ file ∷ []))
+read_one_more file_at paths n path files file lt named before last =
+    let more : take (n + 1) paths ≡ take n paths ++ path ∷ [] = take_more paths n path lt ∙ ap (λ p. take n paths ++ p ∷ []) (sym named) in
+    let bytes : bytes_of (files ++ file ∷ []) ≡ bytes_of files ++ file.items ∷ [] = map-append (λ (f : Vec ℕ). f.items) files (file ∷ []) in
+    subst (λ ps. AreRead file_at ps (bytes_of (files ++ file ∷ []))) (sym more)
+    (subst (AreRead file_at (take n paths ++ path ∷ [])) (sym bytes) (read_last file_at (take n paths) (bytes_of files) path file.items before last))
+
+-- ---- a run that stops
+
+module _ (file_at : List ℕ → At) (some_failed : Type 0) (paths : List (List ℕ)) (answer : Status) (b a : Option (List ℕ)) (f h : Bool) where
+  among_at : (n : ℕ) (path : List ℕ) → n < length paths → path ≡ get_or paths n path → paths ≡ take n paths ++ path ∷ drop (n + 1) paths
+  among_at n path lt named =
+      sym (take-append-drop n paths)
+      ∙ ap (λ rest. take n paths ++ rest) (drop_more paths n path lt ∙ ap (λ p. p ∷ drop (n + 1) paths) (sym named))
+
+  -- at the nth of its paths
+  pub stops_at : (n : ℕ) (path : List ℕ) (files : List (List ℕ)) (cause : FileFault) → n < length paths → path ≡ get_or paths n path → AreRead file_at (take n paths) files
+      → (is_device cause ≡ true → FailedAt (file_at path) some_failed) → answer ≡ unread_status cause → Logs b f a h (unread_line path cause) → Stops file_at some_failed paths answer b f a h
+  stops_at n path files cause lt named read device is log = record {
+    stop = Unread path cause;
+    possible = record { before = take n paths; after = drop (n + 1) paths; split = among_at n path lt named; files = files; read = read; device = device };
+    status = is;
+    log = log;
+  }
+
+  -- where the list has no room
+  pub stops_full : answer ≡ Memory → Logs b f a h memory_line → Stops file_at some_failed paths answer b f a h
+  stops_full is log = record { stop = NoRoom; possible = tt; status = is; log = log }
+
+  -- at a path before these
+  pub stops_first : (path : List ℕ) (cause : FileFault) → (is_device cause ≡ true → FailedAt (file_at path) some_failed) → answer ≡ unread_status cause → Logs b f a h (unread_line path cause)
+      → Stops file_at some_failed (path ∷ paths) answer b f a h
+  stops_first path cause device is log = record {
+    stop = Unread path cause;
+    possible = record { before = []; after = paths; split = refl; files = []; read = tt; device = device };
+    status = is;
+    log = log;
+  }
+
+  can_stop_later : (path file : List ℕ) (stop : Stop) → IsRead (file_at path) file → CanStop file_at some_failed paths stop → CanStop file_at some_failed (path ∷ paths) stop
+  can_stop_later path file (Unread at cause) read u = record { before = path ∷ u.before; after = u.after; split = ap (λ ps. path ∷ ps) u.split; files = file ∷ u.files; read = (read, u.read); device = u.device }
+  can_stop_later path file NoRoom read u = tt
+
+  -- after a path before these was read
+  pub stops_later : (path file : List ℕ) → IsRead (file_at path) file → Stops file_at some_failed paths answer b f a h → Stops file_at some_failed (path ∷ paths) answer b f a h
+  stops_later path file read s = record { stop = s.stop; possible = can_stop_later path file s.stop read s.possible; status = s.status; log = s.log }

@@ -1,0 +1,12 @@
+use Rattle.std.proofs.Common.{◌≡◌, length, take}
+use Rattle.cvr_cli.specs.Opening.{AreRead}
+use Rattle.cvr_cli.specs.Outcome.{bytes_of}
+use Rattle.cvr_cli.proofs.opening.read_all.Given as goal
+
+-- the files of the paths so far, with nothing told
+abbrev pub invariant-loop-path : goal.invariant-loop-path
+invariant-loop-path g l = record {
+  read : AreRead (g.O.Open.file_at l.opener) (take l.path-index l.paths) (bytes_of l.files.items);
+  count : length l.files.items ≡ l.path-index;
+  quiet : l.log ≡ l.initial.log;
+}

@@ -1,0 +1,48 @@
+-- What an opener says of its files, and what was read of them. (This project's own.)
+use Rattle.std.specs.Prelude.{◌≡◌, ℕ, List, [], ◌∷◌, take, map, Bool, true, false, Option, Some}
+use Rattle.cvr_cli.specs.File.{held_bytes}
+
+-- what an opener says of a path: nothing; that no file is there; or that a file is there, with these bytes
+pub data At : Type 0 where
+  Unknown : At
+  Absent : At
+  Has : (bytes : List ℕ) → At
+
+-- it says that a file is there
+abbrev pub has_file : At → Bool
+has_file Unknown = false
+has_file Absent = false
+has_file (Has bytes) = true
+
+-- a file was opened, with this left to read: all of its bytes
+abbrev pub IsOpened : At → Option (List ℕ) → Type 0
+IsOpened Unknown left = Unit {0}
+IsOpened Absent left = ⊥
+IsOpened (Has bytes) left = left ≡ Some bytes
+
+-- these bytes were read: those of the file, as far as a file is held
+abbrev pub IsRead : At → List ℕ → Type 0
+IsRead Unknown bytes = Unit {0}
+IsRead Absent bytes = ⊥
+IsRead (Has all) bytes = bytes ≡ take held_bytes all
+
+-- at each path its file was read
+abbrev pub AreRead : (List ℕ → At) → List (List ℕ) → List (List ℕ) → Type 0
+AreRead file_at [] [] = Unit {0}
+AreRead file_at [] (file ∷ files) = ⊥
+AreRead file_at (path ∷ paths) [] = ⊥
+AreRead file_at (path ∷ paths) (file ∷ files) = IsRead (file_at path) file × AreRead file_at paths files
+
+-- at each path there is its file
+abbrev pub AreAt : (List ℕ → At) → List (List ℕ) → List (List ℕ) → Type 0
+AreAt file_at paths files = map file_at paths ≡ map Has files
+
+-- some source has failed
+abbrev pub SomeFailed : (Source : Type 0) → (Source → Bool) → Type 0
+SomeFailed Source has_failed = (source : Source) × (has_failed source ≡ true)
+
+-- a device failed at a path: a file that is there can be opened, so that some source has failed
+abbrev pub FailedAt : At → Type 0 → Type 0
+FailedAt Unknown some_failed = Unit {0}
+FailedAt Absent some_failed = Unit {0}
+FailedAt (Has bytes) some_failed = some_failed

@@ -1,0 +1,57 @@
+ghost use Rattle.std.specs.Prelude.{◌≡◌, MatchOption};
+ghost use Rattle.cvr_cli.specs.Opening.{Absent, Has};
+ghost use Rattle.cvr_cli.specs.MemoryFiles.{found_at};
+
+use crate::file::FileFault;
+use crate::opening::Open;
+use cdf_types::MemorySource;
+
+// The bytes of one read at most.
+const PIECE: usize = 100;
+
+/// A file in memory, at a path. Its reading fails at one call, chosen beforehand.
+#[derive(Clone, Copy, Debug)]
+pub struct MemoryFile<'a> {
+    /// The path, compared byte by byte.
+    pub path: &'a str,
+    /// The content.
+    pub bytes: &'a [u8],
+    /// The call that fails, counted from 1 (0: never).
+    pub fail_at: usize,
+}
+
+/// An opener of files in memory, for tests: at a path stands the first file of that path.
+#[derive(Clone, Copy, Debug)]
+pub struct MemoryFiles<'a> {
+    /// The files.
+    pub files: &'a [MemoryFile<'a>],
+}
+
+// The first file of a path.
+fn find<'a>(files: &'a [MemoryFile<'a>], path: &str) -> Option<&'a MemoryFile<'a>>
+    ensures { MatchOption result (found_at files.now path.now ≡ Absent) (λ file. found_at files.now path.now ≡ Has file.now.bytes.now) }
+{
+    for file in files {
+        if file.path == path {
+            return Some(file);
+        }
+    }
+    None
+}
+
+impl<'a> Open for MemoryFiles<'a> {
+    type File = MemorySource<'a>;
+
+    ghost file_at = { λ files path. found_at files.files.now path };
+
+    /// The file at a path, which gives at most 100 bytes a call. Takes no memory.
+    ///
+    /// # Errors
+    /// `Device` exactly where there is none.
+    fn open(&self, path: &str) -> Result<MemorySource<'a>, FileFault> {
+        match find(self.files, path) {
+            Some(file) => Ok(MemorySource::new(file.bytes, PIECE, file.fail_at)),
+            None => Err(FileFault::Device),
+        }
+    }
+}

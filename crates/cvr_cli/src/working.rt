@@ -1,0 +1,83 @@
+ghost use Rattle.std.specs.Prelude.{◌≡◌, ◌≢◌, ◌⊎◌, ◌++◌, ◌∷◌, ℕ, List, length, true, false, IfOk, IfErr, OnOk};
+ghost use Rattle.cdf_types.specs.Device.{appended};
+ghost use Rattle.cvr_cli.specs.declared.status.Status.TheVariants.{Done, Refused, CommandLine};
+ghost use Rattle.cvr_cli.specs.Log.{Logs};
+ghost use Rattle.cvr_cli.specs.Merge.{merge_lines};
+ghost use Rattle.cvr_cli.specs.Opening.{AreRead, AreAt, SomeFailed};
+ghost use Rattle.cvr_cli.specs.Outcome.{run_text, run_fault, any_refused, bytes_of, IsWhole};
+ghost use Rattle.cvr_cli.specs.Told.{run_lines};
+ghost use Rattle.cvr_cli.specs.Worked.{Stops, Runs};
+
+use crate::opening::{Open, read_all, read_told};
+use crate::request::Request;
+use crate::status::Status;
+use crate::tasks::run;
+use cdf_types::Sink;
+use std::alloc::Global;
+
+// What a run reads.
+#[derive(Drop)]
+struct Inputs {
+    // The bytes of the definition.
+    def: Vec<u8>,
+    // The bytes of each file.
+    files: Vec<Vec<u8>>,
+}
+
+// The bytes of the definition and of the files of a request, in that order.
+fn read_inputs<O: Open, L: Sink>(
+    alloc: Global,
+    opener: &O,
+    request: &Request,
+    log: &mut L,
+) -> Result<Inputs, Status>
+    ensures read { IfOk result (λ inputs. AreRead (O.file_at opener.now) (request.now.def ∷ request.now.paths) (inputs.def.items ∷ bytes_of inputs.files.items)) }
+    ensures named { IfOk result (λ inputs. length request.now.paths ≡ length inputs.files.items) }
+    ensures quiet { OnOk result (log.new ≡ log.old) }
+    ensures stops { IfErr result (λ status. Stops (O.file_at opener.now) (SomeFailed O.File O.File.has_failed) (request.now.def ∷ request.now.paths) status
+        (L.taken log.old) (L.has_failed log.old) (L.taken log.new) (L.has_failed log.new)) }
+{
+    let def = read_told(alloc, opener, request.def.as_str(), log)?;
+    let files = read_all(alloc, opener, request.paths.as_slice(), log)?;
+    Ok(Inputs { def, files })
+}
+
+/// Does a request: reads its definition and its files, each at its path and in this order, and runs
+/// over them. Where one isn't read, that is told to the log, and nothing else is done. Where the opener
+/// says what stands at each path, the text is that of these files.
+pub fn work<O: Open, W: Sink, L: Sink>(
+    alloc: Global,
+    opener: &O,
+    request: &Request,
+    out: &mut W,
+    log: &mut L,
+) -> Status
+    requires working { W.has_failed out.old ≡ false }
+    requires log_working { L.has_failed log.old ≡ false }
+    ensures ends { ((out.new ≡ out.old) × Stops (O.file_at opener.now) (SomeFailed O.File O.File.has_failed) (request.now.def ∷ request.now.paths) result
+            (L.taken log.old) (L.has_failed log.old) (L.taken log.new) (L.has_failed log.new))
+        ⊎ Runs (O.file_at opener.now) request.now.task request.now.def request.now.paths result (W.taken out.old) (W.taken out.new) (W.has_failed out.new)
+            (L.taken log.old) (L.has_failed log.old) (L.taken log.new) (L.has_failed log.new) }
+    ensures text { (def : List ℕ) (files : List (List ℕ)) → AreAt (O.file_at opener.now) (request.now.def ∷ request.now.paths) (def ∷ files)
+        → IsWhole result → W.taken out.new ≡ appended (W.taken out.old) (run_text request.now.task def request.now.paths files) }
+    ensures log { (def : List ℕ) (files : List (List ℕ)) → AreAt (O.file_at opener.now) (request.now.def ∷ request.now.paths) (def ∷ files)
+        → IsWhole result → Logs (L.taken log.old) (L.has_failed log.old) (L.taken log.new) (L.has_failed log.new)
+            (run_lines request.now.def def request.now.paths files ++ merge_lines (run_fault request.now.task def files)) }
+    ensures done { (def : List ℕ) (files : List (List ℕ)) → AreAt (O.file_at opener.now) (request.now.def ∷ request.now.paths) (def ∷ files)
+        → result ≡ Done → any_refused request.now.task def files ≡ false }
+    ensures refused { (def : List ℕ) (files : List (List ℕ)) → AreAt (O.file_at opener.now) (request.now.def ∷ request.now.paths) (def ∷ files)
+        → result ≡ Refused → any_refused request.now.task def files ≡ true }
+    ensures no_words { result ≢ CommandLine }
+{
+    match read_inputs(alloc, opener, request, log) {
+        Ok(inputs) => run(
+            alloc,
+            request,
+            inputs.def.as_slice(),
+            inputs.files.as_slice(),
+            out,
+            log,
+        ),
+        Err(status) => status,
+    }
+}
