@@ -2,25 +2,19 @@
 use Rattle.std.proofs.Common.{◌≡◌, ℕ, List, [], ◌∷◌, ◌++◌, map, Bool, true, false, Option, ◌⊎◌, inl, inr, refl, ap, ◌∙◌, subst, append-nil}
 use Rattle.std.proofs.lemmas.Bool.{false_from_ne_true}
 use Rattle.cdf_types.specs.Device.{appended}
-use Rattle.cvr_cli.specs.declared.file.FileFault.TheVariants as file
 use Rattle.cvr_cli.specs.declared.request.Task.{Task}
 use Rattle.cvr_cli.specs.declared.status.Status.{Status}
-use Rattle.cvr_cli.specs.declared.status.Status.TheVariants.{Done, Refused, CommandLine, Device, Memory}
+use Rattle.cvr_cli.specs.declared.status.Status.TheVariants.{Done, Refused, Device, Memory}
 use Rattle.cvr_cli.specs.HeldBytes.{held_part}
 use Rattle.cvr_cli.specs.Log.{Logs}
 use Rattle.cvr_cli.specs.Merge.{merge_lines}
 use Rattle.cvr_cli.specs.Opening.{At, Has, IsRead, AreRead, AreAt}
 use Rattle.cvr_cli.specs.Outcome.{run_text, run_fault, any_refused, IsWhole}
 use Rattle.cvr_cli.specs.Told.{run_lines, last_lines}
-use Rattle.cvr_cli.specs.Worked.{Stop, Unread, NoRoom, stop_status, Stops, Runs}
+use Rattle.cvr_cli.specs.Worked.{Runs}
 use Rattle.cvr_cli.proofs.HeldBytes.{held_text, held_lines, held_fault, held_refused}
 
--- ---- a run that stops has printed no text
-
-stopped : (stop : Stop) (answer : Status) → answer ≡ stop_status stop → (answer ≡ Device) ⊎ (answer ≡ Memory)
-stopped (Unread path file.Device) answer is = inl is
-stopped (Unread path file.Memory) answer is = inr is
-stopped NoRoom answer is = inr is
+-- ---- a run that has printed its text has not failed
 
 not_done : (answer : Status) → (answer ≡ Device) ⊎ (answer ≡ Memory) → answer ≡ Done → ⊥
 not_done answer (inl is) done = cc
@@ -30,26 +24,9 @@ not_refused : (answer : Status) → (answer ≡ Device) ⊎ (answer ≡ Memory) 
 not_refused answer (inl is) refused = cc
 not_refused answer (inr is) refused = cc
 
-not_words : (answer : Status) → (answer ≡ Device) ⊎ (answer ≡ Memory) → answer ≡ CommandLine → ⊥
-not_words answer (inl is) words = cc
-not_words answer (inr is) words = cc
-
 not_whole : (answer : Status) → (answer ≡ Device) ⊎ (answer ≡ Memory) → IsWhole answer → ⊥
 not_whole answer is (inl done) = not_done answer is done
 not_whole answer is (inr refused) = not_refused answer is refused
-
-module _ (file_at : List ℕ → At) (some_failed : Type 0) (paths : List (List ℕ)) (answer : Status) (b a : Option (List ℕ)) (f h : Bool) (s : Stops file_at some_failed paths answer b f a h) where
-  pub stopped_not_done : answer ≡ Done → ⊥
-  stopped_not_done = not_done answer (stopped s.stop answer s.status)
-
-  pub stopped_not_refused : answer ≡ Refused → ⊥
-  stopped_not_refused = not_refused answer (stopped s.stop answer s.status)
-
-  pub stopped_not_words : answer ≡ CommandLine → ⊥
-  stopped_not_words = not_words answer (stopped s.stop answer s.status)
-
-  pub stopped_not_whole : IsWhole answer → ⊥
-  stopped_not_whole = not_whole answer (stopped s.stop answer s.status)
 
 -- ---- what was read is what is held of the files
 

@@ -1,5 +1,5 @@
 -- What was read over an opener, and a run that stops at a file that was not read.
-use Rattle.std.proofs.Common.{◌≡◌, ℕ, ◌<◌, ◌+◌, List, [], ◌∷◌, ◌++◌, length, get_or, take, drop, map, Bool, true, false, Option, Some, Result, Ok, Err, IfSome, IfOk, IfErr, refl, sym, ap, ◌∙◌, subst, true≢false}
+use Rattle.std.proofs.Common.{◌≡◌, ℕ, ◌<◌, ◌+◌, List, [], ◌∷◌, ◌++◌, length, get_or, take, drop, map, Bool, true, false, Option, Some, Result, Ok, Err, IfSome, IfOk, IfErr, IsErrAnd, refl, sym, ap, ◌∙◌, subst, true≢false}
 use Rattle.std.specs.Global.{Vec}
 use Rattle.std.proofs.lemmas.List.{take_more, drop_more, take-append-drop, map-append}
 use Rattle.cvr_cli.specs.declared.file.FileFault.{FileFault}
@@ -39,6 +39,11 @@ pub failed_of : (Source : Type 0) (has_failed : Source → Bool) (source : Sourc
 failed_of Source has_failed source at (Ok v) told = tt
 failed_of Source has_failed source at (Err e) told = λ device. failed_source Source has_failed source at (told ∙ device)
 
+-- what holds of the fault that is handed on
+pub at_err : {T E : Type 0} (answer : Result T E) (P Q : E → Type 0) → IsErrAnd answer P → ((e : E) → P e → Q e) → IfErr answer Q
+at_err (Ok x) P Q is more = tt
+at_err (Err e) P Q is more = more e is
+
 -- ---- files in order
 
 read_last : (file_at : List ℕ → At) (paths files : List (List ℕ)) (path file : List ℕ) → AreRead file_at paths files → IsRead (file_at path) file → AreRead file_at (paths ++ path ∷ []) (files ++ file ∷ [])
@@ -48,10 +53,10 @@ read_last file_at (p ∷ paths) [] path file before last = absurd before
 read_last file_at (p ∷ paths) (f ∷ files) path file before last = (before.0, read_last file_at paths files path file before.1 last)
 
 -- one more of them
-pub read_one_more : (file_at : List ℕ → At) (paths : List (List ℕ)) (n : ℕ) (path : List ℕ) (files : List (Vec ℕ)) (file : Vec ℕ) → n < length paths → path ≡ get_or paths n path
+pub read_one_more : (file_at : List ℕ → At) (paths : List (List ℕ)) (n : ℕ) (path : List ℕ) (files : List (Vec ℕ)) (file : Vec ℕ) → n < length paths → path ≡ get_or paths n []
     → AreRead file_at (take n paths) (bytes_of files) → IsRead (file_at path) file.items → AreRead file_at (take (n + 1) paths) (bytes_of (files ++ file ∷ []))
 read_one_more file_at paths n path files file lt named before last =
-    let more : take (n + 1) paths ≡ take n paths ++ path ∷ [] = take_more paths n path lt ∙ ap (λ p. take n paths ++ p ∷ []) (sym named) in
+    let more : take (n + 1) paths ≡ take n paths ++ path ∷ [] = take_more paths n [] lt ∙ ap (λ p. take n paths ++ p ∷ []) (sym named) in
     let bytes : bytes_of (files ++ file ∷ []) ≡ bytes_of files ++ file.items ∷ [] = map-append (λ (f : Vec ℕ). f.items) files (file ∷ []) in
     subst (λ ps. AreRead file_at ps (bytes_of (files ++ file ∷ []))) (sym more)
     (subst (AreRead file_at (take n paths ++ path ∷ [])) (sym bytes) (read_last file_at (take n paths) (bytes_of files) path file.items before last))
@@ -59,13 +64,13 @@ read_one_more file_at paths n path files file lt named before last =
 -- ---- a run that stops
 
 module _ (file_at : List ℕ → At) (some_failed : Type 0) (paths : List (List ℕ)) (answer : Status) (b a : Option (List ℕ)) (f h : Bool) where
-  among_at : (n : ℕ) (path : List ℕ) → n < length paths → path ≡ get_or paths n path → paths ≡ take n paths ++ path ∷ drop (n + 1) paths
+  among_at : (n : ℕ) (path : List ℕ) → n < length paths → path ≡ get_or paths n [] → paths ≡ take n paths ++ path ∷ drop (n + 1) paths
   among_at n path lt named =
       sym (take-append-drop n paths)
-      ∙ ap (λ rest. take n paths ++ rest) (drop_more paths n path lt ∙ ap (λ p. p ∷ drop (n + 1) paths) (sym named))
+      ∙ ap (λ rest. take n paths ++ rest) (drop_more paths n [] lt ∙ ap (λ p. p ∷ drop (n + 1) paths) (sym named))
 
   -- at the nth of its paths
-  pub stops_at : (n : ℕ) (path : List ℕ) (files : List (List ℕ)) (cause : FileFault) → n < length paths → path ≡ get_or paths n path → AreRead file_at (take n paths) files
+  pub stops_at : (n : ℕ) (path : List ℕ) (files : List (List ℕ)) (cause : FileFault) → n < length paths → path ≡ get_or paths n [] → AreRead file_at (take n paths) files
       → (is_device cause ≡ true → FailedAt (file_at path) some_failed) → answer ≡ unread_status cause → Logs b f a h (unread_line path cause) → Stops file_at some_failed paths answer b f a h
   stops_at n path files cause lt named read device is log = record {
     stop = Unread path cause;
