@@ -1,5 +1,5 @@
 -- What was read over an opener, and a run that stops at a file that was not read.
-use Rattle.std.proofs.Common.{◌≡◌, ℕ, ◌<◌, ◌+◌, List, [], ◌∷◌, ◌++◌, length, get_or, take, drop, map, Bool, true, false, Option, Some, Result, Ok, Err, IfSome, IfOk, IfErr, IsErrAnd, refl, sym, ap, ◌∙◌, subst, true≢false}
+use Rattle.std.proofs.Common.{◌≡◌, ℕ, ◌<◌, ◌+◌, List, [], ◌∷◌, ◌++◌, length, get_or, take, drop, Bool, true, false, Option, Result, Ok, Err, IfSome, IfOk, IfErr, IsErrAnd, refl, sym, ap, ◌∙◌, subst, true≢false}
 use Rattle.std.specs.Global.{Vec}
 use Rattle.std.proofs.lemmas.List.{take_more, drop_more, take-append-drop, map-append}
 use Rattle.cvr_cli.specs.declared.file.FileFault.{FileFault}
@@ -9,7 +9,7 @@ use Rattle.cvr_cli.specs.File.{held_bytes, is_device}
 use Rattle.cvr_cli.specs.Log.{memory_line, Logs}
 use Rattle.cvr_cli.specs.Opening.{At, Unknown, Absent, Has, has_file, IsOpened, IsRead, AreRead, SomeFailed, FailedAt}
 use Rattle.cvr_cli.specs.Outcome.{bytes_of}
-use Rattle.cvr_cli.specs.Worked.{unread_status, unread_line, IsUnread, Stop, Unread, NoRoom, CanStop, Stops}
+use Rattle.cvr_cli.specs.Worked.{unread_status, unread_line, Stop, Unread, NoRoom, CanStop, Stops}
 
 -- ---- one file
 
