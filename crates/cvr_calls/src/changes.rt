@@ -18,7 +18,7 @@ struct Pushing {
 
 impl Pushing {
     // Before it is added, or after.
-    fn new(alloc: Global, is_done: bool) -> Result<Pushing, Memory> {
+    fn new(alloc: Global, is_done: bool) -> Result<Pushing, Ended> {
         let numbers: &[u64] = if is_done {
             &[1, 2, 3, 4, 5]
         } else {
@@ -57,7 +57,7 @@ struct JoiningBodies {
 
 impl JoiningBodies {
     // Before the join, or after it.
-    fn new(alloc: Global, is_done: bool) -> Result<JoiningBodies, Memory> {
+    fn new(alloc: Global, is_done: bool) -> Result<JoiningBodies, Ended> {
         let set = if is_done {
             set_of(alloc, &["a", "b", "c", "d"])?
         } else {
@@ -104,23 +104,23 @@ fn new_key(alloc: Global) -> Result<RowKey, Memory> {
     })
 }
 
-// Opens the row of a key, if it is of one of so many contests.
-fn open(totals: &mut Totals, contests: usize, key: &RowKey) -> Result<(), Memory>
+// Opens the row of a key, and answers whether it is of one of so many contests.
+fn open(totals: &mut Totals, contests: usize, key: &RowKey) -> Result<bool, Memory>
     requires { contests ≡ length totals.old.contests }
     ensures { totals.new.contests ≡ totals.old.contests }
 {
-    if key.contest < contests {
-        totals.open_row(key)
-    } else {
-        Err(Memory)
+    let is_listed = key.contest < contests;
+    if is_listed {
+        totals.open_row(key)?;
     }
+    Ok(is_listed)
 }
 
 impl OpeningRow {
     // Before the row is opened, or after.
-    fn new(rt: &HostRuntime, is_done: bool) -> Result<OpeningRow, Memory> {
+    fn new(rt: &HostRuntime, is_done: bool) -> Result<OpeningRow, Ended> {
         let office = office_of(rt, &[SCAN, ADJUDICATED, BATCHED])?;
-        OpeningRow::over(rt.alloc(), &office, is_done)
+        Ok(OpeningRow::over(rt.alloc(), &office, is_done)?)
     }
 
     // Over the totals of an office.
@@ -141,7 +141,7 @@ impl OpeningRow {
 
 impl Change for OpeningRow {
     fn make(&mut self, _alloc: Global) -> Answer {
-        answer_of(open(&mut self.totals, self.contests, &self.key), &())
+        answer_of(open(&mut self.totals, self.contests, &self.key), &true)
     }
 
     fn is_same(&self, alloc: Global, other: &OpeningRow) -> Result<bool, Memory> {
@@ -151,11 +151,11 @@ impl Change for OpeningRow {
     }
 }
 
-/// The lines of new totals in which a row of zeros was opened.
+/// The lines of new totals in which a row of zeros was opened, none where it wasn't.
 pub fn opened_text(alloc: Global, definition: &Definition) -> Result<String, Memory> {
     let mut totals = Totals::new(alloc, definition)?;
     let key = new_key(alloc)?;
-    open(&mut totals, definition.contest_count(), &key)?;
+    let _is_listed = open(&mut totals, definition.contest_count(), &key)?;
     tally_text(alloc, &totals)
 }
 

@@ -1,5 +1,6 @@
+use crate::trying::Ended;
 use cdf_check::{Definition, check_report};
-use cdf_types::{Memory, ReadFault};
+use cdf_types::ReadFault;
 use cvr_cli::{OverRead, read_file};
 use cvr_collect::{Office, PlainOffice};
 use cvr_facts::{FactList, facts_of};
@@ -25,15 +26,15 @@ pub const OTHER_DEVICE: &str = "device_other_body.json";
 pub const BATCHED: &str = "batched_with_image.json";
 
 /// The bytes of a file.
-pub fn bytes_of(rt: &HostRuntime, name: &str) -> Result<Vec<u8>, Memory> {
+pub fn bytes_of(rt: &HostRuntime, name: &str) -> Result<Vec<u8>, Ended> {
     let Ok(file) = fs::open(rt, name) else {
-        return Err(Memory);
+        return Err(Ended::NotBuilt);
     };
-    read_file(rt.alloc(), &mut OverRead::new(file)).map_err(|_| Memory)
+    read_file(rt.alloc(), &mut OverRead::new(file)).map_err(|_| Ended::NotBuilt)
 }
 
 /// The bytes of files, in order.
-pub fn all_bytes(rt: &HostRuntime, names: &[&str]) -> Result<Vec<Vec<u8>>, Memory> {
+pub fn all_bytes(rt: &HostRuntime, names: &[&str]) -> Result<Vec<Vec<u8>>, Ended> {
     let mut files = Vec::new(rt.alloc());
     for name in names {
         files.push(bytes_of(rt, name)?)?;
@@ -42,12 +43,13 @@ pub fn all_bytes(rt: &HostRuntime, names: &[&str]) -> Result<Vec<Vec<u8>>, Memor
 }
 
 /// The definition.
-pub fn definition(rt: &HostRuntime) -> Result<Definition, Memory> {
-    Definition::read(rt.alloc(), bytes_of(rt, DEFINITION)?.as_slice()).map_err(|_| Memory)
+pub fn definition(rt: &HostRuntime) -> Result<Definition, Ended> {
+    let bytes = bytes_of(rt, DEFINITION)?;
+    Definition::read(rt.alloc(), bytes.as_slice()).map_err(|_| Ended::NotBuilt)
 }
 
 /// Has an office take files.
-pub fn take(rt: &HostRuntime, office: &mut PlainOffice, names: &[&str]) -> Result<(), Memory> {
+pub fn take(rt: &HostRuntime, office: &mut PlainOffice, names: &[&str]) -> Result<(), Ended> {
     for name in names {
         take_bytes(office, bytes_of(rt, name)?.as_slice())?;
     }
@@ -55,29 +57,25 @@ pub fn take(rt: &HostRuntime, office: &mut PlainOffice, names: &[&str]) -> Resul
 }
 
 // Has an office take a file. A function of its own, so that no other proof has to carry all that is said of `import`.
-fn take_bytes(office: &mut PlainOffice, bytes: &[u8]) -> Result<(), Memory> {
+fn take_bytes(office: &mut PlainOffice, bytes: &[u8]) -> Result<(), Ended> {
     match office.import(bytes) {
         Ok(_) => Ok(()),
-        Err(_) => Err(Memory),
+        Err(_) => Err(Ended::NotBuilt),
     }
 }
 
 /// An office beside the definition that took files.
-pub fn office_of(rt: &HostRuntime, names: &[&str]) -> Result<PlainOffice, Memory> {
+pub fn office_of(rt: &HostRuntime, names: &[&str]) -> Result<PlainOffice, Ended> {
     let mut office = PlainOffice::new(rt.alloc(), definition(rt)?)?;
     take(rt, &mut office, names)?;
     Ok(office)
 }
 
 /// The facts of a file that is accepted.
-pub fn read_facts(
-    alloc: Global,
-    definition: &Definition,
-    bytes: &[u8],
-) -> Result<FactList, Memory> {
+pub fn read_facts(alloc: Global, definition: &Definition, bytes: &[u8]) -> Result<FactList, Ended> {
     match facts_in(alloc, definition, bytes) {
         Ok(facts) => Ok(facts),
-        Err(_) => Err(Memory),
+        Err(_) => Err(Ended::NotBuilt),
     }
 }
 

@@ -6,7 +6,7 @@ use cvr_collect::{Office, PlainOffice, Receipt};
 use std::alloc::Global;
 
 // The office of three files, or of these and more.
-fn office_with(rt: &HostRuntime, more: &[&str]) -> Result<PlainOffice, Memory> {
+fn office_with(rt: &HostRuntime, more: &[&str]) -> Result<PlainOffice, Ended> {
     let mut office = office_of(rt, &[SCAN, ADJUDICATED, BATCHED])?;
     take(rt, &mut office, more)?;
     Ok(office)
@@ -21,7 +21,7 @@ struct Importing {
 
 impl Importing {
     // Before the import of a file, or after it.
-    fn new(rt: &HostRuntime, name: &str, is_done: bool) -> Result<Importing, Memory> {
+    fn new(rt: &HostRuntime, name: &str, is_done: bool) -> Result<Importing, Ended> {
         let bytes = bytes_of(rt, name)?;
         let office = if is_done {
             office_with(rt, &[name])?
@@ -61,7 +61,7 @@ impl Joining {
         names: &[&str],
         new_facts: usize,
         is_done: bool,
-    ) -> Result<Joining, Memory> {
+    ) -> Result<Joining, Ended> {
         let other = office_of(rt, names)?;
         let office = if is_done {
             office_with(rt, names)?

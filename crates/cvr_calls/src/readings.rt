@@ -1,6 +1,6 @@
 use crate::changes::joined_of;
 use crate::files::facts_in;
-use crate::records::{Records, first};
+use crate::records::Records;
 use crate::running::read_whole;
 use crate::same::{
     are_same_definitions, are_same_facts, are_same_headers, are_same_rows, are_same_sets,
@@ -13,7 +13,7 @@ use cdf_check::Definition;
 use cdf_types::{Memory, ReadFault};
 use cvr_collect::{Office, PlainOffice};
 use cvr_facts::text::{push_word, quoted};
-use cvr_facts::{BodySet, DeviceFact, HeaderFact, SnapshotFact};
+use cvr_facts::{BodySet, DeviceFact, HeaderFact, SnapshotFact, VoteSums};
 use cvr_report::{HeadFault, Heading};
 use cvr_tally::RowKey;
 use std::alloc::Global;
@@ -35,14 +35,13 @@ pub enum Copying {
 impl Reading for Copying {
     fn is_right(&self, alloc: Global, records: &Records<'_>) -> Result<bool, ReadFault> {
         let header = records.header;
-        let snapshot = first(records.facts.snapshots.as_slice())?;
         let is_right = match self {
             Copying::Body => header.body.copy()? == header.body,
             Copying::Name => header.key.copy()? == header.key,
-            Copying::Device => is_device_copied(first(records.facts.devices.as_slice())?)?,
+            Copying::Device => is_device_copied(records.device)?,
             Copying::Header => is_header_copied(header)?,
-            Copying::Snapshot => is_snapshot_copied(alloc, snapshot)?,
-            Copying::Sums => are_sums_copied(alloc, snapshot)?,
+            Copying::Snapshot => is_snapshot_copied(alloc, records.snapshot)?,
+            Copying::Sums => are_sums_copied(alloc, records.sums)?,
             Copying::Key => is_key_copied(header)?,
             Copying::KeyUnder => is_key_of(header)?,
             Copying::Row => is_row_copied(alloc, records)?,
@@ -64,8 +63,7 @@ fn is_snapshot_copied(alloc: Global, snapshot: &SnapshotFact) -> Result<bool, Me
     Ok(are_same_snapshots(&snapshot.copy(alloc)?, snapshot))
 }
 
-fn are_sums_copied(alloc: Global, snapshot: &SnapshotFact) -> Result<bool, Memory> {
-    let sums = first(snapshot.votes.as_slice())?;
+fn are_sums_copied(alloc: Global, sums: &VoteSums) -> Result<bool, Memory> {
     Ok(are_same_sums(&sums.copy(alloc)?, sums))
 }
 
@@ -80,8 +78,10 @@ fn is_key_of(header: &HeaderFact) -> Result<bool, Memory> {
 }
 
 fn is_row_copied(alloc: Global, records: &Records<'_>) -> Result<bool, Memory> {
-    let row = row_of(alloc, records.office, records.header)?;
-    Ok(are_same_rows(&row.copy(alloc)?, &row))
+    match row_of(alloc, records.office, records.header)? {
+        Some(row) => Ok(are_same_rows(&row.copy(alloc)?, &row)),
+        None => Ok(false),
+    }
 }
 
 fn is_definition_copied(alloc: Global, definition: &Definition) -> Result<bool, Memory> {

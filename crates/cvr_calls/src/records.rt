@@ -5,9 +5,8 @@ use crate::files::{
 use crate::table::try_records;
 use crate::trying::Ended;
 use cdf_check::Definition;
-use cdf_types::Memory;
 use cvr_collect::PlainOffice;
-use cvr_facts::{BodySet, FactList, HeaderFact};
+use cvr_facts::{BodySet, DeviceFact, FactList, HeaderFact, SnapshotFact, VoteSums};
 
 /// What the calls that change nothing read.
 #[derive(Drop)]
@@ -20,17 +19,22 @@ pub struct Records<'a> {
     pub devices: &'a BodySet,
     /// The facts of the file.
     pub facts: &'a FactList,
+    /// The first device of the file, and its snapshot with the sums of the first contest.
+    pub device: &'a DeviceFact,
+    pub snapshot: &'a SnapshotFact,
+    pub sums: &'a VoteSums,
     /// A header with unit and batch.
     pub header: &'a HeaderFact,
-    /// An office of all files, with conflicts of every kind.
+    /// An office of all other files, with conflicts of every kind. It has the record of the snapshot, and
+    /// that of the header.
     pub office: &'a PlainOffice,
 }
 
 // The header of the file with a batch.
-fn header_of(rt: &HostRuntime, definition: &Definition) -> Result<HeaderFact, Memory> {
+fn header_of(rt: &HostRuntime, definition: &Definition) -> Result<HeaderFact, Ended> {
     let bytes = bytes_of(rt, BATCHED)?;
     let facts = read_facts(rt.alloc(), definition, bytes.as_slice())?;
-    first(facts.headers.as_slice())?.copy()
+    Ok(first(facts.headers.as_slice())?.copy()?)
 }
 
 /// Builds what the scripts read, and tries them. It is built in parts, each in a function that holds few
@@ -54,6 +58,9 @@ fn try_facts(
     facts: &FactList,
     header: &HeaderFact,
 ) -> Result<(), Ended> {
+    let device = first(facts.devices.as_slice())?;
+    let snapshot = first(facts.snapshots.as_slice())?;
+    let sums = first(snapshot.votes.as_slice())?;
     let devices = BodySet::new(rt.alloc(), definition.devices())?;
     let files = [
         SCAN,
@@ -69,16 +76,19 @@ fn try_facts(
         definition,
         devices: &devices,
         facts,
+        device,
+        snapshot,
+        sums,
         header,
         office: &office,
     };
     try_records(rt, &records)
 }
 
-/// The first item of a list, which has one.
-pub fn first<T>(items: &[T]) -> Result<&T, Memory> {
+// The first item of a list, which has one.
+fn first<T>(items: &[T]) -> Result<&T, Ended> {
     match items {
         [one, ..] => Ok(one),
-        [] => Err(Memory),
+        [] => Err(Ended::NotBuilt),
     }
 }

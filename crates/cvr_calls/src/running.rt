@@ -39,7 +39,7 @@ fn request_of(alloc: Global, task: Task) -> Result<Request, Memory> {
 }
 
 impl Running {
-    fn new(rt: &HostRuntime, task: Task) -> Result<Running, Memory> {
+    fn new(rt: &HostRuntime, task: Task) -> Result<Running, Ended> {
         let request = request_of(rt.alloc(), task)?;
         let definition = bytes_of(rt, DEFINITION)?;
         let files = all_bytes(rt, &[SCAN, BATCHED])?;
@@ -59,11 +59,10 @@ struct Ran {
     log: MemorySink,
 }
 
-// Runs a request. A run that ends for want of memory has printed nothing, and one whose output failed
-// has a sink whose growth was refused.
-fn run_over(alloc: Global, running: &Running) -> Result<Ran, Memory> {
+// Runs a request, if it has a path for each file.
+fn run_over(alloc: Global, running: &Running) -> Option<Ran> {
     if running.request.paths.as_slice().len() != running.files.len() {
-        return Err(Memory);
+        return None;
     }
     let mut out = MemorySink::new(alloc, PIECE, 0);
     let mut log = MemorySink::new(alloc, PIECE, 0);
@@ -75,10 +74,16 @@ fn run_over(alloc: Global, running: &Running) -> Result<Ran, Memory> {
         &mut out,
         &mut log,
     );
-    match status {
-        Status::Memory if out.taken().is_empty() => Err(Memory),
-        Status::Device if out.failed() => Err(Memory),
-        _ => Ok(Ran { status, out, log }),
+    Some(Ran { status, out, log })
+}
+
+// Whether a run says that memory was refused. One that ends for want of memory has printed nothing, and
+// one whose output failed has a sink whose growth was refused.
+fn is_wanting(ran: &Ran) -> bool {
+    match ran.status {
+        Status::Memory => ran.out.taken().is_empty(),
+        Status::Device => ran.out.failed(),
+        _ => false,
     }
 }
 
@@ -98,7 +103,14 @@ struct Repeating {
 
 impl Reading for Repeating {
     fn is_right(&self, alloc: Global, _records: &Records<'_>) -> Result<bool, ReadFault> {
-        Ok(are_alike(&run_over(alloc, &self.running)?, &self.before))
+        match run_over(alloc, &self.running) {
+            Some(ran) => if is_wanting(&ran) {
+                Err(ReadFault::Memory)
+            } else {
+                Ok(are_alike(&ran, &self.before))
+            },
+            None => Ok(false),
+        }
     }
 }
 
@@ -110,6 +122,8 @@ pub fn try_running(
     task: Task,
 ) -> Result<(), Ended> {
     let running = Running::new(rt, task)?;
-    let before = run_over(rt.alloc(), &running)?;
-    try_reading(rt, name, records, &Repeating { running, before })
+    match run_over(rt.alloc(), &running) {
+        Some(before) => try_reading(rt, name, records, &Repeating { running, before }),
+        None => Err(Ended::NotBuilt),
+    }
 }

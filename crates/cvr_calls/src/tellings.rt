@@ -19,12 +19,12 @@ pub enum Telling {
 }
 
 impl Telling {
-    // The text, which tells all that the calls answer.
+    // The text, which tells all that the calls answer. Empty where they answer that there is nothing.
     fn text(&self, alloc: Global, records: &Records<'_>) -> Result<String, Memory> {
         match self {
             Telling::Opened => opened_text(alloc, records.definition),
-            Telling::Row => row_text(alloc, &row_of(alloc, records.office, records.header)?),
-            Telling::Record => record_of(alloc, records),
+            Telling::Row => told_row(alloc, records),
+            Telling::Record => told_record(alloc, records),
             Telling::Conflicts => conflicts_text(alloc, &records.office.conflicts(alloc)?),
             Telling::Currents => currents_text(alloc, records.office),
             Telling::Tally => tally_of(alloc, records.office),
@@ -32,12 +32,21 @@ impl Telling {
     }
 }
 
-/// The row of a header's unit and batch in the first contest, which the office has.
-pub fn row_of(alloc: Global, office: &PlainOffice, header: &HeaderFact) -> Result<Row, Memory> {
+/// The row of a header's unit and batch in the first contest, if the office has it.
+pub fn row_of(
+    alloc: Global,
+    office: &PlainOffice,
+    header: &HeaderFact,
+) -> Result<Option<Row>, Memory> {
     let key = RowKey::under(header, 0)?;
-    match office.row(alloc, &key)? {
-        Some(row) => Ok(row),
-        None => Err(Memory),
+    office.row(alloc, &key)
+}
+
+// The numbers of the row of the header.
+fn told_row(alloc: Global, records: &Records<'_>) -> Result<String, Memory> {
+    match row_of(alloc, records.office, records.header)? {
+        Some(row) => row_text(alloc, &row),
+        None => Ok(String::new(alloc)),
     }
 }
 
@@ -52,11 +61,11 @@ fn row_text(alloc: Global, row: &Row) -> Result<String, Memory> {
     Ok(text)
 }
 
-// All facts of the header's record.
-fn record_of(alloc: Global, records: &Records<'_>) -> Result<String, Memory> {
-    match records.office.record_facts(alloc, &records.header.key)? {
+// All facts of the snapshot's record, which has several headers, ids and bodies under one id.
+fn told_record(alloc: Global, records: &Records<'_>) -> Result<String, Memory> {
+    match records.office.record_facts(alloc, &records.snapshot.key)? {
         Some(record) => record_text(alloc, &record),
-        None => Err(Memory),
+        None => Ok(String::new(alloc)),
     }
 }
 
@@ -94,7 +103,7 @@ impl Reading for Repeating<'_> {
     }
 }
 
-/// Tries what is told by a text.
+/// Tries what is told by a text, which isn't empty.
 pub fn try_telling(
     rt: &HostRuntime,
     name: &str,
@@ -102,5 +111,8 @@ pub fn try_telling(
     telling: &Telling,
 ) -> Result<(), Ended> {
     let wanted = telling.text(rt.alloc(), records)?;
+    if wanted.is_empty() {
+        return Err(Ended::NotBuilt);
+    }
     try_reading(rt, name, records, &Repeating { telling, wanted })
 }

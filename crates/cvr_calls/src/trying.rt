@@ -1,7 +1,7 @@
 use crate::records::Records;
 use cdf_types::{Memory, ReadFault};
 use cvr_collect::JoinFault;
-use std::alloc::Global;
+use std::alloc::{AllocError, AllocFailed, Global};
 use std::io::Read;
 
 /// Why the scripts ended before the last one.
@@ -15,6 +15,18 @@ pub enum Ended {
 
 impl From<Memory> for Ended {
     fn from(_refused: Memory) -> Ended {
+        Ended::NotBuilt
+    }
+}
+
+impl From<AllocError> for Ended {
+    fn from(_refused: AllocError) -> Ended {
+        Ended::NotBuilt
+    }
+}
+
+impl<T: Drop> From<AllocFailed<T>> for Ended {
+    fn from(_refused: AllocFailed<T>) -> Ended {
         Ended::NotBuilt
     }
 }
@@ -159,9 +171,9 @@ fn is_kept<C: Change>(
 pub fn try_change<C: Change + Drop>(
     rt: &HostRuntime,
     name: &str,
-    change: Result<C, Memory>,
-    before: Result<C, Memory>,
-    after: Result<C, Memory>,
+    change: Result<C, Ended>,
+    before: Result<C, Ended>,
+    after: Result<C, Ended>,
 ) -> Result<(), Ended> {
     let (Ok(mut change), Ok(before), Ok(after)) = (change, before, after) else {
         return Err(Ended::NotBuilt);

@@ -1,6 +1,6 @@
 use crate::records::Records;
 use crate::trying::{Ended, Reading, try_reading};
-use cdf_types::{Memory, MemorySink, ReadFault, Sink};
+use cdf_types::{MemorySink, ReadFault, Sink};
 use cvr_collect::{Office, PlainOffice};
 use cvr_report::{Heading, WriteFault, volumes, write_volume};
 use std::alloc::Global;
@@ -20,31 +20,31 @@ struct Written {
     out: MemorySink,
 }
 
-// Writes volume `i` of an office, which has it.
-fn write_over(alloc: Global, office: &PlainOffice, i: usize) -> Result<Written, Memory> {
-    let Ok(heading) = Heading::new(alloc, office.definition(), DATE, DEVICE) else {
-        return Err(Memory);
-    };
+// Writes volume `i` of an office, if it has it and the device of the heading.
+fn write_over(alloc: Global, office: &PlainOffice, heading: &Heading, i: usize) -> Option<Written> {
     if i == 0 || i > volumes(office) || !office.definition().device(heading.device()) {
-        return Err(Memory);
+        return None;
     }
     let mut out = MemorySink::new(alloc, PIECE, 0);
-    let answer = write_volume(alloc, office, &heading, i, &mut out);
-    Ok(Written { answer, out })
+    let answer = write_volume(alloc, office, heading, i, &mut out);
+    Some(Written { answer, out })
 }
 
 // A volume beside the one that was written before.
 #[derive(Drop)]
-struct Rewriting {
+struct Rewriting<'a> {
+    heading: &'a Heading,
     i: usize,
     before: MemorySink,
 }
 
-impl Reading for Rewriting {
+impl Reading for Rewriting<'_> {
     // Want of memory is right where a front was taken, and where it is the output's own growth that
     // was refused is told as the output's failure.
     fn is_right(&self, alloc: Global, records: &Records<'_>) -> Result<bool, ReadFault> {
-        let written = write_over(alloc, records.office, self.i)?;
+        let Some(written) = write_over(alloc, records.office, self.heading, self.i) else {
+            return Ok(false);
+        };
         let (taken, whole) = (written.out.taken(), self.before.taken());
         match written.answer {
             Ok(()) => Ok(taken == whole),
@@ -66,10 +66,27 @@ pub fn try_writing(
     records: &Records<'_>,
     i: usize,
 ) -> Result<(), Ended> {
-    let written = write_over(rt.alloc(), records.office, i)?;
+    let definition = records.definition;
+    let Ok(heading) = Heading::new(rt.alloc(), definition, DATE, DEVICE) else {
+        return Err(Ended::NotBuilt);
+    };
+    try_volume(rt, name, records, &heading, i)
+}
+
+// Tries it under a heading.
+fn try_volume(
+    rt: &HostRuntime,
+    name: &str,
+    records: &Records<'_>,
+    heading: &Heading,
+    i: usize,
+) -> Result<(), Ended> {
+    let Some(written) = write_over(rt.alloc(), records.office, heading, i) else {
+        return Err(Ended::NotBuilt);
+    };
     let Ok(()) = written.answer else {
         return Err(Ended::NotBuilt);
     };
     let before = written.out;
-    try_reading(rt, name, records, &Rewriting { i, before })
+    try_reading(rt, name, records, &Rewriting { heading, i, before })
 }
