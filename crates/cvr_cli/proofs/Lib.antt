@@ -15,3 +15,4 @@ pub mod Last
 pub mod HeldBytes
 pub mod Opened
 pub mod Known
+pub mod GivenTexts

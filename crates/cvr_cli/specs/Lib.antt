@@ -15,3 +15,4 @@ pub mod Worked
 pub mod HeldBytes
 pub mod Laws
 pub mod Rows
+pub mod Examples

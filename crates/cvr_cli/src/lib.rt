@@ -5,6 +5,7 @@ mod check;
 mod collecting;
 mod conflicts;
 mod currents;
+pub mod examples;
 mod file;
 pub mod law;
 mod log;

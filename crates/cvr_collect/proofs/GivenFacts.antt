@@ -13,7 +13,7 @@ use Rattle.cvr_facts.specs.declared.name.RecordName.{RecordName}
 use Rattle.cvr_facts.specs.declared.sums.VoteSums.{VoteSums}
 use Rattle.cvr_facts.specs.Facts.{Fact, Facts, fact_total, fact_exact, text_cmp, name_cmp}
 use Rattle.cvr_facts.specs.Ordered.{keys_of, ordered}
-use Rattle.cvr_facts.specs.Choosing.{choice_cmp, header_body, snapshot_body}
+use Rattle.cvr_facts.specs.Choosing.{choice_cmp, header_body, snapshot_body, current}
 use Rattle.cvr_facts.proofs.Choosing.{text_total, text_exact, choice_total, choice_exact}
 use Rattle.cvr_facts.proofs.Greatest.{greatest_is, is_greatest}
 use Rattle.cvr_facts.proofs.Members.{in_map, from_map}
@@ -123,6 +123,14 @@ conflicts-given fs =
     λ i. filter (λ (c : Conflict). nat_le 2 c.bodies)
     (map (λ (n : ConflictName). record { name = n; bodies = length (sorted-same text_total text_exact _ _ (bodies_told fs n) i) }) (all i))
 
+-- ---- records and their current snapshots
+
+pub records-given : (fs : List Fact) → records (given fs) ≡ sorted name_cmp (filter_map record_of fs)
+records-given fs = sorted-same name_total name_exact _ _ (picked fs record_of)
+
+pub current-given : (fs : List Fact) (key : RecordName) → current (given fs) key ≡ greatest choice_cmp (filter_map (snapshot_body key) fs)
+current-given fs key = greatest-same choice_total choice_exact _ _ (picked fs (snapshot_body key))
+
 -- ---- the tally
 
 -- rows of these records, by what their header and their current snapshot spell
@@ -161,9 +169,7 @@ rows_in contests fs = found_rows contests (sorted name_cmp (filter_map record_of
 
 rows-given : (contests : List Contest) (fs : List Fact) → rows contests (given fs) ≡ from_entries (rows_in contests fs)
 rows-given contests fs =
-    let all : records (given fs) ≡ sorted name_cmp (filter_map record_of fs) = sorted-same name_total name_exact _ _ (picked fs record_of) in
-    λ i. from_entries {R = key_cmp} (found_rows contests (all i) (λ r. greatest-same text_total text_exact _ _ (picked fs (header_body r)) i)
-    (λ r. greatest-same choice_total choice_exact _ _ (picked fs (snapshot_body r)) i))
+    λ i. from_entries {R = key_cmp} (found_rows contests (records-given fs i) (λ r. greatest-same text_total text_exact _ _ (picked fs (header_body r)) i) (λ r. current-given fs r i))
 
 pub tally-given : (contests : List Contest) (fs : List Fact) → tally contests (given fs) ≡ flat_map (row_line contests) (placed key_cmp (rows_in contests fs))
 tally-given contests fs =
