@@ -1,9 +1,11 @@
 use crate::files::{BATCHED, DEFINITION, SCAN, all_bytes, bytes_of};
 use crate::records::Records;
 use crate::trying::{Ended, Reading, try_reading};
+use crate::writing::{DATE, DEVICE};
 use cdf_types::{Body, Memory, MemorySink, MemorySource, ReadFault, Seq, Sink};
-use cvr_cli::{FileFault, Request, Status, Task, read_file, run};
+use cvr_cli::{FileFault, MemoryFile, MemoryFiles, Request, Status, Task, read_file, run, work};
 use std::alloc::Global;
+use std::num::NonZeroU32;
 
 // So few bytes that a file is read by several calls, and a text written so.
 const PIECE: usize = 64;
@@ -17,6 +19,49 @@ pub fn read_whole(alloc: Global, bytes: &[u8]) -> Result<Vec<u8>, ReadFault> {
     }
 }
 
+/// How a run is called.
+#[derive(Clone, Copy)]
+pub enum Call {
+    /// Over the bytes of files.
+    Run,
+    /// Over what opens them.
+    Work,
+}
+
+/// What a run is asked for.
+#[derive(Clone, Copy)]
+pub enum Asked {
+    Currents,
+    Conflicts,
+    Tally,
+    Check,
+    /// The volume of this number, from 1.
+    Volume(u32),
+}
+
+// The merge that gives a volume.
+fn merge_of(alloc: Global, number: u32) -> Result<Task, Ended> {
+    let Some(volume) = NonZeroU32::new(number) else {
+        return Err(Ended::NotBuilt);
+    };
+    Ok(Task::Merge {
+        date: Body::new(DATE.to_string(alloc)?),
+        device: Body::new(DEVICE.to_string(alloc)?),
+        volume,
+    })
+}
+
+// The task that is asked for.
+fn task_of(alloc: Global, asked: Asked) -> Result<Task, Ended> {
+    match asked {
+        Asked::Currents => Ok(Task::Currents),
+        Asked::Conflicts => Ok(Task::Conflicts),
+        Asked::Tally => Ok(Task::Tally),
+        Asked::Check => Ok(Task::Check),
+        Asked::Volume(number) => merge_of(alloc, number),
+    }
+}
+
 // What a run is made over.
 #[derive(Drop)]
 struct Running {
@@ -25,22 +70,27 @@ struct Running {
     files: Vec<Vec<u8>>,
 }
 
-// The request of a task over two files.
-fn request_of(alloc: Global, task: Task) -> Result<Request, Memory> {
+// The paths of two files.
+fn paths_of(alloc: Global) -> Result<Seq<Body>, Memory> {
     let mut paths = Seq::empty(alloc);
     for path in [SCAN, BATCHED] {
         paths.push(Body::new(path.to_string(alloc)?))?;
     }
+    Ok(paths)
+}
+
+// The request of a task over two files.
+fn request_of(alloc: Global, asked: Asked) -> Result<Request, Ended> {
     Ok(Request {
-        task,
+        task: task_of(alloc, asked)?,
         def: Body::new(DEFINITION.to_string(alloc)?),
-        paths,
+        paths: paths_of(alloc)?,
     })
 }
 
 impl Running {
-    fn new(rt: &HostRuntime, task: Task) -> Result<Running, Ended> {
-        let request = request_of(rt.alloc(), task)?;
+    fn new(rt: &HostRuntime, asked: Asked) -> Result<Running, Ended> {
+        let request = request_of(rt.alloc(), asked)?;
         let definition = bytes_of(rt, DEFINITION)?;
         let files = all_bytes(rt, &[SCAN, BATCHED])?;
         Ok(Running {
@@ -59,7 +109,7 @@ struct Ran {
     log: MemorySink,
 }
 
-// Runs a request, if it has a path for each file.
+// Runs a request over the bytes of its files, if it has a path for each.
 fn run_over(alloc: Global, running: &Running) -> Option<Ran> {
     if running.request.paths.as_slice().len() != running.files.len() {
         return None;
@@ -77,53 +127,100 @@ fn run_over(alloc: Global, running: &Running) -> Option<Ran> {
     Some(Ran { status, out, log })
 }
 
-// Whether a run says that memory was refused. One that ends for want of memory has printed nothing, and
-// one whose output failed has a sink whose growth was refused.
-fn is_wanting(ran: &Ran) -> bool {
-    match ran.status {
-        Status::Memory => ran.out.taken().is_empty(),
-        Status::Device => ran.out.failed(),
-        _ => false,
+// A file in memory, which doesn't fail.
+fn file_of<'a>(path: &'a str, bytes: &'a [u8]) -> MemoryFile<'a> {
+    MemoryFile {
+        path,
+        bytes,
+        fail_at: 0,
     }
 }
 
-// Whether runs ended and wrote alike.
-fn are_alike(one: &Ran, other: &Ran) -> bool {
-    one.status == other.status
-        && one.out.taken() == other.out.taken()
-        && one.log.taken() == other.log.taken()
+// Does a request over an opener of its files, if they are two.
+fn work_over(alloc: Global, running: &Running) -> Option<Ran> {
+    let [scan, batched] = running.files.as_slice() else {
+        return None;
+    };
+    let files = [
+        file_of(DEFINITION, running.definition.as_slice()),
+        file_of(SCAN, scan.as_slice()),
+        file_of(BATCHED, batched.as_slice()),
+    ];
+    let mut out = MemorySink::new(alloc, PIECE, 0);
+    let mut log = MemorySink::new(alloc, PIECE, 0);
+    let opener = MemoryFiles { files: &files };
+    let status = work(alloc, &opener, &running.request, &mut out, &mut log);
+    Some(Ran { status, out, log })
+}
+
+// Makes a run.
+fn made(alloc: Global, call: Call, running: &Running) -> Option<Ran> {
+    match call {
+        Call::Run => run_over(alloc, running),
+        Call::Work => work_over(alloc, running),
+    }
+}
+
+// Whether a run ended as another, and wrote the same. A log whose growth was refused has a front of it.
+fn is_like(ran: &Ran, before: &Ran) -> bool {
+    let (told, whole) = (ran.log.taken(), before.log.taken());
+    ran.status == before.status
+        && ran.out.taken() == before.out.taken()
+        && (told == whole || ran.log.failed() && whole.starts_with(told))
 }
 
 // A run beside the one that was made before.
 #[derive(Drop)]
 struct Repeating {
+    call: Call,
+    asked: Asked,
     running: Running,
     before: Ran,
 }
 
-impl Reading for Repeating {
-    fn is_right(&self, alloc: Global, _records: &Records<'_>) -> Result<bool, ReadFault> {
-        match run_over(alloc, &self.running) {
-            Some(ran) => if is_wanting(&ran) {
-                Err(ReadFault::Memory)
-            } else {
-                Ok(are_alike(&ran, &self.before))
-            },
-            None => Ok(false),
+impl Repeating {
+    // Whether a run says that memory was refused. One that ends for want of memory has printed nothing,
+    // or a front of a volume, and one whose output failed has a sink whose growth was refused.
+    fn is_wanting(&self, ran: &Ran) -> bool {
+        let (taken, whole) = (ran.out.taken(), self.before.out.taken());
+        match (ran.status, self.asked) {
+            (Status::Memory, Asked::Volume(_)) => whole.starts_with(taken),
+            (Status::Memory, _) => taken.is_empty(),
+            (Status::Device, _) => ran.out.failed() && whole.starts_with(taken),
+            _ => false,
         }
     }
 }
 
-/// Tries a run of a task.
+impl Reading for Repeating {
+    fn is_right(&self, alloc: Global, _records: &Records<'_>) -> Result<bool, ReadFault> {
+        let Some(ran) = made(alloc, self.call, &self.running) else {
+            return Ok(false);
+        };
+        if self.is_wanting(&ran) {
+            return Err(ReadFault::Memory);
+        }
+        Ok(is_like(&ran, &self.before))
+    }
+}
+
+/// Tries a run.
 pub fn try_running(
     rt: &HostRuntime,
     name: &str,
     records: &Records<'_>,
-    task: Task,
+    call: Call,
+    asked: Asked,
 ) -> Result<(), Ended> {
-    let running = Running::new(rt, task)?;
-    match run_over(rt.alloc(), &running) {
-        Some(before) => try_reading(rt, name, records, &Repeating { running, before }),
-        None => Err(Ended::NotBuilt),
-    }
+    let running = Running::new(rt, asked)?;
+    let Some(before) = made(rt.alloc(), call, &running) else {
+        return Err(Ended::NotBuilt);
+    };
+    let repeating = Repeating {
+        call,
+        asked,
+        running,
+        before,
+    };
+    try_reading(rt, name, records, &repeating)
 }

@@ -4,11 +4,10 @@ use crate::offices::{try_import, try_join};
 use crate::playing::try_playing;
 use crate::readings::{Copying, Filing, Making};
 use crate::records::{Records, try_new_records};
-use crate::running::try_running;
+use crate::running::{Asked, Call, try_running};
 use crate::tellings::{Telling, try_telling};
 use crate::trying::{Ended, Reading, try_reading};
 use crate::writing::try_writing;
-use cvr_cli::Task;
 
 // The scripts. Each public call that can answer want of memory stands in the name of one of them.
 
@@ -54,11 +53,14 @@ static VOLUMES: [(&str, usize); 2] = [
     ("write_volume, the second", 2),
 ];
 
-static RUNS: [(&str, Task); 4] = [
-    ("run currents", Task::Currents),
-    ("run conflicts", Task::Conflicts),
-    ("run tally", Task::Tally),
-    ("run check", Task::Check),
+static RUNS: [(&str, Call, Asked); 7] = [
+    ("run currents", Call::Run, Asked::Currents),
+    ("run conflicts", Call::Run, Asked::Conflicts),
+    ("run tally", Call::Run, Asked::Tally),
+    ("run check", Call::Run, Asked::Check),
+    ("run merge", Call::Run, Asked::Volume(1)),
+    ("run merge, no such volume", Call::Run, Asked::Volume(9)),
+    ("work currents", Call::Work, Asked::Currents),
 ];
 
 // Each file brings one new fact.
@@ -146,8 +148,8 @@ fn try_joins(rt: &HostRuntime) -> Result<(), Ended> {
 }
 
 fn try_runs(rt: &HostRuntime, records: &Records<'_>) -> Result<(), Ended> {
-    for (name, task) in &RUNS {
-        try_running(rt, name, records, *task)?;
+    for (name, call, asked) in &RUNS {
+        try_running(rt, name, records, *call, *asked)?;
     }
     Ok(())
 }
