@@ -20,11 +20,11 @@ sys.dont_write_bytecode = True
 HERE = os.path.dirname(os.path.abspath(__file__))
 sys.path.insert(0, HERE)
 import members                # noqa: E402
+import printed                # noqa: E402
 import rules as format_rules  # noqa: E402
-import run as rows            # noqa: E402 (all three stand beside this file)
+import run as rows            # noqa: E402 (all of them stand beside this file)
 
 LONG = 1000000              # bytes of a row's files, above which it is asked last, and of bounds alone
-COMMANDS = ('currents', 'check', 'conflicts', 'tally')
 
 
 class Row:
@@ -34,8 +34,8 @@ class Row:
     def __init__(self, where, row, short):
         self.is_of_limits = where == 'limits.json'
         self.name, self.short, self.files = row['name'], short, row.get('files', {})
-        self.stated = rows.spelled(row['err'], short).replace('out: X1\n', '')
-        self.paths = row['words'][1:]
+        self.stated = re.sub(r'^(out: X1|merge: .*)\n', '', rows.spelled(row['err'], short), flags=re.M)
+        self.paths = printed.paths(row['words'])
         self.size = sum(len(self.data(path)) for path in self.paths)
         self.marks = {}
 
@@ -94,7 +94,7 @@ def fault_in(rules, value, definition):
 def is_asked(row, short):
     """Whether the words of a row fit a command, and its files can be read to their end."""
     lines = rows.spelled(row['err'], short).splitlines()
-    return (len(row['words']) > 1 and row['words'][0] in COMMANDS and '/dev/zero' not in row['words']
+    return (len(row['words']) > 1 and row['words'][0] in printed.TASKS and '/dev/zero' not in row['words']
             and not any(': K' in line or line == 'words' for line in lines))
 
 

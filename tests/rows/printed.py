@@ -1,0 +1,310 @@
+#!/usr/bin/env python3
+"""printed.py: the texts of docs/FORMAT.md as a small Python program: what each command prints of files that are read.
+
+It is a second reading of what is printed, as rules.py is one of what is accepted. random_files.py holds the program
+against it, and printed_changes.py changes it rule by rule and asks which rows notice."""
+import json
+import re
+from datetime import date
+
+import rules as format_rules
+
+TASKS = ('currents', 'tally', 'conflicts', 'check', 'merge')
+NEVER = float('-inf')       # the moment of a snapshot that has none
+CYCLE = 146097              # the days of 400 years
+
+
+def by_bytes(text):
+    return text.encode('utf-8')
+
+
+def paths(words):
+    """The paths among the words of a command, the definition's first."""
+    return words[1:2] + words[5:] if words[0] == 'merge' else words[1:]
+
+
+def put(held, name, body):
+    """Keeps a body under its name, equal ones once."""
+    bodies = held.setdefault(name, [])
+    if body not in bodies:
+        bodies.append(body)
+
+
+def instant(text):
+    """The nanoseconds of a date-time with an offset, from a day on that comes before all."""
+    found = format_rules.MOMENT.fullmatch(text).groupdict()
+    year, month, day, hour, minute, second = (int(found[name] or 0) for name in ('year', 'month', 'day', 'hour', 'minute', 'second'))
+    days = date(year % 400 + 400, month, day).toordinal() + year // 400 * CYCLE
+    offset = sum(int(found[name] or 0) * unit for name, unit in (('off', 3600), ('offm', 60), ('offs', 1)))
+    seconds = days * 86400 + hour * 3600 + minute * 60 + min(second, 59) + (offset if is_behind(text) else -offset)
+    fraction = re.search(r'[.,](\d+)', text)
+    return seconds * 10 ** 9 + (int(fraction.group(1).ljust(9, '0')) if fraction else 0)
+
+
+def is_behind(text):
+    """Whether the offset of a date-time is behind UTC."""
+    return '-' in re.split('[Tt ]', text)[1]
+
+
+class Held:
+    """What an office holds: of each device its bodies, and of each record its headers, under None, and its snapshots by id. The
+    greatest body of each name stands first."""
+
+    def __init__(self, devices, records):
+        self.devices, self.records = devices, records
+
+    def counts(self):
+        """The number of bodies of each name."""
+        return [len(bodies) for names in [self.devices] + list(self.records.values()) for bodies in names.values()]
+
+
+class Texts:
+    """The rules, each of which may be set to another one."""
+    types = ['original', 'interpreted', 'modified']         # the least first
+    choosing = ['type', 'moment', 'body']
+    lacking = ['CVRSnapshot', 'CurrentSnapshotId']          # of a header
+    counting = {(None, 'yes'), ('yes', 'yes'), ('yes', 'no'), ('yes', 'unknown')}       # IsAllocable and HasIndication
+    pending = {('unknown', 'yes')}
+    columns = ['ballots', 'Overvotes', 'Undervotes', 'WriteIns', 'pending', 'unassigned']
+    row_order = ['contest', 'unit', 'batch']
+    current_line = ['device', 'unique', 'snapshot', 'type']
+    conflict_kinds = ['device', 'header', 'snapshot']
+    causes = ['H1', 'H2', 'V1']
+    members = ['@type', 'CVR', 'Election', 'GeneratedDate', 'GpUnit', 'Party', 'ReportGeneratingDeviceIds', 'ReportType', 'ReportingDevice', 'Version']
+    may_lack = ['CVR', 'Party']                             # where they have no item
+    line_end, gap = '\n', ' '
+
+    def __init__(self):
+        self.put = put
+        names = ('member', 'device', 'CreatingDeviceId', 'UniqueId', 'snapshot', 'unit', 'party', 'row unit', 'row batch',
+                 'device body', 'header body', 'snapshot body')
+        self.orders = {name: by_bytes for name in names}
+
+    # ---- texts of values
+
+    def spelled(self, text):
+        return json.dumps(text, ensure_ascii=False)
+
+    def compact(self, value):
+        if isinstance(value, dict):
+            names = sorted(value, key=self.orders['member'])
+            return '{%s}' % ','.join('%s:%s' % (self.spelled(name), self.compact(value[name])) for name in names)
+        if isinstance(value, list):
+            return '[%s]' % ','.join(map(self.compact, value))
+        return self.spelled(value)
+
+    def line(self, parts):
+        return self.gap.join(map(str, parts)) + self.line_end
+
+    # ---- what is held
+
+    def moment_of(self, stamps):
+        return max(map(instant, stamps), default=NEVER)
+
+    def key(self, body):
+        """The key of choosing of a snapshot."""
+        snapshot = json.loads(body)
+        stamps = [it['TimeStamp'] for it in snapshot.get('Annotation', []) if 'TimeStamp' in it]
+        parts = {'type': self.types.index(snapshot['Type']), 'moment': self.moment_of(stamps), 'body': self.orders['snapshot body'](body)}
+        return [parts[name] for name in self.choosing]
+
+    def record_name(self, cvr):
+        return cvr['CreatingDeviceId'], cvr['UniqueId']
+
+    def header(self, cvr):
+        return self.compact({name: part for name, part in cvr.items() if name not in self.lacking})
+
+    def reports(self, definition, files):
+        """The reports of which the devices are taken, and those of which the records are."""
+        return [definition] + files, files
+
+    def take_records(self, records, report):
+        for cvr in report.get('CVR', []):
+            names = records.setdefault(self.record_name(cvr), {})
+            self.put(names, None, self.header(cvr))
+            for snapshot in cvr['CVRSnapshot']:
+                self.put(names, snapshot['@id'], self.compact(snapshot))
+
+    def greatest_first(self, bodies, key):
+        return sorted(bodies, key=key, reverse=True)
+
+    def in_order(self, names, order, key_of):
+        """Names in an order, None first, each with its bodies, the greatest first."""
+        chosen = sorted(names, key=lambda name: (name is not None, order(name) if name is not None else None))
+        return {name: self.greatest_first(names[name], key_of(name)) for name in chosen}
+
+    def hold(self, definition, files):
+        devices, records = {}, {}
+        of_devices, of_records = self.reports(definition, files)
+        for report in of_devices:
+            for device in report['ReportingDevice']:
+                self.put(devices, device['@id'], self.compact(device))
+        for report in of_records:
+            self.take_records(records, report)
+        chosen = sorted(records, key=self.record_key)
+        return Held(self.in_order(devices, self.orders['device'], lambda _: self.orders['device body']),
+                    {name: self.in_order(records[name], self.orders['snapshot'], self.key_of) for name in chosen})
+
+    def key_of(self, name):
+        return self.orders['header body'] if name is None else self.key
+
+    def record_key(self, name):
+        return self.orders['CreatingDeviceId'](name[0]), self.orders['UniqueId'](name[1])
+
+    def current(self, record):
+        return json.loads(max((bodies[0] for name, bodies in record.items() if name is not None), key=self.key))
+
+    # ---- currents, conflicts, check
+
+    def currents(self, held):
+        for (device, unique), record in held.records.items():
+            current = self.current(record)
+            parts = {'device': self.spelled(device), 'unique': self.spelled(unique), 'snapshot': self.spelled(current['@id']), 'type': current['Type']}
+            yield self.line([parts[name] for name in self.current_line])
+
+    def least_conflict(self):
+        return 2
+
+    def conflicts(self, held):
+        lines = [('device', ['device', self.spelled(name)], bodies) for name, bodies in held.devices.items()]
+        for (device, unique), record in held.records.items():
+            for name, bodies in record.items():
+                kind = 'header' if name is None else 'snapshot'
+                lines.append((kind, [self.spelled(device), self.spelled(unique), kind] + ([] if name is None else [self.spelled(name)]), bodies))
+        for kind, parts, bodies in lines:
+            if len(bodies) >= self.least_conflict() and kind in self.conflict_kinds:
+                yield self.line(parts + [len(bodies)])
+        yield self.line(['volumes', self.volumes(held)])
+
+    def checked(self, path, report):
+        return self.line([path, len(report.get('CVR', []))])
+
+    # ---- tally
+
+    def votes(self, position):
+        return position['NumberVotes']
+
+    def sum_of(self, positions, states):
+        return sum(self.votes(it) for it in positions if (it.get('IsAllocable'), it['HasIndication']) in states)
+
+    def positions(self, selections):
+        return [position for it in selections for position in it['SelectionPosition']]
+
+    def sums(self, contest, known):
+        """The six numbers of a contest of a snapshot, and the votes of the selections that are known."""
+        every = contest.get('CVRContestSelection', [])
+        named = {one: [it for it in every if it.get('ContestSelectionId') == one] for one in [None] + known}
+        columns = {'ballots': 1, 'pending': self.sum_of(self.positions(every), self.pending),
+                   'unassigned': self.sum_of(self.positions(named[None]), self.counting)}
+        columns.update((name, contest.get(name, 0)) for name in ('Overvotes', 'Undervotes', 'WriteIns'))
+        return [columns[name] for name in self.columns] + [self.sum_of(self.positions(named[one]), self.counting) for one in known]
+
+    def unit_and_batch(self, record):
+        header = json.loads(record[None][0])
+        return header.get('BallotStyleUnitId'), header.get('BatchId')
+
+    def counted(self, record):
+        """The contests of a record that stand in rows."""
+        return self.current(record).get('CVRContest', [])
+
+    def selections(self, definition):
+        """The selections of each contest, in the definition's order."""
+        contests = definition['Election'][0]['Contest']
+        return {it['@id']: [one['@id'] for one in it.get('ContestSelection', [])] for it in contests}
+
+    def rows(self, definition, held):
+        known, rows = self.selections(definition), {}
+        for record in held.records.values():
+            for contest in self.counted(record):
+                place = (contest['ContestId'],) + self.unit_and_batch(record)
+                added = self.sums(contest, known[place[0]])
+                rows[place] = [sum(pair) for pair in zip(rows.get(place, [0] * len(added)), added)]
+        return rows
+
+    def nothing_first(self, text, order):
+        return (text is not None, self.orders[order](text or ''))
+
+    def row_key(self, place, contests):
+        parts = {'contest': contests.index(place[0]), 'unit': self.nothing_first(place[1], 'row unit'), 'batch': self.nothing_first(place[2], 'row batch')}
+        return [parts[name] for name in self.row_order]
+
+    def tally(self, definition, held):
+        known, rows = self.selections(definition), self.rows(definition, held)
+        for place in sorted(rows, key=lambda it: self.row_key(it, list(known))):
+            columns = rows[place][:len(self.columns)]
+            votes = zip(map(self.spelled, known[place[0]]), rows[place][len(self.columns):])
+            yield self.line([self.spelled(it) for it in place] + columns + [part for pair in votes for part in pair])
+
+    # ---- merge
+
+    def volumes(self, held):
+        return max([1] + held.counts())
+
+    def shown(self, bodies, i):
+        return json.loads(bodies[min(i, len(bodies)) - 1])
+
+    def stands(self, record, i):
+        """Whether a record stands in volume i."""
+        return any(len(bodies) >= i for bodies in record.values())
+
+    def shown_current(self, record, snapshots):
+        return max(snapshots, key=lambda it: self.key(self.compact(it)))['@id']
+
+    def shown_record(self, record, i):
+        snapshots = [self.shown(bodies, i) for name, bodies in record.items() if name is not None]
+        return dict(self.shown(record[None], i), CVRSnapshot=snapshots, CurrentSnapshotId=self.shown_current(record, snapshots))
+
+    def shown_records(self, held, i):
+        return [self.shown_record(record, i) for record in held.records.values() if self.stands(record, i)]
+
+    def shown_devices(self, definition, held, i):
+        return [self.shown(bodies, i) for bodies in held.devices.values()]
+
+    def of_definition(self, definition, member, order):
+        return sorted(definition.get(member, []), key=lambda it: self.orders[order](it['@id']))
+
+    def volume(self, definition, held, moment, device, i):
+        every = {'@type': 'CVR.CastVoteRecordReport', 'CVR': self.shown_records(held, i), 'Election': definition['Election'], 'GeneratedDate': moment,
+                 'GpUnit': self.of_definition(definition, 'GpUnit', 'unit'), 'Party': self.of_definition(definition, 'Party', 'party'),
+                 'ReportGeneratingDeviceIds': [device], 'ReportType': ['aggregated'],
+                 'ReportingDevice': self.shown_devices(definition, held, i), 'Version': '1.0.0'}
+        return self.compact({name: every[name] for name in self.members if every[name] or name not in self.may_lack})
+
+    def is_moment(self, text):
+        return format_rules.is_moment(text)
+
+    def is_device(self, definition, held, device):
+        return device in [it['@id'] for it in definition['ReportingDevice']]
+
+    def is_volume(self, held, i):
+        return i <= self.volumes(held)
+
+    def cause(self, definition, held, moment, device, i):
+        """Why nothing is merged, as the log tells it, or nothing."""
+        stands = {'H1': not self.is_moment(moment), 'H2': not self.is_device(definition, held, device), 'V1': not self.is_volume(held, i)}
+        told = [name for name in self.causes if stands[name]]
+        return self.line(['merge:'] + told[:1] + ([self.volumes(held)] if told[0] == 'V1' else [])) if told else ''
+
+    # ---- a run
+
+    def text(self, words, definition, files):
+        """What is printed, and what is told of it."""
+        task, held = words[0], self.hold(definition, [it for _, it in files])
+        if task == 'merge':
+            given = (words[2], words[3], int(words[4]))
+            cause = self.cause(definition, held, *given)
+            return ('', cause) if cause else (self.volume(definition, held, *given), '')
+        lines = {'currents': lambda: self.currents(held), 'conflicts': lambda: self.conflicts(held), 'tally': lambda: self.tally(definition, held),
+                 'check': lambda: (self.checked(*it) for it in files)}
+        return ''.join(lines[task]()), ''
+
+
+def answer(texts, words, definition, files, is_full=False):
+    """Standard output, standard error and status. The definition, and each file under its path, is a value, or a fault's text."""
+    if isinstance(definition, str):
+        return '', '%s: %s\n' % (words[1], definition), 1
+    log = ''.join('%s: %s\n' % it for it in files if isinstance(it[1], str))
+    text, told = texts.text(words, definition, [it for it in files if not isinstance(it[1], str)])
+    if text and is_full:
+        return '', log + told + 'out: X1\n', 3
+    return text, log + told, 1 if log + told else 0

@@ -1,0 +1,428 @@
+#!/usr/bin/env python3
+"""printed_changes.py [-v]
+
+Which changes of what is printed would no row notice? What is printed is what docs/FORMAT.md says, as printed.py reads it. First
+it has to give each row's output, log and status as the row states them. Then one rule of it is changed at a time: an order, a
+part of a line or of a volume, which body of a name is shown, which record stands in a volume, what counts, what is escaped,
+which cause is told first. A row notices a change where its answer is no longer the one that it states. With -v each change
+is told with the row that notices it. Which files are accepted is left to changes.py, as are rows of more than a megabyte.
+
+The last line is `printed changes: N noticed, M not`; the status is 0 only where M is 0 and N is not."""
+import itertools
+import json
+import multiprocessing
+import os
+import re
+import sys
+
+sys.dont_write_bytecode = True
+HERE = os.path.dirname(os.path.abspath(__file__))
+sys.path.insert(0, HERE)
+import changes                # noqa: E402
+import printed                # noqa: E402
+import rules as format_rules  # noqa: E402
+import run as rows            # noqa: E402 (all of them stand beside this file)
+
+
+class Row:
+    """A row's answer, and what its files are read as."""
+
+    def __init__(self, held, where, row, short):
+        self.name, self.words, self.is_full = row['name'], row['words'], row.get('full', False)
+        self.stated = rows.spelled(row['out'], short), rows.spelled(row['err'], short), row['status']
+        known = held.value(RULES, held.paths[0])
+        fault = changes.fault_in(RULES, known, None)
+        self.definition = fault or known
+        read = [] if fault else [(path, held.value(RULES, path)) for path in held.paths[1:]]
+        self.files = [(path, changes.fault_in(RULES, value, known) or value) for path, value in read]
+
+    def answer(self, texts):
+        return printed.answer(texts, self.words, self.definition, self.files, self.is_full)
+
+    def notices(self, texts):
+        """Whether the answer is another one, or there is none, since a rule that is changed may not fit the files."""
+        try:
+            return self.answer(texts) != self.stated
+        except (AttributeError, IndexError, KeyError, TypeError, ValueError):
+            return True
+
+
+RULES = format_rules.Rules()
+
+
+def asked():
+    every = ((changes.Row(*it), it) for it in rows.all_rows() if changes.is_asked(*it[1:]))
+    return [Row(held, *it) for held, it in every if held.size <= changes.LONG]
+
+
+# ---- changes: a name, and what is done to the rules
+
+def sets(**rules):
+    """A change that sets rules to others."""
+    return lambda texts: vars(texts).update(rules)
+
+
+def method(name, other):
+    """A change of a method: the other is given the rules, the method as it is, and what the method is given."""
+    def change(texts):
+        held = getattr(texts, name)
+        setattr(texts, name, lambda *given: other(texts, held, *given))
+    return change
+
+
+def lists_changed(name, held):
+    """Each list that lacks one part of a list, or has two neighbours exchanged."""
+    for place, part in enumerate(held):
+        yield '%s lacks %s' % (name, part), held[:place] + held[place + 1:]
+    for place in range(len(held) - 1):
+        yield '%s has %s after %s' % (name, held[place], held[place + 1]), held[:place] + [held[place + 1], held[place]] + held[place + 2:]
+
+
+def in_units_of_utf16(text):
+    return text.encode('utf-16-be')
+
+
+def by_letters(text):
+    return text.lower().encode('utf-8'), text
+
+
+def by_length(text):
+    return len(text.encode('utf-8')), text
+
+
+def by_numbers(text):
+    return [(bool(number), int(number or 0), other) for other, number in re.findall(r'([^\d]+)|(\d+)', text)]
+
+
+def turned(text):
+    return [-byte for byte in text.encode('utf-8')] + [1]
+
+
+ORDERS = {'units of UTF-16': in_units_of_utf16, 'letters, great and small alike': by_letters, 'length': by_length, 'numbers in it': by_numbers,
+          'bytes, turned': turned, 'the order in which they come': lambda _: 0}
+
+
+def set_order(name, order):
+    def change(texts):
+        texts.orders[name] = order
+    return change
+
+
+def changes_of_orders():
+    for name in printed.Texts().orders:
+        for other, order in ORDERS.items():
+            yield 'order of %s is by %s' % (name, other), set_order(name, order)
+    yield 'records are in order of UniqueId first', method('record_key', lambda texts, held, name: held(name)[::-1])
+    yield 'a missing unit or batch comes last', method('nothing_first', lambda texts, held, text, order: (text is None, held(text, order)))
+    yield 'a missing unit or batch is as an empty one', method('nothing_first', lambda texts, held, text, order: held(text or '', order))
+    for name, other in lists_changed('the key of a row', printed.Texts.row_order):
+        yield name, sets(row_order=other)
+    yield 'contests of rows are in order of id', method('row_key', lambda texts, held, place, known: held(place, sorted(known)))
+
+
+def changes_of_choosing():
+    for other in itertools.permutations(printed.Texts.types):
+        if list(other) != printed.Texts.types:
+            yield 'Types, least first: ' + ' '.join(other), sets(types=list(other))
+    for name, other in lists_changed('choosing', printed.Texts.choosing):
+        yield name, sets(choosing=other)
+    for name, other in (('the first', lambda every: every[0]), ('the last', lambda every: every[-1]), ('the least', min)):
+        yield 'of several annotations %s counts' % name, method(
+            'moment_of', lambda texts, held, stamps, other=other: other([printed.instant(it) for it in stamps]) if stamps else printed.NEVER)
+    for name, unit in (('seconds', 10 ** 9), ('thousandths', 10 ** 6), ('millionths', 10 ** 3)):
+        yield 'moments are held by whole ' + name, method('moment_of', lambda texts, held, stamps, unit=unit: held(stamps) // unit if stamps else held(stamps))
+    yield 'moments are held by their texts', method('moment_of', lambda texts, held, stamps: max(stamps, default=''))
+    yield 'offsets don\'t matter', method('moment_of', lambda texts, held, stamps: held([it[:19] + 'Z' for it in stamps]))
+    yield 'no moment is the greatest', method('moment_of', lambda texts, held, stamps: held(stamps) if stamps else float('inf'))
+    yield 'no moment is that of 1970', method('moment_of', lambda texts, held, stamps: held(stamps or ['1970-01-01T00:00:00Z']))
+    for kind in ('device body', 'header body', 'snapshot'):
+        yield 'of a %s the least body is the first' % kind, method('greatest_first', lambda texts, held, bodies, key, kind=kind: (
+            held(bodies, key)[::-1] if (key == texts.key) == (kind == 'snapshot') and (kind == 'snapshot' or key == texts.orders[kind]) else held(bodies, key)))
+
+
+def recorded(name, change):
+    """A change of the records of a file, before they are taken."""
+    def other(texts, held, records, report):
+        held(records, dict(report, CVR=change(report.get('CVR', []))))
+    return name, method('take_records', other)
+
+
+def changes_of_holding():
+    lacking = printed.Texts.lacking
+    for name in lacking:
+        yield 'a header has ' + name, sets(lacking=[it for it in lacking if it != name])
+    for name in ['@type', 'x'] + sorted(RULES.classes['CVR']):
+        if name not in lacking:
+            yield 'a header lacks ' + name, sets(lacking=lacking + [name])
+    for name in sorted(set(RULES.classes['CVRSnapshot']) | {'@type', 'vxNote'}):
+        if name not in ('@id', 'Type'):
+            yield 'a snapshot lacks ' + name, method('take_records', lambda texts, held, records, report, name=name: held(
+                records, without(report, name)))
+    yield 'the definition\'s records are taken', method('reports', lambda texts, held, known, files: ([known] + files, [known] + files))
+    yield 'the definition\'s devices are not held', method('reports', lambda texts, held, known, files: (files, files))
+    yield 'devices of files are not held', method('reports', lambda texts, held, known, files: ([known], files))
+    yield 'the last file alone is held', method('reports', lambda texts, held, known, files: held(known, files[-1:]))
+    yield 'the first file alone is held', method('reports', lambda texts, held, known, files: held(known, files[:1]))
+    yield recorded('the first CVR of a file alone is taken', lambda cvrs: cvrs[:1])
+    yield recorded('the last CVR of a file alone is taken', lambda cvrs: cvrs[-1:])
+    yield recorded('the first snapshot of a CVR alone is taken', lambda cvrs: [dict(it, CVRSnapshot=it['CVRSnapshot'][:1]) for it in cvrs])
+    yield recorded('the current snapshot of a CVR alone is taken', lambda cvrs: [
+        dict(it, CVRSnapshot=[one for one in it['CVRSnapshot'] if one['@id'] == it['CurrentSnapshotId']]) for it in cvrs])
+    yield 'a record is a UniqueId alone', method('record_name', lambda texts, held, cvr: ('', cvr['UniqueId']))
+    yield 'a record is a device alone', method('record_name', lambda texts, held, cvr: (cvr['CreatingDeviceId'], ''))
+    yield 'a record is its unit too', method('record_name', lambda texts, held, cvr: (
+        cvr['CreatingDeviceId'], cvr['UniqueId'] + cvr.get('BallotStyleUnitId', '')))
+    yield 'a later body of a record takes the place of the earlier', replacing(lambda kept, body: [body])
+    yield 'the first body of a name stays', replacing(lambda kept, body: kept or [body])
+    yield 'equal bodies are held twice', replacing(lambda kept, body: kept + [body])
+
+
+def without(report, name):
+    cvrs = [dict(it, CVRSnapshot=[{key: part for key, part in one.items() if key != name} for one in it['CVRSnapshot']]) for it in report.get('CVR', [])]
+    return dict(report, CVR=cvrs)
+
+
+def replacing(keep):
+    """A change of which bodies are kept under a name beside one more."""
+    def change(texts):
+        def put(held, name, body):
+            held[name] = keep(held.get(name, []), body)
+        texts.put = put
+    return change
+
+
+def changes_of_texts():
+    yield 'members stand as the file has them', method('compact', lambda texts, held, value: json.dumps(value, ensure_ascii=False, separators=(',', ':')))
+    yield 'a space stands after colons and commas', method('compact', lambda texts, held, value: json.dumps(value, ensure_ascii=False, sort_keys=True))
+    yield 'names are printed as they are', method('spelled', lambda texts, held, text: '"%s"' % text if isinstance(text, str) else held(text))
+    yield 'letters beyond ASCII are escaped', method('spelled', lambda texts, held, text: json.dumps(text))
+    for what, sign, other in (('a slash', '/', '\\/'), ('DEL', '\x7f', '\\u007f'), ('U+2028', '\u2028', '\\u2028'), ('a tab', '\\t', '\\u0009'),
+                              ('a line feed', '\\n', '\\u000a'), ('a form feed', '\\f', '\\u000c'), ('a backspace', '\\b', '\\u0008'),
+                              ('a carriage return', '\\r', '\\u000d'), ('a control character', '\\u001f', '\\u001F')):
+        yield '%s is escaped otherwise' % what, method('spelled', lambda texts, held, text, sign=sign, other=other: held(text).replace(sign, other))
+    yield 'lines end with a return and a feed', sets(line_end='\r\n')
+    yield 'lines have no end', sets(line_end='')
+    yield 'a tab stands between parts', sets(gap='\t')
+    for name, other in lists_changed('a line of currents', printed.Texts.current_line):
+        yield name, sets(current_line=other)
+    yield 'currents has the least of a record', method('current', lambda texts, held, record: json.loads(min(
+        (bodies[-1] for name, bodies in record.items() if name is not None), key=texts.key)))
+    yield 'check counts records', method('checked', lambda texts, held, path, report: texts.line([path, len(set(map(texts.record_name, report.get('CVR', []))))]))
+    yield 'check prints the number alone', method('checked', lambda texts, held, path, report: texts.line([len(report.get('CVR', []))]))
+    yield 'check prints the path alone', method('checked', lambda texts, held, path, report: texts.line([path]))
+    yield 'check prints the path as a JSON string', method('checked', lambda texts, held, path, report: held(texts.spelled(path), report))
+    yield 'check prints a path\'s last part', method('checked', lambda texts, held, path, report: held(os.path.basename(path), report))
+
+
+def changes_of_conflicts():
+    for name, other in lists_changed('conflicts', printed.Texts.conflict_kinds):
+        if ' lacks ' in name:
+            yield name, sets(conflict_kinds=other)
+    for number in (1, 3):
+        yield 'a conflict has %d bodies or more' % number, method('least_conflict', lambda texts, held, number=number: number)
+    yield 'conflicts come after the number of volumes', method('conflicts', lambda texts, held, office: list(held(office))[::-1])
+    yield 'records come before devices', method('conflicts', lambda texts, held, office: sorted(held(office), key=lambda line: (
+        line.startswith('volumes'), line.startswith('device'))))
+    yield 'headers come after snapshots', method('conflicts', lambda texts, held, office: headers_last(list(held(office))))
+    for name, number in (('the sum of their bodies', sum), ('the number of names', len), ('the least number of bodies', lambda counts: min(counts or [1])),
+                         ('at least 2', lambda counts: max([2] + counts)), ('0 of an empty office', lambda counts: max(counts, default=0)),
+                         ('one more', lambda counts: max([1] + counts) + 1)):
+        yield 'volumes: ' + name, method('volumes', lambda texts, held, office, number=number: number(office.counts()))
+    yield 'volumes are those of devices', method('volumes', lambda texts, held, office: max(map(len, office.devices.values())))
+    yield 'volumes are those of records', method('volumes', lambda texts, held, office: max([1] + [len(it) for names in office.records.values() for it in names.values()]))
+    yield 'volumes are those of headers', method('volumes', lambda texts, held, office: max([1] + [len(names[None]) for names in office.records.values()]))
+
+
+def headers_last(lines):
+    """The lines of conflicts with the line of each record's header after those of its snapshots."""
+    def of(line):
+        return re.match(r'("(?:[^"\\]|\\.)*" "(?:[^"\\]|\\.)*" )?', line).group()
+    groups = [list(group) for _, group in itertools.groupby(lines, of)]
+    return [line for group in groups for line in sorted(group, key=lambda line: bool(of(line)) and ' header ' in line)]
+
+
+def changes_of_tally():
+    states = [(allocable, indication) for allocable in (None, 'yes', 'no', 'unknown') for indication in ('yes', 'no', 'unknown')]
+    for state in states:
+        for name in ('counting', 'pending'):
+            yield '%s is changed at IsAllocable %s, HasIndication %s' % ((name,) + state), sets(**{name: getattr(printed.Texts, name) ^ {state}})
+    for name, other in lists_changed('the columns', printed.Texts.columns):
+        yield name, sets(columns=other)
+    yield 'a position gives one vote', method('votes', lambda texts, held, position: 1)
+    yield 'votes are of 32 bits', method('sum_of', lambda texts, held, positions, states: held(positions, states) % 2 ** 32)
+    yield 'the first position of a selection counts alone', method('positions', lambda texts, held, selections: [it['SelectionPosition'][0] for it in selections])
+    yield 'the first contest selection of an id counts alone', method('positions', lambda texts, held, selections: held(selections[:1]))
+    yield 'the first contest counts alone', method('counted', lambda texts, held, record: held(record)[:1])
+    yield 'every snapshot counts', method('counted', lambda texts, held, record: [
+        contest for name, bodies in record.items() if name is not None for body in bodies for contest in json.loads(body).get('CVRContest', [])])
+    yield 'a record counts in the row of its least header', method('unit_and_batch', lambda texts, held, record: held({None: record[None][::-1]}))
+    yield 'units are put together', method('unit_and_batch', lambda texts, held, record: (None, held(record)[1]))
+    yield 'batches are put together', method('unit_and_batch', lambda texts, held, record: (held(record)[0], None))
+    yield 'a missing batch is an empty one', method('unit_and_batch', lambda texts, held, record: (held(record)[0], held(record)[1] or ''))
+    yield 'a missing unit is an empty one', method('unit_and_batch', lambda texts, held, record: (held(record)[0] or '', held(record)[1]))
+    yield 'selections are in order of id', method('selections', lambda texts, held, known: {name: sorted(every) for name, every in held(known).items()})
+    yield 'selections are in turned order', method('selections', lambda texts, held, known: {name: every[::-1] for name, every in held(known).items()})
+    yield 'each contest has a row for each record', method('counted', lambda texts, held, record: held(record) or [{'ContestId': 'mayor'}])
+    for name in ('Overvotes', 'Undervotes', 'WriteIns'):
+        yield '%s absent is 1' % name, method('sums', lambda texts, held, contest, known, name=name: held(dict({name: 1}, **contest), known))
+    yield 'TotalNumberVotes is added up', method('sums', lambda texts, held, contest, known: held(with_totals(contest), known))
+    yield 'a row of zeros stays for each header', method('rows', rows_of_every_header)
+    yield 'ballots are CVRs that were read', method('rows', lambda texts, held, known, office: {
+        place: [row[0] + sum(len(bodies) - 1 for names in office.records.values() for bodies in names.values())] + row[1:]
+        for place, row in held(known, office).items()})
+
+
+def with_totals(contest):
+    selections = [dict(it, SelectionPosition=[dict(it['SelectionPosition'][0], NumberVotes=it['TotalNumberVotes'])]) if 'TotalNumberVotes' in it else it
+                  for it in contest.get('CVRContestSelection', [])]
+    return dict(contest, CVRContestSelection=selections)
+
+
+def rows_of_every_header(texts, held, known, office):
+    """The rows, with rows of zeros where a record stood under an earlier header."""
+    rows_held = held(known, office)
+    for record in office.records.values():
+        for body in record[None]:
+            for contest in texts.counted(record):
+                width = len(texts.columns) + len(texts.selections(known)[contest['ContestId']])
+                rows_held.setdefault((contest['ContestId'],) + texts.unit_and_batch({None: [body]}), [0] * width)
+    return rows_held
+
+
+def member_set(name, change):
+    """A change of one member of a written volume."""
+    return method('volume', lambda texts, held, *given: texts.compact(
+        {key: change(part) if key == name else part for key, part in json.loads(held(*given)).items()}))
+
+
+def changes_of_volumes():
+    members = printed.Texts.members
+    for name in members:
+        yield 'a volume lacks ' + name, sets(members=[it for it in members if it != name])
+    for name in printed.Texts.may_lack:
+        yield 'a volume has an empty ' + name, sets(may_lack=[it for it in printed.Texts.may_lack if it != name])
+    for name, other in (('@type', 'CastVoteRecordReport'), ('@type', 'CVR.Report'), ('Version', '1.0'), ('ReportType', []), ('ReportType', ['other']),
+                        ('ReportType', 'aggregated'), ('GeneratedDate', '2024-11-06T08:00:00Z'), ('ReportGeneratingDeviceIds', ['desk'])):
+        yield '%s of a volume is %s' % (name, other), member_set(name, lambda _, other=other: other)
+    yield 'a volume names all devices as its makers', method('volume', lambda texts, held, known, office, date, device, i: held(
+        known, office, date, device, i).replace('"ReportGeneratingDeviceIds":[%s]' % texts.spelled(device), '"ReportGeneratingDeviceIds":%s' % texts.compact(
+            list(office.devices))))
+    yield 'a line feed stands after a volume', method('volume', lambda texts, held, *given: held(*given) + '\n')
+    yield 'Election is an object and no list', member_set('Election', lambda every: every[0])
+    for name in ('GpUnit', 'Party'):
+        yield '%s is as the definition has it' % name, method('of_definition', lambda texts, held, known, member, order, name=name: (
+            known.get(member, []) if member == name else held(known, member, order)))
+    for name, other in (('the first', lambda bodies, i: bodies[0]), ('the last', lambda bodies, i: bodies[-1]),
+                        ('the first where there are fewer', lambda bodies, i: bodies[i - 1] if i <= len(bodies) else bodies[0]),
+                        ('the one after', lambda bodies, i: bodies[min(i + 1, len(bodies)) - 1]), ('the one before', lambda bodies, i: bodies[max(0, min(i, len(bodies)) - 2)]),
+                        ('one counted round', lambda bodies, i: bodies[(i - 1) % len(bodies)])):
+        yield 'of a name is shown: ' + name, method('shown', lambda texts, held, bodies, i, other=other: json.loads(other(bodies, i)))
+    for name, other in (('every record', lambda record, i: True), ('no record', lambda record, i: False),
+                        ('a record of which all names have as many', lambda record, i: all(len(bodies) >= i for bodies in record.values())),
+                        ('a record with as many headers', lambda record, i: len(record[None]) >= i),
+                        ('a record with as many bodies of a snapshot', lambda record, i: any(len(record[name]) >= i for name in record if name is not None)),
+                        ('a record with more', lambda record, i: any(len(bodies) > i for bodies in record.values())),
+                        ('a record with one less', lambda record, i: any(len(bodies) >= i - 1 for bodies in record.values())),
+                        ('a record with as many bodies in all', lambda record, i: sum(map(len, record.values())) >= i),
+                        ('a record with exactly as many', lambda record, i: max(map(len, record.values())) == i),
+                        ('a record with as many of its current snapshot', lambda record, i: len(record[max((name for name in record if name is not None), key=lambda name: record[name])]) >= i)):
+        yield 'in a volume stands: ' + name, method('stands', lambda texts, held, record, i, other=other: other(record, i))
+    yield from changes_of_shown_records()
+
+
+def changes_of_shown_records():
+    def shown_if(keep):
+        """The snapshots of a record of which a part is shown."""
+        return method('shown_record', lambda texts, held, record, i: held({name: record[name] for name in record if name is None or keep(texts, record, name, i)}, i))
+    yield 'the current snapshot alone is shown', shown_if(lambda texts, record, name, i: name == texts.current(record)['@id'])
+    yield 'snapshots with fewer bodies are not shown', shown_if(lambda texts, record, name, i: len(record[name]) >= i)
+    yield 'the called current snapshot is that of the office', method('shown_current', lambda texts, held, record, every: texts.current(record)['@id'])
+    yield 'the called current snapshot is the first', method('shown_current', lambda texts, held, record, every: every[0]['@id'])
+    yield 'the called current snapshot is the last', method('shown_current', lambda texts, held, record, every: every[-1]['@id'])
+    yield 'the called current snapshot is the least', method('shown_current', lambda texts, held, record, every: min(
+        every, key=lambda it: texts.key(texts.compact(it)))['@id'])
+    yield 'the called current snapshot is the greatest text', method('shown_current', lambda texts, held, record, every: max(every, key=texts.compact)['@id'])
+    for name in ('CVRSnapshot', 'CurrentSnapshotId'):
+        yield 'a written record lacks ' + name, method('shown_record', lambda texts, held, record, i, name=name: {
+            key: part for key, part in held(record, i).items() if key != name})
+    yield 'a written record has a member that no table lists', method('shown_record', lambda texts, held, record, i: dict(held(record, i), vx=1))
+    yield 'unlisted members of a record are left out', method('shown_record', lambda texts, held, record, i: {
+        key: part for key, part in held(record, i).items() if key in RULES.classes['CVR'] or key == '@type'})
+    yield 'the first record alone is written', method('shown_records', lambda texts, held, office, i: held(office, i)[:1])
+    yield 'records are written in turned order', method('shown_records', lambda texts, held, office, i: held(office, i)[::-1])
+    yield 'devices of records alone are written', method('shown_devices', lambda texts, held, known, office, i: [
+        it for it in held(known, office, i) if it['@id'] in [name[0] for name in office.records]])
+    yield 'the definition\'s devices alone are written', method('shown_devices', lambda texts, held, known, office, i: [
+        it for it in held(known, office, i) if it['@id'] in [one['@id'] for one in known['ReportingDevice']]])
+    yield 'devices with fewer bodies are not written', method('shown_devices', lambda texts, held, known, office, i: [
+        texts.shown(bodies, i) for bodies in office.devices.values() if len(bodies) >= i])
+    yield 'devices are written as the definition has them', method('shown_devices', lambda texts, held, known, office, i: known['ReportingDevice'])
+    yield 'each volume has the first body of a device', method('shown_devices', lambda texts, held, known, office, i: held(known, office, 1))
+
+
+def changes_of_causes():
+    for other in itertools.permutations(printed.Texts.causes):
+        if list(other) != printed.Texts.causes:
+            yield 'causes are tried in the order: ' + ' '.join(other), sets(causes=list(other))
+    for name in printed.Texts.causes:
+        yield 'no cause is ' + name, sets(causes=[it for it in printed.Texts.causes if it != name])
+    yield 'a zone in brackets is taken', method('is_moment', lambda texts, held, text: held(text.split('[')[0]))
+    yield 'a date without a time is taken', method('is_moment', lambda texts, held, text: held(text) or held(text + 'T00:00:00Z'))
+    yield 'a date without an offset is taken', method('is_moment', lambda texts, held, text: held(text) or held(text + 'Z'))
+    yield 'a date in Z alone is taken', method('is_moment', lambda texts, held, text: held(text) and text[-1] in 'zZ')
+    yield 'spaces about a date are taken', method('is_moment', lambda texts, held, text: held(text.strip()))
+    yield 'any device of the office is taken', method('is_device', lambda texts, held, known, office, device: device in office.devices)
+    yield 'a device of a record is wanted', method('is_device', lambda texts, held, known, office, device: held(known, office, device) and (
+        not office.records or device in ['desk'] + [name[0] for name in office.records]))
+    yield 'a device is held by its letters', method('is_device', lambda texts, held, known, office, device: held(known, office, device.lower().strip()))
+    yield 'a unit of the definition is taken', method('is_device', lambda texts, held, known, office, device: held(known, office, device) or device in [
+        it['@id'] for it in known['GpUnit']])
+    yield 'an empty device is taken', method('is_device', lambda texts, held, known, office, device: not device or held(known, office, device))
+    yield 'one volume more is taken', method('is_volume', lambda texts, held, office, i: i <= texts.volumes(office) + 1)
+    yield 'the last volume is not taken', method('is_volume', lambda texts, held, office, i: i < texts.volumes(office))
+    yield 'the number of volumes is not told', method('cause', lambda texts, held, *given: re.sub(r'V1 \d+', 'V1', held(*given)))
+    yield 'the number that was asked for is told', method('cause', lambda texts, held, known, office, date, device, i: re.sub(
+        r'V1 \d+', 'V1 %d' % i, held(known, office, date, device, i)))
+
+
+FAMILIES = (changes_of_orders, changes_of_choosing, changes_of_holding, changes_of_texts, changes_of_conflicts, changes_of_tally, changes_of_volumes,
+            changes_of_causes)
+
+
+def read_otherwise(held):
+    """How many rows state another answer than the rules give, each told."""
+    wrong = 0
+    for row in held:
+        answer = row.answer(printed.Texts())
+        if answer != row.stated:
+            wrong += 1
+            print('READ OTHERWISE %s: %r, stated %r' % (row.name, answer, row.stated))
+    return wrong
+
+
+def by_place(place):
+    return notice(place)
+
+
+def main():
+    held, every = asked(), [change for family in FAMILIES for change in family()]
+    wrong, noticed = read_otherwise(held), 0
+
+    global notice                       # the processes of the pool are copies of this one, and find it there
+
+    def notice(place):
+        texts = printed.Texts()
+        every[place][1](texts)
+        return every[place][0], next((row.name for row in held if row.notices(texts)), None)
+
+    with multiprocessing.get_context('fork').Pool(len(os.sched_getaffinity(0))) as pool:
+        for name, row in pool.imap(by_place, range(0 if wrong else len(every)), 4):
+            noticed, wrong = noticed + bool(row), wrong + (not row)
+            if not row or '-v' in sys.argv[1:]:
+                print('%s: %s' % (name, row or 'NO ROW NOTICES'), flush=True)
+    print('printed changes: %d noticed, %d not' % (noticed, wrong))
+    sys.exit(0 if noticed and not wrong else 1)
+
+
+if __name__ == '__main__':
+    main()
