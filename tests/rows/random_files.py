@@ -1,10 +1,13 @@
 #!/usr/bin/env python3
 """random_files.py --cvr PATH [--seed N] [--seconds N]
 
-Holds the program against rules.py on files that no one has thought of: vectors with one to three changes by chance, members
-in any order and now and then twice. Each file is checked beside its vector's definition; the program has to print what
-rules.py gives. Each difference is told with its file. With one seed the files are the same on every machine; how many there
-are depends on the seconds. The last line is `files: N right, M wrong`; the status is 0 only where M is 0 and N is not."""
+Holds the program against rules.py and printed.py on files that no one has thought of. First vectors with one to three changes
+by chance, members in any order and now and then twice: each file is checked beside its vector's definition, and has to have
+the fault that rules.py gives. Then several files at once, reports by chance as of round_trip.py and changed vectors: what
+`currents`, `tally`, `conflicts` and `merge` print of them, and tell, has to be what printed.py gives. Each difference is told
+with its files. With one seed the files are the same on every machine; how many there are depends on the seconds. The last
+line is `files: N right, M wrong`, of files that were checked and of commands; the status is 0 only where M is 0 and N is
+not."""
 import argparse
 import copy
 import json
@@ -19,11 +22,16 @@ sys.dont_write_bytecode = True
 sys.path.insert(0, os.path.dirname(os.path.abspath(__file__)))
 import make_vectors           # noqa: E402
 import members                # noqa: E402
-import rules as format_rules  # noqa: E402 (all three stand beside this file)
+import printed                # noqa: E402
+import round_trip             # noqa: E402
+import rules as format_rules  # noqa: E402 (all of them stand beside this file)
 
 VECTORS = make_vectors.vectors()
 DEFINITIONS = {'classes.json': 'classes.json', 'parties.json': 'parties-def.json', 'f2.json': 'def.json', 'f11.json': 'def.json', 'f20.json': 'def.json'}
 FILES = 150                 # of one run of the program
+CASES = 12                  # of several files, after each such run
+DATES = ['2024-11-06T08:00:00Z'] * 10 + ['2024-11-06T03:00:00.5-05:00', '20241106 08Z', '2024-11-06', '2024-11-06T08:00:00Z[UTC]']
+DEVICES = ['desk'] * 9 + ['s1', 's2', 's3', 'p1']
 VALUES = members.PLAIN + ['-0', '1e0', '1e999', '18446744073709551616', '[]', '[[]]', '["x"]', '[{}]', '""', '"yes"', '"other"', '"original"',
                           '"CVR.CVR"', '"CVR.Contest"', '"2024-11-05T20:00:00Z"', '"\\ud800"', '"\\ud83d\\ude00"'] + ['"%s"' % it for it in members.IDS]
 
@@ -73,24 +81,81 @@ def text_of(chance, value):
     return '{%s}' % ','.join('%s:%s' % (json.dumps(name, ensure_ascii=False), part) for name, part in parts)
 
 
-def made(chance, vector, names):
+def made(chance, vector, names, amounts=(1, 1, 1, 2, 3)):
     value = json.loads(VECTORS[vector])
-    for _ in range(chance.choice([1, 1, 1, 2, 3])):
+    for _ in range(chance.choice(amounts)):
         if value:
             change(chance, value, names)
     return text_of(chance, value)
 
 
-def told_by(cvr, definition, files):
-    """What the program tells of each file: its fault, or None where it is accepted."""
+def laid(files, work):
+    """What is done in a folder of its own with the files in it."""
     with tempfile.TemporaryDirectory() as folder:
-        for name, data in [('definition', VECTORS[definition])] + [(name, text.encode('utf-8')) for name, text in files.items()]:
+        for name, data in files.items():
             with open(os.path.join(folder, name), 'wb') as file:
                 file.write(data)
-        done = subprocess.run([cvr, 'check', 'definition'] + list(files), cwd=folder, stdout=subprocess.PIPE, stderr=subprocess.PIPE)
-    told = dict(line.split(': ', 1) for line in done.stderr.decode('utf-8').splitlines())
-    told.update((line.split(' ')[0], None) for line in done.stdout.decode('utf-8').splitlines())
+        return work(folder)
+
+
+def run(cvr, words, folder):
+    done = subprocess.run([cvr] + words, cwd=folder, stdout=subprocess.PIPE, stderr=subprocess.PIPE)
+    return done.stdout.decode('utf-8'), done.stderr.decode('utf-8'), done.returncode
+
+
+def told_by(cvr, definition, files):
+    """What the program tells of each file: its fault, or None where it is accepted."""
+    held = {name: text.encode('utf-8') for name, text in files.items()}
+    out, err, _ = laid(dict(held, definition=VECTORS[definition]), lambda folder: run(cvr, ['check', 'definition'] + list(files), folder))
+    told = dict(line.split(': ', 1) for line in err.splitlines())
+    told.update((line.split(' ')[0], None) for line in out.splitlines())
     return told
+
+
+def checked(cvr, rules, chance, names):
+    """Files checked one by one. Yields each difference, or None."""
+    vector, definition = chance.choice(sorted(DEFINITIONS.items()))
+    files = {'%d' % n: made(chance, vector, names) for n in range(FILES)}
+    told = told_by(cvr, definition, files)
+    for name, text in files.items():
+        wanted = members.answer(rules, text, json.loads(VECTORS[definition]))
+        yield None if told.get(name, '') == wanted else '%r, expected %r: %s' % (told.get(name, ''), wanted, text)
+
+
+# ---- several files
+
+def reports(chance, names):
+    """The definition's bytes, and those of some files for it by name."""
+    if chance.random() < 0.7:
+        definition, held = VECTORS['def.json'], round_trip.Case(chance).files
+        held += [made(chance, chance.choice(['f2.json', 'f11.json', 'f20.json']), names, (0, 1)).encode('utf-8') for _ in range(chance.randint(0, 2))]
+    else:
+        vector, name = chance.choice(sorted(DEFINITIONS.items()))
+        definition, held = VECTORS[name], [made(chance, vector, names, (0, 0, 1)).encode('utf-8') for _ in range(chance.randint(1, 3))]
+    chance.shuffle(held)
+    return definition, {'%d' % n: data for n, data in enumerate(held)}
+
+
+def read(rules, data, definition=None):
+    """The value of a file, or its fault as a log line tells it."""
+    try:
+        value = format_rules.read(rules, data)
+    except format_rules.Fault as fault:
+        return str(fault)
+    return format_rules.fault_in(rules, value, definition) or value
+
+
+def printed_of(cvr, rules, chance, names):
+    """What the program prints of some files, by command. Yields each difference, or None."""
+    definition, files = reports(chance, names)
+    known = read(rules, definition)
+    values = [(name, read(rules, data, known)) for name, data in files.items()]
+    heading = [chance.choice(DATES), chance.choice(DEVICES), chance.choice('111223')]
+    asked = [[task, 'definition'] + (heading if task == 'merge' else []) + list(files) for task in ('currents', 'tally', 'conflicts', 'merge')]
+    told = laid(dict(files, definition=definition), lambda folder: [run(cvr, words, folder) for words in asked])
+    for words, got in zip(asked, told):
+        wanted = printed.answer(printed.Texts(), words, known, values)
+        yield None if got == wanted else '%s: %r, expected %r: %r' % (' '.join(words), got, wanted, files)
 
 
 def main():
@@ -99,18 +164,17 @@ def main():
     words.add_argument('--seed', type=int, default=1)
     words.add_argument('--seconds', type=float, default=60)
     words = words.parse_args()
-    rules, chance, right, wrong = format_rules.Rules(), random.Random(words.seed), 0, 0
+    cvr, rules, chance, right, wrong = os.path.abspath(words.cvr), format_rules.Rules(), random.Random(words.seed), 0, 0
     names = sorted({'@type', '@id', 'x', 'a/b~', '', '\ue000', '\U0001f600'}.union(*rules.classes.values()))
     end = time.time() + words.seconds
     while time.time() < end:
-        vector, definition = chance.choice(sorted(DEFINITIONS.items()))
-        files = {'%d' % n: made(chance, vector, names) for n in range(FILES)}
-        told = told_by(os.path.abspath(words.cvr), definition, files)
-        for name, text in files.items():
-            wanted = members.answer(rules, text, json.loads(VECTORS[definition]))
-            right, wrong = right + (told.get(name, '') == wanted), wrong + (told.get(name, '') != wanted)
-            if told.get(name, '') != wanted:
-                print('WRONG %r, expected %r: %s' % (told.get(name, ''), wanted, text))
+        found = list(checked(cvr, rules, chance, names))
+        for _ in range(CASES):
+            found += printed_of(cvr, rules, chance, names)
+        right, wrong = right + found.count(None), wrong + len(found) - found.count(None)
+        for one in found:
+            if one:
+                print('WRONG ' + one)
     print('files: %d right, %d wrong' % (right, wrong))
     sys.exit(0 if right and not wrong else 1)
 
