@@ -1,10 +1,10 @@
 #!/usr/bin/env python3
 """bench.py [--sizes 10000,100000] [--rounds 5] [--jq-rounds 3] [--stages-only] [--keep NAME]
 
-Times `cvr currents` beside jq and beside reading the files alone, at two sizes or more, and `cvr tally` at the same; and
-the check of one report, or the reading of one definition, beside the JSON reader alone, with the stages from there to the
-tally; compares current snapshots with jq byte by byte. README.md says
-what the figures mean. The status is 1 where a command fails or a text differs. With --keep the raw figures are appended to
+Times `cvr currents` beside jq and beside reading the files alone, at two sizes or more, and `cvr tally` and `cvr merge` at
+the same, the latter beside jq, too; and the check of one report, or the reading of one definition, beside the JSON reader
+alone, with the stages from there to the tally, and the writing of volumes; compares current snapshots with jq byte by byte.
+README.md says what the figures mean. The status is 1 where a command fails or a text differs. With --keep the raw figures are appended to
 runs/DATE-NAME.md. With --stages-only there are no runs of `cvr`."""
 import argparse
 import datetime
@@ -25,9 +25,11 @@ SEED = 1
 MANY = 150000               # the records of one file of short records
 CONTESTS, SELECTIONS, UNITS, RECORDS = 2000, 50, 20000, 20000
 REPEATS = (10000, 100000)   # how often one record comes again in a file
+VOLUMES = (10000, 100000, 1000000)      # the records of the volumes that are written
+HEADING = ['2024-11-06T08:00:00Z', 'desk-0', '1']       # and the volume that `merge` writes
 JQ_HINT = 'jq is missing: install it, as by `apt-get install jq`, `brew install jq` or `dnf install jq`'
 CVR_HINT = '%s is missing: `./cvr currents examples/county/definition.json` builds it'
-STAGES_HINT = '%s is missing, so the stages are left out: `bench/build_stages` builds it'
+STAGES_HINT = '%s or cvr_volumes is missing, so the stages are left out: `bench/build_stages` builds them'
 
 
 class Failed(Exception):
@@ -122,20 +124,21 @@ def measured(report, commands, folder, megabytes):
 
 
 def size(report, words, amount):
-    """Times the commands on `amount` records. Returns the seconds of `currents` and `tally`, and whether all was well."""
+    """Times the commands on `amount` records. Returns the seconds of `currents`, `tally` and `merge`, and whether all was well."""
     data = made(words.data, 'records-%d' % amount, ['records', '--records', str(amount)])
     definition = os.path.join(data, 'definition.json')
     files = sorted(glob.glob(os.path.join(data, 'scan-*.json')) + glob.glob(os.path.join(data, 'desk-*.json')))
     megabytes = sum(map(os.path.getsize, files)) / 1e6
     report.say()
-    report.say('currents (cvr, jq) and tally, %d records, %d files, %.1f MB' % (amount, len(files), megabytes))
+    report.say('currents (cvr, jq), tally, and merge beside jq -c, %d records, %d files, %.1f MB' % (amount, len(files), megabytes))
     read_all([definition] + files)
     commands = [('reading', ['cat'] + files, words.rounds),
                 ('cvr', [words.cvr, 'currents', definition] + files, words.rounds),
-                ('tally', [words.cvr, 'tally', definition] + files, words.rounds)]
+                ('tally', [words.cvr, 'tally', definition] + files, words.rounds),
+                ('merge', [words.cvr, 'merge', definition] + HEADING + files, words.rounds)]
     if shutil.which('jq'):
         jq = ['jq', '-rn', '-f', os.path.join(HERE, 'currents.jq')] + files
-        commands.append(('jq', jq, words.jq_rounds))
+        commands += [('jq', jq, words.jq_rounds), ('jq -c', ['jq', '-c', '.'] + files, words.jq_rounds)]
     with tempfile.TemporaryDirectory() as folder:
         middle = measured(report, commands, folder, megabytes)
         is_right = True
@@ -143,11 +146,12 @@ def size(report, words, amount):
             is_right = same_bytes(os.path.join(folder, 'cvr'), os.path.join(folder, 'jq'))
             report.say('texts of cvr and jq: %s, %d lines'
                        % ('the same' if is_right else 'THEY DIFFER', count_lines(os.path.join(folder, 'cvr'))))
-            report.say('cvr / jq %.3f, cvr / reading %.1f' % (middle['cvr'] / middle['jq'], middle['cvr'] / middle['reading']))
+            report.say('cvr / jq %.3f, cvr / reading %.1f, merge / jq -c %.3f'
+                       % (middle['cvr'] / middle['jq'], middle['cvr'] / middle['reading'], middle['merge'] / middle['jq -c']))
         else:
             report.say('cvr / reading %.1f; no text was compared. %s' % (middle['cvr'] / middle['reading'], JQ_HINT))
-        report.say('tally / cvr %.3f' % (middle['tally'] / middle['cvr']))
-    return (middle['cvr'], middle['tally']), is_right
+        report.say('tally / cvr %.3f, merge / tally %.3f' % (middle['tally'] / middle['cvr'], middle['merge'] / middle['tally']))
+    return (middle['cvr'], middle['tally'], middle['merge']), is_right
 
 
 def stages(words, task, definition, report):
@@ -241,6 +245,40 @@ def office(report, words):
                % ((sums['import'] - sums['check'] - sums['facts']) / sums['check'], sums['tally'] / sums['check']))
 
 
+WRITING = ('write', 'walk', 'facts', 'copy')
+
+
+def volume(report, words, amount):
+    """Times the writing of a volume of so many records. Returns the median of each figure, in seconds."""
+    data = made(words.data, 'volumes-%d' % amount, ['volumes', '--records', str(amount)])
+    files = sorted(glob.glob(os.path.join(data, 'report-*.json')))
+    command = [words.volumes, os.path.join(data, 'definition.json'), str(words.rounds)] + files
+    told = subprocess.run(command, stdin=subprocess.DEVNULL, stdout=subprocess.PIPE, check=True).stdout.decode('ascii')
+    middle = {}
+    for name in WRITING:
+        held = [int(text) for text in re.findall(r'\b%s (\d+)' % name, told)]
+        middle[name] = statistics.median(held) / 1e6
+        report.raw('%d records %s microseconds' % (amount, name), ['%d' % one for one in held])
+    length = int(re.search(r'bytes (\d+)', told).group(1))
+    alone = middle['write'] - middle['facts']
+    report.say('%8d %8.1f %9.3f %9.3f %9.3f %9.3f %9.3f   %6.2f'
+               % (amount, length / 1e6, middle['write'], middle['walk'], middle['facts'], alone, middle['copy'],
+                  alone / max(middle['copy'], 1e-6)))
+    return middle
+
+
+def volumes(report, words):
+    """Times the writing of volumes from an office in memory, beside its look-ups and a copying of the same bytes."""
+    report.say()
+    report.say('volumes, from an office in memory; walk and look-ups are part of the writing')
+    report.say('%8s %8s %9s %9s %9s %9s %9s   %6s'
+               % ('records', 'MB', 'write s', 'walk s', 'look-up s', 'alone s', 'copy s', 'a / c'))
+    found = {amount: volume(report, words, amount) for amount in VOLUMES}
+    for most in VOLUMES[1:]:
+        report.say('time per record at %d / at %d: %.3f'
+                   % (most, VOLUMES[0], found[most]['write'] / most / (found[VOLUMES[0]]['write'] / VOLUMES[0])))
+
+
 def peaks(report, words, definition, path):
     """The peak memory of the check of a report, beside that of the JSON reader, each in a process of its own."""
     found = {}
@@ -287,6 +325,7 @@ def given():
     words = argparse.ArgumentParser()
     words.add_argument('--cvr', default=os.path.join(TOP, 'crates', 'cvr', 'out', 'cvr'))
     words.add_argument('--stages', default=os.path.join(HERE, 'data', 'cvr_stages'))
+    words.add_argument('--volumes', default=os.path.join(HERE, 'data', 'cvr_volumes'))
     words.add_argument('--data', default=os.path.join(HERE, 'data'), help='where generated data is kept')
     words.add_argument('--sizes', default='10000,100000', help='numbers of records, two or more')
     words.add_argument('--rounds', type=int, default=5)
@@ -299,21 +338,21 @@ def given():
         sys.exit('two sizes or more: one alone says nothing of growth')
     if words.keep and not re.match(r'[\w.-]+$', words.keep):
         sys.exit('a name of letters, digits, points and lines')
-    words.cvr, words.stages = os.path.abspath(words.cvr), os.path.abspath(words.stages)
+    words.cvr, words.stages, words.volumes = map(os.path.abspath, (words.cvr, words.stages, words.volumes))
     if not words.stages_only and not os.path.exists(words.cvr):
         sys.exit(CVR_HINT % words.cvr)
     return words
 
 
 def commands(report, words):
-    """Times `cvr currents` and `cvr tally` on each size. Returns whether every text was right."""
+    """Times `cvr currents`, `tally` and `merge` on each size. Returns whether every text was right."""
     is_right, seconds = True, {}
     for amount in words.sizes:
         seconds[amount], is_same = size(report, words, amount)
         is_right = is_right and is_same
     least, most = words.sizes[0], words.sizes[-1]
     report.say()
-    for place, name in enumerate(('currents', 'tally')):
+    for place, name in enumerate(('currents', 'tally', 'merge')):
         report.say('%s, time per record at %d records / at %d records: %.3f'
                    % (name, most, least, seconds[most][place] / most / (seconds[least][place] / least)))
     return is_right
@@ -327,9 +366,10 @@ def main():
     try:
         if not words.stages_only:
             is_right = commands(report, words)
-        if os.path.exists(words.stages):
+        if os.path.exists(words.stages) and os.path.exists(words.volumes):
             check(report, words)
             office(report, words)
+            volumes(report, words)
         else:
             report.say(STAGES_HINT % os.path.relpath(words.stages))
     except Failed as fault:

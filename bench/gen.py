@@ -2,6 +2,7 @@
 """gen.py records --out FOLDER --records N [--seed S]
 gen.py special --out FOLDER [--seed S]
 gen.py lists --out FOLDER --contests C --selections S --units U --records N [--seed S]
+gen.py volumes --out FOLDER --records N [--seed S]
 
 Makes invented reports, the same ones for the same seed. `records` and `special` are of one large county. `records`
 writes definition.json, the scanners' reports scan-*.json with N cast vote records, and the desks' reports desk-*.json:
@@ -9,8 +10,9 @@ one record in twenty again with a modified snapshot, a tenth of these with a sec
 definition.json, large.json (a scanner's report as long as the limit of a file allows), snapshots.json (one record with
 200,000 snapshots) and devices.json (a report with 1,000,000 reporting devices). `lists` writes definition.json with C
 contests of S selections each and U units, in no order, and report.json with the same lists and N records, each of one
-unit and with one vote in one contest. Every file is a report of the profile, is accepted beside the definition.json of
-its folder, and is below 67,108,864 bytes."""
+unit and with one vote in one contest. `volumes` writes the same of 10 contests, 5 selections and 100 units, where
+report-001.json and so on are as long as the limit of a file allows. Every file is a report of the profile, is accepted
+beside the definition.json of its folder, and is below 67,108,864 bytes."""
 import argparse
 import itertools
 import json
@@ -118,8 +120,8 @@ def paper(rng, contest):
 class Series:
     """Reports of one device: a new file is begun where the last one is long enough."""
 
-    def __init__(self, folder, stem, head, most=FILE_BYTES):
-        self.folder, self.stem, self.most = folder, stem, most
+    def __init__(self, folder, stem, head, most=FILE_BYTES, is_numbered=True):
+        self.folder, self.stem, self.most, self.is_numbered = folder, stem, most, is_numbered
         self.opening = compact(head)[:-1] + ',"CVR":['
         self.file, self.size, self.count = None, 0, 0
 
@@ -128,7 +130,7 @@ class Series:
         if self.file is None or self.size + length + 2 > self.most:
             self.end()
             self.count += 1
-            name = '%s-%03d.json' % (self.stem, self.count) if self.most == FILE_BYTES else self.stem + '.json'
+            name = '%s-%03d.json' % (self.stem, self.count) if self.is_numbered else self.stem + '.json'
             self.file = open(os.path.join(self.folder, name), 'w', encoding='utf-8')
             self.file.write(self.opening)
             self.size = len(self.opening.encode('utf-8'))
@@ -233,7 +235,7 @@ def special(folder, seed):
     count = Count(seed)
     county = count.county
     write_definition(folder, county)
-    large = Series(folder, 'large', county.head('scanner-00'), LIMIT - 1)
+    large = Series(folder, 'large', county.head('scanner-00'), LIMIT - 1, False)
     for number in itertools.count():
         _, header, chosen = count.record(number)
         cvr = count.cvr(header, [count.original(chosen)], 'scan')
@@ -271,14 +273,14 @@ def listed(rng, contests, selections, units):
             'Election': [election]}
 
 
-def lists(folder, words):
+def lists(folder, words, is_numbered):
     rng = random.Random(words.seed)
     contests = ['c%d' % n for n in range(words.contests)]
     selections = ['s%d' % n for n in range(words.selections)]
     units = ['u%d' % n for n in range(words.units)]
     head = listed(rng, contests, selections, units)
     write(folder, 'definition.json', compact(dict(head, CVR=[])))
-    report = Series(folder, 'report', head, LIMIT - 1)
+    report = Series(folder, 'report', head, LIMIT - 1, is_numbered)
     for number in range(words.records):
         report.put('{"@type":"CVR.CVR","BallotStyleUnitId":"%s","CVRSnapshot":[{"@id":"a","@type":"CVR.CVRSnapshot",'
                    '"CVRContest":[{"@type":"CVR.CVRContest","CVRContestSelection":[{"@type":"CVR.CVRContestSelection",'
@@ -287,12 +289,12 @@ def lists(folder, words):
                    '"CurrentSnapshotId":"a","ElectionId":"e","UniqueId":"%06d"}'
                    % (units[number % len(units)], rng.choice(selections), rng.choice(contests), number))
     report.end()
-    assert report.count == 1, 'so many records take more than one file'
+    assert is_numbered or report.count == 1, 'so many records take more than one file'
 
 
 def main():
     words = argparse.ArgumentParser()
-    words.add_argument('what', choices=['records', 'special', 'lists'])
+    words.add_argument('what', choices=['records', 'special', 'lists', 'volumes'])
     words.add_argument('--out', required=True)
     words.add_argument('--contests', type=int, default=10)
     words.add_argument('--selections', type=int, default=5)
@@ -306,7 +308,7 @@ def main():
     elif words.what == 'special':
         special(words.out, words.seed)
     else:
-        lists(words.out, words)
+        lists(words.out, words, words.what == 'volumes')
     sizes = [os.path.getsize(os.path.join(words.out, name)) for name in os.listdir(words.out)]
     assert max(sizes) < LIMIT
     print('%s: %d files, %.1f MB, the longest %.1f MB' % (words.out, len(sizes), sum(sizes) / 1e6, max(sizes) / 1e6))
