@@ -4,14 +4,11 @@
 It is a second reading of what is printed, as rules.py is one of what is accepted. random_files.py holds the program
 against it, and printed_changes.py changes it rule by rule and asks which rows notice."""
 import json
-import re
-from datetime import date
 
 import rules as format_rules
 
 TASKS = ('currents', 'tally', 'conflicts', 'check', 'merge')
 NEVER = float('-inf')       # the moment of a snapshot that has none
-CYCLE = 146097              # the days of 400 years
 
 
 def by_bytes(text):
@@ -28,22 +25,6 @@ def put(held, name, body):
     bodies = held.setdefault(name, [])
     if body not in bodies:
         bodies.append(body)
-
-
-def instant(text):
-    """The nanoseconds of a date-time with an offset, from a day on that comes before all."""
-    found = format_rules.MOMENT.fullmatch(text).groupdict()
-    year, month, day, hour, minute, second = (int(found[name] or 0) for name in ('year', 'month', 'day', 'hour', 'minute', 'second'))
-    days = date(year % 400 + 400, month, day).toordinal() + year // 400 * CYCLE
-    offset = sum(int(found[name] or 0) * unit for name, unit in (('off', 3600), ('offm', 60), ('offs', 1)))
-    seconds = days * 86400 + hour * 3600 + minute * 60 + min(second, 59) + (offset if is_behind(text) else -offset)
-    fraction = re.search(r'[.,](\d+)', text)
-    return seconds * 10 ** 9 + (int(fraction.group(1).ljust(9, '0')) if fraction else 0)
-
-
-def is_behind(text):
-    """Whether the offset of a date-time is behind UTC."""
-    return '-' in re.split('[Tt ]', text)[1]
 
 
 class Held:
@@ -99,7 +80,7 @@ class Texts:
     # ---- what is held
 
     def moment_of(self, stamps):
-        return max(map(instant, stamps), default=NEVER)
+        return max(map(format_rules.instant, stamps), default=NEVER)
 
     def key(self, body):
         """The key of choosing of a snapshot."""

@@ -128,7 +128,7 @@ def changes_of_choosing():
         yield name, sets(choosing=other)
     for name, other in (('the first', lambda every: every[0]), ('the last', lambda every: every[-1]), ('the least', min)):
         yield 'of several annotations %s counts' % name, method(
-            'moment_of', lambda texts, held, stamps, other=other: other([printed.instant(it) for it in stamps]) if stamps else printed.NEVER)
+            'moment_of', lambda texts, held, stamps, other=other: other([format_rules.instant(it) for it in stamps]) if stamps else printed.NEVER)
     for name, unit in (('seconds', 10 ** 9), ('thousandths', 10 ** 6), ('millionths', 10 ** 3)):
         yield 'moments are held by whole ' + name, method('moment_of', lambda texts, held, stamps, unit=unit: held(stamps) // unit if stamps else held(stamps))
     yield 'moments are held by their texts', method('moment_of', lambda texts, held, stamps: max(stamps, default=''))

@@ -8,12 +8,15 @@ import itertools
 import json
 import os
 import re
+from datetime import date
 
 TOP = os.path.dirname(os.path.dirname(os.path.dirname(os.path.abspath(__file__))))
 FORMAT = os.path.join(TOP, 'docs', 'FORMAT.md')
 # A date-time as `jiff` reads it, with an offset.
 MOMENT = re.compile(r'(?P<year>\d{4})-?(?P<month>\d\d)-?(?P<day>\d\d)[Tt ](?P<hour>\d\d)(:?(?P<minute>\d\d)'
                     r'(:?(?P<second>\d\d)([.,]\d{1,9})?)?)?([Zz]|[+-](?P<off>\d\d)(:?(?P<offm>\d\d)(:?(?P<offs>\d\d))?)?)')
+LAST_SECOND = 253402207200  # since 1970, of the instants that `jiff` has
+CYCLE = 146097              # the days of 400 years
 TEXT = re.compile(r'"(?:[^"\\]|\\.)*"', re.S)
 STEPS = {ord('['): 1, ord('{'): 1, ord(']'): -1, ord('}'): -1}
 NO_BRACKETS = bytes(set(range(256)) - set(STEPS))
@@ -169,6 +172,22 @@ def see_numbers(value, path):
         see_numbers(value[name], path + (name,))
 
 
+def instant(text):
+    """The nanoseconds of a date-time with an offset, from a day on that comes before all."""
+    found = MOMENT.fullmatch(text).groupdict()
+    year, month, day, hour, minute, second = (int(found[name] or 0) for name in ('year', 'month', 'day', 'hour', 'minute', 'second'))
+    days = date(year % 400 + 400, month, day).toordinal() + year // 400 * CYCLE
+    offset = sum(int(found[name] or 0) * unit for name, unit in (('off', 3600), ('offm', 60), ('offs', 1)))
+    seconds = days * 86400 + hour * 3600 + minute * 60 + min(second, 59) + (offset if is_behind(text) else -offset)
+    fraction = re.search(r'[.,](\d+)', text)
+    return seconds * 10 ** 9 + (int(fraction.group(1).ljust(9, '0')) if fraction else 0)
+
+
+def is_behind(text):
+    """Whether the offset of a date-time is behind UTC."""
+    return '-' in re.split('[Tt ]', text)[1]
+
+
 def is_moment(text):
     found = MOMENT.fullmatch(text)
     if not found:
@@ -177,7 +196,8 @@ def is_moment(text):
     leap = part['year'] % 4 == 0 and (part['year'] % 100 != 0 or part['year'] % 400 == 0)
     days = [31, 29 if leap else 28, 31, 30, 31, 30, 31, 31, 30, 31, 30, 31]
     return (1 <= part['month'] <= 12 and 1 <= part['day'] <= days[part['month'] - 1] and part['hour'] < 24
-            and part['minute'] < 60 and part['second'] <= 60 and part['off'] <= 25 and part['offm'] < 60 and part['offs'] < 60)
+            and part['minute'] < 60 and part['second'] <= 60 and part['off'] <= 25 and part['offm'] < 60 and part['offs'] < 60
+            and (instant(text) - instant('1970-01-01T00:00:00Z')) // 10 ** 9 <= LAST_SECOND)
 
 
 def is_number(value):
