@@ -38,13 +38,7 @@ fn work_on_words(rt: &HostRuntime) -> Result<Status, Status> {
     let request = request_of(rt)?;
     let mut out = OverWrite::new(rt.stdout());
     let mut log = OverWrite::new(rt.stderr());
-    Ok(work(
-        rt.alloc(),
-        &System { rt },
-        &request,
-        &mut out,
-        &mut log,
-    ))
+    Ok(work(rt.alloc(), &System { rt }, &request, &mut out, &mut log))
 }
 
 fn main(rt: HostRuntime) -> ExitCode {
