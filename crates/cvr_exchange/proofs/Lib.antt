@@ -1,0 +1,16 @@
+pub mod Clean
+pub mod Arrays
+pub mod Naming
+pub mod Records
+pub mod VolumeMembers
+pub mod Definitions
+pub mod Shown
+pub mod Standing
+pub mod Reports
+pub mod Valid
+pub mod Back
+pub mod Numbers
+pub mod AllVolumes
+pub mod Histories
+pub mod Kept
+pub mod ByFiles

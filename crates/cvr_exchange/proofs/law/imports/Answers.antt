@@ -1,0 +1,5 @@
+use Rattle.cvr_exchange.proofs.Histories.{accepted, imports_exchange}
+use Rattle.cvr_exchange.proofs.law.imports.Goals as goal
+
+pub returns : goal.returns
+returns c = record { accepted = accepted; exchange = imports_exchange }

@@ -1,0 +1,38 @@
+//! Laws of volumes that are passed on as files, in place of exchanges.
+ghost use Rattle.cvr_exchange.specs.Laws.{ValidLaw, ValidForSameLaw, NothingAddedLaw, AllVolumesLaw, AnyOrderLaw, AcceptedLaw, ImportsLaw, ByFilesLaw, SameFilesLaw};
+
+use cvr_collect::Office;
+
+/// A volume that is short enough for a file is accepted beside the definition of the office that
+/// wrote it, and beside any that is the same, whatever conflicts stand in it.
+pub fn valid_volumes()
+    ensures own { ValidLaw }
+    ensures same { ValidForSameLaw }
+{}
+
+/// The facts of all volumes, in any order and with repeats, are exactly those of the office that
+/// wrote them, however long the volumes are.
+pub fn all_volumes()
+    ensures none_added { NothingAddedLaw }
+    ensures all { AllVolumesLaw }
+    ensures any_order { AnyOrderLaw }
+{}
+
+/// The import of a volume into an office of the same definition is accepted, want of memory aside.
+/// Imports of all volumes leave each office with what an exchange would.
+pub fn imports()
+    ensures accepted { AcceptedLaw }
+    ensures exchange { ImportsLaw }
+{}
+
+/// Offices that import volumes in place of exchanges hold what the exchanges would give.
+pub fn by_files()
+    ensures content { ByFilesLaw }
+{}
+
+/// New offices of one definition pass each other volumes as files, and play any other events,
+/// refused ones among them. Then two of them that the same files would have reached by exchanges
+/// hold and answer the same, and make the same volumes.
+pub fn same_files<O: Office>()
+    ensures alike { SameFilesLaw O.held O.defined }
+{}
