@@ -106,7 +106,14 @@ fn merge_of(rt: &(impl Abort + AllocGlobal), date: &str, device: &str, volume: u
 #[test]
 fn a_merge_prints_its_volume(rt: HostRuntime) {
     let text = text_of(&rt, SCANNED);
-    assert!(rt; prints(&rt, merge_of(&rt, DATE, "desk", 1), &[SCAN, SCAN], text.as_str()));
+    assert!(rt;
+        prints(
+            &rt,
+            merge_of(&rt, DATE, "desk", 1),
+            &[SCAN, SCAN],
+            text.as_str()
+        )
+    );
 }
 
 // Whether a merge prints nothing, and tells this.
