@@ -15,6 +15,8 @@ mod opening;
 #[cfg(test)]
 mod playing;
 #[cfg(test)]
+mod rows;
+#[cfg(test)]
 mod runs;
 #[cfg(test)]
 mod sets;

@@ -159,6 +159,23 @@ fn an_output_may_fail_at_any_call(rt: HostRuntime) {
     }
 }
 
+// Whether a merge whose output fails at a call has written the bytes before it, and tells so.
+fn is_cut_short(rt: &(impl Abort + AllocGlobal), call: usize, before: &[u8]) -> bool {
+    let ending = ran(rt, merge_of(rt, DATE, "desk", 1), &[SCAN, SCAN], call, 0);
+    ending.status == Status::Device
+        && ending.out.taken() == before
+        && ending.log.taken() == b"out: X1\n".as_slice()
+}
+
+#[test]
+fn a_merge_writes_a_front_where_its_output_fails(rt: HostRuntime) {
+    let text = text_of(&rt, SCANNED);
+    let bytes = text.as_bytes();
+    for taken in 0..bytes.len() {
+        assert!(rt; is_cut_short(&rt, taken + 1, &bytes[..taken]), "{taken}");
+    }
+}
+
 // Whether the reading of three bytes, one a call, fails at a call.
 fn fails_at(rt: &(impl Abort + AllocGlobal), call: usize) -> bool {
     let mut source = MemorySource::new(b"abc", 1, call);
