@@ -44,11 +44,20 @@ module _ (frame : Frame) (head : Head) (s : Facts) (i : ℕ) (keeps : Keeps fram
       subst (λ x. contains s (device_fact x) ≡ true) p.2
       (subst (λ f. contains s f ≡ true) (sym (device_back frame s keeps i pos p.0 p.1)) (device_shown frame s keeps i pos p.0 p.1))
 
+  -- the facts of a record that is shown
+  module _ (k : RecordName) (a : Contains (records s) k) where
+    header_kept : contains s (header_fact (record_data (shown_record s i k))) ≡ true
+    header_kept = subst (λ f. contains s f ≡ true) (sym (header_fact_back frame s keeps i pos k a)) (header_shown frame s keeps i pos k a)
+
+    snapshot_kept : (id : List ℕ) → Contains (snapshot_ids s k) id → contains s (snapshot_fact (record_data (shown_record s i k)) (data_of (one_snapshot k id))) ≡ true
+    snapshot_kept id b =
+        subst (λ f. contains s f ≡ true) (sym (snapshot_fact_back frame s keeps i pos k a id b)) (snapshot_shown frame s keeps i pos k id b)
+
   header_had : (c : Data) → Contains (array_at (codes "CVR") W) c → contains s (header_fact c) ≡ true
   header_had c a =
       let k = record_source frame head s i keeps can pos d known c (subst (λ xs. Contains xs c) (cvrs_list frame head s i keeps can pos d known) a) in
       subst (λ x. contains s (header_fact x) ≡ true) k.3
-      (subst (λ f. contains s f ≡ true) (sym (header_fact_back frame s keeps i pos k.0 k.1)) (header_shown frame s keeps i pos k.0 k.1))
+      (header_kept k.0 k.1)
 
   snapshot_had : (c x : Data) → Contains (array_at (codes "CVR") W) c → Contains (array_at (codes "CVRSnapshot") c) x → contains s (snapshot_fact c x) ≡ true
   snapshot_had c x a b =
@@ -57,7 +66,7 @@ module _ (frame : Frame) (head : Head) (s : Facts) (i : ℕ) (keeps : Keeps fram
       let p = value_source (one_snapshot k.0) (snapshot_ids s k.0) x (subst (λ xs. Contains xs x) (snapshots_back frame s keeps i pos k.0 k.1) own) in
       subst (λ y. contains s (snapshot_fact y x) ≡ true) k.3
       (subst (λ y. contains s (snapshot_fact (record_data (shown_record s i k.0)) y) ≡ true) p.2
-      (subst (λ f. contains s f ≡ true) (sym (snapshot_fact_back frame s keeps i pos k.0 k.1 p.0 p.1)) (snapshot_shown frame s keeps i pos k.0 p.0 p.1)))
+      (snapshot_kept k.0 k.1 p.0 p.1))
 
   source_had : (f : Fact) → Source W f → contains s f ≡ true
   source_had _ (of_device e a) = device_had e a
