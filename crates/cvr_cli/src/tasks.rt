@@ -180,12 +180,11 @@ fn run_task<O: Office + Drop, W: Sink, L: Sink>(
         (L.taken log.old) (L.has_failed log.old) (L.taken log.new) (L.has_failed log.new) }
 {
     let paths = request.paths.as_slice();
-    match request.task {
-        Task::Currents | Task::Conflicts | Task::Tally | Task::Merge { .. } => run_office::<
-            O,
-            W,
-            L,
-        >(alloc, definition, &request.task, paths, files, out, log),
+    let task = &request.task;
+    match task {
+        Task::Currents | Task::Conflicts | Task::Tally | Task::Merge { .. } => {
+            run_office::<O, W, L>(alloc, definition, task, paths, files, out, log)
+        }
         Task::Check => run_check(alloc, &definition, paths, files, out, log),
     }
 }
