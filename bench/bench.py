@@ -2,8 +2,9 @@
 """bench.py [--sizes 10000,100000] [--rounds 5] [--jq-rounds 3] [--stages-only] [--keep NAME]
 
 Times `cvr currents` beside jq and beside reading the files alone, at two sizes or more, and `cvr tally` and `cvr merge` at
-the same, the latter beside jq, too; and the check of one report, or the reading of one definition, beside the JSON reader
-alone, with the stages from there to the tally, and the writing of volumes; compares current snapshots with jq byte by byte.
+the same, the latter beside jq, too; a volume that is read back beside jq; and the check of one report, or the reading of one
+definition, beside the JSON reader alone, with the stages from there to the tally, and the writing of volumes; compares
+current snapshots, and a volume, with jq byte by byte, and a volume that is read back with what was read.
 README.md says what the figures mean. The status is 1 where a command fails or a text differs. With --keep the raw figures are appended to
 runs/DATE-NAME.md. With --stages-only there are no runs of `cvr`."""
 import argparse
@@ -26,7 +27,10 @@ MANY = 150000               # the records of one file of short records
 CONTESTS, SELECTIONS, UNITS, RECORDS = 2000, 50, 20000, 20000
 REPEATS = (10000, 100000)   # how often one record comes again in a file
 VOLUMES = (10000, 100000, 1000000)      # the records of the volumes that are written
-HEADING = ['2024-11-06T08:00:00Z', 'desk-0', '1']       # and the volume that `merge` writes
+DATE = '2024-11-06T08:00:00Z'           # of the volumes that `merge` writes
+HEADING = [DATE, 'desk-0', '1']
+# What makes a volume of one report whose records stand in order.
+AS_VOLUME = '.GeneratedDate = "%s" | .ReportType = ["aggregated"] | .GpUnit |= sort_by(.["@id"])' % DATE
 JQ_HINT = 'jq is missing: install it, as by `apt-get install jq`, `brew install jq` or `dnf install jq`'
 CVR_HINT = '%s is missing: `./cvr currents examples/county/definition.json` builds it'
 STAGES_HINT = '%s or cvr_volumes is missing, so the stages are left out: `bench/build_stages` builds them'
@@ -152,6 +156,34 @@ def size(report, words, amount):
             report.say('cvr / reading %.1f; no text was compared. %s' % (middle['cvr'] / middle['reading'], JQ_HINT))
         report.say('tally / cvr %.3f, merge / tally %.3f' % (middle['tally'] / middle['cvr'], middle['merge'] / middle['tally']))
     return (middle['cvr'], middle['tally'], middle['merge']), is_right
+
+
+def read_whole(path):
+    with open(path, 'rb') as file:
+        return file.read()
+
+
+def round_trip(report, words):
+    """Times the writing of a volume, and a merge that reads it back. Returns whether they and jq give the same bytes."""
+    data = made(words.data, 'volumes-%d' % RECORDS, ['volumes', '--records', str(RECORDS)])
+    file = os.path.join(data, 'report-001.json')
+    merge = [words.cvr, 'merge', os.path.join(data, 'definition.json'), DATE, 'd', '1']
+    with tempfile.TemporaryDirectory() as folder:
+        volume = os.path.join(folder, 'volume')
+        timed(merge + [file], volume)
+        whole = read_whole(volume)
+        report.say()
+        report.say('round trip of %d records: merge, merge of its volume (back), jq -cS, %.1f MB' % (RECORDS, len(whole) / 1e6))
+        commands = [('merge', merge + [file], words.rounds), ('back', merge + [volume], words.rounds)]
+        if shutil.which('jq'):
+            commands.append(('jq -cS', ['jq', '-cS', AS_VOLUME, file], words.jq_rounds))
+        middle = measured(report, commands, folder, len(whole) / 1e6)
+        texts = [read_whole(os.path.join(folder, name)) for name in middle]
+    is_right = texts[:2] == [whole, whole] and texts[2:] in ([], [whole + b'\n'])
+    report.say('volumes: %s' % ('the same' if is_right else 'THEY DIFFER'))
+    report.say('back / merge %.3f' % (middle['back'] / middle['merge'])
+               + (', merge and back / jq -cS %.3f' % ((middle['merge'] + middle['back']) / middle['jq -cS']) if 'jq -cS' in middle else ''))
+    return is_right
 
 
 def stages(words, task, definition, report):
@@ -366,6 +398,7 @@ def main():
     try:
         if not words.stages_only:
             is_right = commands(report, words)
+            is_right = round_trip(report, words) and is_right
         if os.path.exists(words.stages) and os.path.exists(words.volumes):
             check(report, words)
             office(report, words)
