@@ -1,0 +1,231 @@
+#!/usr/bin/env python3
+"""damage.py --cvr PATH
+
+What becomes of files that were damaged on their way, and of runs whose devices fail.
+
+- The vector f11 and a volume, each byte in turn replaced by a quote, a zero, a space and 0xFF: one `check` of all tells of
+  each what tests/rows/rules.py does. Beside f2 each refused one alone, and all of them before and behind it, leave what is
+  printed as it was.
+- The output, the log or the reading fails at each call, one byte a call, or takes nothing: what stands is the bytes before, and
+  the fault is told. devices.c, which cc builds on the spot and LD_PRELOAD lays beside the program, is the device.
+- The program is killed at each such call of its output, and from outside while it writes a long volume to a file: what
+  stands is a front of the volume, and `check` refuses each proper one as no JSON.
+
+The texts are those of tests/rows/printed.py. The last line is `damage: N right, M wrong`; the status is 0 only where M is 0
+and N is not."""
+import argparse
+import collections
+import json
+import multiprocessing
+import os
+import signal
+import subprocess
+import sys
+import tempfile
+import time
+
+sys.dont_write_bytecode = True
+HERE = os.path.dirname(os.path.abspath(__file__))
+ROWS = os.path.join(HERE, 'rows')
+sys.path.insert(0, ROWS)
+import printed                # noqa: E402
+import random_files           # noqa: E402
+import rules as format_rules  # noqa: E402
+import run as rows            # noqa: E402 (all of them stand in tests/rows)
+
+SECONDS = 60
+BYTES = b'"0 \xff'          # what each byte is replaced by
+HEADING = ['2024-11-06T08:00:00Z', 'desk', '1']
+TASKS = ('currents', 'conflicts', 'tally', 'merge')
+RECORDS = 3000              # of the long volume
+KILLS = 24                  # of its writing
+RULES = format_rules.Rules()
+DEFINITION = format_rules.read(RULES, rows.VECTORS['def.json'])
+
+
+def reading(data):
+    """What a file is read as: its value, or its fault as a log line tells it."""
+    return random_files.read(RULES, data, DEFINITION)
+
+
+def held(*names):
+    """Vectors, each with what it is read as."""
+    return [(name, reading(rows.VECTORS[name])) for name in names]
+
+
+# A run: its words, the device that fails in it or None, and the output, the log and the status that it leaves.
+Case = collections.namedtuple('Case', 'words device out log status')
+
+
+def case(task, files):
+    """The run of a task over files, (path, what it is read as), and what it leaves where no device fails."""
+    words = [task, 'def.json'] + (HEADING if task == 'merge' else []) + [path for path, _ in files]
+    out, log, status = printed.answer(printed.Texts(), words, DEFINITION, files)
+    return Case(words, None, out.encode('utf-8'), log.encode('utf-8'), status)
+
+
+class Program:
+    """The program, in a folder with the files of its runs."""
+
+    def __init__(self, cvr, folder):
+        self.cvr, self.folder = cvr, folder
+        for name in ('def.json', 'f2.json', 'f6.json', 'f8.json'):
+            self.put(name, rows.VECTORS[name])
+        subprocess.run(['cc', '-O1', '-shared', '-fPIC', '-o', self.path('devices.so'), os.path.join(HERE, 'devices.c')], check=True)
+
+    def path(self, name):
+        return os.path.join(self.folder, name)
+
+    def put(self, name, data):
+        with open(self.path(name), 'wb') as file:
+            file.write(data)
+        return name
+
+    def ran(self, words, device):
+        """(output, log, status) of a run whose output is a file."""
+        env = dict(os.environ, LD_PRELOAD=self.path('devices.so'), DEVICE=device) if device else None
+        with tempfile.TemporaryFile() as out:
+            try:
+                done = subprocess.run([self.cvr] + words, cwd=self.folder, env=env, stdin=subprocess.DEVNULL, stdout=out,
+                                      stderr=subprocess.PIPE, timeout=SECONDS)
+            except subprocess.TimeoutExpired:
+                return b'', b'', 'no end'
+            out.seek(0)
+            return out.read(), done.stderr, done.returncode
+
+    def fault(self, asked):
+        """What is wrong with a run, or None."""
+        got = self.ran(asked.words, asked.device)
+        told = ['%s %s, expected %s' % (what, repr(one)[:200], repr(other)[:200])
+                for what, one, other in zip(('output', 'log', 'status'), got, asked[2:]) if one != other]
+        return '%s, device %s: %s' % (' '.join(asked.words)[:200], asked.device, '; '.join(told)) if told else None
+
+    def killed(self, merge, place):
+        """Kills a merge from outside once a share of its volume stands in a file. (what then stands, status)"""
+        path, end = self.path('killed-%d' % place), time.time() + SECONDS
+        with open(path, 'wb') as out:
+            done = subprocess.Popen([self.cvr] + merge.words, cwd=self.folder, stdin=subprocess.DEVNULL, stdout=out)
+            while done.poll() is None and os.stat(path).st_size < len(merge.out) * place // KILLS and time.time() < end:
+                pass
+            done.kill()
+            done.wait()
+        with open(path, 'rb') as file:
+            return file.read(), done.returncode
+
+
+# ---- damaged files
+
+def replaced(name, data):
+    """A file with each byte in turn replaced, by name."""
+    return {'%s-%d-%02x' % (name, place, value): data[:place] + bytes([value]) + data[place + 1:]
+            for place in range(len(data)) for value in BYTES if data[place] != value}
+
+
+def told_otherwise(program, check):
+    """What is wrong with a check of many files, by its lines."""
+    out, log, status = program.ran(check.words, None)
+    if (out, log, status) == check[2:]:
+        return []
+    wanted, got = (set(one.splitlines()) for one in (check.out + check.log, out + log))
+    return ['check, status %r: %r' % (status, line) for line in sorted(wanted ^ got) or [b'another order']]
+
+
+def damaged(program, pool, data):
+    """Yields what is wrong with each damaged file, or None."""
+    files = {name: one for whole in data.items() for name, one in replaced(*whole).items()}
+    for name, one in files.items():
+        program.put(name, one)
+    read = list(zip(files, pool.map(reading, files.values(), 50)))
+    wrong = told_otherwise(program, case('check', read))
+    yield from wrong + [None] * (len(files) - len(wrong))
+    refused = [(name, told) for name, told in read if isinstance(told, str)]
+    f2, half = held('f2.json'), len(refused) // 2
+    yield from pool.imap(program.fault, [case(task, refused[:half] + f2 + refused[half:]) for task in TASKS])
+    alone = case('currents', f2)
+    asked = (alone._replace(words=alone.words + [name], log=('%s: %s\n' % (name, told)).encode('utf-8'), status=1) for name, told in refused)
+    yield from pool.imap(program.fault, asked, 50)
+
+
+# ---- devices that fail
+
+def cut_short(whole, stream, how, told=b'', status=None):
+    """A run whose output (1) or log (2) ends at each byte of its text, one byte a call, and at none."""
+    text, status = whole[1 + stream], whole.status if status is None else status
+    for taken in range(len(text)):
+        out, log = (text[:taken], told) if stream == 1 else (whole.out, text[:taken])
+        yield Case(whole.words, '%d %d %s' % (stream, taken + 1, how), out, log, status)
+    yield whole._replace(device='%d %d %s' % (stream, len(text) + 1, how))
+
+
+def cut_off(whole, names):
+    """A run in which the reading fails at each byte of the definition and of a file, at the end of each, and after all."""
+    call = 0
+    for name in names:
+        for _ in range(len(rows.VECTORS[name]) + 1):
+            call += 1
+            yield Case(whole.words, '0 %d fails' % call, b'', b'%s: K1\n' % name.encode('ascii'), 3)
+    yield whole._replace(device='0 %d fails' % (call + 1))
+
+
+def failing():
+    """The runs whose devices fail."""
+    files = held('f2.json', 'f6.json', 'f8.json')
+    for task in TASKS[:3] + ('check',):
+        yield from cut_short(case(task, files), 1, 'fails', b'out: X1\n', 3)
+        yield from cut_short(case(task, files), 1, 'nothing', b'out: X1\n', 3)
+    yield from cut_short(case('merge', files), 1, 'fails', b'out: X1\n', 3)
+    yield from cut_short(case('merge', files), 1, 'killed', b'', -signal.SIGKILL)
+    refused = case('currents', [('half', 'E2')] + files)
+    yield from cut_short(refused, 2, 'fails')
+    yield from cut_short(refused, 2, 'nothing')
+    yield from cut_off(case('check', files[:1]), ('def.json', 'f2.json'))
+
+
+# ---- fronts of volumes
+
+def many():
+    """A report of many records."""
+    report = json.loads(rows.VECTORS['f2.json'])
+    report['CVR'] = [dict(report['CVR'][0], UniqueId='u%d' % n) for n in range(RECORDS)]
+    return report
+
+
+def stands(long, left):
+    """Whether a run that was killed, or had ended, has left what it may."""
+    data, status = left
+    return long.out.startswith(data) and (status == -signal.SIGKILL or (status, data) == (0, long.out))
+
+
+def fronts(program):
+    """Yields what is wrong with each front of a volume, or None: those of a short one, and what is left of a long one."""
+    short, long = case('merge', held('f2.json', 'f6.json', 'f8.json')), case('merge', [('many', many())])
+    program.put('many', json.dumps(many()).encode('utf-8'))
+    left = {'killed-%d' % place: program.killed(long, place) for place in range(KILLS)}
+    yield from (None if stands(long, one) else '%s: status %d, %d bytes' % (name, one[1], len(one[0])) for name, one in left.items())
+    yield None if any(0 < len(data) < len(long.out) for data, _ in left.values()) else 'no run was killed while it wrote'
+    read = [(program.put('front-%d' % taken, short.out[:taken]), 'E2') for taken in range(len(short.out))]
+    read += [(name, many() if data == long.out else 'E2') for name, (data, _) in left.items()]
+    wrong = told_otherwise(program, case('check', read))
+    yield from wrong + [None] * (len(read) - len(wrong))
+
+
+def main():
+    words = argparse.ArgumentParser()
+    words.add_argument('--cvr', required=True, help='the program to try')
+    cvr = os.path.abspath(words.parse_args().cvr)
+    volume = case('merge', held('f2.json', 'f6.json', 'f8.json')).out
+    with tempfile.TemporaryDirectory() as folder, multiprocessing.Pool(len(os.sched_getaffinity(0))) as pool:
+        program = Program(cvr, folder)
+        program.put('half', rows.VECTORS['f2.json'][:100])
+        found = list(damaged(program, pool, {'f11': rows.VECTORS['f11.json'], 'volume': volume}))
+        found += pool.imap(program.fault, failing(), 50)
+        found += fronts(program)
+    wrong = [one for one in found if one]
+    for line in wrong[:50]:
+        print('WRONG ' + line)
+    print('damage: %d right, %d wrong' % (len(found) - len(wrong), len(wrong)))
+    sys.exit(0 if found and not wrong else 1)
+
+
+if __name__ == '__main__':
+    main()

@@ -1,0 +1,41 @@
+/* Loaded beside a program by LD_PRELOAD, stands in for a device that it reads from or writes to.
+
+   DEVICE=`STREAM CALL HOW`. STREAM is 0 for the files that are read, 1 for standard output, 2 for standard error. Each call
+   on it gives or takes one byte. At call number CALL, counted from 1 over all files, HOW says what becomes of it: `fails`
+   answers an error, `nothing` gives or takes nothing, and `killed` ends the program by SIGKILL. Later calls are as before. */
+#include <errno.h>
+#include <signal.h>
+#include <stdio.h>
+#include <stdlib.h>
+#include <sys/syscall.h>
+#include <unistd.h>
+
+static int stream = -1;
+static long last, calls;
+static char how[16];
+
+/* A call of the system, on one byte where it is on the stream. */
+static ssize_t call(long number, int is_on_stream, int file, const void *bytes, size_t size) {
+    if (!is_on_stream)
+        return syscall(number, file, bytes, size);
+    if (++calls != last)
+        return syscall(number, file, bytes, size < 1 ? size : 1);
+    if (how[0] == 'k')
+        kill(getpid(), SIGKILL);
+    errno = EIO;
+    return how[0] == 'n' ? 0 : -1;
+}
+
+ssize_t read(int file, void *bytes, size_t size) { return call(SYS_read, stream == 0, file, bytes, size); }
+
+ssize_t write(int file, const void *bytes, size_t size) {
+    return call(SYS_write, stream == file && file > 0, file, bytes, size);
+}
+
+ssize_t __write(int file, const void *bytes, size_t size) { return write(file, bytes, size); }
+
+__attribute__((constructor)) static void start(void) {
+    const char *words = getenv("DEVICE");
+    if (!words || sscanf(words, "%d %ld %15s", &stream, &last, how) != 3)
+        _exit(97);
+}
