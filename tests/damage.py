@@ -33,7 +33,7 @@ import random_files           # noqa: E402
 import rules as format_rules  # noqa: E402
 import run as rows            # noqa: E402 (all of them stand in tests/rows)
 
-SECONDS = 60
+SECONDS = 300
 BYTES = b'"0 \xff'          # what each byte is replaced by
 HEADING = ['2024-11-06T08:00:00Z', 'desk', '1']
 TASKS = ('currents', 'conflicts', 'tally', 'merge')
