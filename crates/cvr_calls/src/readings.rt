@@ -12,7 +12,7 @@ use crate::writing::{DATE, DEVICE};
 use cdf_check::Definition;
 use cdf_types::{Memory, ReadFault};
 use cvr_collect::{Office, PlainOffice};
-use cvr_facts::text::{push_word, quoted};
+use cvr_facts::text::{push_quoted, push_word, quoted};
 use cvr_facts::{BodySet, DeviceFact, HeaderFact, SnapshotFact, VoteSums};
 use cvr_report::{HeadFault, Heading};
 use cvr_tally::RowKey;
@@ -124,6 +124,7 @@ pub enum Making {
     BodySet,
     JoinBoth,
     Quoted,
+    PushedQuoted,
     Word,
     Office,
     Heading,
@@ -135,6 +136,7 @@ impl Reading for Making {
             Making::BodySet => is_set_made(alloc, records)?,
             Making::JoinBoth => are_both_joined(alloc, records)?,
             Making::Quoted => quoted(alloc, "a\"b")?.as_str() == "\"a\\\"b\"",
+            Making::PushedQuoted => is_quoted_pushed(alloc)?,
             Making::Word => is_word_pushed(alloc)?,
             Making::Office => is_office_made(alloc, records.definition)?,
             Making::Heading => is_heading_made(alloc, records.definition)?,
@@ -150,6 +152,20 @@ fn is_set_made(alloc: Global, records: &Records<'_>) -> Result<bool, Memory> {
 
 fn are_both_joined(alloc: Global, records: &Records<'_>) -> Result<bool, Memory> {
     Ok(are_same_sets(&joined_of(alloc, records.devices)?, records.devices))
+}
+
+// A text as a JSON string, behind other bytes; or these alone where memory was refused.
+fn is_quoted_pushed(alloc: Global) -> Result<bool, Memory> {
+    let mut bytes = Vec::new(alloc);
+    bytes.push(b'[')?;
+    match push_quoted(alloc, &mut bytes, "a\"b") {
+        Ok(()) => Ok(bytes.as_slice() == b"[\"a\\\"b\"".as_slice()),
+        Err(Memory) => if bytes.as_slice() == b"[".as_slice() {
+            Err(Memory)
+        } else {
+            Ok(false)
+        },
+    }
 }
 
 // A text as a JSON string, and a space.

@@ -30,10 +30,11 @@ static FILINGS: [(&str, Filing); 3] = [
     ("check_report, facts_of", Filing::Facts),
 ];
 
-static MAKINGS: [(&str, Making); 6] = [
+static MAKINGS: [(&str, Making); 7] = [
     ("BodySet::new", Making::BodySet),
     ("join_both", Making::JoinBoth),
     ("quoted", Making::Quoted),
+    ("push_quoted", Making::PushedQuoted),
     ("push_word", Making::Word),
     ("Office::new", Making::Office),
     ("Heading::new", Making::Heading),

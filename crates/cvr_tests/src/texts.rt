@@ -1,7 +1,7 @@
 //! Texts, lists and sinks, and what is printed of a fault.
 use crate::files::body;
 use cdf_types::{MemorySink, ReadFault, Rule, Seq, write_all};
-use cvr_facts::text::push_word;
+use cvr_facts::text::{push_quoted, push_word};
 use std::process::Abort;
 
 #[test]
@@ -26,6 +26,14 @@ fn words_are_json_strings(rt: HostRuntime) {
     let mut text = String::new(rt.alloc());
     push_word(rt.alloc(), &mut text, "a\"b").expect(&rt, "no memory");
     assert!(rt; text.as_str() == "\"a\\\"b\" ");
+}
+
+#[test]
+fn a_text_is_quoted_behind_other_bytes(rt: HostRuntime) {
+    let mut bytes = Vec::new(rt.alloc());
+    push_quoted(rt.alloc(), &mut bytes, "a\"b").expect(&rt, "no memory");
+    push_quoted(rt.alloc(), &mut bytes, "\n").expect(&rt, "no memory");
+    assert!(rt; bytes.as_slice() == b"\"a\\\"b\"\"\\n\"".as_slice());
 }
 
 // Whether a fault is printed so.
