@@ -1,0 +1,56 @@
+-- What a list of steps asks for. (This project's own.)
+use Rattle.std.specs.Prelude.{◌≡◌, ℕ, ⊤, List, [], ◌∷◌, ◌++◌, ◌+◌, Option, Some, None, length, suc, option_map}
+use Rattle.cvr_words.specs.Step.{StepForm, Text, import_form, exchange_form, path_in, step_form}
+use Rattle.cvr_words.specs.declared.fault.WordFault.{WordFault}
+use Rattle.cvr_words.specs.declared.fault.WordFault.TheVariants as fault
+use Rattle.cvr_words.specs.declared.request.Act.{Act}
+use Rattle.cvr_words.specs.declared.request.Act.TheVariants.{Import, Exchange}
+use Rattle.cvr_words.specs.declared.request.Step.{Step}
+use Rattle.cvr_words.specs.declared.step.Form.{Form}
+use Rattle.cvr_words.specs.declared.step.Form.TheVariants as form
+
+abbrev pub form_of : Form → StepForm
+form_of (form.Import office path) = import_form office path.now
+form_of (form.Exchange from to) = exchange_form from to
+
+-- what a form does, the next path standing at a place
+abbrev pub act_at : ℕ → StepForm → Act
+act_at place (import_form office path) = Import office place
+act_at place (exchange_form from to) = Exchange from to
+
+abbrev pub step_at : ℕ → Text → StepForm → Step
+step_at place text f = record { text = text; act = act_at place f }
+
+abbrev pub bad_from : Option StepForm → Option ℕ → Option ℕ
+bad_from None later = Some 0
+bad_from (Some f) later = option_map (λ n. suc n) later
+
+-- the place of the first text that has no form
+unfoldable pub bad_place : List Text → Option ℕ
+bad_place [] = None
+bad_place (text ∷ texts) = bad_from (step_form text) (bad_place texts)
+
+abbrev pub path_of : Option StepForm → List Text
+path_of (Some f) = path_in f
+path_of None = []
+
+-- the paths of the imports, in order
+unfoldable pub paths_of : List Text → List Text
+paths_of [] = []
+paths_of (text ∷ texts) = path_of (step_form text) ++ paths_of texts
+
+abbrev pub step_of : Option StepForm → ℕ → Text → List Step
+step_of (Some f) place text = step_at place text f ∷ []
+step_of None place text = []
+
+-- the steps, the first path standing at a place
+unfoldable pub steps_of : ℕ → List Text → List Step
+steps_of place [] = []
+steps_of place (text ∷ texts) =
+    step_of (step_form text) place text ++ steps_of (place + length (path_of (step_form text))) texts
+
+-- the fault names the first text with no form, or memory was refused
+abbrev pub IsBadStep : List Text → WordFault → Type 0
+IsBadStep texts (fault.BadStep place) = bad_place texts ≡ Some place
+IsBadStep texts fault.Memory = ⊤
+IsBadStep texts _ = ⊥
