@@ -1,2 +1,13 @@
+pub mod Flags
 pub mod Numbers
 pub mod StepLists
+pub mod Matched
+pub mod Faultless
+pub mod Lists
+pub mod Stops
+pub mod Walks
+pub mod Given
+pub mod Whole
+pub mod Commands
+pub mod Named
+pub mod Refused

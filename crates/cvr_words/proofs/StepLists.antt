@@ -1,5 +1,5 @@
 -- One more step at the end of a list of steps.
-use Rattle.std.proofs.Common.{◌≡◌, ◌∙◌, ◌++◌, ◌+◌, ◌<◌, ℕ, List, [], ◌∷◌, Option, Some, None, length, map, option_map, rules, arith, refl, ap, ap₂, sym, take, drop, get_or, suc, add-zero, zero-add, Bor, subst, append-nil, append_assoc}
+use Rattle.std.proofs.Common.{◌≡◌, ◌∙◌, ◌++◌, ◌+◌, ◌<◌, ℕ, List, [], ◌∷◌, Option, Some, None, length, map, option_map, arith, refl, ap, sym, take, drop, get_or, suc, add-zero, zero-add, Bor, subst, append-nil, append_assoc}
 use Rattle.std.proofs.lemmas.List.{drop_more, get_or-map, length-append, length-map, length-take-le, take-append-drop, take_more}
 use Rattle.cvr_words.specs.Step.{StepForm, Text, path_in, step_form}
 use Rattle.cvr_words.specs.Steps.{bad_from, bad_place, path_of, paths_of, step_at, step_of, steps_of}

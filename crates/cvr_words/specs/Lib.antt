@@ -1,2 +1,6 @@
+pub mod Rows
 pub mod Step
 pub mod Steps
+pub mod Fault
+pub mod Line
+pub mod Request

@@ -1,4 +1,4 @@
-use Rattle.std.proofs.Common.{rules, arith, ◌≡◌, ◌∙◌}
+use Rattle.std.proofs.Common.{rules, ◌∙◌}
 use Rattle.cvr_words.proofs.Numbers.{parsed}
 use Rattle.cvr_words.proofs.number.read_number.Goals as goal
 

@@ -1,4 +1,4 @@
-use Rattle.std.proofs.Common.{rules, arith, ◌≡◌, ◌∙◌, sym}
+use Rattle.std.proofs.Common.{rules, sym}
 use Rattle.cvr_words.specs.Steps.{form_of}
 use Rattle.cvr_words.proofs.StepLists.{bad_here, nothing_read, one_more}
 use Rattle.cvr_words.proofs.steps.read_steps.Goals as goal

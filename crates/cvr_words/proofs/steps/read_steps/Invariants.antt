@@ -1,4 +1,4 @@
-use Rattle.std.proofs.Common.{◌≡◌, map, take}
+use Rattle.std.proofs.Common.{map, take}
 use Rattle.cvr_words.proofs.StepLists.{AreRead}
 use Rattle.cvr_words.proofs.steps.read_steps.Given as goal
 

@@ -1,0 +1,58 @@
+-- The command line, as clap sees it. (This project's own.)
+use Rattle.std.specs.Prelude.{ℕ, pos, true, List, [], ◌∷◌, Some, codes}
+use Rattle.clap.specs.Words.{App, Rule, Text, new_app, new_rule, with_rule, with_subcommand}
+use Rattle.clap.specs.declared.builder.action.ArgAction.TheVariants.{Set, Append}
+use Rattle.clap.specs.declared.builder.value_parser.ValueParser.TheVariants as parser
+
+-- a word that has to stand once
+abbrev pub needed : Text → Rule
+needed id = record (new_rule id) { required = true; action = Some Set }
+
+-- a whole number in a range, which has to stand once
+abbrev pub numbered : Text → ℕ → ℕ → Rule
+numbered id low high = record (needed id) { parser = Some (parser.Signed (pos low) (pos high)) }
+
+-- the words at the end, any number of them
+abbrev pub several : Text → Rule
+several id = record (new_rule id) {
+  action = Some Append;
+  range = Some (record { start_inclusive = 0; end_inclusive = 18446744073709551615 });
+}
+
+-- NAME DEF FILE..
+abbrev pub files_line : Text → App
+files_line name = with_rule (with_rule (new_app name) (needed (codes "DEF"))) (several (codes "FILE"))
+
+-- merge DEF DATE DEVICE VOLUME FILE..
+abbrev pub merge_line : App
+merge_line =
+    with_rule (with_rule (with_rule (with_rule (with_rule (new_app (codes "merge"))
+    (needed (codes "DEF"))) (needed (codes "DATE"))) (needed (codes "DEVICE")))
+    (numbered (codes "VOLUME") 1 4294967295)) (several (codes "FILE"))
+
+-- drill DEF OFFICES STEP..
+abbrev pub drill_line : App
+drill_line =
+    with_rule (with_rule (with_rule (new_app (codes "drill"))
+    (needed (codes "DEF"))) (numbered (codes "OFFICES") 1 64)) (several (codes "STEP"))
+
+-- the program with no command yet: one has to stand
+abbrev pub bare_line : App
+bare_line = record (new_app (codes "cvr")) {
+  top = record (new_app (codes "cvr")).top { subcommand_required = true };
+}
+
+-- the whole; clap adds the command `help` and the flag `--help`
+abbrev pub cvr_line : App
+cvr_line =
+    with_subcommand (with_subcommand (with_subcommand (with_subcommand (with_subcommand (with_subcommand bare_line
+    (files_line (codes "currents")).top) (files_line (codes "conflicts")).top) (files_line (codes "tally")).top)
+    (files_line (codes "check")).top) merge_line.top) drill_line.top
+
+-- the words as clap takes them: the program's name stands before them
+abbrev pub named : List Text → List Text
+named words = codes "cvr" ∷ words
+
+abbrev pub command_names : List Text
+command_names =
+    codes "currents" ∷ codes "conflicts" ∷ codes "tally" ∷ codes "check" ∷ codes "merge" ∷ codes "drill" ∷ []

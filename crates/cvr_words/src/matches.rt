@@ -1,0 +1,152 @@
+ghost use Rattle.std.specs.Prelude.{◌≡◌, [], IfErr, IfOk, None, codes, map};
+ghost use Rattle.std.specs.List.{Any};
+ghost use Rattle.clap.specs.Words.{found_of, rows_of};
+ghost use Rattle.cvr_words.specs.Fault.{IsDrillFault};
+ghost use Rattle.cvr_words.specs.Line.{command_names};
+ghost use Rattle.cvr_words.specs.Request.{Asks, IsTask};
+ghost use Rattle.cvr_words.specs.Steps.{IsBadStep, bad_place, paths_of, steps_of};
+ghost use Rattle.cvr_words.specs.Rows.{HasNumber, HasWord, IsMergeWhole, IsNumber, IsWhole, IsWord, words_in};
+
+use crate::fault::WordFault;
+use crate::request::{Request, Task};
+use crate::steps::{Steps, read_steps};
+use cdf_types::{Body, Memory, Seq};
+use clap::ArgMatches;
+use std::alloc::Global;
+
+// The word of an argument that stands once.
+fn text_at<'a>(matches: &ArgMatches<'a>, id: &str) -> &'a str
+    requires { HasWord id.now (rows_of (found_of matches.now)) }
+    ensures { IsWord id.now (rows_of (found_of matches.now)) result.now }
+{
+    matches.get_str(id).unwrap_or("")
+}
+
+fn word_at(alloc: Global, matches: &ArgMatches<'_>, id: &str) -> Result<Body, Memory>
+    requires { HasWord id.now (rows_of (found_of matches.now)) }
+    ensures { IfOk result (λ word. IsWord id.now (rows_of (found_of matches.now)) word) }
+{
+    Ok(Body::new(String::from_str(alloc, text_at(matches, id))?))
+}
+
+fn copies(alloc: Global, texts: &[&str]) -> Result<Seq<Body>, Memory>
+    ensures { IfOk result (λ all. all ≡ map (λ t. t.now) texts.now) }
+{
+    let mut all = Seq::empty(alloc);
+    for text in texts {
+        all.push(Body::new(String::from_str(alloc, *text)?))?;
+    }
+    Ok(all)
+}
+
+// The words of an argument, any number of them.
+fn words_at(alloc: Global, matches: &ArgMatches<'_>, id: &str) -> Result<Seq<Body>, Memory>
+    ensures { IfOk result (λ all. all ≡ words_in id.now (rows_of (found_of matches.now))) }
+{
+    match matches.get_strs(id) {
+        Some(texts) => copies(alloc, texts),
+        None => Ok(Seq::empty(alloc)),
+    }
+}
+
+fn no_steps(alloc: Global) -> Steps
+    ensures steps { result.steps ≡ [] }
+    ensures paths { result.paths ≡ [] }
+{
+    Steps {
+        steps: Seq::empty(alloc),
+        paths: Seq::empty(alloc),
+    }
+}
+
+// The steps of a drill.
+fn steps_at(alloc: Global, matches: &ArgMatches<'_>) -> Result<Steps, WordFault>
+    ensures formed { IfOk result (λ r. bad_place (words_in (codes "STEP") (rows_of (found_of matches.now))) ≡ None) }
+    ensures steps { IfOk result (λ r. r.steps ≡ steps_of 0 (words_in (codes "STEP") (rows_of (found_of matches.now)))) }
+    ensures paths { IfOk result (λ r. r.paths ≡ paths_of (words_in (codes "STEP") (rows_of (found_of matches.now)))) }
+    ensures err { IfErr result (λ f. IsBadStep (words_in (codes "STEP") (rows_of (found_of matches.now))) f) }
+{
+    match matches.get_strs("STEP") {
+        Some(texts) => read_steps(alloc, texts),
+        None => Ok(no_steps(alloc)),
+    }
+}
+
+// The request of a command with FILE..
+fn files_request(alloc: Global, task: Task, matches: &ArgMatches<'_>) -> Result<Request, Memory>
+    requires { HasWord (codes "DEF") (rows_of (found_of matches.now)) }
+    ensures task { IfOk result (λ r. r.task ≡ task) }
+    ensures def { IfOk result (λ r. IsWord (codes "DEF") (rows_of (found_of matches.now)) r.def) }
+    ensures paths { IfOk result (λ r. r.paths ≡ words_in (codes "FILE") (rows_of (found_of matches.now))) }
+{
+    Ok(Request {
+        task,
+        def: word_at(alloc, matches, "DEF")?,
+        paths: words_at(alloc, matches, "FILE")?,
+    })
+}
+
+fn volume_of(matches: &ArgMatches<'_>) -> u32
+    requires { HasNumber (codes "VOLUME") 1 4294967295 (rows_of (found_of matches.now)) }
+    ensures { IsNumber (codes "VOLUME") 1 4294967295 (rows_of (found_of matches.now)) result }
+{
+    matches.get_one::<u32>("VOLUME").unwrap_or(1)
+}
+
+fn offices_of(matches: &ArgMatches<'_>) -> u32
+    requires { HasNumber (codes "OFFICES") 1 64 (rows_of (found_of matches.now)) }
+    ensures { IsNumber (codes "OFFICES") 1 64 (rows_of (found_of matches.now)) result }
+{
+    matches.get_one::<u32>("OFFICES").unwrap_or(1)
+}
+
+fn merge_task(alloc: Global, matches: &ArgMatches<'_>) -> Result<Task, Memory>
+    requires { IsMergeWhole (rows_of (found_of matches.now)) }
+    ensures { IfOk result (λ task. IsTask (codes "merge") (rows_of (found_of matches.now)) task) }
+{
+    Ok(Task::Merge {
+        date: word_at(alloc, matches, "DATE")?,
+        device: word_at(alloc, matches, "DEVICE")?,
+        volume: volume_of(matches),
+    })
+}
+
+fn drill_request(alloc: Global, matches: &ArgMatches<'_>) -> Result<Request, WordFault>
+    requires def { HasWord (codes "DEF") (rows_of (found_of matches.now)) }
+    requires offices { HasNumber (codes "OFFICES") 1 64 (rows_of (found_of matches.now)) }
+    ensures ok { IfOk result (λ r. Asks (codes "drill") (rows_of (found_of matches.now)) r) }
+    ensures err { IfErr result (λ f. IsDrillFault (codes "drill") (rows_of (found_of matches.now)) f) }
+{
+    let read = steps_at(alloc, matches)?;
+    Ok(Request {
+        task: Task::Drill {
+            offices: offices_of(matches),
+            steps: read.steps,
+        },
+        def: word_at(alloc, matches, "DEF")?,
+        paths: read.paths,
+    })
+}
+
+/// The request of a command, by its name and its matches.
+pub(crate) fn request_of(
+    alloc: Global,
+    name: &str,
+    matches: &ArgMatches<'_>,
+) -> Result<Request, WordFault>
+    requires named { Any (λ x. x ≡ name.now) command_names }
+    requires whole { IsWhole name.now (rows_of (found_of matches.now)) }
+    ensures ok { IfOk result (λ r. Asks name.now (rows_of (found_of matches.now)) r) }
+    ensures err { IfErr result (λ f. IsDrillFault name.now (rows_of (found_of matches.now)) f) }
+{
+    let task = match name {
+        "currents" => Task::Currents,
+        "conflicts" => Task::Conflicts,
+        "tally" => Task::Tally,
+        "check" => Task::Check,
+        "merge" => merge_task(alloc, matches)?,
+        "drill" => return drill_request(alloc, matches),
+        _ => unreachable!(),
+    };
+    Ok(files_request(alloc, task, matches)?)
+}
