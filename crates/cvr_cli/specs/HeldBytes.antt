@@ -15,7 +15,7 @@ HeldTextLaw = (task : Task) (def : List ℕ) (paths files : List (List ℕ)) →
 
 -- tells the same refusals
 abbrev pub HeldLinesLaw : Type 0
-HeldLinesLaw = (what def : List ℕ) (paths files : List (List ℕ)) → run_lines what (held_part def) paths (map held_part files) ≡ run_lines what def paths files
+HeldLinesLaw = (task : Task) (what def : List ℕ) (paths files : List (List ℕ)) → run_lines task what (held_part def) paths (map held_part files) ≡ run_lines task what def paths files
 
 -- has the same fault of a merge
 abbrev pub HeldFaultLaw : Type 0

@@ -1,15 +1,17 @@
 -- What is held of files is what an office holds after their imports; neither their order nor a file that comes again changes it. (This project's own.)
-use Rattle.std.specs.Prelude.{◌≡◌, ◌≢◌, ◌↔◌, ℕ, zero, suc, length, get_or, List, [], ◌∷◌, ◌++◌, codes, decimal, Some, None}
+use Rattle.std.specs.Prelude.{◌≡◌, ◌≢◌, ◌↔◌, ◌<◌, ◌≤◌, ◌+◌, ◌-◌, ℕ, zero, suc, length, get_or, List, [], ◌∷◌, ◌++◌, replicate, codes, decimal, Some, None}
 use Rattle.std.specs.List.{Contains, flat_map}
+use Rattle.std.specs.FinSet.{empty}
 use Rattle.cdf_check.specs.Frame.{Frame}
 use Rattle.cdf_check.specs.Acceptance.{first_refusal}
 use Rattle.cvr_facts.specs.Facts.{Facts}
 use Rattle.cvr_facts.specs.Reports.{facts}
+use Rattle.cvr_collect.specs.declared.event.Event.{Event}
 use Rattle.cvr_collect.specs.declared.event.Event.TheVariants.{Import}
 use Rattle.cvr_collect.specs.Keeps.{starting}
 use Rattle.cvr_collect.specs.Readers.{growth}
 use Rattle.cvr_collect.specs.Reach.{History, content}
-use Rattle.cvr_collect.specs.Outcomes.{due}
+use Rattle.cvr_collect.specs.Outcomes.{due, AreOutcomes}
 use Rattle.cvr_collect.specs.Names.{conflicts}
 use Rattle.cvr_collect.specs.Tallied.{tally}
 use Rattle.cvr_report.specs.Page.{volumes}
@@ -17,6 +19,7 @@ use Rattle.cvr_report.specs.Volume.{volume}
 use Rattle.cvr_cli.specs.declared.merge.MergeFault.{MergeFault}
 use Rattle.cvr_cli.specs.declared.merge.MergeFault.TheVariants.{NoVolume}
 use Rattle.cvr_cli.specs.Currents.{currents, conflict_line, conflict_text}
+use Rattle.cvr_cli.specs.Drill.{new_offices, past_of, least_same}
 use Rattle.cvr_cli.specs.Merge.{merge_fault, merge_text}
 use Rattle.cvr_cli.specs.Outcome.{held}
 
@@ -81,3 +84,18 @@ ToldNumberLaw = (definition : Frame) (date device : List ℕ) (i : ℕ) (facts :
 -- and `conflicts` ends with it
 abbrev pub LastNumberLaw : Type 0
 LastNumberLaw = (facts : Facts) → conflict_text (conflicts facts) ≡ flat_map conflict_line (conflicts facts) ++ (codes "volumes " ++ (decimal (volumes facts) ++ 10 ∷ []))
+
+-- ---- a drill
+
+-- the outcomes that are due to its events are such as may be told of them
+abbrev pub DueLaw : Type 0
+DueLaw = (definition : Frame) (n : ℕ) (files : List (List ℕ)) (events : List Event) → AreOutcomes (new_offices definition n) (replicate n definition) files (past_of definition n files events)
+
+-- the number that is told of the office at place o: no higher than its own, of an office with the same facts, and of no earlier one
+pub record IsLeast (all : List Facts) (o : ℕ) : Type 0 where
+  pub at_most : least_same all (get_or all o empty) ≤ o + 1
+  pub same : get_or all (least_same all (get_or all o empty) - 1) empty ≡ get_or all o empty
+  pub least : (k : ℕ) → k + 1 < least_same all (get_or all o empty) → get_or all k empty ≢ get_or all o empty
+
+abbrev pub LeastSameLaw : Type 0
+LeastSameLaw = (all : List Facts) (o : ℕ) → o < length all → IsLeast all o

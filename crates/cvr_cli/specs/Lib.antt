@@ -1,11 +1,12 @@
 pub mod File
 pub mod Accepted
+pub mod Refusals
+pub mod Drill
 pub mod Currents
 pub mod Outcome
 pub mod Log
 pub mod Merge
 pub mod Status
-pub mod Refusals
 pub mod Told
 pub mod Printing
 pub mod Ends

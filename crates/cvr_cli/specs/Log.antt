@@ -5,6 +5,9 @@ use Rattle.cdf_types.specs.Device.{appended, AppendsFront}
 use Rattle.cdf_types.specs.declared.fault.ReadFault.{ReadFault}
 use Rattle.cdf_types.specs.declared.fault.ReadFault.TheVariants.{TooLong, NotJson, Schema, Reference, Disagrees, Memory}
 use Rattle.cdf_types.specs.Rule.{number_of}
+use Rattle.cvr_collect.specs.declared.event.Cause.{Cause}
+use Rattle.cvr_collect.specs.declared.event.Cause.TheVariants.{Read, Join, NoOffice, NoFile}
+use Rattle.cvr_collect.specs.declared.fault.JoinFault.TheVariants as join
 
 -- the cause, then the path as a JSON string without its quotes, then the rule's number
 abbrev pub fault_text : ReadFault → List ℕ
@@ -15,9 +18,20 @@ fault_text (Reference path) = codes "E4 " ++ escape path
 fault_text (Disagrees path) = codes "E5 " ++ escape path
 fault_text Memory = codes "E6"
 
+-- the code of any cause
+abbrev pub cause_text : Cause → List ℕ
+cause_text (Read fault) = fault_text fault
+cause_text (Join join.OtherDefinition) = codes "J1"
+cause_text (Join join.Memory) = codes "J2"
+cause_text NoOffice = codes "N1"
+cause_text NoFile = codes "N2"
+
 -- what was refused, as it was given, and why
 abbrev pub fault_line : List ℕ → ReadFault → List ℕ
 fault_line what fault = what ++ (codes ": " ++ (fault_text fault ++ 10 ∷ []))
+
+abbrev pub cause_line : List ℕ → Cause → List ℕ
+cause_line what cause = what ++ (codes ": " ++ (cause_text cause ++ 10 ∷ []))
 
 -- whether a path stands in the line: its spelling alone takes memory
 abbrev pub has_path : ReadFault → Bool
@@ -27,6 +41,12 @@ has_path (Schema path rule) = true
 has_path (Reference path) = true
 has_path (Disagrees path) = true
 has_path Memory = false
+
+abbrev pub has_path_in : Cause → Bool
+has_path_in (Read fault) = has_path fault
+has_path_in (Join fault) = false
+has_path_in NoOffice = false
+has_path_in NoFile = false
 
 -- want of memory that no file is told for; it stands in the place of a line whose path could not be spelled
 abbrev pub memory_line : List ℕ

@@ -12,7 +12,7 @@ use Rattle.cvr_facts.specs.Facts.{Facts}
 use Rattle.cvr_facts.specs.Reports.{facts}
 use Rattle.cvr_cli.specs.declared.merge.MergeFault.{MergeFault}
 use Rattle.cvr_cli.specs.declared.request.Task.{Task}
-use Rattle.cvr_cli.specs.declared.request.Task.TheVariants.{Currents, Check, Conflicts, Tally, Merge}
+use Rattle.cvr_cli.specs.declared.request.Task.TheVariants.{Currents, Check, Conflicts, Tally, Merge, Drill}
 use Rattle.cvr_cli.specs.declared.status.Status.{Status}
 use Rattle.cvr_cli.specs.declared.status.Status.TheVariants.{Done, Refused}
 use Rattle.cvr_cli.specs.Accepted.{is_unsound, is_refused, accepted}
@@ -21,6 +21,7 @@ use Rattle.cvr_collect.specs.Tallied.{tally}
 use Rattle.cvr_collect.specs.Keeps.{starting}
 use Rattle.cvr_collect.specs.Reach.{union_over}
 use Rattle.cvr_cli.specs.Currents.{currents, conflict_text}
+use Rattle.cvr_cli.specs.Drill.{drill_text, drill_refused}
 use Rattle.cvr_cli.specs.Merge.{merge_fault, merge_text}
 
 -- ---- what a run holds
@@ -49,17 +50,19 @@ check_lines definition [] files = []
 check_lines definition (path ∷ paths) [] = []
 check_lines definition (path ∷ paths) (file ∷ files) = check_line definition path file ++ check_lines definition paths files
 
--- the text of a task over facts: `check` prints nothing of them
+-- the text of a task over facts: `check` and `drill` print nothing of them
 abbrev pub facts_text : Frame → Task → Facts → List ℕ
 facts_text definition Currents facts = currents facts
 facts_text definition Conflicts facts = conflict_text (conflicts facts)
 facts_text definition Tally facts = tally definition.contests facts
 facts_text definition Check facts = []
 facts_text definition (Merge date device i) facts = merge_text definition date device (non_zero_u32_get i) facts
+facts_text definition (Drill n steps) facts = []
 
 -- the text of a task over files
 abbrev pub task_text : Frame → Task → List (List ℕ) → List (List ℕ) → List ℕ
 task_text definition Check paths files = check_lines definition paths files
+task_text definition (Drill n steps) paths files = drill_text definition n files steps
 task_text definition task paths files = facts_text definition task (held definition files)
 
 -- the text of a run: nothing where the file of the definition is refused
@@ -75,6 +78,7 @@ facts_fault definition Conflicts facts = None
 facts_fault definition Tally facts = None
 facts_fault definition Check facts = None
 facts_fault definition (Merge date device i) facts = merge_fault definition date device (non_zero_u32_get i) facts
+facts_fault definition (Drill n steps) facts = None
 
 -- the same over files
 abbrev pub task_fault : Frame → Task → List (List ℕ) → Option MergeFault
@@ -84,9 +88,14 @@ task_fault definition task files = facts_fault definition task (held definition 
 abbrev pub run_fault : Task → List ℕ → List (List ℕ) → Option MergeFault
 run_fault task def files = if is_unsound def then None else task_fault (frame_in def) task files
 
--- whether the task or a file is refused beside a definition
+-- whether the text of a task over facts or a file is refused beside a definition
+abbrev pub files_refused : Frame → Task → List (List ℕ) → Bool
+files_refused definition task files = is_some (task_fault definition task files) || list_any (is_refused definition) files
+
+-- whether a step of a drill is refused; of another task, the task or a file
 abbrev pub task_refused : Frame → Task → List (List ℕ) → Bool
-task_refused definition task files = is_some (task_fault definition task files) || list_any (is_refused definition) files
+task_refused definition (Drill n steps) files = drill_refused definition n files steps
+task_refused definition task files = files_refused definition task files
 
 -- whether the file of the definition, the task or another file is refused
 abbrev pub any_refused : Task → List ℕ → List (List ℕ) → Bool

@@ -1,11 +1,13 @@
 -- What a run has refused, and its status. (This project's own.)
-use Rattle.std.specs.Prelude.{◌≡◌, ◌<◌, ◌⊎◌, ℕ, List, length, get_or, Bool, true, false, ◌||◌, if◌then◌else◌, Option, Some, None, is_some}
+use Rattle.std.specs.Prelude.{◌≡◌, ◌<◌, ℕ, List, length, get_or, Bool, true, false, ◌||◌, if◌then◌else◌, Option, Some, None, is_some, option_map}
 use Rattle.std.specs.Option.{option_map_or}
 use Rattle.cdf_types.specs.declared.fault.ReadFault.{ReadFault}
 use Rattle.cdf_types.specs.declared.fault.ReadFault.TheVariants.{TooLong, NotJson, Schema, Reference, Disagrees, Memory}
+use Rattle.cvr_collect.specs.declared.event.Cause.{Cause}
 use Rattle.cvr_collect.specs.declared.event.Cause.TheVariants.{Read, Join, NoOffice, NoFile}
 use Rattle.cvr_collect.specs.declared.event.Outcome.{Outcome}
 use Rattle.cvr_collect.specs.declared.event.Outcome.TheVariants as outcome
+use Rattle.cvr_collect.specs.declared.fault.JoinFault.TheVariants as join
 use Rattle.cvr_cli.specs.declared.refusals.Refusals.{Refusals}
 use Rattle.cvr_cli.specs.declared.status.Status.{Status}
 use Rattle.cvr_cli.specs.declared.status.Status.TheVariants as status
@@ -19,26 +21,49 @@ is_memory (Reference path) = false
 is_memory (Disagrees path) = false
 is_memory Memory = true
 
--- the fault for which an outcome says that a file was refused
-abbrev pub fault_in : Outcome → Option ReadFault
-fault_in (outcome.Accepted n) = None
-fault_in (outcome.Refused (Read fault)) = Some fault
-fault_in (outcome.Refused (Join fault)) = None
-fault_in (outcome.Refused NoOffice) = None
-fault_in (outcome.Refused NoFile) = None
+-- the same of any cause
+abbrev pub wants_memory : Cause → Bool
+wants_memory (Read fault) = is_memory fault
+wants_memory (Join join.OtherDefinition) = false
+wants_memory (Join join.Memory) = true
+wants_memory NoOffice = false
+wants_memory NoFile = false
+
+-- the cause for which an outcome says that something was refused
+abbrev pub cause_in : Outcome → Option Cause
+cause_in (outcome.Accepted n) = None
+cause_in (outcome.Refused cause) = Some cause
 
 -- whether it says so
 abbrev pub is_refusal : Outcome → Bool
-is_refusal outcome = is_some (fault_in outcome)
+is_refusal outcome = is_some (cause_in outcome)
 
 -- whether it says so for want of memory
 abbrev pub is_want : Outcome → Bool
-is_want outcome = option_map_or is_memory (fault_in outcome) false
+is_want outcome = option_map_or wants_memory (cause_in outcome) false
 
--- the outcomes tell of files with these faults, want of memory aside
-pub record AreDue (faults : List (Option ReadFault)) (outcomes : List Outcome) : Type 0 where
-  pub count : length faults ≡ length outcomes
-  pub each : (k : ℕ) → k < length outcomes → (fault_in (get_or outcomes k (outcome.Accepted 0)) ≡ get_or faults k None) ⊎ (fault_in (get_or outcomes k (outcome.Accepted 0)) ≡ Some Memory)
+-- what is due to a file or a step: the cause for which it is refused, if there is one; and the want of memory that may be told in its place, if it takes memory
+pub record Due : Type 0 where
+  pub cause : Option Cause
+  pub want : Option Cause
+
+-- nothing
+abbrev pub no_due : Due
+no_due = record { cause = None; want = None }
+
+-- what is due to a file with this first fault, or none
+abbrev pub file_due : Option ReadFault → Due
+file_due fault = record { cause = option_map Read fault; want = Some (Read Memory) }
+
+-- it was accepted where it is due, or refused by the cause that is due, or for want of memory in its place
+abbrev pub IsDue : Due → Option Cause → Type 0
+IsDue due None = due.cause ≡ None
+IsDue due (Some cause) = (if wants_memory cause then due.want else due.cause) ≡ Some cause
+
+-- each outcome is so
+pub record AreDue (dues : List Due) (outcomes : List Outcome) : Type 0 where
+  pub count : length dues ≡ length outcomes
+  pub each : (k : ℕ) → k < length outcomes → IsDue (get_or dues k no_due) (cause_in (get_or outcomes k (outcome.Accepted 0)))
 
 -- want of memory is worst, then a refusal
 abbrev pub status_of : Refusals → Status

@@ -1,6 +1,9 @@
 -- Worked examples: what a run tells of refused files. (This project's own.)
 use Rattle.std.specs.Prelude.{◌≡◌, ℕ, List, [], ◌∷◌, ◌++◌, codes}
 use Rattle.cdf_check.specs.Rows as file
+use Rattle.cvr_cli.specs.declared.request.Task.TheVariants.{Currents, Drill}
+use Rattle.cvr_cli.specs.declared.request.Act.TheVariants.{Import, Exchange}
+use Rattle.cvr_cli.specs.declared.request.Step.{Step}
 use Rattle.cvr_cli.specs.Told.{run_lines}
 
 -- a cast vote record without UniqueId, one that is accepted, and one with a selection of another contest
@@ -13,13 +16,28 @@ three_files = file.two_faults_file ∷ file.one_file ∷ file.other_selection_fi
 -- a line for each of the two that are refused, in order
 abbrev pub TwoRefused : Type 0
 TwoRefused =
-    run_lines (codes "def.json") file.definition_file three_paths three_files
+    run_lines Currents (codes "def.json") file.definition_file three_paths three_files
     ≡ codes "a.json: E3 /CVR/0/UniqueId 2\n" ++ codes "c.json: E4 /CVR/0/CVRSnapshot/0/CVRContest/0/CVRContestSelection/0/ContestSelectionId\n"
 
 -- and of one with another election
 abbrev pub OtherElection : Type 0
-OtherElection = run_lines (codes "def.json") file.definition_file (codes "d.json" ∷ []) (file.other_election_file ∷ []) ≡ codes "d.json: E5 /Election/0\n"
+OtherElection = run_lines Currents (codes "def.json") file.definition_file (codes "d.json" ∷ []) (file.other_election_file ∷ []) ≡ codes "d.json: E5 /Election/0\n"
 
 -- of a definition that is refused its line alone, under its own path
 abbrev pub DefinitionRefused : Type 0
-DefinitionRefused = run_lines (codes "def.json") file.two_faults_file three_paths three_files ≡ codes "def.json: E3 /CVR/0/UniqueId 2\n"
+DefinitionRefused = run_lines Currents (codes "def.json") file.two_faults_file three_paths three_files ≡ codes "def.json: E3 /CVR/0/UniqueId 2\n"
+
+-- ---- a drill of three offices
+
+abbrev pub eight_steps : List Step
+eight_steps =
+    record { text = codes "1=b.json"; act = Import 1 1 } ∷ record { text = codes "2=a.json"; act = Import 2 0 } ∷ record { text = codes "1>4"; act = Exchange 1 4 } ∷
+    record { text = codes "1>3"; act = Exchange 1 3 } ∷ record { text = codes "0=b.json"; act = Import 0 1 } ∷ record { text = codes "3=c.json"; act = Import 3 2 } ∷
+    record { text = codes "2>2"; act = Exchange 2 2 } ∷ record { text = codes "3>0"; act = Exchange 3 0 } ∷ []
+
+-- a line for each of the five that are refused: two for their files, and three since there is no office 4 and no office 0
+abbrev pub FiveStepsRefused : Type 0
+FiveStepsRefused =
+    run_lines (Drill 3 eight_steps) (codes "def.json") file.definition_file three_paths three_files
+    ≡ codes "2=a.json: E3 /CVR/0/UniqueId 2\n" ++ codes "1>4: N1\n" ++ codes "0=b.json: N1\n"
+    ++ codes "3=c.json: E4 /CVR/0/CVRSnapshot/0/CVRContest/0/CVRContestSelection/0/ContestSelectionId\n" ++ codes "3>0: N1\n"

@@ -1,36 +1,51 @@
--- What a run tells to its log: a line for each refused file, and what stands in its place where memory was wanting. (This project's own.)
-use Rattle.std.specs.Prelude.{◌≡◌, ◌⊎◌, ◌&&◌, ◌||◌, ℕ, List, [], ◌∷◌, ◌++◌, length, map, codes, Bool, true, false, if◌then◌else◌, Option, Some, None}
+-- What a run tells to its log: a line for each refused file or step, and what stands in its place where memory was wanting. (This project's own.)
+use Rattle.std.specs.Prelude.{◌≡◌, ◌⊎◌, ◌&&◌, ◌||◌, ℕ, List, [], ◌∷◌, ◌++◌, length, map, codes, Bool, true, false, if◌then◌else◌, Option, Some, None, is_some}
 use Rattle.std.specs.List.{list_any}
-use Rattle.cdf_types.specs.declared.fault.ReadFault.{ReadFault}
-use Rattle.cdf_types.specs.declared.fault.ReadFault.TheVariants.{Memory}
+use Rattle.std.specs.Option.{option_map_or}
 use Rattle.cdf_check.specs.Frame.{Frame}
 use Rattle.cdf_check.specs.Acceptance.{frame_in, first_refusal, first_unsound}
+use Rattle.cvr_collect.specs.declared.event.Cause.{Cause}
 use Rattle.cvr_cli.specs.declared.refusals.Refusals.{Refusals}
+use Rattle.cvr_cli.specs.declared.request.Task.{Task}
+use Rattle.cvr_cli.specs.declared.request.Task.TheVariants.{Drill}
 use Rattle.cvr_cli.specs.Accepted.{is_unsound}
 use Rattle.cvr_cli.specs.declared.merge.MergeFault.{MergeFault}
-use Rattle.cvr_cli.specs.Log.{fault_line, memory_line, has_path, Logs}
+use Rattle.cvr_cli.specs.Drill.{step_texts, step_dues}
+use Rattle.cvr_cli.specs.Log.{cause_line, memory_line, has_path_in, Logs}
 use Rattle.cvr_cli.specs.Merge.{merge_lines}
+use Rattle.cvr_cli.specs.Refusals.{Due, file_due}
 
 -- ---- where memory was not wanting
 
--- the line of what is refused for this fault, or nothing where there is none
-abbrev pub refusal_line : List ℕ → Option ReadFault → List ℕ
+-- the line of what is refused for this cause, or nothing where there is none
+abbrev pub refusal_line : List ℕ → Option Cause → List ℕ
 refusal_line what None = []
-refusal_line what (Some fault) = fault_line what fault
+refusal_line what (Some cause) = cause_line what cause
 
--- the lines of files, by their paths and faults, in order
-abbrev pub refusal_lines : List (List ℕ) → List (Option ReadFault) → List ℕ
-refusal_lines [] faults = []
-refusal_lines (path ∷ paths) [] = []
-refusal_lines (path ∷ paths) (fault ∷ faults) = refusal_line path fault ++ refusal_lines paths faults
+-- the lines of files or of steps, by their texts and what is due to them, in order
+abbrev pub refusal_lines : List (List ℕ) → List Due → List ℕ
+refusal_lines [] dues = []
+refusal_lines (what ∷ texts) [] = []
+refusal_lines (what ∷ texts) (due ∷ dues) = refusal_line what due.cause ++ refusal_lines texts dues
 
--- the first fault of each file beside a definition, if it has one
-abbrev pub faults_of : Frame → List (List ℕ) → List (Option ReadFault)
-faults_of definition files = map (first_refusal definition) files
+-- what is due to each file beside a definition
+abbrev pub file_dues : Frame → List (List ℕ) → List Due
+file_dues definition files = map (λ file. file_due (first_refusal definition file)) files
 
--- what a run tells: of the definition alone where it is refused, else of each refused file
-abbrev pub run_lines : List ℕ → List ℕ → List (List ℕ) → List (List ℕ) → List ℕ
-run_lines what def paths files = if is_unsound def then refusal_line what (first_unsound def) else refusal_lines paths (faults_of (frame_in def) files)
+-- the texts by which a run tells what it refuses: of a drill its steps, else the paths of files
+abbrev pub texts_of : Task → List (List ℕ) → List (List ℕ)
+texts_of (Drill n steps) paths = step_texts steps
+texts_of task paths = paths
+
+-- what is due to each of them
+abbrev pub dues_of : Frame → Task → List (List ℕ) → List Due
+dues_of definition (Drill n steps) files = step_dues definition n files steps
+dues_of definition task files = file_dues definition files
+
+-- what a run tells: of the definition alone where it is refused, else of each refused file or step
+abbrev pub run_lines : Task → List ℕ → List ℕ → List (List ℕ) → List (List ℕ) → List ℕ
+run_lines task what def paths files =
+    if is_unsound def then refusal_line what (file_due (first_unsound def)).cause else refusal_lines (texts_of task paths) (dues_of (frame_in def) task files)
 
 -- where the output has failed
 abbrev pub out_line : Bool → List ℕ
@@ -43,23 +58,22 @@ last_lines fault out_failed = merge_lines fault ++ out_line out_failed
 
 -- ---- where memory was wanting
 
--- how a file was told: as it is due; or by `E6`, since memory was refused for the file; or by `memory`, since it was refused for the spelling of a path
+-- how a file or a step was told: as it is due; or by `E6` or `J2`, since memory was refused for it; or by `memory`, since it was refused for the spelling of a path
 pub data Telling : Type 0 where
   AsDue : Telling
   Lacking : Telling
   Unspelled : Telling
 
-abbrev pub told_line : Telling → List ℕ → Option ReadFault → List ℕ
-told_line AsDue path fault = refusal_line path fault
-told_line Lacking path fault = fault_line path Memory
-told_line Unspelled path fault = memory_line
+abbrev pub told_line : Telling → List ℕ → Due → List ℕ
+told_line AsDue what due = refusal_line what due.cause
+told_line Lacking what due = refusal_line what due.want
+told_line Unspelled what due = memory_line
 
--- only a line with a path can be left unspelled
-abbrev pub can_be : Telling → Option ReadFault → Bool
-can_be AsDue fault = true
-can_be Lacking fault = true
-can_be Unspelled None = false
-can_be Unspelled (Some fault) = has_path fault
+-- only what takes memory can lack it, and only a line with a path can be left unspelled
+abbrev pub can_be : Telling → Due → Bool
+can_be AsDue due = true
+can_be Lacking due = is_some due.want
+can_be Unspelled due = option_map_or has_path_in due.cause false
 
 abbrev pub is_lacking : Telling → Bool
 is_lacking AsDue = false
@@ -75,49 +89,49 @@ is_unspelled Unspelled = true
 abbrev pub is_short : Telling → Bool
 is_short telling = is_lacking telling || is_unspelled telling
 
--- the lines of the first files, as many as there are tellings
-abbrev pub told_lines : List Telling → List (List ℕ) → List (Option ReadFault) → List ℕ
-told_lines [] paths faults = []
-told_lines (telling ∷ tellings) [] faults = []
-told_lines (telling ∷ tellings) (path ∷ paths) [] = []
-told_lines (telling ∷ tellings) (path ∷ paths) (fault ∷ faults) = told_line telling path fault ++ told_lines tellings paths faults
+-- the lines of the first, as many as there are tellings
+abbrev pub told_lines : List Telling → List (List ℕ) → List Due → List ℕ
+told_lines [] texts dues = []
+told_lines (telling ∷ tellings) [] dues = []
+told_lines (telling ∷ tellings) (what ∷ texts) [] = []
+told_lines (telling ∷ tellings) (what ∷ texts) (due ∷ dues) = told_line telling what due ++ told_lines tellings texts dues
 
 -- each of them can be told so
-abbrev pub can_all : List Telling → List (Option ReadFault) → Bool
-can_all [] faults = true
+abbrev pub can_all : List Telling → List Due → Bool
+can_all [] dues = true
 can_all (telling ∷ tellings) [] = false
-can_all (telling ∷ tellings) (fault ∷ faults) = can_be telling fault && can_all tellings faults
+can_all (telling ∷ tellings) (due ∷ dues) = can_be telling due && can_all tellings dues
 
--- a log that was told of the first n files, and what a run then keeps of its refusals
-pub record Tells (paths : List (List ℕ)) (faults : List (Option ReadFault)) (n : ℕ) (refusals : Refusals)
+-- a log that was told of the first n files or steps, and what a run then keeps of its refusals
+pub record Tells (texts : List (List ℕ)) (dues : List Due) (n : ℕ) (refusals : Refusals)
     (before : Option (List ℕ)) (had_failed : Bool) (after : Option (List ℕ)) (has_failed : Bool) : Type 0 where
   pub tellings : List Telling
   pub count : length tellings ≡ n
-  pub possible : can_all tellings faults ≡ true
+  pub possible : can_all tellings dues ≡ true
   pub file_lacking : refusals.file_lacking ≡ list_any is_lacking tellings
   pub path_unspelled : refusals.path_unspelled ≡ list_any is_unspelled tellings
-  pub logs : Logs before had_failed after has_failed (told_lines tellings paths faults)
+  pub logs : Logs before had_failed after has_failed (told_lines tellings texts dues)
 
--- what is told of files in a run that ends for want of memory: of the first ones, and then `memory`; or of all, one of them lacking; or of all, none lacking but one unspelled, and then the rest
-pub record IsCutShort (paths : List (List ℕ)) (faults : List (Option ReadFault)) (rest text : List ℕ) : Type 0 where
+-- what is told of files or steps in a run that ends for want of memory: of the first ones, and then `memory`; or of all, one of them lacking; or of all, none lacking but one unspelled, and then the rest
+pub record IsCutShort (texts : List (List ℕ)) (dues : List Due) (rest text : List ℕ) : Type 0 where
   pub tellings : List Telling
-  pub possible : can_all tellings faults ≡ true
-  pub ends : (text ≡ told_lines tellings paths faults ++ memory_line)
-      ⊎ ((length tellings ≡ length faults) × (list_any is_lacking tellings ≡ true) × (text ≡ told_lines tellings paths faults))
-      ⊎ ((length tellings ≡ length faults) × (list_any is_lacking tellings ≡ false) × (list_any is_unspelled tellings ≡ true) × (text ≡ told_lines tellings paths faults ++ rest))
+  pub possible : can_all tellings dues ≡ true
+  pub ends : (text ≡ told_lines tellings texts dues ++ memory_line)
+      ⊎ ((length tellings ≡ length dues) × (list_any is_lacking tellings ≡ true) × (text ≡ told_lines tellings texts dues))
+      ⊎ ((length tellings ≡ length dues) × (list_any is_lacking tellings ≡ false) × (list_any is_unspelled tellings ≡ true) × (text ≡ told_lines tellings texts dues ++ rest))
 
 -- the same of a whole run, that of the definition included
-abbrev pub IsRunCutShort : List ℕ → List ℕ → List (List ℕ) → List (List ℕ) → List ℕ → List ℕ → Type 0
-IsRunCutShort what def paths files rest text =
-    ((telling : Telling) × (can_be telling (first_unsound def) ≡ true) × (is_short telling ≡ true) × (text ≡ told_line telling what (first_unsound def)))
-    ⊎ ((is_unsound def ≡ false) × IsCutShort paths (faults_of (frame_in def) files) rest text)
+abbrev pub IsRunCutShort : Task → List ℕ → List ℕ → List (List ℕ) → List (List ℕ) → List ℕ → List ℕ → Type 0
+IsRunCutShort task what def paths files rest text =
+    ((telling : Telling) × (can_be telling (file_due (first_unsound def)) ≡ true) × (is_short telling ≡ true) × (text ≡ told_line telling what (file_due (first_unsound def))))
+    ⊎ ((is_unsound def ≡ false) × IsCutShort (texts_of task paths) (dues_of (frame_in def) task files) rest text)
 
 -- the log took the text that one of these is
 abbrev pub LogsSome : (List ℕ → Type 0) → Option (List ℕ) → Bool → Option (List ℕ) → Bool → Type 0
 LogsSome P before had_failed after has_failed = (text : List ℕ) × P text × Logs before had_failed after has_failed text
 
--- of the files of a run: whether memory was wanting for it, and what the log then took; after the lines of the files come the rest
-pub record TellsRun (paths : List (List ℕ)) (faults : List (Option ReadFault)) (wanting : Type 0) (rest : List ℕ)
+-- of the files or steps of a run: whether memory was wanting for it, and what the log then took; after their lines comes the rest
+pub record TellsRun (texts : List (List ℕ)) (dues : List Due) (wanting : Type 0) (rest : List ℕ)
     (before : Option (List ℕ)) (had_failed : Bool) (after : Option (List ℕ)) (has_failed : Bool) : Type 0 where
-  pub log : ¬ wanting → Logs before had_failed after has_failed (refusal_lines paths faults ++ rest)
-  pub cut_short : wanting → LogsSome (IsCutShort paths faults rest) before had_failed after has_failed
+  pub log : ¬ wanting → Logs before had_failed after has_failed (refusal_lines texts dues ++ rest)
+  pub cut_short : wanting → LogsSome (IsCutShort texts dues rest) before had_failed after has_failed

@@ -69,5 +69,5 @@ pub record Runs (file_at : List ℕ → At) (task : Task) (what : List ℕ) (pat
   pub files : List (List ℕ)
   pub read : AreRead file_at (what ∷ paths) (def ∷ files)
   pub ends : Ends out_before out_after out_failed (run_text task def paths files) (any_refused task def files) answer
-  pub log : answer ≢ status.Memory → Logs before had_failed after has_failed (run_lines what def paths files ++ last_lines (run_fault task def files) out_failed)
-  pub cut_short : answer ≡ status.Memory → LogsSome (IsRunCutShort what def paths files (last_lines (run_fault task def files) out_failed)) before had_failed after has_failed
+  pub log : answer ≢ status.Memory → Logs before had_failed after has_failed (run_lines task what def paths files ++ last_lines (run_fault task def files) out_failed)
+  pub cut_short : answer ≡ status.Memory → LogsSome (IsRunCutShort task what def paths files (last_lines (run_fault task def files) out_failed)) before had_failed after has_failed
