@@ -8,7 +8,7 @@ use Rattle.cdf_check.proofs.Accepting.{sound_file, valid_file}
 use Rattle.cvr_cli.specs.declared.request.Task.{Task}
 use Rattle.cvr_cli.specs.Accepted.{is_unsound}
 use Rattle.cvr_cli.specs.Outcome.{task_text, run_text, task_fault, run_fault, task_refused, any_refused}
-use Rattle.cvr_cli.specs.Told.{refusal_lines, faults_of, run_lines, last_lines}
+use Rattle.cvr_cli.specs.Told.{refusal_lines, texts_of, dues_of, run_lines, last_lines}
 
 pub none_refuses : (definition : Frame) (bytes : List ℕ) → Valid definition bytes → first_refusal definition bytes ≡ None
 none_refuses definition bytes valid = (valid_file definition bytes).1 valid
@@ -23,9 +23,9 @@ pub text_beside : (task : Task) (def : List ℕ) (definition : Frame) (paths fil
 text_beside task def definition paths files s is = ap (λ d. task_text d task paths files) is ∙ rw (is_sound def s) refl
 
 pub lines_beside : (task : Task) (what def : List ℕ) (definition : Frame) (paths files : List (List ℕ)) (out_failed : Bool) → Sound def → definition ≡ frame_in def
-    → refusal_lines paths (faults_of definition files) ++ last_lines (task_fault definition task files) out_failed ≡ run_lines what def paths files ++ last_lines (run_fault task def files) out_failed
+    → refusal_lines (texts_of task paths) (dues_of definition task files) ++ last_lines (task_fault definition task files) out_failed ≡ run_lines task what def paths files ++ last_lines (run_fault task def files) out_failed
 lines_beside task what def definition paths files out_failed s is =
-    ap (λ d. refusal_lines paths (faults_of d files) ++ last_lines (task_fault d task files) out_failed) is ∙ rw (is_sound def s) refl
+    ap (λ d. refusal_lines (texts_of task paths) (dues_of d task files) ++ last_lines (task_fault d task files) out_failed) is ∙ rw (is_sound def s) refl
 
 pub last_beside : (task : Task) (def : List ℕ) (definition : Frame) (files : List (List ℕ)) (out_failed : Bool) → Sound def → definition ≡ frame_in def
     → last_lines (task_fault definition task files) out_failed ≡ last_lines (run_fault task def files) out_failed

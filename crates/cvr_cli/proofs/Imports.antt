@@ -1,5 +1,5 @@
 -- The imports of files into one office, where none lacked memory.
-use Rattle.std.proofs.Common.{◌≡◌, ℕ, zero, suc, ◌<◌, ◌≤◌, List, [], ◌∷◌, ◌++◌, length, get_or, map, take, reverse, length-take, add-one, false, ◌||◌, Option, Some, None, ◌⊎◌, inl, inr, refl, sym, ap, ◌∙◌, subst, arith, true≢false}
+use Rattle.std.proofs.Common.{◌≡◌, ℕ, zero, suc, ◌<◌, ◌≤◌, List, [], ◌∷◌, ◌++◌, length, get_or, map, take, reverse, length-take, add-one, false, ◌||◌, Option, Some, None, inl, inr, refl, sym, ap, ◌∙◌, subst, arith, true≢false}
 use Rattle.std.specs.Prelude.{is_some}
 use Rattle.std.proofs.lemmas.List.{take_more, take_all, reverse-append, length-map, get_or-map}
 use Rattle.std.proofs.lemmas.Bool.{cases_lt}
@@ -20,15 +20,12 @@ use Rattle.cvr_collect.specs.Readers.{growth}
 use Rattle.cvr_collect.specs.Reach.{History, history, content}
 use Rattle.cvr_collect.specs.Outcomes.{due, AreOutcomes}
 use Rattle.cvr_cli.specs.Accepted.{is_refused}
-use Rattle.cvr_cli.specs.Refusals.{fault_in, is_refusal, is_want, AreDue}
-use Rattle.cvr_cli.specs.Told.{faults_of}
+use Rattle.cvr_cli.specs.Refusals.{no_due, file_due, IsDue, AreDue, cause_in, is_refusal, is_want}
+use Rattle.cvr_cli.specs.Told.{file_dues}
 use Rattle.cvr_cli.specs.Laws.{imports}
 use Rattle.cvr_cli.specs.Outcome.{held}
 use Rattle.cvr_cli.proofs.Members.{content_is_held}
-
-fault_in-due : (first : Option ReadFault) (n : ℕ) → fault_in (due first n) ≡ first
-fault_in-due None n = refl
-fault_in-due (Some fault) n = refl
+use Rattle.cvr_cli.proofs.Steps.{file_told}
 
 is_refusal-due : (first : Option ReadFault) (n : ℕ) → is_refusal (due first n) ≡ is_some first
 is_refusal-due None n = refl
@@ -76,33 +73,30 @@ module _ (definition : Frame) (files : List (List ℕ)) (es : List Event) (rs : 
   -- ---- the faults that they tell
 
   abbrev IsTold : ℕ → Type 0
-  IsTold k = (fault_in (outcome k) ≡ first_refusal definition (get_or files k [])) ⊎ (fault_in (outcome k) ≡ Some read.Memory)
+  IsTold k = IsDue (file_due (first_refusal definition (get_or files k []))) (cause_in (outcome k))
 
   told_at : (n : ℕ) → n ≤ length files → AreOutcomes (starting definition ∷ []) (definition ∷ []) files (first n) → (k : ℕ) → k < n → IsTold k
   told_at zero le out k below = absurd (omega arith)
   told_at (suc n) le out k below =
       let lt : n < length files = omega arith in
       let both = subst (AreOutcomes (starting definition ∷ []) (definition ∷ []) files) (first-more n lt) out in
+      let here = file_due (first_refusal definition (get_or files n [])) in
       elim (cases_lt k n) [
         | inl before ↦ told_at n (omega arith) both.1 k before
         | inr after ↦
             let same : n ≡ k = omega (arith, below, after) in
             subst IsTold same (elim (both.0.there (omega arith) lt) [
-              | inl is ↦ inl (ap fault_in is ∙ fault_in-due (first_refusal definition (get_or files n [])) _)
-              | inr want ↦ inr (ap fault_in want)
+              | inl is ↦ subst (λ r. IsDue here (cause_in r)) (sym is) (file_told (first_refusal definition (get_or files n [])) _)
+              | inr want ↦ subst (λ r. IsDue here (cause_in r)) (sym want) refl
             ])
       ]
 
-  pub are_due : Whole → AreDue (faults_of definition files) rs
+  pub are_due : Whole → AreDue (file_dues definition files) rs
   are_due out = record {
-    count = length-map files (first_refusal definition) ∙ sym also;
+    count = length-map files (λ file. file_due (first_refusal definition file)) ∙ sym also;
     each = λ k below.
         let lt : k < length files = omega (arith, below, also) in
-        let here = get_or-map (first_refusal definition) files k [] None lt in
-        elim (told_at (length files) (omega arith) (all_first out) k lt) [
-          | inl is ↦ inl (is ∙ sym here)
-          | inr want ↦ inr want
-        ];
+        subst (λ d. IsDue d (cause_in (outcome k))) (sym (get_or-map (λ file. file_due (first_refusal definition file)) files k [] no_due lt)) (told_at (length files) (omega arith) (all_first out) k lt);
   }
 
   -- ---- where none lacked memory

@@ -59,8 +59,8 @@ module _ (file_at : List ℕ → At) (task : Task) (what : List ℕ) (paths : Li
   text_is : run_text task run.def paths run.files ≡ run_text task def paths files
   text_is = (λ i. run_text task (def_read i) paths (files_read i)) ∙ held_text task def paths files
 
-  lines_are : run_lines what run.def paths run.files ≡ run_lines what def paths files
-  lines_are = (λ i. run_lines what (def_read i) paths (files_read i)) ∙ held_lines what def paths files
+  lines_are : run_lines task what run.def paths run.files ≡ run_lines task what def paths files
+  lines_are = (λ i. run_lines task what (def_read i) paths (files_read i)) ∙ held_lines task what def paths files
 
   fault_is : run_fault task run.def run.files ≡ run_fault task def files
   fault_is = (λ i. run_fault task (def_read i) (files_read i)) ∙ held_fault task def files
@@ -84,10 +84,10 @@ module _ (file_at : List ℕ → At) (task : Task) (what : List ℕ) (paths : Li
   has_memory : IsWhole answer → answer ≡ Memory → ⊥
   has_memory whole memory = not_whole answer (inr memory) whole
 
-  pub log_known : IsWhole answer → Logs b f a h (run_lines what def paths files ++ merge_lines (run_fault task def files))
+  pub log_known : IsWhole answer → Logs b f a h (run_lines task what def paths files ++ merge_lines (run_fault task def files))
   log_known whole =
       let works = out_works whole in
       subst (Logs b f a h)
       ((λ i. lines_are i ++ last_lines (fault_is i) (works i))
-      ∙ ap (λ last. run_lines what def paths files ++ last) (append-nil (merge_lines (run_fault task def files))))
+      ∙ ap (λ last. run_lines task what def paths files ++ last) (append-nil (merge_lines (run_fault task def files))))
       (run.log (has_memory whole))

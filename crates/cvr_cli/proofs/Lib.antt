@@ -1,6 +1,8 @@
 pub mod Files
 pub mod Accepted
 pub mod Members
+pub mod Steps
+pub mod DueOutcomes
 pub mod Imports
 pub mod Endings
 pub mod CurrentLines
@@ -12,6 +14,9 @@ pub mod ToldRows
 pub mod Printed
 pub mod Merging
 pub mod Last
+pub mod SameOffices
+pub mod HeldFiles
+pub mod HeldSteps
 pub mod HeldBytes
 pub mod Opened
 pub mod Known

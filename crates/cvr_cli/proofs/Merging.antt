@@ -109,4 +109,5 @@ no_facts_text definition Currents facts e is = absurd (cc)
 no_facts_text definition Conflicts facts e is = absurd (cc)
 no_facts_text definition Tally facts e is = absurd (cc)
 no_facts_text definition Check facts e is = absurd (cc)
+no_facts_text definition (task.Drill n steps) facts e is = absurd (cc)
 no_facts_text definition (task.Merge date device i) facts e is = no_text definition date device (non_zero_u32_get i) facts e is

@@ -3,7 +3,6 @@ use Rattle.std.proofs.Common.{◌≡◌, ◌≢◌, ℕ, List, [], ◌∷◌, �
 use Rattle.std.specs.Prelude.{is_some, if◌then◌else◌}
 use Rattle.std.specs.Result.{IsErrAnd}
 use Rattle.cdf_types.specs.Device.{appended, AppendsFront}
-use Rattle.cdf_types.specs.declared.fault.ReadFault.{ReadFault}
 use Rattle.cvr_cli.specs.declared.merge.MergeFault.{MergeFault}
 use Rattle.cvr_cli.specs.declared.printing.PrintFault.{PrintFault}
 use Rattle.cvr_cli.specs.declared.printing.PrintFault.TheVariants.{Merge, Device, Memory}
@@ -14,6 +13,7 @@ use Rattle.cvr_cli.specs.Ends.{Ends}
 use Rattle.cvr_cli.specs.Log.{Logs}
 use Rattle.cvr_cli.specs.Merge.{merge_line}
 use Rattle.cvr_cli.specs.Printing.{Prints, is_output, merge_part, end_line, print_status, status_after}
+use Rattle.cvr_cli.specs.Refusals.{Due}
 use Rattle.cvr_cli.specs.Told.{last_lines, Tells, TellsRun}
 use Rattle.cvr_cli.proofs.Telling.{appended_none, told_whole, wanted, cut_by_memory}
 
@@ -168,23 +168,23 @@ status_in_memory : (unspelled : Bool) → (if unspelled then status.Memory else 
 status_in_memory true = refl
 status_in_memory false = refl
 
-module _ (paths : List (List ℕ)) (faults : List (Option ReadFault)) (n : ℕ) (r : Refusals) (b m a : Option (List ℕ)) (f g h : Bool) (so_far : Tells paths faults n r b f m g)
-    (all : n ≡ length faults) (working : r.file_lacking ≡ false) where
+module _ (texts : List (List ℕ)) (dues : List Due) (n : ℕ) (r : Refusals) (b m a : Option (List ℕ)) (f g h : Bool) (so_far : Tells texts dues n r b f m g)
+    (all : n ≡ length dues) (working : r.file_lacking ≡ false) where
   tells_whole : {T : Type 0} (before after : Option (List ℕ)) (failed : Bool) (result : Result T PrintFault) (fault : Option MergeFault) (text : List ℕ) (s : Status)
       → Prints before after failed result fault text → (IsErrAnd result (λ e. e ≡ Memory) → ⊥) → s ≡ status_after result r → Logs m g a h (end_line result)
-      → TellsRun paths faults (s ≡ status.Memory) (last_lines fault failed) b f a h
+      → TellsRun texts dues (s ≡ status.Memory) (last_lines fault failed) b f a h
   tells_whole before after failed result fault text s prints other is logs =
-      told_whole paths faults n r b m a f g h so_far (s ≡ status.Memory) (last_lines fault failed) all working
+      told_whole texts dues n r b m a f g h so_far (s ≡ status.Memory) (last_lines fault failed) all working
       (λ want. wanting_is result r working other (sym is ∙ want))
       (λ unspelled. is ∙ wanting_where result r unspelled)
       (subst (Logs m g a h) (rest_is before after failed result fault text prints other) logs)
 
   pub tells_after : {T : Type 0} (before after : Option (List ℕ)) (failed : Bool) (result : Result T PrintFault) (fault : Option MergeFault) (text : List ℕ) (s : Status)
       → Prints before after failed result fault text → s ≡ status_after result r → Logs m g a h (end_line result)
-      → TellsRun paths faults (s ≡ status.Memory) (last_lines fault failed) b f a h
+      → TellsRun texts dues (s ≡ status.Memory) (last_lines fault failed) b f a h
   tells_after {T} before after failed (Ok x) fault text s prints is logs = tells_whole {T = T} before after failed (Ok x) fault text s prints (λ e. e) is logs
   tells_after {T} before after failed (Err (Merge u)) fault text s prints is logs = tells_whole {T = T} before after failed (Err (Merge u)) fault text s prints (merge_is_not u) is logs
   tells_after {T} before after failed (Err Device) fault text s prints is logs = tells_whole {T = T} before after failed (Err Device) fault text s prints device_is_not is logs
   tells_after {T} before after failed (Err Memory) fault text s prints is logs =
-      wanted paths faults (s ≡ status.Memory) (last_lines fault failed) b a f h (is ∙ status_in_memory r.path_unspelled)
-      (cut_by_memory paths faults n r b m a f g h so_far (last_lines fault failed) logs)
+      wanted texts dues (s ≡ status.Memory) (last_lines fault failed) b a f h (is ∙ status_in_memory r.path_unspelled)
+      (cut_by_memory texts dues n r b m a f g h so_far (last_lines fault failed) logs)

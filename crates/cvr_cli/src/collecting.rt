@@ -1,14 +1,15 @@
-ghost use Rattle.std.specs.Prelude.{◌≡◌, ℕ, ◌<◌, List, false, length, get_or, Option, option_map, IfOk, OnErr};
+ghost use Rattle.std.specs.Prelude.{◌≡◌, ℕ, ◌<◌, List, false, length, map, get_or, option_map, IfOk, OnErr};
 ghost use Rattle.std.specs.List.{list_any};
 ghost use Rattle.cvr_collect.specs.declared.event.Event.TheVariants.{Import, Exchange};
 ghost use Rattle.cvr_cli.specs.Accepted.{is_refused};
 ghost use Rattle.cvr_cli.specs.Outcome.{held, bytes_of};
-ghost use Rattle.cvr_cli.specs.Refusals.{fault_in, is_refusal, is_want, AreDue};
-ghost use Rattle.cvr_cli.specs.Told.{faults_of, Tells};
+ghost use Rattle.cvr_cli.specs.Refusals.{cause_in, is_refusal, is_want, AreDue, Due};
+ghost use Rattle.cvr_cli.specs.Told.{file_dues, Tells};
 
+use crate::named::Named;
 use crate::refusals::Refusals;
 use cdf_check::Definition;
-use cdf_types::{Body, Memory, ReadFault, Sink};
+use cdf_types::{Body, Memory, Sink};
 use cvr_collect::{Cause, Event, Office, Outcome, play};
 use std::alloc::Global;
 
@@ -24,33 +25,33 @@ fn imports_of(alloc: Global, files: usize) -> Result<Vec<Event>, Memory>
     Ok(events)
 }
 
-// The fault for which a file was refused.
-fn fault_in(outcome: &Outcome) -> Option<&ReadFault>
-    ensures { option_map (λ f. f.now) result ≡ fault_in outcome.now }
+// The cause for which an event was refused.
+fn cause_in(outcome: &Outcome) -> Option<&Cause>
+    ensures { option_map (λ c. c.now) result ≡ cause_in outcome.now }
 {
     match outcome {
-        Outcome::Refused(Cause::Read(fault)) => Some(fault),
-        _ => None,
+        Outcome::Accepted(_) => None,
+        Outcome::Refused(cause) => Some(cause),
     }
 }
 
-// Tells each file that was refused to the log.
-fn note_refused<L: Sink>(
+/// Tells each file or step that was refused to the log.
+pub fn note_refused<N: Named, L: Sink>(
     alloc: Global,
-    paths: &[Body],
+    named: &[N],
     outcomes: &[Outcome],
     log: &mut L,
 ) -> Refusals
-    requires { length paths.now ≡ length outcomes.now }
+    requires { length named.now ≡ length outcomes.now }
     ensures any_refusal { result.any_refusal ≡ list_any is_refusal outcomes.now }
     ensures file_lacking { result.file_lacking ≡ list_any is_want outcomes.now }
-    ensures log { (faults : List (Option ReadFault)) → AreDue faults outcomes.now
-        → Tells paths.now faults (length outcomes.now) result (L.taken log.old) (L.has_failed log.old) (L.taken log.new) (L.has_failed log.new) }
+    ensures log { (dues : List Due) → AreDue dues outcomes.now
+        → Tells (map N.text_of named.now) dues (length outcomes.now) result (L.taken log.old) (L.has_failed log.old) (L.taken log.new) (L.has_failed log.new) }
 {
     let mut refusals = Refusals::none();
     for (place, outcome) in outcomes.iter().enumerate() {
-        if let Some(fault) = fault_in(outcome) {
-            refusals.note(alloc, log, paths[place].as_str(), fault);
+        if let Some(cause) = cause_in(outcome) {
+            refusals.note(alloc, log, named[place].text(), cause);
         }
     }
     refusals
@@ -72,7 +73,7 @@ pub fn collect<O: Office + Drop, L: Sink>(
     ensures definition { IfOk result (λ r. O.defined r.0 ≡ definition) }
     ensures content { IfOk result (λ r. r.1.file_lacking ≡ false → O.held r.0 ≡ held definition (bytes_of files.now)) }
     ensures any_refusal { IfOk result (λ r. r.1.file_lacking ≡ false → r.1.any_refusal ≡ list_any (is_refused definition) (bytes_of files.now)) }
-    ensures log { IfOk result (λ r. Tells paths.now (faults_of definition (bytes_of files.now)) (length files.now) r.1
+    ensures log { IfOk result (λ r. Tells paths.now (file_dues definition (bytes_of files.now)) (length files.now) r.1
         (L.taken log.old) (L.has_failed log.old) (L.taken log.new) (L.has_failed log.new)) }
     ensures unchanged { OnErr result (log.new ≡ log.old) }
 {

@@ -2,7 +2,7 @@ ghost use Rattle.std.specs.Prelude.{◌≡◌, ◌+◌};
 ghost use Rattle.cdf_form.specs.Reading.{max_file};
 ghost use Rattle.cvr_cli.specs.File.{held_bytes};
 ghost use Rattle.cvr_cli.specs.HeldBytes.{HeldTextLaw, HeldLinesLaw, HeldFaultLaw, HeldRefusedLaw};
-ghost use Rattle.cvr_cli.specs.Laws.{HeldLaw, SameFactsLaw, SameCurrentsLaw, SameConflictsLaw, SameTallyLaw, SameMergeFaultLaw, SameVolumeLaw, NoFaultLaw, NoTextLaw, ToldNumberLaw, LastNumberLaw};
+ghost use Rattle.cvr_cli.specs.Laws.{HeldLaw, SameFactsLaw, SameCurrentsLaw, SameConflictsLaw, SameTallyLaw, SameMergeFaultLaw, SameVolumeLaw, NoFaultLaw, NoTextLaw, ToldNumberLaw, LastNumberLaw, DueLaw, LeastSameLaw};
 
 /// What a run holds, the devices of the definition and the facts of the accepted files, is the content
 /// of one new office after the import of each file.
@@ -45,4 +45,15 @@ pub fn held_bytes_are_enough()
     ensures lines { HeldLinesLaw }
     ensures merge_fault { HeldFaultLaw }
     ensures refused { HeldRefusedLaw }
+{}
+
+/// The outcomes by which a drill is defined are such as `play` tells of its events.
+pub fn a_drill_has_the_outcomes_that_are_due()
+    ensures { DueLaw }
+{}
+
+/// The number that a drill tells of an office, as the same as it, is the least of an office that holds
+/// the same facts.
+pub fn the_least_office_that_is_the_same_is_told()
+    ensures { LeastSameLaw }
 {}

@@ -1,8 +1,9 @@
 ghost use Rattle.std.specs.Prelude.{◌≡◌, ℕ, ◌≤◌, List, [], ◌∷◌, ◌++◌, length, false, OnOk, OnErr, IsOk};
 ghost use Rattle.std.specs.List.{flat_map};
-ghost use Rattle.cvr_cli.specs.Log.{fault_line, memory_line, has_path, Logs};
+ghost use Rattle.cvr_cli.specs.Log.{fault_line, cause_line, memory_line, has_path, has_path_in, Logs};
 
 use cdf_types::{Memory, ReadFault, Sink, write_all};
+use cvr_collect::{Cause, JoinFault};
 use cvr_facts::text::quoted;
 use itoa::Buffer;
 use std::alloc::Global;
@@ -37,13 +38,10 @@ fn inner(text: &[u8]) -> &[u8]
     &text[1..text.len() - 1]
 }
 
-/// Tells a refusal to the log: what was refused, as it was given, and why. Only the spelling of a path
-/// takes memory.
-///
-/// # Errors
-/// `Memory` where the path could not be spelled. The log is as it was.
+// Tells a file that was refused to the log. `Memory` where its path could not be spelled: the log is then as it
+// was.
 #[tactic(auto, using(crate::proofs::Pieces::end_of_rule))]
-pub fn tell<L: Sink>(
+fn tell_fault<L: Sink>(
     alloc: Global,
     log: &mut L,
     what: &str,
@@ -73,6 +71,26 @@ pub fn tell<L: Sink>(
             say(log, &[what, b": E5 ", inner(path.as_bytes()), b"\n"]);
         }
         ReadFault::Memory => say(log, &[what, b": E6\n"]),
+    }
+    Ok(())
+}
+
+/// Tells a refusal to the log: what was refused, as it was given, and why. Only the spelling of a path
+/// takes memory.
+///
+/// # Errors
+/// `Memory` where the path could not be spelled. The log is as it was.
+pub fn tell<L: Sink>(alloc: Global, log: &mut L, what: &str, cause: &Cause) -> Result<(), Memory>
+    ensures line { OnOk result (Logs (L.taken log.old) (L.has_failed log.old) (L.taken log.new) (L.has_failed log.new) (cause_line what.now cause.now)) }
+    ensures unchanged { OnErr result (log.new ≡ log.old) }
+    ensures pathless { has_path_in cause.now ≡ false → IsOk result }
+{
+    match cause {
+        Cause::Read(fault) => return tell_fault(alloc, log, what, fault),
+        Cause::Join(JoinFault::OtherDefinition) => say(log, &[what.as_bytes(), b": J1\n"]),
+        Cause::Join(JoinFault::Memory) => say(log, &[what.as_bytes(), b": J2\n"]),
+        Cause::NoOffice => say(log, &[what.as_bytes(), b": N1\n"]),
+        Cause::NoFile => say(log, &[what.as_bytes(), b": N2\n"]),
     }
     Ok(())
 }

@@ -143,7 +143,7 @@ fn print_tally<O: Office, W: Sink>(alloc: Global, office: &O, out: &mut W) -> Re
     print_text(text.as_str(), out)
 }
 
-/// Prints what a task prints of an office; of `check` that is nothing.
+/// Prints what a task prints of an office; of `check` and `drill` that is nothing.
 ///
 /// # Errors
 /// The first fault of a merge, with nothing printed; `Device` where the output has failed; `Memory`
@@ -163,7 +163,7 @@ pub fn print_office<O: Office, W: Sink>(
         Task::Currents => print_currents(alloc, office, out),
         Task::Conflicts => print_conflicts(alloc, office, out),
         Task::Tally => print_tally(alloc, office, out),
-        Task::Check => Ok(()),
+        Task::Check | Task::Drill { .. } => Ok(()),
         Task::Merge {
             date,
             device,

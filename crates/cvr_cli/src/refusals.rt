@@ -1,9 +1,11 @@
 ghost use Rattle.std.specs.Prelude.{◌≡◌, ◌||◌, ◌⊎◌, Bool, true, false};
-ghost use Rattle.cvr_cli.specs.Log.{fault_line, memory_line, has_path, Logs};
+ghost use Rattle.cvr_cli.specs.Log.{cause_line, memory_line, has_path_in, Logs};
+ghost use Rattle.cvr_cli.specs.Refusals.{wants_memory};
 
 use crate::log::{say_memory, tell};
 use crate::status::Status;
 use cdf_types::{Memory, ReadFault, Sink};
+use cvr_collect::{Cause, JoinFault};
 use std::alloc::Global;
 
 /// What a run has refused so far.
@@ -11,14 +13,25 @@ use std::alloc::Global;
 pub struct Refusals {
     /// Something was refused.
     pub any_refusal: bool,
-    /// A file was refused for want of memory, so that a text would lack it.
+    /// A file or a step was refused for want of memory, so that a text would lack it.
     pub file_lacking: bool,
     /// A path could not be spelled for a log line, for want of memory.
     pub path_unspelled: bool,
 }
 
+// Whether something was refused for want of memory.
+fn wants_memory(cause: &Cause) -> bool
+    ensures { result ≡ wants_memory cause.now }
+{
+    match cause {
+        Cause::Read(ReadFault::Memory) | Cause::Join(JoinFault::Memory) => true,
+        _ => false,
+    }
+}
+
 impl Refusals {
-    ghost use Rattle.cvr_cli.specs.Refusals.{is_memory, status_of};
+    ghost use Rattle.cvr_collect.specs.declared.event.Cause.TheVariants.{Read};
+    ghost use Rattle.cvr_cli.specs.Refusals.{wants_memory, status_of};
 
     /// Nothing was refused. Takes no memory.
     pub fn none() -> Refusals
@@ -35,21 +48,33 @@ impl Refusals {
 
     /// Notes a refusal, and tells it to the log. Where its path can't be spelled for want of memory,
     /// that is told in its place.
-    pub fn note<L: Sink>(&mut self, alloc: Global, log: &mut L, what: &str, fault: &ReadFault)
+    pub fn note<L: Sink>(&mut self, alloc: Global, log: &mut L, what: &str, cause: &Cause)
         ensures any_refusal { self.new.any_refusal ≡ true }
-        ensures file_lacking { self.new.file_lacking ≡ (self.old.file_lacking || is_memory fault.now) }
-        ensures told { (self.new.path_unspelled ≡ self.old.path_unspelled) × Logs (L.taken log.old) (L.has_failed log.old) (L.taken log.new) (L.has_failed log.new) (fault_line what.now fault.now)
-            ⊎ (has_path fault.now ≡ true) × (self.new.path_unspelled ≡ true)
+        ensures file_lacking { self.new.file_lacking ≡ (self.old.file_lacking || wants_memory cause.now) }
+        ensures told { (self.new.path_unspelled ≡ self.old.path_unspelled) × Logs (L.taken log.old) (L.has_failed log.old) (L.taken log.new) (L.has_failed log.new) (cause_line what.now cause.now)
+            ⊎ (has_path_in cause.now ≡ true) × (self.new.path_unspelled ≡ true)
             × Logs (L.taken log.old) (L.has_failed log.old) (L.taken log.new) (L.has_failed log.new) memory_line }
     {
         self.any_refusal = true;
-        if let ReadFault::Memory = fault {
+        if wants_memory(cause) {
             self.file_lacking = true;
         }
-        if let Err(Memory) = tell(alloc, log, what, fault) {
+        if let Err(Memory) = tell(alloc, log, what, cause) {
             self.path_unspelled = true;
             say_memory(log);
         }
+    }
+
+    /// Notes that a file was refused, as `note` does.
+    pub fn note_file<L: Sink>(&mut self, alloc: Global, log: &mut L, what: &str, fault: ReadFault)
+        ensures any_refusal { self.new.any_refusal ≡ true }
+        ensures file_lacking { self.new.file_lacking ≡ (self.old.file_lacking || wants_memory (Read fault)) }
+        ensures told { (self.new.path_unspelled ≡ self.old.path_unspelled) × Logs (L.taken log.old) (L.has_failed log.old) (L.taken log.new) (L.has_failed log.new) (cause_line what.now (Read fault))
+            ⊎ (has_path_in (Read fault) ≡ true) × (self.new.path_unspelled ≡ true)
+            × Logs (L.taken log.old) (L.has_failed log.old) (L.taken log.new) (L.has_failed log.new) memory_line }
+    {
+        let cause = Cause::Read(fault);
+        self.note(alloc, log, what, &cause);
     }
 
     /// The status of a run that printed its text. Takes no memory.

@@ -2,18 +2,18 @@ ghost use Rattle.std.specs.Prelude.{◌≡◌, ◌≢◌, ◌⊎◌, ◌++◌, �
 ghost use Rattle.std.specs.List.{list_any};
 ghost use Rattle.cdf_types.specs.Device.{appended, AppendsFront};
 ghost use Rattle.cvr_cli.specs.Accepted.{is_refused};
-ghost use Rattle.cvr_cli.specs.Outcome.{held, check_lines, facts_text, task_text, run_text, task_fault, run_fault, task_refused, any_refused, bytes_of, IsWhole};
+ghost use Rattle.cvr_cli.specs.Outcome.{held, check_lines, facts_text, task_text, run_text, task_fault, run_fault, files_refused, task_refused, any_refused, bytes_of, IsWhole};
 ghost use Rattle.cvr_cli.specs.declared.status.Status.TheVariants.{Done, Refused, CommandLine, Device, Memory as NoMemory};
 ghost use Rattle.cvr_cli.specs.declared.refusals.Refusals.{Refusals};
 ghost use Rattle.cvr_cli.specs.Ends.{Ends};
-ghost use Rattle.cvr_cli.specs.Log.{memory_line, Logs};
-ghost use Rattle.cvr_cli.specs.Printing.{end_line, status_after};
-ghost use Rattle.cvr_cli.specs.Told.{faults_of, run_lines, out_line, last_lines, Tells, TellsRun, IsCutShort, IsRunCutShort, LogsSome};
+ghost use Rattle.cvr_cli.specs.Log.{Logs};
+ghost use Rattle.cvr_cli.specs.Told.{file_dues, texts_of, dues_of, run_lines, out_line, last_lines, Tells, TellsRun, IsCutShort, IsRunCutShort, LogsSome};
 
 use crate::check::push_count;
 use crate::collecting::collect;
-use crate::log::say_memory;
-use crate::printing::{PrintFault, print_office, print_text, say_fault};
+use crate::drilling::run_drill;
+use crate::ending::{end_in_memory, end_with};
+use crate::printing::{print_office, print_text};
 use crate::reading::count_records;
 use crate::refusals::Refusals;
 use crate::request::{Request, Task};
@@ -36,9 +36,9 @@ fn count_files<L: Sink>(
     ensures any_refusal { IfOk result (λ r. r.file_lacking ≡ false → r.any_refusal ≡ list_any (is_refused definition.now) (bytes_of files.now)) }
     ensures text { IfOk result (λ r. r.file_lacking ≡ false
         → string_bytes text.new ≡ string_bytes text.old ++ check_lines definition.now paths.now (bytes_of files.now)) }
-    ensures log { IfOk result (λ r. Tells paths.now (faults_of definition.now (bytes_of files.now)) (length files.now) r
+    ensures log { IfOk result (λ r. Tells paths.now (file_dues definition.now (bytes_of files.now)) (length files.now) r
         (L.taken log.old) (L.has_failed log.old) (L.taken log.new) (L.has_failed log.new)) }
-    ensures cut_short { OnErr result ((n : ℕ) × (r : Refusals) × Tells paths.now (faults_of definition.now (bytes_of files.now)) n r
+    ensures cut_short { OnErr result ((n : ℕ) × (r : Refusals) × Tells paths.now (file_dues definition.now (bytes_of files.now)) n r
         (L.taken log.old) (L.has_failed log.old) (L.taken log.new) (L.has_failed log.new)) }
 {
     let mut refusals = Refusals::none();
@@ -46,37 +46,10 @@ fn count_files<L: Sink>(
         let path = paths[place].as_str();
         match count_records(alloc, definition, file.as_slice()) {
             Ok(records) => push_count(text, path, records)?,
-            Err(fault) => refusals.note(alloc, log, path, &fault),
+            Err(fault) => refusals.note_file(alloc, log, path, fault),
         }
     }
     Ok(refusals)
-}
-
-// Ends a run with no text, for want of memory.
-fn end_in_memory<L: Sink>(log: &mut L) -> Status
-    ensures status { result ≡ NoMemory }
-    ensures log { Logs (L.taken log.old) (L.has_failed log.old) (L.taken log.new) (L.has_failed log.new) memory_line }
-{
-    say_memory(log);
-    Status::Memory
-}
-
-// Ends a run after what was printed. No text lacks a file.
-fn end_with<L: Sink>(printed: Result<(), PrintFault>, refusals: Refusals, log: &mut L) -> Status
-    ensures status { result ≡ status_after printed refusals }
-    ensures log { Logs (L.taken log.old) (L.has_failed log.old) (L.taken log.new) (L.has_failed log.new) (end_line printed) }
-{
-    match printed {
-        Ok(()) => refusals.status(),
-        Err(fault) => {
-            say_fault(log, fault);
-            if refusals.path_unspelled {
-                Status::Memory
-            } else {
-                fault.status()
-            }
-        }
-    }
 }
 
 // One office with all files that aren't refused, or the status of a run that wanted memory for it.
@@ -93,9 +66,9 @@ fn collect_all<O: Office + Drop, L: Sink>(
     ensures any_refusal { IfOk result (λ r. r.1.any_refusal ≡ list_any (is_refused definition) (bytes_of files.now)) }
     ensures whole { IfOk result (λ r. r.1.file_lacking ≡ false) }
     ensures status { IfErr result (λ s. s ≡ NoMemory) }
-    ensures log { IfOk result (λ r. Tells paths.now (faults_of definition (bytes_of files.now)) (length files.now) r.1
+    ensures log { IfOk result (λ r. Tells paths.now (file_dues definition (bytes_of files.now)) (length files.now) r.1
         (L.taken log.old) (L.has_failed log.old) (L.taken log.new) (L.has_failed log.new)) }
-    ensures cut_short { OnErr result ((rest : List ℕ) → LogsSome (IsCutShort paths.now (faults_of definition (bytes_of files.now)) rest)
+    ensures cut_short { OnErr result ((rest : List ℕ) → LogsSome (IsCutShort paths.now (file_dues definition (bytes_of files.now)) rest)
         (L.taken log.old) (L.has_failed log.old) (L.taken log.new) (L.has_failed log.new)) }
 {
     let Ok((office, refusals)) = collect::<O, L>(alloc, definition, paths, files, log) else {
@@ -120,8 +93,8 @@ fn run_office<O: Office + Drop, W: Sink, L: Sink>(
     requires working { W.has_failed out.old ≡ false }
     requires named { length paths.now ≡ length files.now }
     ensures ends { Ends (W.taken out.old) (W.taken out.new) (W.has_failed out.new)
-        (facts_text definition task.now (held definition (bytes_of files.now))) (task_refused definition task.now (bytes_of files.now)) result }
-    ensures log { TellsRun paths.now (faults_of definition (bytes_of files.now)) (result ≡ NoMemory)
+        (facts_text definition task.now (held definition (bytes_of files.now))) (files_refused definition task.now (bytes_of files.now)) result }
+    ensures log { TellsRun paths.now (file_dues definition (bytes_of files.now)) (result ≡ NoMemory)
         (last_lines (task_fault definition task.now (bytes_of files.now)) (W.has_failed out.new))
         (L.taken log.old) (L.has_failed log.old) (L.taken log.new) (L.has_failed log.new) }
 {
@@ -147,7 +120,7 @@ fn run_check<W: Sink, L: Sink>(
     requires named { length paths.now ≡ length files.now }
     ensures ends { Ends (W.taken out.old) (W.taken out.new) (W.has_failed out.new)
         (check_lines definition.now paths.now (bytes_of files.now)) (list_any (is_refused definition.now) (bytes_of files.now)) result }
-    ensures log { TellsRun paths.now (faults_of definition.now (bytes_of files.now)) (result ≡ NoMemory) (out_line (W.has_failed out.new))
+    ensures log { TellsRun paths.now (file_dues definition.now (bytes_of files.now)) (result ≡ NoMemory) (out_line (W.has_failed out.new))
         (L.taken log.old) (L.has_failed log.old) (L.taken log.new) (L.has_failed log.new) }
 {
     let mut text = String::new(alloc);
@@ -175,7 +148,7 @@ fn run_task<O: Office + Drop, W: Sink, L: Sink>(
     ensures ends { Ends (W.taken out.old) (W.taken out.new) (W.has_failed out.new)
         (task_text definition request.now.task request.now.paths (bytes_of files.now))
         (task_refused definition request.now.task (bytes_of files.now)) result }
-    ensures log { TellsRun request.now.paths (faults_of definition (bytes_of files.now)) (result ≡ NoMemory)
+    ensures log { TellsRun (texts_of request.now.task request.now.paths) (dues_of definition request.now.task (bytes_of files.now)) (result ≡ NoMemory)
         (last_lines (task_fault definition request.now.task (bytes_of files.now)) (W.has_failed out.new))
         (L.taken log.old) (L.has_failed log.old) (L.taken log.new) (L.has_failed log.new) }
 {
@@ -186,13 +159,23 @@ fn run_task<O: Office + Drop, W: Sink, L: Sink>(
             run_office::<O, W, L>(alloc, definition, task, paths, files, out, log)
         }
         Task::Check => run_check(alloc, &definition, paths, files, out, log),
+        Task::Drill { offices, steps } => run_drill::<O, W, L>(
+            alloc,
+            &definition,
+            *offices as usize,
+            steps.as_slice(),
+            files,
+            out,
+            log,
+        ),
     }
 }
 
 /// Runs a request over the bytes of its definition and of its files, in the order of its paths.
-/// A refused file is told to the log, and the rest is done. Where the definition is refused nothing
-/// else is done, and where a file was refused for want of memory nothing is printed, nor any fault of
-/// a merge told. That fault comes after the refused files, and nothing is printed then either.
+/// A refused file or step is told to the log, and the rest is done. Where the definition is refused
+/// nothing else is done, and where a file or a step was refused for want of memory nothing is printed,
+/// nor any fault of a merge told. That fault comes after the refused files, and nothing is printed then
+/// either.
 pub fn run<W: Sink, L: Sink>(
     alloc: Global,
     request: &Request,
@@ -214,17 +197,17 @@ pub fn run<W: Sink, L: Sink>(
     ensures failed { W.has_failed out.new ≡ true → (result ≡ Device) ⊎ (result ≡ NoMemory) }
     ensures no_words { result ≢ CommandLine }
     ensures log { result ≢ NoMemory → Logs (L.taken log.old) (L.has_failed log.old) (L.taken log.new) (L.has_failed log.new)
-        (run_lines request.now.def def.now request.now.paths (bytes_of files.now)
+        (run_lines request.now.task request.now.def def.now request.now.paths (bytes_of files.now)
         ++ last_lines (run_fault request.now.task def.now (bytes_of files.now)) (W.has_failed out.new)) }
     ensures cut_short { result ≡ NoMemory
-        → LogsSome (IsRunCutShort request.now.def def.now request.now.paths (bytes_of files.now)
+        → LogsSome (IsRunCutShort request.now.task request.now.def def.now request.now.paths (bytes_of files.now)
         (last_lines (run_fault request.now.task def.now (bytes_of files.now)) (W.has_failed out.new)))
         (L.taken log.old) (L.has_failed log.old) (L.taken log.new) (L.has_failed log.new) }
 {
     match Definition::read(alloc, def) {
         Err(fault) => {
             let mut refusals = Refusals::none();
-            refusals.note(alloc, log, request.def.as_str(), &fault);
+            refusals.note_file(alloc, log, request.def.as_str(), fault);
             refusals.status()
         }
         Ok(definition) => run_task::<PlainOffice, W, L>(

@@ -62,7 +62,7 @@ pub fn work<O: Open, W: Sink, L: Sink>(
         → IsWhole result → W.taken out.new ≡ appended (W.taken out.old) (run_text request.now.task def request.now.paths files) }
     ensures log { (def : List ℕ) (files : List (List ℕ)) → AreAt (O.file_at opener.now) (request.now.def ∷ request.now.paths) (def ∷ files)
         → IsWhole result → Logs (L.taken log.old) (L.has_failed log.old) (L.taken log.new) (L.has_failed log.new)
-        (run_lines request.now.def def request.now.paths files ++ merge_lines (run_fault request.now.task def files)) }
+        (run_lines request.now.task request.now.def def request.now.paths files ++ merge_lines (run_fault request.now.task def files)) }
     ensures done { (def : List ℕ) (files : List (List ℕ)) → AreAt (O.file_at opener.now) (request.now.def ∷ request.now.paths) (def ∷ files)
         → result ≡ Done → any_refused request.now.task def files ≡ false }
     ensures refused { (def : List ℕ) (files : List (List ℕ)) → AreAt (O.file_at opener.now) (request.now.def ∷ request.now.paths) (def ∷ files)

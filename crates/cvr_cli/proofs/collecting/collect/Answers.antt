@@ -8,7 +8,8 @@ use Rattle.cvr_collect.specs.Reach.{content, history}
 use Rattle.cvr_collect.specs.Outcomes.{AreOutcomes}
 use Rattle.cvr_cli.specs.Outcome.{bytes_of}
 use Rattle.cvr_cli.specs.Refusals.{is_refusal, is_want, AreDue}
-use Rattle.cvr_cli.specs.Told.{faults_of, Tells}
+use Rattle.cvr_cli.specs.Told.{file_dues, Tells}
+use Rattle.cvr_cli.proofs.Outcomes.{path_texts}
 use Rattle.cvr_cli.proofs.Imports.{get_or-one, content_held, refused_some, are_due}
 use Rattle.cvr_cli.proofs.collecting.collect.Goals as goal
 
@@ -51,8 +52,10 @@ returns g c =
           ∙ (ap (list_any is_refusal) c.as_slice-2.ensures.value
           ∙ refused_some def files es rs many also each (wants working) out);
       log =
-          subst (λ n. Tells c.args.paths.now (faults_of def files) n c.note_refused-refusals.result (g.L.Sink.taken c.args.log.now) (g.L.Sink.has_failed c.args.log.now) (g.L.Sink.taken c.note_refused-refusals.new.log) (g.L.Sink.has_failed c.note_refused-refusals.new.log))
+          subst (λ paths. Tells paths (file_dues def files) (length c.args.files.now) c.note_refused-refusals.result (g.L.Sink.taken c.args.log.now) (g.L.Sink.has_failed c.args.log.now) (g.L.Sink.taken c.note_refused-refusals.new.log) (g.L.Sink.has_failed c.note_refused-refusals.new.log))
+          (path_texts c.args.paths.now)
+          (subst (λ n. Tells (map (λ path. path) c.args.paths.now) (file_dues def files) n c.note_refused-refusals.result (g.L.Sink.taken c.args.log.now) (g.L.Sink.has_failed c.args.log.now) (g.L.Sink.taken c.note_refused-refusals.new.log) (g.L.Sink.has_failed c.note_refused-refusals.new.log))
           (ap length c.as_slice-2.ensures.value ∙ (also ∙ files_count))
-          (told.log (faults_of def files) (subst (AreDue (faults_of def files)) (sym c.as_slice-2.ensures.value) (are_due def files es rs many also each out)));
+          (told.log (file_dues def files) (subst (AreDue (file_dues def files)) (sym c.as_slice-2.ensures.value) (are_due def files es rs many also each out))));
       unchanged = tt;
     }

@@ -1,7 +1,6 @@
-use Rattle.std.proofs.Common.{◌≡◌, List, Option, take}
+use Rattle.std.proofs.Common.{◌≡◌, List, map, take}
 use Rattle.std.specs.List.{list_any}
-use Rattle.cdf_types.specs.declared.fault.ReadFault.{ReadFault}
-use Rattle.cvr_cli.specs.Refusals.{is_refusal, is_want, AreDue}
+use Rattle.cvr_cli.specs.Refusals.{Due, is_refusal, is_want, AreDue}
 use Rattle.cvr_cli.specs.Told.{Tells}
 use Rattle.cvr_cli.proofs.collecting.note_refused.Given as goal
 
@@ -10,6 +9,6 @@ abbrev pub invariant-loop-place : goal.invariant-loop-place
 invariant-loop-place g l = record {
   any_refusal : l.refusals.any_refusal ≡ list_any is_refusal (take l.place l.outcomes);
   file_lacking : l.refusals.file_lacking ≡ list_any is_want (take l.place l.outcomes);
-  log : (faults : List (Option ReadFault)) → AreDue faults l.outcomes
-      → Tells l.paths faults l.place l.refusals (g.L.Sink.taken l.initial.log) (g.L.Sink.has_failed l.initial.log) (g.L.Sink.taken l.log) (g.L.Sink.has_failed l.log);
+  log : (dues : List Due) → AreDue dues l.outcomes
+      → Tells (map g.N.Named.text_of l.named) dues l.place l.refusals (g.L.Sink.taken l.initial.log) (g.L.Sink.has_failed l.initial.log) (g.L.Sink.taken l.log) (g.L.Sink.has_failed l.log);
 }

@@ -3,7 +3,7 @@ use Rattle.cdf_types.specs.Device.{appended, AppendsFront}
 use Rattle.cdf_check.specs.Acceptance.{frame_in}
 use Rattle.cvr_cli.specs.Outcome.{task_fault, run_fault, bytes_of}
 use Rattle.cvr_cli.specs.Log.{Logs}
-use Rattle.cvr_cli.specs.Told.{faults_of, last_lines, IsCutShort}
+use Rattle.cvr_cli.specs.Told.{texts_of, dues_of, last_lines, IsCutShort}
 use Rattle.cvr_cli.proofs.Accepted.{text_beside, refused_beside, is_sound, lines_beside, last_beside, none_last}
 use Rattle.cvr_cli.proofs.Telling.{definition_log, definition_cut_short}
 use Rattle.cvr_cli.proofs.tasks.run.Goals as goal
@@ -31,17 +31,17 @@ returns-in-Ok-clause-refused g c = λ refused.
 
 pub returns-in-Err-clause-log : goal.returns-in-Err-clause-log
 returns-in-Err-clause-log g c = λ whole.
-    definition_log c.args.request.now.def c.args.def.now c.args.request.now.paths (bytes_of c.args.files.now) c.in-Err.fault c.none-refusals.result c.note.new.self _ _ _ _ c.as_str.result.now
+    definition_log c.args.request.now.task c.args.request.now.def c.args.def.now c.args.request.now.paths (bytes_of c.args.files.now) c.in-Err.fault c.none-refusals.result c.note_file.new.self _ _ _ _ c.as_str.result.now
     (last_lines (run_fault c.args.request.now.task c.args.def.now (bytes_of c.args.files.now)) (g.W.Sink.has_failed c.args.out.now))
-    c.as_str.ensures
+    c.as_str.ensures c.in-Err.ensures.first c.none-refusals.ensures.file_lacking c.none-refusals.ensures.path_unspelled c.note_file.ensures.file_lacking
     (none_last c.args.request.now.task c.args.def.now (bytes_of c.args.files.now) _ c.in-Err.fault c.requires.working)
-    c.in-Err.ensures.first c.none-refusals.ensures.file_lacking c.none-refusals.ensures.path_unspelled c.note.ensures.file_lacking c.note.ensures.told (λ e. whole (c.status.ensures ∙ e))
+    c.note_file.ensures.told (λ e. whole (c.status.ensures ∙ e))
 
 pub returns-in-Err-clause-cut_short : goal.returns-in-Err-clause-cut_short
 returns-in-Err-clause-cut_short g c = λ want.
-    definition_cut_short c.args.request.now.def c.args.def.now c.args.request.now.paths (bytes_of c.args.files.now) c.in-Err.fault c.none-refusals.result c.note.new.self _ _ _ _ c.as_str.result.now
+    definition_cut_short c.args.request.now.task c.args.request.now.def c.args.def.now c.args.request.now.paths (bytes_of c.args.files.now) c.in-Err.fault c.none-refusals.result c.note_file.new.self _ _ _ _ c.as_str.result.now
     (last_lines (run_fault c.args.request.now.task c.args.def.now (bytes_of c.args.files.now)) (g.W.Sink.has_failed c.args.out.now))
-    c.as_str.ensures c.in-Err.ensures.first c.none-refusals.ensures.file_lacking c.none-refusals.ensures.path_unspelled c.note.ensures.file_lacking c.note.ensures.told (sym c.status.ensures ∙ want)
+    c.as_str.ensures c.in-Err.ensures.first c.none-refusals.ensures.file_lacking c.none-refusals.ensures.path_unspelled c.note_file.ensures.file_lacking c.note_file.ensures.told (sym c.status.ensures ∙ want)
 
 pub returns-in-Ok-clause-log : goal.returns-in-Ok-clause-log
 returns-in-Ok-clause-log g c = λ whole.
@@ -61,8 +61,8 @@ returns-in-Ok-clause-cut_short g c = λ want.
       some.0,
       inr (
         is_sound c.args.def.now sound,
-        subst (λ rest. IsCutShort paths (faults_of (frame_in c.args.def.now) files) rest some.0) (last_beside task c.args.def.now c.in-Ok.definition files failed sound frame)
-            (subst (λ d. IsCutShort paths (faults_of d files) (last_lines (task_fault c.in-Ok.definition task files) failed) some.0) frame some.1),
+        subst (λ rest. IsCutShort (texts_of task paths) (dues_of (frame_in c.args.def.now) task files) rest some.0) (last_beside task c.args.def.now c.in-Ok.definition files failed sound frame)
+            (subst (λ d. IsCutShort (texts_of task paths) (dues_of d task files) (last_lines (task_fault c.in-Ok.definition task files) failed) some.0) frame some.1),
       ),
       some.2,
     )

@@ -1,0 +1,86 @@
+-- The outcomes that are due to the events of a drill are such as may be told of them.
+use Rattle.std.proofs.Common.{◌≡◌, ℕ, ◌==◌, ◌<◌, ◌||◌, inl, List, [], ◌∷◌, length, get_or, Bool, true, false, refl, sym, ap, ◌∙◌, subst, arith}
+use Rattle.std.specs.Prelude.{nat_le, replicate, if◌then◌else◌}
+use Rattle.std.proofs.lemmas.Bool.{lt-leb, le-leb, or_from, or_right}
+use Rattle.std.proofs.lemmas.List.{length-replicate, get_or-replicate}
+use Rattle.cdf_check.specs.Frame.{Frame, IsSame}
+use Rattle.cdf_check.specs.Acceptance.{first_refusal}
+use Rattle.cvr_facts.specs.Facts.{Facts}
+use Rattle.cvr_collect.specs.declared.event.Cause.TheVariants.{NoOffice, NoFile}
+use Rattle.cvr_collect.specs.declared.event.Event.{Event}
+use Rattle.cvr_collect.specs.declared.event.Event.TheVariants.{Import, Exchange}
+use Rattle.cvr_collect.specs.declared.event.Outcome.{Outcome}
+use Rattle.cvr_collect.specs.declared.event.Outcome.TheVariants.{Accepted}
+use Rattle.cvr_collect.specs.Readers.{growth}
+use Rattle.cvr_collect.specs.Reach.{content}
+use Rattle.cvr_collect.specs.Outcomes.{no_frame, due, IsImportOutcome, IsExchangeOutcome, IsOutcome}
+use Rattle.cvr_cli.specs.Drill.{certain, exchange_due, event_due, brings, outcome_by, new_offices, past_of}
+use Rattle.cvr_cli.specs.Laws.{DueLaw}
+use Rattle.cvr_cli.specs.Refusals.{no_due, file_due}
+use Rattle.cvr_cli.proofs.Steps.{due_by, growth_itself}
+
+module _ (definition : Frame) (n : ℕ) (files : List (List ℕ)) where
+  abbrev frames : List Frame
+  frames = replicate n definition
+
+  frames_count : length frames ≡ n
+  frames_count = length-replicate n definition
+
+  frame_at : (o : ℕ) → o < n → get_or frames o no_frame ≡ definition
+  frame_at o lt = get_or-replicate n o definition no_frame lt
+
+  alike : (p o : ℕ) → p < n → o < n → IsSame (get_or frames o no_frame) (get_or frames p no_frame)
+  alike p o lp lo = subst (λ f. IsSame f (get_or frames p no_frame)) (sym (frame_at o lo)) (subst (IsSame definition) (sym (frame_at p lp)) (record { elections = refl; units = refl; parties = refl }))
+
+  abbrev due_of : (ℕ → Facts) → Event → Outcome
+  due_of held e = outcome_by (event_due definition n files e).cause (brings files held e)
+
+  inside : (b : Bool) (k : ℕ) → outcome_by (if b then no_due else exchange_due).cause k ≡ Accepted k
+  inside true k = refl
+  inside false k = refl
+
+  exchanged : (held : ℕ → Facts) (p o : ℕ) → p < n → o < n → due_of held (Exchange p o) ≡ Accepted (growth (held o) (held p))
+  exchanged held p o lp lo =
+      ap (λ b. outcome_by (if b then certain NoOffice else (if p == o then no_due else exchange_due)).cause (growth (held o) (held p))) (or_from (nat_le n p) (nat_le n o) (lt-leb n p lp) (lt-leb n o lo))
+      ∙ inside (p == o) (growth (held o) (held p))
+
+  due_import : (held : ℕ → Facts) (o f : ℕ) → IsImportOutcome frames files held o f (due_of held (Import o f))
+  due_import held o f =
+      let k = brings files held (Import o f) in
+      let first = first_refusal definition (get_or files f []) in
+      record {
+        no_office = λ above. ap (λ b. outcome_by (if b then certain NoOffice else (if nat_le (length files) f then certain NoFile else file_due first)).cause k) (le-leb n o (omega (arith, above, frames_count)));
+        no_file = λ there none.
+            let lo : nat_le n o ≡ false = lt-leb n o (omega (arith, there, frames_count)) in
+            let nf : nat_le (length files) f ≡ true = le-leb (length files) f none in
+            λ i. outcome_by (if lo i then certain NoOffice else (if nf i then certain NoFile else file_due first)).cause k;
+        there = λ there has.
+            let below : o < n = omega (arith, there, frames_count) in
+            let lo : nat_le n o ≡ false = lt-leb n o below in
+            let lf : nat_le (length files) f ≡ false = lt-leb (length files) f has in
+            inl ((λ i. outcome_by (if lo i then certain NoOffice else (if lf i then certain NoFile else file_due first)).cause k)
+            ∙ (sym (due_by first k) ∙ ap (λ d. due (first_refusal d (get_or files f [])) k) (sym (frame_at o below))));
+      }
+
+  due_exchange : (held : ℕ → Facts) (p o : ℕ) → IsExchangeOutcome frames held p o (due_of held (Exchange p o))
+  due_exchange held p o =
+      let k = growth (held o) (held p) in
+      let here = if p == o then no_due else exchange_due in
+      record {
+        no_from = λ above. ap (λ b. outcome_by (if b || nat_le n o then certain NoOffice else here).cause k) (le-leb n p (omega (arith, above, frames_count)));
+        no_to = λ above. ap (λ b. outcome_by (if b then certain NoOffice else here).cause k) (or_right (nat_le n p) (nat_le n o) (le-leb n o (omega (arith, above, frames_count))));
+        itself = λ there same.
+            let lp : p < n = omega (arith, there, frames_count) in
+            exchanged held p o lp (omega (arith, lp, same)) ∙ ap Accepted (ap (λ q. growth (held o) (held q)) same ∙ growth_itself (held o));
+        other = λ from to apart not_same. absurd (not_same (alike p o (omega (arith, from, frames_count)) (omega (arith, to, frames_count))));
+        same = λ from to apart is_same. inl (exchanged held p o (omega (arith, from, frames_count)) (omega (arith, to, frames_count)));
+      }
+
+  due_event : (held : ℕ → Facts) (e : Event) → IsOutcome frames files held e (due_of held e)
+  due_event held (Import o f) = due_import held o f
+  due_event held (Exchange p o) = due_exchange held p o
+
+pub due_outcomes : DueLaw
+due_outcomes definition n files [] = tt
+due_outcomes definition n files (e ∷ es) =
+    (due_event definition n files (content (new_offices definition n) files (past_of definition n files es)) e, due_outcomes definition n files es)

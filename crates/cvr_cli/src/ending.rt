@@ -1,0 +1,37 @@
+ghost use Rattle.std.specs.Prelude.{◌≡◌};
+ghost use Rattle.cvr_cli.specs.declared.status.Status.TheVariants.{Memory as NoMemory};
+ghost use Rattle.cvr_cli.specs.Log.{memory_line, Logs};
+ghost use Rattle.cvr_cli.specs.Printing.{end_line, status_after};
+
+use crate::log::say_memory;
+use crate::printing::{PrintFault, say_fault};
+use crate::refusals::Refusals;
+use crate::status::Status;
+use cdf_types::Sink;
+
+/// Ends a run with no text, for want of memory.
+pub fn end_in_memory<L: Sink>(log: &mut L) -> Status
+    ensures status { result ≡ NoMemory }
+    ensures log { Logs (L.taken log.old) (L.has_failed log.old) (L.taken log.new) (L.has_failed log.new) memory_line }
+{
+    say_memory(log);
+    Status::Memory
+}
+
+/// Ends a run after what was printed. No text lacks a file or a step.
+pub fn end_with<L: Sink>(printed: Result<(), PrintFault>, refusals: Refusals, log: &mut L) -> Status
+    ensures status { result ≡ status_after printed refusals }
+    ensures log { Logs (L.taken log.old) (L.has_failed log.old) (L.taken log.new) (L.has_failed log.new) (end_line printed) }
+{
+    match printed {
+        Ok(()) => refusals.status(),
+        Err(fault) => {
+            say_fault(log, fault);
+            if refusals.path_unspelled {
+                Status::Memory
+            } else {
+                fault.status()
+            }
+        }
+    }
+}

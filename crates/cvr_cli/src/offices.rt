@@ -1,0 +1,82 @@
+ghost use Rattle.std.specs.Prelude.{◌≡◌, ◌<◌, ◌≤◌, ◌++◌, length, map, get_or, OnOk, IfOk, string_bytes, false, None};
+ghost use Rattle.std.specs.FinSet.{empty};
+ghost use Rattle.std.specs.List.{position_or_len};
+ghost use Rattle.cvr_cli.specs.Drill.{are_same, office_line, office_lines, AreOfOne};
+ghost use Rattle.cvr_cli.specs.Printing.{Prints};
+
+use crate::printing::{PrintFault, print_text};
+use cdf_types::{Memory, Sink};
+use cvr_collect::Office;
+use std::alloc::Global;
+
+// Whether two offices of one definition hold the same facts.
+fn holds_same<O: Office>(one: &O, other: &O) -> bool
+    requires { O.defined one.now ≡ O.defined other.now }
+    ensures { result ≡ are_same (O.held one.now) (O.held other.now) }
+{
+    one.same(other)
+}
+
+// The least place of an office that is the same as the one at this place.
+fn same_place<O: Office>(offices: &[O], place: usize) -> usize
+    requires there { place < length offices.now }
+    requires of_one { AreOfOne (map O.defined offices.now) }
+    ensures least { result ≡ position_or_len (are_same (get_or (map O.held offices.now) place empty)) (map O.held offices.now) }
+    ensures within { result ≤ place }
+{
+    let office = &offices[place];
+    for other in 0..place {
+        if holds_same(office, &offices[other]) {
+            return other;
+        }
+    }
+    place
+}
+
+// Adds the line of the office at a place.
+fn push_office<O: Office>(text: &mut String, offices: &[O], place: usize) -> Result<(), Memory>
+    requires there { place < length offices.now }
+    requires of_one { AreOfOne (map O.defined offices.now) }
+    ensures { OnOk result (string_bytes text.new ≡ string_bytes text.old ++ office_line (map O.held offices.now) place) }
+{
+    let number = place + 1;
+    let records = offices[place].record_count();
+    let facts = offices[place].fact_count();
+    let same = same_place(offices, place) + 1;
+    write!(
+        text,
+        "office {number} records {records} facts {facts} same {same}\n"
+    )?;
+    Ok(())
+}
+
+// A line for each office.
+fn offices_text<O: Office>(alloc: Global, offices: &[O]) -> Result<String, Memory>
+    requires of_one { AreOfOne (map O.defined offices.now) }
+    ensures { IfOk result (λ text. string_bytes text ≡ office_lines (map O.held offices.now)) }
+{
+    let mut text = String::new(alloc);
+    for place in 0..offices.len() {
+        push_office(&mut text, offices, place)?;
+    }
+    Ok(text)
+}
+
+/// Prints a line for each office of one definition: its number, how many records and facts it holds,
+/// and the least number of an office that is the same.
+///
+/// # Errors
+/// `Device` where the output has failed; `Memory` where a growth was refused. The output has then taken
+/// a front of the text.
+pub fn print_offices<O: Office, W: Sink>(
+    alloc: Global,
+    offices: &[O],
+    out: &mut W,
+) -> Result<(), PrintFault>
+    requires working { W.has_failed out.old ≡ false }
+    requires of_one { AreOfOne (map O.defined offices.now) }
+    ensures { Prints (W.taken out.old) (W.taken out.new) (W.has_failed out.new) result None (office_lines (map O.held offices.now)) }
+{
+    let text = offices_text(alloc, offices)?;
+    print_text(text.as_str(), out)
+}
