@@ -5,6 +5,8 @@
 #[cfg(test)]
 mod definitions;
 #[cfg(test)]
+mod drills;
+#[cfg(test)]
 mod facts;
 #[cfg(test)]
 mod files;
