@@ -3,7 +3,9 @@ use crate::records::Records;
 use crate::trying::{Ended, Reading, try_reading};
 use crate::writing::{DATE, DEVICE};
 use cdf_types::{Body, Memory, MemorySink, MemorySource, ReadFault, Seq, Sink};
-use cvr_cli::{FileFault, MemoryFile, MemoryFiles, Request, Status, Task, read_file, run, work};
+use cvr_cli::{
+    Act, FileFault, MemoryFile, MemoryFiles, Request, Status, Step, Task, read_file, run, work,
+};
 use std::alloc::Global;
 use std::num::NonZeroU32;
 
@@ -37,6 +39,28 @@ pub enum Asked {
     Check,
     /// The volume of this number, from 1.
     Volume(u32),
+    /// What three offices hold after steps.
+    Drill,
+}
+
+// Each file comes to an office, and on to others; there is no office 4.
+static STEPS: [(&str, Act); 5] = [
+    ("1=scan", Act::Import { office: 1, path: 0 }),
+    ("2=batched", Act::Import { office: 2, path: 1 }),
+    ("1>2", Act::Exchange { from: 1, to: 2 }),
+    ("1>4", Act::Exchange { from: 1, to: 4 }),
+    ("2>3", Act::Exchange { from: 2, to: 3 }),
+];
+
+// The steps of a drill.
+fn drill_of(alloc: Global) -> Result<Task, Ended> {
+    let mut steps = Seq::empty(alloc);
+    for step in &STEPS {
+        let (text, act) = *step;
+        let text = Body::new(text.to_string(alloc)?);
+        steps.push(Step { text, act })?;
+    }
+    Ok(Task::Drill { offices: 3, steps })
 }
 
 // The merge that gives a volume.
@@ -59,6 +83,7 @@ fn task_of(alloc: Global, asked: Asked) -> Result<Task, Ended> {
         Asked::Tally => Ok(Task::Tally),
         Asked::Check => Ok(Task::Check),
         Asked::Volume(number) => merge_of(alloc, number),
+        Asked::Drill => drill_of(alloc),
     }
 }
 

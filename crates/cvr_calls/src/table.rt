@@ -54,13 +54,14 @@ static VOLUMES: [(&str, usize); 2] = [
     ("write_volume, the second", 2),
 ];
 
-static RUNS: [(&str, Call, Asked); 7] = [
+static RUNS: [(&str, Call, Asked); 8] = [
     ("run currents", Call::Run, Asked::Currents),
     ("run conflicts", Call::Run, Asked::Conflicts),
     ("run tally", Call::Run, Asked::Tally),
     ("run check", Call::Run, Asked::Check),
     ("run merge", Call::Run, Asked::Volume(1)),
     ("run merge, no such volume", Call::Run, Asked::Volume(9)),
+    ("run drill", Call::Run, Asked::Drill),
     ("work currents", Call::Work, Asked::Currents),
 ];
 
