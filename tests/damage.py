@@ -7,11 +7,12 @@ What becomes of files that were damaged on their way, and of runs whose devices 
   each what tests/rows/rules.py does. Beside f2 each refused one alone, and all of them before and behind it, leave what is
   printed as it was.
 - The output, the log or the reading fails at each call, one byte a call, or takes nothing: what stands is the bytes before, and
-  the fault is told. devices.c, which cc builds on the spot and LD_PRELOAD lays beside the program, is the device.
+  the fault is told, of each command, of help and of refused words. devices.c, which cc builds on the spot and LD_PRELOAD lays
+  beside the program, is the device.
 - The program is killed at each such call of its output, and from outside while it writes a long volume to a file: what
   stands is a front of the volume, and `check` refuses each proper one as no JSON.
 
-The texts are those of tests/rows/printed.py. The last line is `damage: N right, M wrong`; the status is 0 only where M is 0
+The texts are those of tests/rows/printed.py, help and refused words those of the rows. The last line is `damage: N right, M wrong`; the status is 0 only where M is 0
 and N is not."""
 import argparse
 import collections
@@ -37,6 +38,9 @@ SECONDS = 300
 BYTES = b'"0 \xff'          # what each byte is replaced by
 HEADING = ['2024-11-06T08:00:00Z', 'desk', '1']
 TASKS = ('currents', 'conflicts', 'tally', 'merge')
+DRILL = ['drill', 'def.json', '3', '1=f2.json', '1=f6.json', '2=f2.json', '2=bad', '3=f6.json', '1>4', '3=f2.json']    # two steps are refused
+BAD = rows.replaced(rows.VECTORS['f2.json'].decode('utf-8'), ',"UniqueId":"u1"', '').encode('utf-8')
+WORDS = {row['name']: (row, short) for where, row, short in rows.all_rows() if where == 'words.json'}
 RECORDS = 3000              # of the long volume
 KILLS = 24                  # of its writing
 RULES = format_rules.Rules()
@@ -57,11 +61,26 @@ def held(*names):
 Case = collections.namedtuple('Case', 'words device out log status')
 
 
-def case(task, files):
-    """The run of a task over files, (path, what it is read as), and what it leaves where no device fails."""
-    words = [task, 'def.json'] + (HEADING if task == 'merge' else []) + [path for path, _ in files]
+def answered(words, files):
+    """The run of words over files, (path, what it is read as), and what it leaves where no device fails."""
     out, log, status = printed.answer(printed.Texts(), words, DEFINITION, files)
     return Case(words, None, out.encode('utf-8'), log.encode('utf-8'), status)
+
+
+def case(task, files):
+    """The run of a task over files."""
+    return answered([task, 'def.json'] + (HEADING if task == 'merge' else []) + [path for path, _ in files], files)
+
+
+def drill(words):
+    """The run of a drill over vectors and the file `bad`."""
+    return answered(words, [(path, reading(BAD if path == 'bad' else rows.VECTORS[path])) for path in printed.paths(words)[1:]])
+
+
+def stated(name):
+    """The run of a row of words that ask for no task."""
+    row, short = WORDS[name]
+    return Case(row['words'], None, rows.spelled(row['out'], short).encode('utf-8'), rows.spelled(row['err'], short).encode('utf-8'), row['status'])
 
 
 class Program:
@@ -179,6 +198,25 @@ def failing():
     yield from cut_short(refused, 2, 'fails')
     yield from cut_short(refused, 2, 'nothing')
     yield from cut_off(case('check', files[:1]), ('def.json', 'f2.json'))
+    yield from failing_drills()
+    yield from failing_words()
+
+
+def failing_drills():
+    """The drills whose devices fail: the output tells it after the refused steps, and a log that fails changes nothing else."""
+    refused = drill(DRILL)
+    for how in ('fails', 'nothing'):
+        yield from cut_short(refused, 1, how, refused.log + b'out: X1\n', 3)
+        yield from cut_short(refused, 2, how)
+    yield from cut_off(drill(DRILL[:2] + ['2', '1=f2.json', '1>2']), ('def.json', 'f2.json'))
+
+
+def failing_words():
+    """Help on an output that fails, and what is told of words on a log that does."""
+    for how in ('fails', 'nothing'):
+        yield from cut_short(stated('help-drill'), 1, how, b'out: X1\n', 3)
+        for name in ('no-command-taly-alone', 'no-step-x'):
+            yield from cut_short(stated(name), 2, how)
 
 
 # ---- fronts of volumes
@@ -217,6 +255,7 @@ def main():
     with tempfile.TemporaryDirectory() as folder, multiprocessing.Pool(len(os.sched_getaffinity(0))) as pool:
         program = Program(cvr, folder)
         program.put('half', rows.VECTORS['f2.json'][:100])
+        program.put('bad', BAD)
         found = list(damaged(program, pool, {'f11': rows.VECTORS['f11.json'], 'volume': volume}))
         found += pool.imap(program.fault, failing(), 50)
         found += fronts(program)

@@ -34,8 +34,10 @@ class Row:
     def __init__(self, where, row, short):
         self.is_of_limits = where == 'limits.json'
         self.name, self.short, self.files = row['name'], short, row.get('files', {})
-        self.stated = re.sub(r'^(out: X1|merge: .*)\n', '', rows.spelled(row['err'], short), flags=re.M)
+        self.stated = re.sub(r'^(out: X1|merge: .*|.*: N1)\n', '', rows.spelled(row['err'], short), flags=re.M)
         self.paths = printed.paths(row['words'])
+        self.told = [(what, path) for what, path, office in printed.told_files(row['words'])
+                     if office is None or 1 <= office <= printed.offices_of(row['words'])]
         self.size = sum(len(self.data(path)) for path in self.paths)
         self.marks = {}
 
@@ -61,10 +63,10 @@ class Row:
         if fault:
             yield '%s: %s\n' % (self.paths[0], fault)
             return
-        for path in self.paths[1:]:
+        for what, path in self.told:
             fault = fault_in(rules, self.value(rules, path), known)
             if fault:
-                yield '%s: %s\n' % (path, fault)
+                yield '%s: %s\n' % (what, fault)
 
     def is_as_stated(self, rules):
         """Whether the rules give the refusals that the row states; no file is looked at after the first difference."""
@@ -92,10 +94,10 @@ def fault_in(rules, value, definition):
 
 
 def is_asked(row, short):
-    """Whether the words of a row fit a command, and its files can be read to their end."""
+    """Whether the words of a row ask for a task, and its files can be read to their end."""
     lines = rows.spelled(row['err'], short).splitlines()
-    return (len(row['words']) > 1 and row['words'][0] in printed.TASKS and '/dev/zero' not in row['words']
-            and not any(': K' in line or line == 'words' for line in lines))
+    return (row['words'][:1] != [] and row['words'][0] in printed.TASKS and row['status'] != 2 and not {'--help', '-h', '/dev/zero'} & set(row['words'])
+            and not any(': K' in line for line in lines))
 
 
 def asked():

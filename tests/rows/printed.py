@@ -2,22 +2,52 @@
 """printed.py: the texts of docs/FORMAT.md as a small Python program: what each command prints of files that are read.
 
 It is a second reading of what is printed, as rules.py is one of what is accepted. random_files.py holds the program
-against it, and printed_changes.py changes it rule by rule and asks which rows notice."""
+against it, and printed_changes.py changes it rule by rule and asks which rows notice. Words that no command takes, and help,
+are left to `words.json`."""
+import itertools
 import json
+import re
 
 import rules as format_rules
 
-TASKS = ('currents', 'tally', 'conflicts', 'check', 'merge')
+TASKS = ('currents', 'tally', 'conflicts', 'check', 'merge', 'drill')
+BEFORE_FILES = {'merge': 4, 'drill': 2}     # the words of a command before its files or steps, where it has more than DEF
 NEVER = float('-inf')       # the moment of a snapshot that has none
+# A step: into an office a file is taken in, or all that an office holds goes to another.
+STEP = re.compile(r'(?P<office>[0-9]{1,9})=(?P<path>.+)|(?P<giver>[0-9]{1,9})>(?P<taker>[0-9]{1,9})', re.S)
 
 
 def by_bytes(text):
     return text.encode('utf-8')
 
 
+def arguments(words):
+    """The words after the command. The first `--` among them stands for nothing."""
+    place = words.index('--') if '--' in words else len(words)
+    return words[1:place] + words[place + 1:]
+
+
+def last(words):
+    """The files or steps among the words."""
+    return arguments(words)[BEFORE_FILES.get(words[0], 1):]
+
+
+def told_files(words):
+    """Of each file beside the definition what the log calls it, its path, and the number of the office that takes it in, of a drill."""
+    if words[0] != 'drill':
+        return [(path, path, None) for path in last(words)]
+    found = [(text, STEP.fullmatch(text)) for text in last(words)]
+    return [(text, step['path'], int(step['office'])) for text, step in found if step and step['path']]
+
+
 def paths(words):
     """The paths among the words of a command, the definition's first."""
-    return words[1:2] + words[5:] if words[0] == 'merge' else words[1:]
+    return arguments(words)[:1] + [path for _, path, _ in told_files(words)]
+
+
+def offices_of(words):
+    """How many offices a drill has."""
+    return int(arguments(words)[1])
 
 
 def put(held, name, body):
@@ -51,6 +81,8 @@ class Texts:
     current_line = ['device', 'unique', 'snapshot', 'type']
     conflict_kinds = ['device', 'header', 'snapshot']
     causes = ['H1', 'H2', 'V1']
+    office_line = ['office', 'number', 'records', 'facts', 'same']
+    step = STEP
     members = ['@type', 'CVR', 'Election', 'GeneratedDate', 'GpUnit', 'Party', 'ReportGeneratingDeviceIds', 'ReportType', 'ReportingDevice', 'Version']
     may_lack = ['CVR', 'Party']                             # where they have no item
     line_end, gap = '\n', ' '
@@ -266,26 +298,125 @@ class Texts:
         told = [name for name in self.causes if stands[name]]
         return self.line(['merge:'] + told[:1] + ([self.volumes(held)] if told[0] == 'V1' else [])) if told else ''
 
+    # ---- drill
+
+    def first_bad(self, steps):
+        """The first step that has no form, or none."""
+        return next((text for text in steps if not self.step.fullmatch(text)), None)
+
+    def is_office(self, number, offices):
+        return 1 <= number <= offices
+
+    def goes_on(self, log):
+        """Whether the next step is played after these lines."""
+        return True
+
+    def imported(self, reached, office, place):
+        """What has reached each office once one has taken in a file, which is told by its place among those of the imports."""
+        return [held | {place} if number == office else held for number, held in enumerate(reached, 1)]
+
+    def exchanged(self, reached, giver, taker):
+        """What has reached each office once one has taken in what another holds."""
+        return [held | reached[giver - 1] if number == taker else held for number, held in enumerate(reached, 1)]
+
+    def placed(self, steps):
+        """The steps as they are played: each as its text, its form and the place of its file among those of the imports."""
+        imports, held = itertools.count(), []
+        for text in steps:
+            step = self.step.fullmatch(text)
+            held.append((text, step, next(imports) if step['path'] else None))
+        return held
+
+    def refusal(self, step, place, offices, files):
+        """Why a step is refused, as the log tells it, or None."""
+        numbers = [int(step[name]) for name in ('office', 'giver', 'taker') if step[name]]
+        if not all(self.is_office(number, offices) for number in numbers):
+            return 'N1'
+        return files[place][1] if place is not None and isinstance(files[place][1], str) else None
+
+    def told_step(self, text, step):
+        """What the log calls a step."""
+        return text
+
+    def played_unless(self, reached, step, place, fault):
+        """What has reached each office after a step that a fault may refuse."""
+        if fault:
+            return reached
+        if place is None:
+            return self.exchanged(reached, int(step['giver']), int(step['taker']))
+        return self.imported(reached, int(step['office']), place)
+
+    def play(self, steps, offices, files):
+        """The files that have reached each office after all steps, and the lines of the steps that are refused."""
+        reached, log = [set() for _ in range(offices)], ''
+        for text, step, place in self.placed(steps):
+            fault = self.refusal(step, place, offices, files)
+            log += self.line([self.told_step(text, step) + ':', fault]) if fault else ''
+            reached = self.played_unless(reached, step, place, fault)
+            if not self.goes_on(log):
+                break
+        return reached, log
+
+    def facts(self, held):
+        """How many facts an office holds: each body of a name is one."""
+        return sum(held.counts())
+
+    def is_same(self, held, other):
+        return (held.devices, held.records) == (other.devices, other.records)
+
+    def least_same(self, every, held):
+        return next(number for number, other in enumerate(every, 1) if self.is_same(held, other))
+
+    def record_count(self, held):
+        return len(held.records)
+
+    def office_lines(self, every):
+        """A line for each office."""
+        lines = []
+        for number, held in enumerate(every, 1):
+            parts = {'office': 'office', 'number': number, 'records': 'records %d' % self.record_count(held), 'facts': 'facts %d' % self.facts(held),
+                     'same': 'same %d' % self.least_same(every, held)}
+            lines.append(self.line([parts[name] for name in self.office_line]))
+        return lines
+
+    def drill(self, words, definition, files):
+        """The lines of the offices, and those of the steps that are refused."""
+        reached, log = self.play(last(words), offices_of(words), files)
+        every = [self.hold(definition, [files[place][1] for place in sorted(places)]) for places in reached]
+        return ''.join(self.office_lines(every)), log
+
     # ---- a run
 
     def text(self, words, definition, files):
         """What is printed, and what is told of it."""
-        task, held = words[0], self.hold(definition, [it for _, it in files])
+        if words[0] == 'drill':
+            return self.drill(words, definition, files)
+        task, held = words[0], self.hold(definition, [it for _, it in files if not isinstance(it, str)])
         if task == 'merge':
-            given = (words[2], words[3], int(words[4]))
+            date, device, volume = arguments(words)[1:4]
+            given = (date, device, int(volume))
             cause = self.cause(definition, held, *given)
             return ('', cause) if cause else (self.volume(definition, held, *given), '')
         lines = {'currents': lambda: self.currents(held), 'conflicts': lambda: self.conflicts(held), 'tally': lambda: self.tally(definition, held),
-                 'check': lambda: (self.checked(*it) for it in files)}
+                 'check': lambda: (self.checked(*it) for it in files if not isinstance(it[1], str))}
         return ''.join(lines[task]()), ''
 
 
+def refused(words, files):
+    """The lines of refused files. Those of a drill stand among the lines of its steps."""
+    return ''.join('%s: %s\n' % it for it in files if isinstance(it[1], str)) if words[0] != 'drill' else ''
+
+
 def answer(texts, words, definition, files, is_full=False):
-    """Standard output, standard error and status. The definition, and each file under its path, is a value, or a fault's text."""
+    """Standard output, standard error and status. The definition, and each file under its path, is a value, or a fault's text; of a
+    drill each import has a file of its own."""
+    bad = texts.first_bad(last(words)) if words[0] == 'drill' else None
+    if bad is not None:
+        return '', '%s: L3\n' % bad, 2
     if isinstance(definition, str):
-        return '', '%s: %s\n' % (words[1], definition), 1
-    log = ''.join('%s: %s\n' % it for it in files if isinstance(it[1], str))
-    text, told = texts.text(words, definition, [it for it in files if not isinstance(it[1], str)])
+        return '', '%s: %s\n' % (paths(words)[0], definition), 1
+    text, told = texts.text(words, definition, files)
+    log = refused(words, files) + told
     if text and is_full:
-        return '', log + told + 'out: X1\n', 3
-    return text, log + told, 1 if log + told else 0
+        return '', log + 'out: X1\n', 3
+    return text, log, 1 if log else 0

@@ -4,7 +4,7 @@
 Which changes of what is printed would no row notice? What is printed is what docs/FORMAT.md says, as printed.py reads it. First
 it has to give each row's output, log and status as the row states them. Then one rule of it is changed at a time: an order, a
 part of a line or of a volume, which body of a name is shown, which record stands in a volume, what counts, what is escaped,
-which cause is told first. A row notices a change where its answer is no longer the one that it states. With -v each change
+which cause is told first, what a step is and does, what is told of an office. A row notices a change where its answer is no longer the one that it states. With -v each change
 is told with the row that notices it. Which files are accepted is left to changes.py, as are rows of more than a megabyte.
 
 The last line is `printed changes: N noticed, M not`; the status is 0 only where M is 0 and N is not."""
@@ -25,15 +25,15 @@ import run as rows            # noqa: E402 (all of them stand beside this file)
 
 
 class Row:
-    """A row's answer, and what its files are read as."""
+    """A row's answer, and what its files are read as; those of a row in which a step has no form are not."""
 
-    def __init__(self, held, where, row, short):
+    def __init__(self, held, row, short):
         self.name, self.words, self.is_full = row['name'], row['words'], row.get('full', False)
         self.stated = rows.spelled(row['out'], short), rows.spelled(row['err'], short), row['status']
-        known = held.value(RULES, held.paths[0])
-        fault = changes.fault_in(RULES, known, None)
+        known = held.value(RULES, held.paths[0]) if held else {}
+        fault = changes.fault_in(RULES, known, None) if held else None
         self.definition = fault or known
-        read = [] if fault else [(path, held.value(RULES, path)) for path in held.paths[1:]]
+        read = [(path, held.value(RULES, path)) for path in held.paths[1:]] if held and not fault else []
         self.files = [(path, changes.fault_in(RULES, value, known) or value) for path, value in read]
 
     def answer(self, texts):
@@ -51,8 +51,10 @@ RULES = format_rules.Rules()
 
 
 def asked():
-    every = ((changes.Row(*it), it) for it in rows.all_rows() if changes.is_asked(*it[1:]))
-    return [Row(held, *it) for held, it in every if held.size <= changes.LONG]
+    every = rows.all_rows()
+    held = ((changes.Row(*it), it) for it in every if changes.is_asked(*it[1:]))
+    steps = [Row(None, row, short) for _, row, short in every if row['words'][:1] == ['drill'] and row['err'].endswith(': L3\n')]
+    return [Row(files, *it[1:]) for files, it in held if files.size <= changes.LONG] + steps
 
 
 # ---- changes: a name, and what is done to the rules
@@ -385,8 +387,150 @@ def changes_of_causes():
         r'V1 \d+', 'V1 %d' % i, held(known, office, date, device, i)))
 
 
+# The form of a step, otherwise.
+STEPS = {
+    'a number of ten digits is taken': ('{1,9}', '{1,10}'),
+    'a number of nine digits is not taken': ('{1,9}', '{1,8}'),
+    'a number of no digits is taken': ('{1,9}', '{0,9}'),
+    'a number of two digits is not taken': ('{1,9}', '{1}'),
+    'a number may have a sign': ('[0-9]{1,9}', '[+-]?[0-9]{1,9}'),
+    'a number may have spaces about it': ('[0-9]{1,9}', ' *[0-9]{1,9} *'),
+    'a number may be a fraction': ('[0-9]{1,9}', r'[0-9]{1,9}(?:\.[0-9]+)?'),
+    'a number may have digits beyond ASCII': ('[0-9]', r'\d'),
+    'a number may be hexadecimal': ('[0-9]{1,9}', '(?:0x)?[0-9]{1,9}'),
+    'a number may begin with no zero': ('[0-9]{1,9}', '(?:0|[1-9][0-9]{0,8})'),
+    'there is no number 0': ('[0-9]{1,9}', '(?=0*[1-9])[0-9]{1,9}'),
+    'a path may be empty': ('.+', '.*'),
+    'a path has two signs at least': ('.+', '..+'),
+    'a path has no equals sign': ('.+', '[^=]+'),
+    'a path has no greater-than sign': ('.+', '[^>]+'),
+    'a path has no line feed': ('.+', r'[^\n]+'),
+    'a path has no space': ('.+', '[^ ]+'),
+    'a path has no quote': ('.+', '[^\'"]+'),
+    'a path begins with no hyphen': ('.+', '[^-].*'),
+    'a path is of ASCII': ('.+', r'[\0-\x7f]+'),
+    'a step may be a number alone': ('=(?P<path>.+)', '(?:=(?P<path>.+))?'),
+    'a step may be no number': ('=(?P<path>.+)', '=(?P<path>.+)|.*'),
+    'a colon stands for the equals sign too': ('=', '[=:]'),
+    'a less-than sign stands for the greater-than sign too': ('>(?P<t', '[<>](?P<t'),
+    'a comma stands for the greater-than sign too': ('>(?P<t', '[>,](?P<t'),
+    'an exchange may have a third office': ('(?P<taker>[0-9]{1,9})', '(?P<taker>[0-9]{1,9})(?:>[0-9]{1,9})?'),
+    'a word may stand before a step': ('(?P<office>', '(?:a )?(?P<office>'),
+}
+
+
+def changes_of_steps():
+    for name, (old, new) in STEPS.items():
+        yield 'steps: ' + name, sets(step=re.compile(printed.STEP.pattern.replace(old, new), re.S))
+    yield 'steps: the last one without a form is told', method('first_bad', lambda texts, held, steps: held(steps[::-1]))
+    yield 'steps: one without a form is passed over', method('first_bad', lambda texts, held, steps: None)
+    for name, other in (('offices count from 0', lambda number, offices: 0 <= number < offices), ('office 0 is one more', lambda number, offices: number <= offices),
+                        ('there is one office more', lambda number, offices: 1 <= number <= offices + 1), ('the last office is none', lambda number, offices: 1 <= number < offices),
+                        ('every number is an office', lambda number, offices: True), ('no number is an office', lambda number, offices: False),
+                        ('the first office is none', lambda number, offices: 1 < number <= offices)):
+        yield 'steps: ' + name, method('is_office', lambda texts, held, number, offices, other=other: other(number, offices))
+    yield 'steps: the fault of a file comes before N1', method('refusal', lambda texts, held, step, place, offices, files: (
+        files[place][1] if place is not None and isinstance(files[place][1], str) else held(step, place, offices, files)))
+    yield 'steps: N1 of an import alone is told', method('refusal', lambda texts, held, step, place, offices, files: held(step, place, offices, files) if step['path'] else None)
+    yield 'steps: N1 of an exchange alone is told', method('refusal', lambda texts, held, step, place, offices, files: (
+        None if held(step, place, offices, files) == 'N1' and step['path'] else held(step, place, offices, files)))
+    for name in ('giver', 'taker'):
+        yield 'steps: N1 of a %s is not told' % name, method('refusal', lambda texts, held, step, place, offices, files, name=name: (
+            held(dict(step.groupdict(), **{name: None}), place, offices, files)))
+    yield 'steps: an exchange of an office with itself is refused', method('refusal', lambda texts, held, step, place, offices, files: (
+        'N1' if step['giver'] and int(step['giver']) == int(step['taker']) else held(step, place, offices, files)))
+    yield 'steps: the fault of a file is told without its path', method('refusal', lambda texts, held, *given: (held(*given) or '').split(' ')[0] or None)
+    yield 'steps: a path is told for a step', method('told_step', lambda texts, held, text, step: step['path'] or text)
+    yield 'steps: a number is told for a step', method('told_step', lambda texts, held, text, step: text.split('=')[0])
+
+
+def changes_of_play():
+    for name, order in (('in turned order', lambda every: every[::-1]), ('imports first', lambda every: sorted(every, key=lambda it: it[2] is None)),
+                        ('exchanges first', lambda every: sorted(every, key=lambda it: it[2] is not None)), ('by office', lambda every: sorted(every, key=lambda it: it[0])),
+                        ('the last one not', lambda every: every[:-1]), ('the first one not', lambda every: every[1:]), ('twice', lambda every: every + every),
+                        ('each text once', lambda every: [it for place, it in enumerate(every) if it[0] not in [other for other, _, _ in every[:place]]])):
+        yield 'steps are played: ' + name, method('placed', lambda texts, held, steps, order=order: order(held(steps)))
+    yield 'a drill ends at the first refusal', method('goes_on', lambda texts, held, log: not log)
+    yield 'a refused step is played', method('played_unless', lambda texts, held, reached, step, place, fault: held(reached, step, place, None))
+    yield 'each import has the first file', method('imported', lambda texts, held, reached, office, place: held(reached, office, 0))
+    yield 'a file is taken in by every office', method('imported', lambda texts, held, reached, office, place: [one | {place} for one in reached])
+    yield 'a file is taken in by the first office', method('imported', lambda texts, held, reached, office, place: held(reached, 1, place))
+    yield 'a file is taken in by the office after', method('imported', lambda texts, held, reached, office, place: held(reached, office + 1, place))
+    yield 'a file takes the place of those before', method('imported', lambda texts, held, reached, office, place: held(
+        [one if number != office else set() for number, one in enumerate(reached, 1)], office, place))
+    yield 'an office takes in one file', method('imported', lambda texts, held, reached, office, place: held(reached, office, place) if not reached[office - 1] else reached)
+    yield 'nothing is taken in', method('imported', lambda texts, held, reached, office, place: reached)
+    yield 'nothing is exchanged', method('exchanged', lambda texts, held, reached, giver, taker: reached)
+    yield 'an exchange goes the other way', method('exchanged', lambda texts, held, reached, giver, taker: held(reached, taker, giver))
+    yield 'an exchange goes both ways', method('exchanged', lambda texts, held, reached, giver, taker: held(held(reached, giver, taker), taker, giver))
+    yield 'an exchange leads on', method('exchanged', lambda texts, held, reached, giver, taker: [
+        one | reached[giver - 1] if one == reached[taker - 1] else one for one in held(reached, giver, taker)])
+    yield 'an exchange goes to all', method('exchanged', lambda texts, held, reached, giver, taker: [one | reached[giver - 1] for one in reached])
+    yield 'an exchange empties the giver', method('exchanged', lambda texts, held, reached, giver, taker: [
+        one if number != giver or giver == taker else set() for number, one in enumerate(held(reached, giver, taker), 1)])
+    yield 'an exchange empties the giver, itself too', method('exchanged', lambda texts, held, reached, giver, taker: [
+        one if number != giver else set() for number, one in enumerate(held(reached, giver, taker), 1)])
+    yield 'the taker holds what the giver does', method('exchanged', lambda texts, held, reached, giver, taker: [
+        reached[giver - 1] if number == taker else one for number, one in enumerate(reached, 1)])
+    for name, part in (('last', max), ('first', min)):
+        yield 'an exchange passes on the %s file alone' % name, method('exchanged', lambda texts, held, reached, giver, taker, part=part: [
+            one | ({part(reached[giver - 1])} if reached[giver - 1] else set()) if number == taker else one for number, one in enumerate(reached, 1)])
+    yield 'an exchange passes on what the giver took in itself', own_alone
+
+
+def own_alone(texts):
+    """A change: of what an office was handed by others nothing is handed on."""
+    own = {}
+
+    def imported(reached, office, place):
+        own.setdefault(office, set()).add(place)
+        return [one | {place} if number == office else one for number, one in enumerate(reached, 1)]
+
+    def play(held):
+        def played(*given):
+            own.clear()
+            return held(*given)
+        return played
+    texts.imported, texts.play = imported, play(texts.play)
+    texts.exchanged = lambda reached, giver, taker: [one | own.get(giver, set()) if number == taker else one for number, one in enumerate(reached, 1)]
+
+
+def changes_of_offices():
+    for name, other in lists_changed('the line of an office', printed.Texts.office_line):
+        yield name, sets(office_line=other)
+    for name, other in (('names', lambda texts, office: len(office.counts())), ('bodies of records', lambda texts, office: sum(office.counts()) - sum(map(len, office.devices.values()))),
+                        ('snapshots', lambda texts, office: sum(len(bodies) for names in office.records.values() for name, bodies in names.items() if name is not None)),
+                        ('names of records, bodies of devices', lambda texts, office: sum(map(len, office.devices.values())) + sum(map(len, office.records.values()))),
+                        ('bodies of records, names of devices', lambda texts, office: sum(office.counts()) - sum(map(len, office.devices.values())) + len(office.devices)),
+                        ('what is current', lambda texts, office: len(office.devices) + 2 * len(office.records)), ('records', lambda texts, office: len(office.records))):
+        yield 'facts are ' + name, method('facts', lambda texts, held, office, other=other: other(texts, office))
+    yield 'facts are those beyond the definition\'s devices', method('facts', lambda texts, held, office: held(office) - 3)
+    for name, other in (('headers', lambda office: sum(len(names[None]) for names in office.records.values())),
+                        ('snapshot ids', lambda office: sum(len(names) - 1 for names in office.records.values())), ('facts', lambda office: sum(office.counts())),
+                        ('devices of records', lambda office: len({name[0] for name in office.records})), ('devices', lambda office: len(office.devices))):
+        yield 'records are ' + name, method('record_count', lambda texts, held, office, other=other: other(office))
+    for name, other in (('number of facts', lambda texts, office: sum(office.counts())), ('number of records', lambda texts, office: len(office.records)),
+                        ('records\' names', lambda texts, office: set(office.records)), ('records', lambda texts, office: office.records), ('devices', lambda texts, office: office.devices),
+                        ('current snapshots', lambda texts, office: {name: texts.current(record) for name, record in office.records.items()}),
+                        ('headers', lambda texts, office: {name: record[None] for name, record in office.records.items()}),
+                        ('names', lambda texts, office: (set(office.devices), {name: set(record) for name, record in office.records.items()})),
+                        ('number of facts and records', lambda texts, office: (sum(office.counts()), len(office.records)))):
+        yield 'offices are the same by their ' + name, method('is_same', lambda texts, held, one, two, other=other: other(texts, one) == other(texts, two))
+    yield 'offices are the same in any case', method('is_same', lambda texts, held, one, two: True)
+    yield 'an office is the same as itself alone', method('is_same', lambda texts, held, one, two: one is two)
+    yield 'the greatest office that is the same is told', method('least_same', lambda texts, held, every, office: len(every) + 1 - held(every[::-1], office))
+    yield 'offices that are the same count from 0', method('least_same', lambda texts, held, every, office: held(every, office) - 1)
+    yield 'the first office is not looked at', method('least_same', lambda texts, held, every, office: 1 if office is every[0] else 1 + held(every[1:], office))
+    for name, other in (('in turned order', lambda lines: lines[::-1]), ('but the last', lambda lines: lines[:-1]), ('but the first', lambda lines: lines[1:]),
+                        ('that hold records', lambda lines: [line for line in lines if ' records 0 ' not in line]), ('one for the same', lambda lines: [
+                            line for line in lines if line.split()[1] == line.split()[-1]])):
+        yield 'the lines of offices: ' + name, method('office_lines', lambda texts, held, every, other=other: other(held(every)))
+    yield 'offices are numbered from 0', method('office_lines', lambda texts, held, every: [
+        re.sub(r'^(office )(\d+)', lambda found: found.group(1) + str(int(found.group(2)) - 1), line) for line in held(every)])
+
+
 FAMILIES = (changes_of_orders, changes_of_choosing, changes_of_holding, changes_of_texts, changes_of_conflicts, changes_of_tally, changes_of_volumes,
-            changes_of_causes)
+            changes_of_causes, changes_of_steps, changes_of_play, changes_of_offices)
 
 
 def read_otherwise(held):

@@ -4,10 +4,10 @@
 Holds the program against rules.py and printed.py on files that no one has thought of. First vectors with one to three changes
 by chance, members in any order and now and then twice: each file is checked beside its vector's definition, and has to have
 the fault that rules.py gives. Then several files at once, reports by chance as of round_trip.py and changed vectors: what
-`currents`, `tally`, `conflicts` and `merge` print of them, and tell, has to be what printed.py gives. Each difference is told
-with its files. With one seed the files are the same on every machine; how many there are depends on the seconds. The last
-line is `files: N right, M wrong`, of files that were checked and of commands; the status is 0 only where M is 0 and N is
-not."""
+`currents`, `tally`, `conflicts` and `merge` print of them, and a `drill` of steps by chance, and what they tell, has to be what
+printed.py gives. Each difference is told with its files. With one seed the files are the same on every machine; how many there
+are depends on the seconds. The last line is `files: N right, M wrong`, of files that were checked and of commands; the status
+is 0 only where M is 0 and N is not."""
 import argparse
 import copy
 import json
@@ -30,8 +30,10 @@ VECTORS = make_vectors.vectors()
 DEFINITIONS = {'classes.json': 'classes.json', 'parties.json': 'parties-def.json', 'f2.json': 'def.json', 'f11.json': 'def.json', 'f20.json': 'def.json'}
 FILES = 150                 # of one run of the program
 CASES = 12                  # of several files, after each such run
+DRILLS = 3                  # of the files of a case
 DATES = ['2024-11-06T08:00:00Z'] * 10 + ['2024-11-06T03:00:00.5-05:00', '20241106 08Z', '2024-11-06', '2024-11-06T08:00:00Z[UTC]']
 DEVICES = ['desk'] * 9 + ['s1', 's2', 's3', 'p1']
+OFFICES = [1, 2, 2, 3, 3, 3, 4, 7, 64]
 VALUES = members.PLAIN + ['-0', '1e0', '1e999', '18446744073709551616', '[]', '[[]]', '["x"]', '[{}]', '""', '"yes"', '"other"', '"original"',
                           '"CVR.CVR"', '"CVR.Contest"', '"2024-11-05T20:00:00Z"', '"\\ud800"', '"\\ud83d\\ude00"'] + ['"%s"' % it for it in members.IDS]
 
@@ -145,16 +147,33 @@ def read(rules, data, definition=None):
     return format_rules.fault_in(rules, value, definition) or value
 
 
+def number(chance, offices):
+    """The number of an office, now and then of none, or with zeros before it."""
+    if chance.random() < 0.05:
+        return chance.choice(['0', '000', str(offices + 1), '999999999'])
+    return chance.choice(['', '', '', '', '0']) + str(chance.randint(1, offices))
+
+
+def drill(chance, files):
+    """The words of a drill of these files, in steps by chance."""
+    offices = chance.choice(OFFICES)
+    few = min(offices, chance.choice([3, 3, 64]))       # of many offices most take in nothing, as a rule
+    steps = ['%s=%s' % (number(chance, few), chance.choice(files)) if chance.random() < 0.5 else '%s>%s' % (number(chance, few), number(chance, few))
+             for _ in range(chance.randint(0, 12))]
+    return ['drill', 'definition', str(offices)] + ['--'] * (chance.random() < 0.1) + steps
+
+
 def printed_of(cvr, rules, chance, names):
     """What the program prints of some files, by command. Yields each difference, or None."""
     definition, files = reports(chance, names)
     known = read(rules, definition)
-    values = [(name, read(rules, data, known)) for name, data in files.items()]
+    values = {name: read(rules, data, known) for name, data in files.items()}
     heading = [chance.choice(DATES), chance.choice(DEVICES), chance.choice('111223')]
     asked = [[task, 'definition'] + (heading if task == 'merge' else []) + list(files) for task in ('currents', 'tally', 'conflicts', 'merge')]
+    asked += [drill(chance, list(files)) for _ in range(DRILLS)]
     told = laid(dict(files, definition=definition), lambda folder: [run(cvr, words, folder) for words in asked])
     for words, got in zip(asked, told):
-        wanted = printed.answer(printed.Texts(), words, known, values)
+        wanted = printed.answer(printed.Texts(), words, known, [(path, values[path]) for path in printed.paths(words)[1:]])
         yield None if got == wanted else '%s: %r, expected %r: %r' % (' '.join(words), got, wanted, files)
 
 

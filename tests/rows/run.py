@@ -218,6 +218,7 @@ def main():
     words.add_argument('--only', help='rows whose name begins with this text')
     words.add_argument('-v', action='store_true', help='name each row')
     words = words.parse_args()
+    sys.stdout.reconfigure(errors='backslashreplace')       # a word may be no UTF-8
     cvr = os.path.abspath(words.cvr)
     right = wrong = 0
     if vectors_differ():
