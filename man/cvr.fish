@@ -8,5 +8,5 @@ complete -c cvr -n __fish_use_subcommand -a check -d 'Check each file against th
 complete -c cvr -n __fish_use_subcommand -a merge -d 'Print a report of all that the files hold, or one volume of it where it takes several'
 complete -c cvr -n __fish_use_subcommand -a drill -d 'Try out how several offices take in files and pass on what they hold, and print what each holds at the end'
 complete -c cvr -n __fish_use_subcommand -a help -d 'Print this message or the help of the given subcommand(s)'
-complete -c cvr -n '__fish_seen_subcommand_from currents conflicts tally check merge drill' -F
+complete -c cvr -n 'not __fish_seen_subcommand_from help; and __fish_seen_subcommand_from currents conflicts tally check merge drill' -F
 complete -c cvr -n '__fish_seen_subcommand_from help; and not __fish_seen_subcommand_from currents conflicts tally check merge drill' -f -a 'currents conflicts tally check merge drill'
