@@ -1,21 +1,24 @@
 #!/usr/bin/env python3
 """commands.py --cvr PATH [FILE..]
 
-Runs the commands that README.md and examples/README.md show, and compares what they print. A command stands in a
+Runs the commands that the documents named in FILES show, and compares what they print. A command stands in a
 fenced block whose first line begins with `$ `: each line that begins so is a command for `sh`, run at the top of the
 repository, and the lines up to the next one are what it prints on both outputs together. `./cvr` in a command is the
 program given, so that nothing is built here. A command ends with status 0, unless the next command is `echo $?`,
-which prints the status. Other blocks are not run. Each file must have a command; the last line is
-`commands: N right, M wrong`, and the status is 0 only where M is 0."""
+which prints the status. Other blocks are not run. Where a machine lacks one of TOOLS, a block that names it is not
+run: a line `skipped NAME` tells so, and none of its commands counts as right. Each file must have a command that is run;
+the last line is `commands: N right, M wrong`, and the status is 0 only where M is 0."""
 import argparse
 import os
 import re
 import shlex
+import shutil
 import subprocess
 import sys
 
 TOP = os.path.dirname(os.path.dirname(os.path.abspath(__file__)))
-FILES = ['README.md', 'examples/README.md']
+FILES = ['README.md', 'docs/GUIDE.md', 'examples/README.md', 'examples/recipes/README.md']
+TOOLS = ['awk', 'comm', 'diff', 'jq', 'python3', 'sha256sum', 'sqlite3']
 STATUS = 'echo $?'
 SECONDS = 300
 
@@ -34,10 +37,20 @@ def fenced(text):
             block.append(line)
 
 
-def commands(text):
-    """(command, expected output, whether its status is shown) for each command of a text."""
+def lacking(block):
+    """The tools that the commands of a block name and that this machine lacks."""
+    words = re.findall(r'[\w.-]+', ' '.join(line for line in block if line.startswith('$ ')))
+    return [tool for tool in TOOLS if tool in words and not shutil.which(tool)]
+
+
+def commands(text, skip):
+    """(command, expected output, whether its status is shown) for each command of a text that is run; `skip` is told of each
+    other block with its first line and the tools that are lacking."""
     for block in fenced(text):
         if not block or not block[0].startswith('$ '):
+            continue
+        if lacking(block):
+            skip(block[0], lacking(block))
             continue
         held = []
         for line in block:
@@ -82,10 +95,10 @@ def main():
     right = wrong = 0
     for name in words.files or FILES:
         with open(os.path.join(TOP, name), encoding='utf-8') as file:
-            shown = list(commands(file.read()))
+            shown = list(commands(file.read(), lambda line, tools: print('skipped %s: %s: %s' % (', '.join(tools), name, line))))
         if not shown:
             wrong += 1
-            print('WRONG %s: no command found' % name)
+            print('WRONG %s: no command is run' % name)
         status = 0
         for command, expected, is_shown in shown:
             found, status = differences(command, cvr, expected, is_shown, status)

@@ -1,0 +1,16 @@
+# What the recipes share: the parts of a line of `cvr currents` or `cvr tally`, which `jq -R` reads as a text.
+
+# Each part as it is spelled: a JSON string, `null`, a number, or a Type. A name may have spaces and quotes in it.
+def spelled: [scan("\"(?:[^\"\\\\]|\\\\.)*\"|[^ ]+")];
+
+# Each part as a value: texts, numbers, null.
+def parts: spelled | map(if test("^[\"0-9]|^null$") then fromjson else . end);
+
+# The record of a line of `currents`: device and UniqueId, as they are spelled.
+def record: spelled[:2] | join(" ");
+
+# Of a line of `tally` contest, unit and batch, and the six numbers after them.
+def numbers: parts[:9];
+
+# Of a line of `tally`, for each selection: contest, unit, batch, selection, votes.
+def votes: parts | .[:3] as $row | .[9:] | range(0; length; 2) as $i | $row + .[$i:$i + 2];
