@@ -17,7 +17,7 @@ import subprocess
 import sys
 
 TOP = os.path.dirname(os.path.dirname(os.path.abspath(__file__)))
-FILES = ['README.md', 'docs/GUIDE.md', 'examples/README.md', 'examples/recipes/README.md']
+FILES = ['README.md', 'docs/GUIDE.md', 'examples/README.md', 'examples/recipes/README.md', 'examples/many-machines/README.md']
 TOOLS = ['awk', 'comm', 'diff', 'jq', 'python3', 'sha256sum', 'sqlite3']
 STATUS = 'echo $?'
 SECONDS = 300
