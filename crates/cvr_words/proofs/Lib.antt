@@ -11,3 +11,4 @@ pub mod Whole
 pub mod Commands
 pub mod Named
 pub mod Refused
+pub mod OneRequest

@@ -1,6 +1,6 @@
 -- One more step at the end of a list of steps.
 use Rattle.std.proofs.Common.{◌≡◌, ◌∙◌, ◌++◌, ◌+◌, ◌<◌, ℕ, List, [], ◌∷◌, Option, Some, None, length, map, option_map, arith, refl, ap, sym, take, drop, get_or, suc, add-zero, zero-add, Bor, subst, append-nil, append_assoc}
-use Rattle.std.proofs.lemmas.List.{drop_more, get_or-map, length-append, length-map, length-take-le, take-append-drop, take_more}
+use Rattle.std.proofs.lemmas.List.{drop_more, get_or-map, get_or_default, length-append, length-map, length-take-le, take-append-drop, take_more}
 use Rattle.cvr_words.specs.Step.{StepForm, Text, path_in, step_form}
 use Rattle.cvr_words.specs.Steps.{bad_from, bad_place, path_of, paths_of, step_at, step_of, steps_of}
 use Rattle.cvr_words.specs.declared.request.Step.{Step}
@@ -60,6 +60,12 @@ bad_here ts i d h fine e =
     let at = bad_at (take i (map (λ b. b.now) ts)) (drop (i + 1) (map (λ b. b.now) ts)) (get_or (map (λ b. b.now) ts) i d.now) fine
     (ap step_form (read_at ts i d h) ∙ e) in
     ap bad_place (whole_at (map (λ b. b.now) ts) i d.now low) ∙ (at ∙ ap (λ (n : ℕ). Some n) (length-take-le i (map (λ b. b.now) ts) (omega (arith, low))))
+
+-- and what it is
+pub step_here : (ts : List (Bor Text)) (i : ℕ) (d : Bor Text) → i < length ts → (get_or ts i d).now ≡ get_or (map (λ b. b.now) ts) i []
+step_here ts i d h =
+    let low : i < length (map (λ (b : Bor Text). b.now) ts) = subst (λ (n : ℕ). i < n) (sym (length-map ts (λ (b : Bor Text). b.now))) h in
+    sym (read_at ts i d h) ∙ get_or_default (map (λ b. b.now) ts) i d.now [] low
 
 -- the texts read so far have forms, and give these steps and paths
 abbrev pub AreRead : List Text → List Step → List Text → Type 0

@@ -5,28 +5,45 @@ use Rattle.clap.specs.declared.error.ErrorKind.{ErrorKind}
 use Rattle.clap.specs.declared.error.ErrorKind.TheVariants.{DisplayHelp, OutOfMemory}
 use Rattle.cvr_words.specs.Line.{cvr_line}
 use Rattle.cvr_words.specs.Rows.{words_in}
-use Rattle.cvr_words.specs.Steps.{bad_place}
+use Rattle.cvr_words.specs.Steps.{IsBadStep, bad_place}
+use Rattle.cvr_words.specs.declared.fault.LineFault.{LineFault}
+use Rattle.cvr_words.specs.declared.fault.LineFault.TheVariants as line
 use Rattle.cvr_words.specs.declared.fault.WordFault.{WordFault}
 use Rattle.cvr_words.specs.declared.fault.WordFault.TheVariants as fault
 
+-- the fault without the text of a step
+abbrev pub word_fault : LineFault → WordFault
+word_fault (line.Refused text) = fault.Refused text
+word_fault (line.Help text) = fault.Help text
+word_fault (line.BadStep place step) = fault.BadStep place
+word_fault line.Memory = fault.Memory
+
 -- the fault of an error of clap, by the error's kind
-abbrev pub IsOfKind : ErrorKind → WordFault → Type 0
-IsOfKind kind (fault.Refused text) = (kind ≢ DisplayHelp) × (kind ≢ OutOfMemory)
-IsOfKind kind (fault.Help text) = kind ≡ DisplayHelp
-IsOfKind kind (fault.BadStep place) = ⊥
-IsOfKind kind fault.Memory = ⊤
+abbrev pub IsOfKind : ErrorKind → LineFault → Type 0
+IsOfKind kind (line.Refused text) = (kind ≢ DisplayHelp) × (kind ≢ OutOfMemory)
+IsOfKind kind (line.Help text) = kind ≡ DisplayHelp
+IsOfKind kind (line.BadStep place step) = ⊥
+IsOfKind kind line.Memory = ⊤
 
 -- the first bad step of a drill, or memory was refused
-abbrev pub IsDrillFault : Text → List Row → WordFault → Type 0
-IsDrillFault name rows (fault.BadStep place) = (name ≡ codes "drill") × (bad_place (words_in (codes "STEP") rows) ≡ Some place)
-IsDrillFault name rows fault.Memory = ⊤
+abbrev pub IsDrillFault : Text → List Row → LineFault → Type 0
+IsDrillFault name rows (line.BadStep place step) = (name ≡ codes "drill") × IsBadStep (words_in (codes "STEP") rows) (line.BadStep place step)
+IsDrillFault name rows line.Memory = ⊤
 IsDrillFault name rows _ = ⊥
 
 -- clap refused the words for another cause than help or memory; it answered help; the words name a
 -- drill with a bad step; or memory was refused
 abbrev pub IsFault : List Text → WordFault → Type 0
-IsFault words (fault.Refused text) = (kind : ErrorKind) × IsAmong kind (fault_of cvr_line words) × IsOfKind kind (fault.Refused text)
+IsFault words (fault.Refused text) = (kind : ErrorKind) × IsAmong kind (fault_of cvr_line words) × (kind ≢ DisplayHelp) × (kind ≢ OutOfMemory)
 IsFault words (fault.Help text) = IsAmong DisplayHelp (fault_of cvr_line words)
 IsFault words (fault.BadStep place) = (rows : List Row) × (subcommand_of cvr_line words ≡ Some (codes "drill", rows))
     × (bad_place (words_in (codes "STEP") rows) ≡ Some place)
 IsFault words fault.Memory = ⊤
+
+-- the same; the step that is told is the bad one
+abbrev pub IsLineFault : List Text → LineFault → Type 0
+IsLineFault words (line.Refused text) = IsFault words (fault.Refused text)
+IsLineFault words (line.Help text) = IsFault words (fault.Help text)
+IsLineFault words (line.BadStep place step) = (rows : List Row) × (subcommand_of cvr_line words ≡ Some (codes "drill", rows))
+    × IsBadStep (words_in (codes "STEP") rows) (line.BadStep place step)
+IsLineFault words line.Memory = ⊤

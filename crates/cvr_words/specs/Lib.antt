@@ -4,3 +4,4 @@ pub mod Steps
 pub mod Fault
 pub mod Line
 pub mod Request
+pub mod Laws

@@ -1,6 +1,7 @@
 -- What the words ask for. (This project's own.)
-use Rattle.std.specs.Prelude.{◌≡◌, List, None, Some, codes}
-use Rattle.clap.specs.Words.{Row, Text, subcommand_of}
+use Rattle.std.specs.Prelude.{◌≡◌, List, [], None, Some, codes}
+use Rattle.std.specs.Int.NonZero.{non_zero_u32_get}
+use Rattle.clap.specs.Words.{Row, Text, fault_of, subcommand_of}
 use Rattle.cvr_words.specs.Line.{cvr_line}
 use Rattle.cvr_words.specs.Rows.{IsNumber, IsWord, words_in}
 use Rattle.cvr_words.specs.Steps.{bad_place, paths_of, steps_of}
@@ -16,7 +17,7 @@ IsTask name rows Tally = name ≡ codes "tally"
 IsTask name rows Check = name ≡ codes "check"
 IsTask name rows (Merge date device volume) =
     (name ≡ codes "merge") × IsWord (codes "DATE") rows date × IsWord (codes "DEVICE") rows device
-    × IsNumber (codes "VOLUME") 1 4294967295 rows volume
+    × IsNumber (codes "VOLUME") 1 4294967295 rows (non_zero_u32_get volume)
 IsTask name rows (Drill offices steps) =
     (name ≡ codes "drill") × IsNumber (codes "OFFICES") 1 64 rows offices
     × (bad_place (words_in (codes "STEP") rows) ≡ None) × (steps ≡ steps_of 0 (words_in (codes "STEP") rows))
@@ -32,7 +33,7 @@ pub record Asks (name : Text) (rows : List Row) (request : Request) : Type 0 whe
   pub def : IsWord (codes "DEF") rows request.def
   pub paths : request.paths ≡ paths_in request.task rows
 
--- the request is what the words say: clap's matches of them name its command
+-- the request is what the words say: clap finds no fault in them, and its matches of them name its command
 abbrev pub IsRequest : List Text → Request → Type 0
 IsRequest words request =
-    (name : Text) × (rows : List Row) × (subcommand_of cvr_line words ≡ Some (name, rows)) × Asks name rows request
+    (fault_of cvr_line words ≡ []) × (name : Text) × (rows : List Row) × (subcommand_of cvr_line words ≡ Some (name, rows)) × Asks name rows request

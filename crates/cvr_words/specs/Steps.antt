@@ -1,8 +1,8 @@
 -- What a list of steps asks for. (This project's own.)
-use Rattle.std.specs.Prelude.{◌≡◌, ℕ, ⊤, List, [], ◌∷◌, ◌++◌, ◌+◌, Option, Some, None, length, suc, option_map}
+use Rattle.std.specs.Prelude.{◌≡◌, ℕ, ⊤, List, [], ◌∷◌, ◌++◌, ◌+◌, Option, Some, None, length, get_or, suc, option_map}
 use Rattle.cvr_words.specs.Step.{StepForm, Text, import_form, exchange_form, path_in, step_form}
-use Rattle.cvr_words.specs.declared.fault.WordFault.{WordFault}
-use Rattle.cvr_words.specs.declared.fault.WordFault.TheVariants as fault
+use Rattle.cvr_words.specs.declared.fault.LineFault.{LineFault}
+use Rattle.cvr_words.specs.declared.fault.LineFault.TheVariants as fault
 use Rattle.cvr_words.specs.declared.request.Act.{Act}
 use Rattle.cvr_words.specs.declared.request.Act.TheVariants.{Import, Exchange}
 use Rattle.cvr_words.specs.declared.request.Step.{Step}
@@ -50,7 +50,7 @@ steps_of place (text ∷ texts) =
     step_of (step_form text) place text ++ steps_of (place + length (path_of (step_form text))) texts
 
 -- the fault names the first text with no form, or memory was refused
-abbrev pub IsBadStep : List Text → WordFault → Type 0
-IsBadStep texts (fault.BadStep place) = bad_place texts ≡ Some place
+abbrev pub IsBadStep : List Text → LineFault → Type 0
+IsBadStep texts (fault.BadStep place step) = (bad_place texts ≡ Some place) × (step ≡ get_or texts place [])
 IsBadStep texts fault.Memory = ⊤
 IsBadStep texts _ = ⊥

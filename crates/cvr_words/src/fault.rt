@@ -1,7 +1,8 @@
 ghost use Rattle.std.specs.Prelude.{◌≡◌};
-ghost use Rattle.cvr_words.specs.declared.fault.WordFault.TheVariants.{Memory as NoMemory};
+ghost use Rattle.cvr_words.specs.Fault.{word_fault};
+ghost use Rattle.cvr_words.specs.declared.fault.LineFault.TheVariants.{Memory as NoMemory};
 
-use cdf_types::Memory;
+use cdf_types::{Body, Memory};
 use std::alloc::AllocError;
 use thiserror::Error;
 
@@ -22,18 +23,45 @@ pub enum WordFault {
     Memory,
 }
 
-impl From<AllocError> for WordFault {
-    ghost from_gives = { λ _ f. f ≡ NoMemory };
+/// The same, with all that is told of it.
+#[derive(Drop)]
+pub enum LineFault {
+    /// No command takes the words. The text says what is wrong with them.
+    Refused { text: String },
+    /// The words ask for help. The text is the help.
+    Help { text: String },
+    /// The step at the place, from 0, has no form of a step. It is as given.
+    BadStep { place: usize, step: Body },
+    /// Want of memory; it stands in place of any other answer.
+    Memory,
+}
 
-    fn from(_refused: AllocError) -> WordFault {
-        WordFault::Memory
+impl LineFault {
+    /// The fault without the text of a step. Takes no memory.
+    pub fn into_word_fault(self) -> WordFault
+        ensures { result ≡ word_fault self }
+    {
+        match self {
+            LineFault::Refused { text } => WordFault::Refused { text },
+            LineFault::Help { text } => WordFault::Help { text },
+            LineFault::BadStep { place, .. } => WordFault::BadStep { place },
+            LineFault::Memory => WordFault::Memory,
+        }
     }
 }
 
-impl From<Memory> for WordFault {
+impl From<AllocError> for LineFault {
     ghost from_gives = { λ _ f. f ≡ NoMemory };
 
-    fn from(_refused: Memory) -> WordFault {
-        WordFault::Memory
+    fn from(_refused: AllocError) -> LineFault {
+        LineFault::Memory
+    }
+}
+
+impl From<Memory> for LineFault {
+    ghost from_gives = { λ _ f. f ≡ NoMemory };
+
+    fn from(_refused: Memory) -> LineFault {
+        LineFault::Memory
     }
 }

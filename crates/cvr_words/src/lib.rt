@@ -2,6 +2,7 @@
 #![tactic(auto)]
 
 mod fault;
+pub mod law;
 mod line;
 mod matches;
 mod number;
@@ -10,6 +11,6 @@ mod request;
 mod step;
 mod steps;
 
-pub use fault::WordFault;
-pub use read::read_words;
+pub use fault::{LineFault, WordFault};
+pub use read::{read_line, read_words};
 pub use request::{Act, Request, Step, Task};

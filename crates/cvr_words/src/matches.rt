@@ -1,4 +1,5 @@
 ghost use Rattle.std.specs.Prelude.{◌≡◌, [], IfErr, IfOk, None, codes, map};
+ghost use Rattle.std.specs.Int.NonZero.{non_zero_u32_get};
 ghost use Rattle.std.specs.List.{Any};
 ghost use Rattle.clap.specs.Words.{found_of, rows_of};
 ghost use Rattle.cvr_words.specs.Fault.{IsDrillFault};
@@ -7,12 +8,13 @@ ghost use Rattle.cvr_words.specs.Request.{Asks, IsTask};
 ghost use Rattle.cvr_words.specs.Steps.{IsBadStep, bad_place, paths_of, steps_of};
 ghost use Rattle.cvr_words.specs.Rows.{HasNumber, HasWord, IsMergeWhole, IsNumber, IsWhole, IsWord, words_in};
 
-use crate::fault::WordFault;
+use crate::fault::LineFault;
 use crate::request::{Request, Task};
 use crate::steps::{Steps, read_steps};
 use cdf_types::{Body, Memory, Seq};
 use clap::ArgMatches;
 use std::alloc::Global;
+use std::num::NonZeroU32;
 
 // The word of an argument that stands once.
 fn text_at<'a>(matches: &ArgMatches<'a>, id: &str) -> &'a str
@@ -60,7 +62,7 @@ fn no_steps(alloc: Global) -> Steps
 }
 
 // The steps of a drill.
-fn steps_at(alloc: Global, matches: &ArgMatches<'_>) -> Result<Steps, WordFault>
+fn steps_at(alloc: Global, matches: &ArgMatches<'_>) -> Result<Steps, LineFault>
     ensures formed { IfOk result (λ r. bad_place (words_in (codes "STEP") (rows_of (found_of matches.now))) ≡ None) }
     ensures steps { IfOk result (λ r. r.steps ≡ steps_of 0 (words_in (codes "STEP") (rows_of (found_of matches.now)))) }
     ensures paths { IfOk result (λ r. r.paths ≡ paths_of (words_in (codes "STEP") (rows_of (found_of matches.now)))) }
@@ -86,11 +88,21 @@ fn files_request(alloc: Global, task: Task, matches: &ArgMatches<'_>) -> Result<
     })
 }
 
-fn volume_of(matches: &ArgMatches<'_>) -> u32
+fn volume_number(matches: &ArgMatches<'_>) -> u32
     requires { HasNumber (codes "VOLUME") 1 4294967295 (rows_of (found_of matches.now)) }
     ensures { IsNumber (codes "VOLUME") 1 4294967295 (rows_of (found_of matches.now)) result }
 {
     matches.get_one::<u32>("VOLUME").unwrap_or(1)
+}
+
+fn volume_of(matches: &ArgMatches<'_>) -> NonZeroU32
+    requires { HasNumber (codes "VOLUME") 1 4294967295 (rows_of (found_of matches.now)) }
+    ensures { IsNumber (codes "VOLUME") 1 4294967295 (rows_of (found_of matches.now)) (non_zero_u32_get result) }
+{
+    match NonZeroU32::new(volume_number(matches)) {
+        Some(volume) => volume,
+        None => unreachable!(),
+    }
 }
 
 fn offices_of(matches: &ArgMatches<'_>) -> u32
@@ -111,7 +123,7 @@ fn merge_task(alloc: Global, matches: &ArgMatches<'_>) -> Result<Task, Memory>
     })
 }
 
-fn drill_request(alloc: Global, matches: &ArgMatches<'_>) -> Result<Request, WordFault>
+fn drill_request(alloc: Global, matches: &ArgMatches<'_>) -> Result<Request, LineFault>
     requires def { HasWord (codes "DEF") (rows_of (found_of matches.now)) }
     requires offices { HasNumber (codes "OFFICES") 1 64 (rows_of (found_of matches.now)) }
     ensures ok { IfOk result (λ r. Asks (codes "drill") (rows_of (found_of matches.now)) r) }
@@ -133,7 +145,7 @@ pub(crate) fn request_of(
     alloc: Global,
     name: &str,
     matches: &ArgMatches<'_>,
-) -> Result<Request, WordFault>
+) -> Result<Request, LineFault>
     requires named { Any (λ x. x ≡ name.now) command_names }
     requires whole { IsWhole name.now (rows_of (found_of matches.now)) }
     ensures ok { IfOk result (λ r. Asks name.now (rows_of (found_of matches.now)) r) }

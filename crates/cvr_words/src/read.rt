@@ -1,10 +1,10 @@
 ghost use Rattle.std.specs.Prelude.{◌≡◌, IfErr, IfOk, map, string_bytes};
 ghost use Rattle.clap.specs.Words.{kind_of};
-ghost use Rattle.cvr_words.specs.Fault.{IsFault, IsOfKind};
+ghost use Rattle.cvr_words.specs.Fault.{IsFault, IsLineFault, IsOfKind};
 ghost use Rattle.cvr_words.specs.Line.{named};
 ghost use Rattle.cvr_words.specs.Request.{IsRequest};
 
-use crate::fault::WordFault;
+use crate::fault::{LineFault, WordFault};
 use crate::line::cvr_command;
 use crate::matches::request_of;
 use crate::request::Request;
@@ -12,22 +12,22 @@ use clap::error::ErrorKind;
 use std::alloc::{AllocError, Global};
 
 // Why clap gave no matches.
-fn refusal(alloc: Global, error: &clap::Error) -> WordFault
+fn refusal(alloc: Global, error: &clap::Error) -> LineFault
     ensures { IsOfKind (kind_of error.now) result }
 {
     let kind = error.kind();
     if kind == ErrorKind::OutOfMemory {
-        return WordFault::Memory;
+        return LineFault::Memory;
     }
     match error.to_string(alloc) {
         Ok(text) => {
             if kind == ErrorKind::DisplayHelp {
-                WordFault::Help { text }
+                LineFault::Help { text }
             } else {
-                WordFault::Refused { text }
+                LineFault::Refused { text }
             }
         }
-        Err(_) => WordFault::Memory,
+        Err(_) => LineFault::Memory,
     }
 }
 
@@ -44,9 +44,9 @@ fn named_words<'a>(alloc: Global, words: &'a [String]) -> Result<Vec<&'a str>, A
 }
 
 // The request of the words as clap takes them.
-fn read_named(alloc: Global, words: &[&str]) -> Result<Request, WordFault>
+fn read_named(alloc: Global, words: &[&str]) -> Result<Request, LineFault>
     ensures request { IfOk result (λ r. IsRequest (map (λ t. t.now) words.now) r) }
-    ensures fault { IfErr result (λ f. IsFault (map (λ t. t.now) words.now) f) }
+    ensures fault { IfErr result (λ f. IsLineFault (map (λ t. t.now) words.now) f) }
 {
     let command = cvr_command(alloc)?;
     match command.try_get_matches_from(words) {
@@ -61,12 +61,26 @@ fn read_named(alloc: Global, words: &[&str]) -> Result<Request, WordFault>
 /// The request of the words that stand after the program's name.
 ///
 /// # Errors
+/// As `read_words`, with the step that has no form.
+pub fn read_line(alloc: Global, words: &[String]) -> Result<Request, LineFault>
+    ensures request { IfOk result (λ r. IsRequest (named (map string_bytes words.now)) r) }
+    ensures fault { IfErr result (λ f. IsLineFault (named (map string_bytes words.now)) f) }
+{
+    let all = named_words(alloc, words)?;
+    read_named(alloc, all.as_slice())
+}
+
+/// The request of the words that stand after the program's name.
+///
+/// # Errors
 /// `Refused` where no command takes the words, or none stands; `Help` where they ask for help;
 /// `BadStep` with the place of the first step of a drill that has no form; `Memory`.
 pub fn read_words(alloc: Global, words: &[String]) -> Result<Request, WordFault>
     ensures request { IfOk result (λ r. IsRequest (named (map string_bytes words.now)) r) }
     ensures fault { IfErr result (λ f. IsFault (named (map string_bytes words.now)) f) }
 {
-    let all = named_words(alloc, words)?;
-    read_named(alloc, all.as_slice())
+    match read_line(alloc, words) {
+        Ok(request) => Ok(request),
+        Err(fault) => Err(fault.into_word_fault()),
+    }
 }

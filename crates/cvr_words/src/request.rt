@@ -1,4 +1,5 @@
 use cdf_types::{Body, Seq};
+use std::num::NonZeroU32;
 
 /// What the words ask for.
 #[derive(Drop)]
@@ -29,7 +30,7 @@ pub enum Task {
         /// The id of the device that makes it, as given.
         device: Body,
         /// Which volume, from 1.
-        volume: u32,
+        volume: NonZeroU32,
     },
     /// Play the steps of several offices, and print what each holds.
     Drill {
@@ -49,11 +50,21 @@ pub struct Step {
     pub act: Act,
 }
 
-/// What a step does. Offices are numbered as in the words.
+/// What a step does. Offices are told by their numbers, from 1, as in the words.
 #[derive(Clone, Copy, Debug, PartialEq, Eq)]
 pub enum Act {
-    /// An office takes in the file at a place in the request's paths, from 0.
-    Import { office: u32, path: usize },
-    /// One office takes in what another holds.
-    Exchange { from: u32, to: u32 },
+    /// An office takes in a file.
+    Import {
+        /// The office.
+        office: u32,
+        /// The place of the file among the files of the request, from 0.
+        path: usize,
+    },
+    /// The office `to` takes in what the office `from` holds, which stays as it is.
+    Exchange {
+        /// The office that gives.
+        from: u32,
+        /// The office that takes.
+        to: u32,
+    },
 }

@@ -1,8 +1,9 @@
 ghost use Rattle.std.specs.Prelude.{◌≡◌, ◌∷◌, ◌++◌, [], IfErr, IfOk, None, OnOk, length, map};
 ghost use Rattle.cvr_words.specs.Step.{path_in};
 ghost use Rattle.cvr_words.specs.Steps.{act_at, bad_place, form_of, paths_of, step_at, steps_of, IsBadStep};
+ghost use Rattle.cvr_words.specs.declared.fault.LineFault.TheVariants.{BadStep};
 
-use crate::fault::WordFault;
+use crate::fault::LineFault;
 use crate::request::{Act, Step};
 use crate::step::{Form, read_step};
 use cdf_types::{Body, Memory, Seq};
@@ -53,11 +54,19 @@ fn add_step(
     Ok(())
 }
 
+// The fault of a step that has no form.
+fn bad_step(alloc: Global, place: usize, text: &str) -> Result<LineFault, Memory>
+    ensures { IfOk result (λ f. f ≡ BadStep place text.now) }
+{
+    let step = body(alloc, text)?;
+    Ok(LineFault::BadStep { place, step })
+}
+
 /// The steps of the texts, with the paths that they name: each import has its own.
 ///
 /// # Errors
-/// `BadStep` with the place of the first text that has no form; `Memory`.
-pub(crate) fn read_steps(alloc: Global, texts: &[&str]) -> Result<Steps, WordFault>
+/// `BadStep` with the place of the first text that has no form, and that text; `Memory`.
+pub(crate) fn read_steps(alloc: Global, texts: &[&str]) -> Result<Steps, LineFault>
     ensures formed { IfOk result (λ r. bad_place (map (λ t. t.now) texts.now) ≡ None) }
     ensures steps { IfOk result (λ r. r.steps ≡ steps_of 0 (map (λ t. t.now) texts.now)) }
     ensures paths { IfOk result (λ r. r.paths ≡ paths_of (map (λ t. t.now) texts.now)) }
@@ -68,7 +77,10 @@ pub(crate) fn read_steps(alloc: Global, texts: &[&str]) -> Result<Steps, WordFau
     for place in 0..texts.len() {
         match read_step(texts[place]) {
             Some(form) => add_step(alloc, &mut steps, &mut paths, texts[place], form)?,
-            None => return Err(WordFault::BadStep { place }),
+            None => {
+                let fault = bad_step(alloc, place, texts[place])?;
+                return Err(fault);
+            }
         }
     }
     Ok(Steps { steps, paths })

@@ -37,7 +37,9 @@ returns-in-Some-clause-request c =
     let met = subst (λ (a : App). HasMatchesOf a words c.in-Ok.matches) e c.in-Ok.ensures.matches simple in
     let pair : subcommand_rows_of c.in-Ok.matches ≡ Some (c.in-Some.name.now, rows_of (found_of c.in-Some.found.now)) =
     paired _ _ _ _ _ c.in-Some.ensures.name c.in-Some.ensures.rows in
-    IfOk-weaker c.request_of.result _ _ (λ r h. (c.in-Some.name.now, rows_of (found_of c.in-Some.found.now), sym met.1 ∙ pair, h)) c.request_of.ensures.ok
+    let kinds = subst (λ (a : App). is_simple_and_free a ≡ true → FailsBy (fault_of a words) c.try_get_matches_from.result) e c.try_get_matches_from.ensures.kinds simple_and_free in
+    let fine = no_fault (fault_of cvr_line words) c.try_get_matches_from.result c.in-Ok.matches kinds c.in-Ok.is in
+    IfOk-weaker c.request_of.result _ _ (λ r h. (fine, c.in-Some.name.now, rows_of (found_of c.in-Some.found.now), sym met.1 ∙ pair, h)) c.request_of.ensures.ok
 
 pub returns-in-Some-clause-fault : goal.returns-in-Some-clause-fault
 returns-in-Some-clause-fault c =

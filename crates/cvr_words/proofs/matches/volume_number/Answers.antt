@@ -4,7 +4,7 @@ use Rattle.clap.specs.Lexer.{without_minus}
 use Rattle.clap.specs.Words.{found_of, rows_of}
 use Rattle.clap.proofs.WalkLemmas.{one_text-rows}
 use Rattle.cvr_words.proofs.Matched.{number_or}
-use Rattle.cvr_words.proofs.matches.volume_of.Goals as goal
+use Rattle.cvr_words.proofs.matches.volume_number.Goals as goal
 
 pub returns : goal.returns
 returns c =

@@ -1,0 +1,16 @@
+-- What words can ask for. (This project's own.)
+use Rattle.std.specs.Prelude.{◌≡◌, List}
+use Rattle.clap.specs.Words.{Text}
+use Rattle.cvr_words.specs.Fault.{IsFault}
+use Rattle.cvr_words.specs.Request.{IsRequest}
+use Rattle.cvr_words.specs.declared.fault.WordFault.{WordFault}
+use Rattle.cvr_words.specs.declared.fault.WordFault.TheVariants.{Memory}
+use Rattle.cvr_words.specs.declared.request.Request.{Request}
+
+-- one request at most
+abbrev pub OneRequestLaw : Type 0
+OneRequestLaw = (words : List Text) (one other : Request) → IsRequest words one → IsRequest words other → one ≡ other
+
+-- words that ask for a request have no fault but want of memory
+abbrev pub NoFaultLaw : Type 0
+NoFaultLaw = (words : List Text) (request : Request) (fault : WordFault) → IsRequest words request → IsFault words fault → fault ≡ Memory
