@@ -1,17 +1,13 @@
-//! The program: it reads the words, and hands them to the library with the files and the devices of
-//! the system.
+//! The program: it hands the words to the library, with the files and the devices of the system.
 #![tactic(auto)]
 
 ghost use Rattle.cvr_cli.specs.Opening.{Unknown};
 
-use crate::words::request_of;
 use cvr_cli::{FileFault, Open, OverRead, OverWrite, Status, work};
-use std::fs;
 use std::io::ErrorKind;
 use std::process::ExitCode;
-use std::rt::Files;
-
-mod words;
+use std::rt::{Env, Files};
+use std::{env, fs};
 
 // The files of the system, of which nothing is said.
 #[derive(Drop)]
@@ -33,20 +29,46 @@ impl<R: Files> Open for System<'_, R> {
     }
 }
 
+// The words after the program's name; or the status where there is no room for them, or one of them
+// isn't UTF-8.
+fn words_of<R: Env + AllocGlobal>(rt: &R) -> Result<Vec<String>, Status> {
+    match env::args(rt) {
+        Ok(all) => all.skip(1).collect(rt.alloc()).map_err(|_| Status::Memory),
+        Err(e) if e.kind() == ErrorKind::OutOfMemory => Err(Status::Memory),
+        Err(_) => Err(Status::CommandLine),
+    }
+}
+
+// Tells that there are no words to work on.
+fn tell_no_words<R: Eprint>(rt: &R, status: Status) {
+    let line = match status {
+        Status::Memory => "memory",
+        _ => "words",
+    };
+    let _ = eprintln!(rt; "{line}");
+}
+
 // The status of a run over the words.
-fn work_on_words(rt: &HostRuntime) -> Result<Status, Status> {
-    let request = request_of(rt)?;
-    let mut out = OverWrite::new(rt.stdout());
-    let mut log = OverWrite::new(rt.stderr());
-    Ok(work(rt.alloc(), &System { rt }, &request, &mut out, &mut log))
+fn work_on_words(rt: &HostRuntime) -> Status {
+    match words_of(rt) {
+        Ok(words) => {
+            let mut out = OverWrite::new(rt.stdout());
+            let mut log = OverWrite::new(rt.stderr());
+            work(
+                rt.alloc(),
+                &System { rt },
+                words.as_slice(),
+                &mut out,
+                &mut log,
+            )
+        }
+        Err(status) => {
+            tell_no_words(rt, status);
+            status
+        }
+    }
 }
 
 fn main(rt: HostRuntime) -> ExitCode {
-    let status = match work_on_words(&rt) {
-        Ok(status) | Err(status) => status,
-    };
-    if let Status::CommandLine = status {
-        let _ = eprintln!(rt; "words");
-    }
-    ExitCode::from(status.code())
+    ExitCode::from(work_on_words(&rt).code())
 }

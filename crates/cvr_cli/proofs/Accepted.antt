@@ -5,7 +5,7 @@ use Rattle.cdf_types.specs.declared.fault.ReadFault.{ReadFault}
 use Rattle.cdf_check.specs.Frame.{Frame}
 use Rattle.cdf_check.specs.Acceptance.{Sound, Valid, first_refusal, first_unsound, frame_in}
 use Rattle.cdf_check.proofs.Accepting.{sound_file, valid_file}
-use Rattle.cvr_cli.specs.declared.request.Task.{Task}
+use Rattle.cvr_words.specs.declared.request.Task.{Task}
 use Rattle.cvr_cli.specs.Accepted.{is_unsound}
 use Rattle.cvr_cli.specs.Outcome.{task_text, run_text, task_fault, run_fault, task_refused, any_refused}
 use Rattle.cvr_cli.specs.Told.{refusal_lines, texts_of, dues_of, run_lines, last_lines}

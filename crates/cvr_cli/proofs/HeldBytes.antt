@@ -12,8 +12,8 @@ use Rattle.cdf_check.specs.Acceptance.{own_refusal, first_unsound, frame_in}
 use Rattle.cvr_facts.specs.Reports.{facts}
 use Rattle.cvr_collect.specs.Keeps.{starting}
 use Rattle.cvr_collect.specs.Reach.{union_over}
-use Rattle.cvr_cli.specs.declared.request.Task.{Task}
-use Rattle.cvr_cli.specs.declared.request.Task.TheVariants.{Currents, Conflicts, Tally, Check, Merge, Drill}
+use Rattle.cvr_words.specs.declared.request.Task.{Task}
+use Rattle.cvr_words.specs.declared.request.Task.TheVariants.{Currents, Conflicts, Tally, Check, Merge, Drill}
 use Rattle.cvr_cli.specs.Accepted.{is_unsound, is_refused}
 use Rattle.cvr_cli.specs.Drill.{office_lines}
 use Rattle.cvr_cli.specs.HeldBytes.{held_part, HeldTextLaw, HeldLinesLaw, HeldFaultLaw, HeldRefusedLaw}

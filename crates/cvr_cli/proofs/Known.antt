@@ -2,7 +2,7 @@
 use Rattle.std.proofs.Common.{◌≡◌, ℕ, List, [], ◌∷◌, ◌++◌, map, Bool, true, false, Option, ◌⊎◌, inl, inr, refl, ap, ◌∙◌, subst, append-nil}
 use Rattle.std.proofs.lemmas.Bool.{false_from_ne_true}
 use Rattle.cdf_types.specs.Device.{appended}
-use Rattle.cvr_cli.specs.declared.request.Task.{Task}
+use Rattle.cvr_words.specs.declared.request.Task.{Task}
 use Rattle.cvr_cli.specs.declared.status.Status.{Status}
 use Rattle.cvr_cli.specs.declared.status.Status.TheVariants.{Done, Refused, Device, Memory}
 use Rattle.cvr_cli.specs.HeldBytes.{held_part}
@@ -16,15 +16,15 @@ use Rattle.cvr_cli.proofs.HeldBytes.{held_text, held_lines, held_fault, held_ref
 
 -- ---- a run that has printed its text has not failed
 
-not_done : (answer : Status) → (answer ≡ Device) ⊎ (answer ≡ Memory) → answer ≡ Done → ⊥
+pub not_done : (answer : Status) → (answer ≡ Device) ⊎ (answer ≡ Memory) → answer ≡ Done → ⊥
 not_done answer (inl is) done = cc
 not_done answer (inr is) done = cc
 
-not_refused : (answer : Status) → (answer ≡ Device) ⊎ (answer ≡ Memory) → answer ≡ Refused → ⊥
+pub not_refused : (answer : Status) → (answer ≡ Device) ⊎ (answer ≡ Memory) → answer ≡ Refused → ⊥
 not_refused answer (inl is) refused = cc
 not_refused answer (inr is) refused = cc
 
-not_whole : (answer : Status) → (answer ≡ Device) ⊎ (answer ≡ Memory) → IsWhole answer → ⊥
+pub not_whole : (answer : Status) → (answer ≡ Device) ⊎ (answer ≡ Memory) → IsWhole answer → ⊥
 not_whole answer is (inl done) = not_done answer is done
 not_whole answer is (inr refused) = not_refused answer is refused
 

@@ -20,4 +20,5 @@ pub mod HeldSteps
 pub mod HeldBytes
 pub mod Opened
 pub mod Known
+pub mod Unasked
 pub mod GivenTexts

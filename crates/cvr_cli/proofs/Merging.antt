@@ -19,9 +19,9 @@ use Rattle.cvr_cli.specs.declared.merge.MergeFault.{MergeFault}
 use Rattle.cvr_cli.specs.declared.merge.MergeFault.TheVariants.{NotMoment, NoDevice, NoVolume}
 use Rattle.cvr_cli.specs.declared.printing.PrintFault.{PrintFault}
 use Rattle.cvr_cli.specs.declared.printing.PrintFault.TheVariants.{Memory}
-use Rattle.cvr_cli.specs.declared.request.Task.{Task}
-use Rattle.cvr_cli.specs.declared.request.Task.TheVariants.{Currents, Conflicts, Tally, Check}
-use Rattle.cvr_cli.specs.declared.request.Task.TheVariants as task
+use Rattle.cvr_words.specs.declared.request.Task.{Task}
+use Rattle.cvr_words.specs.declared.request.Task.TheVariants.{Currents, Conflicts, Tally, Check}
+use Rattle.cvr_words.specs.declared.request.Task.TheVariants as task
 use Rattle.cvr_cli.specs.Merge.{merge_fault, merge_text}
 use Rattle.cvr_cli.specs.Outcome.{facts_fault, facts_text}
 use Rattle.cvr_cli.specs.Printing.{Prints, is_output, merge_part, of_head}

@@ -76,7 +76,7 @@ module _ (before after : Option (List ℕ)) (failed : Bool) (text : List ℕ) (r
     no_words = λ other. cc;
   }
 
-whole_front : (before after : Option (List ℕ)) (text : List ℕ) → after ≡ appended before text → AppendsFront before after text
+pub whole_front : (before after : Option (List ℕ)) (text : List ℕ) → after ≡ appended before text → AppendsFront before after text
 whole_front before after text taken = (text, [], sym (append-nil text), taken)
 
 -- a front of nothing is all of it

@@ -15,7 +15,7 @@ use Rattle.cdf_check.specs.Frame.{Frame}
 use Rattle.cdf_check.specs.Acceptance.{frame_in, first_refusal, first_unsound}
 use Rattle.cvr_collect.specs.declared.event.Cause.{Cause}
 use Rattle.cvr_collect.specs.declared.event.Cause.TheVariants.{Read, Join, NoOffice, NoFile}
-use Rattle.cvr_cli.specs.declared.request.Task.{Task}
+use Rattle.cvr_words.specs.declared.request.Task.{Task}
 use Rattle.cvr_cli.specs.declared.status.Status.TheVariants as status
 use Rattle.cvr_cli.specs.declared.refusals.Refusals.{Refusals}
 use Rattle.cvr_cli.specs.Refusals.{is_memory, wants_memory, status_of, Due, no_due, file_due, IsDue}

@@ -8,8 +8,8 @@ use Rattle.cdf_check.specs.Acceptance.{frame_in, first_refusal, first_unsound}
 use Rattle.cvr_collect.specs.declared.event.Cause.TheVariants.{Read, NoOffice, NoFile}
 use Rattle.cvr_collect.specs.declared.event.Event.{Event}
 use Rattle.cvr_collect.specs.declared.event.Event.TheVariants as event
-use Rattle.cvr_cli.specs.declared.request.Step.{Step}
-use Rattle.cvr_cli.specs.declared.request.Task.TheVariants.{Currents, Drill}
+use Rattle.cvr_words.specs.declared.request.Step.{Step}
+use Rattle.cvr_words.specs.declared.request.Task.TheVariants.{Currents, Drill}
 use Rattle.cvr_cli.specs.Drill.{event_of, step_texts, certain, exchange_due, event_due, step_dues}
 use Rattle.cvr_cli.specs.Refusals.{Due, no_due, file_due}
 use Rattle.cvr_cli.specs.Told.{refusal_line, refusal_lines, run_lines, file_dues}

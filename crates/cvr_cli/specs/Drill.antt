@@ -18,9 +18,9 @@ use Rattle.cvr_collect.specs.Names.{records}
 use Rattle.cvr_collect.specs.Outcomes.{no_frame}
 use Rattle.cvr_collect.specs.Reach.{History, content}
 use Rattle.cvr_collect.specs.Readers.{growth}
-use Rattle.cvr_cli.specs.declared.request.Act.{Act}
-use Rattle.cvr_cli.specs.declared.request.Act.TheVariants.{Import, Exchange}
-use Rattle.cvr_cli.specs.declared.request.Step.{Step}
+use Rattle.cvr_words.specs.declared.request.Act.{Act}
+use Rattle.cvr_words.specs.declared.request.Act.TheVariants.{Import, Exchange}
+use Rattle.cvr_words.specs.declared.request.Step.{Step}
 use Rattle.cvr_cli.specs.Refusals.{Due, no_due, file_due}
 
 -- ---- steps as events

@@ -5,7 +5,7 @@ use Rattle.cdf_check.specs.Frame.{Frame}
 use Rattle.cvr_facts.specs.Facts.{Fact, Device, Header, Snapshot}
 use Rattle.cvr_tally.specs.Examples.{ballot_box, dot}
 use Rattle.cvr_collect.specs.Examples.{contests, position, selection, choice, contest, snapshot}
-use Rattle.cvr_cli.specs.declared.request.Task.TheVariants.{Currents, Conflicts, Tally}
+use Rattle.cvr_words.specs.declared.request.Task.TheVariants.{Currents, Conflicts, Tally}
 use Rattle.cvr_cli.specs.Outcome.{facts_text}
 
 -- a definition of three contests: for mayor Ann and Bob, the second with the dot, the third with no selection

@@ -1,6 +1,6 @@
 -- What is held of a file says all that a run says of it. (This project's own.)
 use Rattle.std.specs.Prelude.{◌≡◌, ℕ, List, take, map}
-use Rattle.cvr_cli.specs.declared.request.Task.{Task}
+use Rattle.cvr_words.specs.declared.request.Task.{Task}
 use Rattle.cvr_cli.specs.File.{held_bytes}
 use Rattle.cvr_cli.specs.Outcome.{run_text, run_fault, any_refused}
 use Rattle.cvr_cli.specs.Told.{run_lines}

@@ -13,6 +13,7 @@ pub mod Ends
 pub mod Opening
 pub mod MemoryFiles
 pub mod Worked
+pub mod Answered
 pub mod HeldBytes
 pub mod Laws
 pub mod Rows

@@ -11,8 +11,8 @@ use Rattle.cdf_check.specs.Acceptance.{frame_in}
 use Rattle.cvr_facts.specs.Facts.{Facts}
 use Rattle.cvr_facts.specs.Reports.{facts}
 use Rattle.cvr_cli.specs.declared.merge.MergeFault.{MergeFault}
-use Rattle.cvr_cli.specs.declared.request.Task.{Task}
-use Rattle.cvr_cli.specs.declared.request.Task.TheVariants.{Currents, Check, Conflicts, Tally, Merge, Drill}
+use Rattle.cvr_words.specs.declared.request.Task.{Task}
+use Rattle.cvr_words.specs.declared.request.Task.TheVariants.{Currents, Check, Conflicts, Tally, Merge, Drill}
 use Rattle.cvr_cli.specs.declared.status.Status.{Status}
 use Rattle.cvr_cli.specs.declared.status.Status.TheVariants.{Done, Refused}
 use Rattle.cvr_cli.specs.Accepted.{is_unsound, is_refused, accepted}

@@ -1,9 +1,9 @@
 -- Worked examples: what a run tells of refused files. (This project's own.)
 use Rattle.std.specs.Prelude.{◌≡◌, ℕ, List, [], ◌∷◌, ◌++◌, codes}
 use Rattle.cdf_check.specs.Rows as file
-use Rattle.cvr_cli.specs.declared.request.Task.TheVariants.{Currents, Drill}
-use Rattle.cvr_cli.specs.declared.request.Act.TheVariants.{Import, Exchange}
-use Rattle.cvr_cli.specs.declared.request.Step.{Step}
+use Rattle.cvr_words.specs.declared.request.Task.TheVariants.{Currents, Drill}
+use Rattle.cvr_words.specs.declared.request.Act.TheVariants.{Import, Exchange}
+use Rattle.cvr_words.specs.declared.request.Step.{Step}
 use Rattle.cvr_cli.specs.Told.{run_lines}
 
 -- a cast vote record without UniqueId, one that is accepted, and one with a selection of another contest

@@ -6,8 +6,8 @@ use Rattle.cdf_check.specs.Frame.{Frame}
 use Rattle.cdf_check.specs.Acceptance.{frame_in, first_refusal, first_unsound}
 use Rattle.cvr_collect.specs.declared.event.Cause.{Cause}
 use Rattle.cvr_cli.specs.declared.refusals.Refusals.{Refusals}
-use Rattle.cvr_cli.specs.declared.request.Task.{Task}
-use Rattle.cvr_cli.specs.declared.request.Task.TheVariants.{Drill}
+use Rattle.cvr_words.specs.declared.request.Task.{Task}
+use Rattle.cvr_words.specs.declared.request.Task.TheVariants.{Drill}
 use Rattle.cvr_cli.specs.Accepted.{is_unsound}
 use Rattle.cvr_cli.specs.declared.merge.MergeFault.{MergeFault}
 use Rattle.cvr_cli.specs.Drill.{step_texts, step_dues}

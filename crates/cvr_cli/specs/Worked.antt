@@ -2,7 +2,7 @@
 use Rattle.std.specs.Prelude.{◌≡◌, ◌≢◌, ℕ, List, ◌∷◌, ◌++◌, codes, Bool, true, Option}
 use Rattle.cvr_cli.specs.declared.file.FileFault.{FileFault}
 use Rattle.cvr_cli.specs.declared.file.FileFault.TheVariants.{Device, Memory}
-use Rattle.cvr_cli.specs.declared.request.Task.{Task}
+use Rattle.cvr_words.specs.declared.request.Task.{Task}
 use Rattle.cvr_cli.specs.declared.status.Status.{Status}
 use Rattle.cvr_cli.specs.declared.status.Status.TheVariants as status
 use Rattle.cvr_cli.specs.Ends.{Ends}

@@ -10,11 +10,11 @@ use crate::collecting::note_refused;
 use crate::ending::{end_in_memory, end_with};
 use crate::offices::print_offices;
 use crate::refusals::Refusals;
-use crate::request::{Act, Step};
 use crate::status::Status;
 use cdf_check::Definition;
 use cdf_types::{Memory, Sink};
 use cvr_collect::{Event, Office, play};
+use cvr_words::{Act, Step};
 use std::alloc::Global;
 
 // The place of the office with this number among so many; that of office 0 is above the last.

@@ -1,6 +1,7 @@
 //! The commands of `cvr`: what is printed of a definition and files, and the devices it goes through.
 #![tactic(auto)]
 
+mod answering;
 mod check;
 mod collecting;
 mod conflicts;
@@ -20,19 +21,18 @@ mod over;
 mod printing;
 mod reading;
 mod refusals;
-mod request;
 pub mod rows;
 mod status;
 mod tasks;
 mod working;
 
+pub use answering::work;
 pub use conflicts::conflicts_text;
 pub use currents::currents_text;
+pub use cvr_words::{Act, Request, Step, Task, WordFault, read_words};
 pub use file::{FileFault, HELD, read_file};
 pub use memory_files::{MemoryFile, MemoryFiles};
 pub use opening::Open;
 pub use over::{OverRead, OverWrite};
-pub use request::{Act, Request, Step, Task};
 pub use status::Status;
 pub use tasks::run;
-pub use working::work;

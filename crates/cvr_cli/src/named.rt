@@ -1,7 +1,7 @@
 ghost use Rattle.std.specs.Prelude.{◌≡◌, ℕ, List};
 
-use crate::request::Step;
 use cdf_types::Body;
+use cvr_words::Step;
 
 /// What the log tells by a text that was given: a file by its path, or a step of a drill.
 pub trait Named {

@@ -11,12 +11,12 @@ use crate::conflicts::conflicts_text;
 use crate::currents::currents_text;
 use crate::log::{say, say_memory};
 use crate::merge::{MergeFault, print_volume, say_merge};
-use crate::request::Task;
 use crate::status::Status;
 use cdf_types::{DeviceFault, Memory, Sink, write_all};
 use cvr_collect::Office;
 use cvr_report::{HeadFault, WriteFault};
 use cvr_tally::tally_text;
+use cvr_words::Task;
 use std::alloc::Global;
 
 /// Why a text was not printed, or not whole.

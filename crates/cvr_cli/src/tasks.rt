@@ -16,11 +16,11 @@ use crate::ending::{end_in_memory, end_with};
 use crate::printing::{print_office, print_text};
 use crate::reading::count_records;
 use crate::refusals::Refusals;
-use crate::request::{Request, Task};
 use crate::status::Status;
 use cdf_check::Definition;
 use cdf_types::{Body, Memory, Sink};
 use cvr_collect::{Office, PlainOffice};
+use cvr_words::{Request, Task};
 use std::alloc::Global;
 
 // Counts the cast vote records of each accepted file.

@@ -9,10 +9,10 @@ ghost use Rattle.cvr_cli.specs.Told.{run_lines};
 ghost use Rattle.cvr_cli.specs.Worked.{Stops, Runs};
 
 use crate::opening::{Open, read_all, read_told};
-use crate::request::Request;
 use crate::status::Status;
 use crate::tasks::run;
 use cdf_types::Sink;
+use cvr_words::Request;
 use std::alloc::Global;
 
 // What a run reads.
@@ -45,7 +45,7 @@ fn read_inputs<O: Open, L: Sink>(
 /// Does a request: reads its definition and its files, each at its path and in this order, and runs
 /// over them. Where one isn't read, that is told to the log, and nothing else is done. Where the opener
 /// says what stands at each path, the text is that of these files.
-pub fn work<O: Open, W: Sink, L: Sink>(
+pub fn run_request<O: Open, W: Sink, L: Sink>(
     alloc: Global,
     opener: &O,
     request: &Request,

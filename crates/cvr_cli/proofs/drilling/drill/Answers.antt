@@ -4,7 +4,7 @@ use Rattle.std.specs.List.{list_any}
 use Rattle.std.proofs.lemmas.List.{length-map, length-replicate, take_at}
 use Rattle.cvr_collect.specs.Reach.{content, history}
 use Rattle.cvr_collect.specs.Outcomes.{AreOutcomes}
-use Rattle.cvr_cli.specs.declared.request.Step.{Step}
+use Rattle.cvr_words.specs.declared.request.Step.{Step}
 use Rattle.cvr_cli.specs.Drill.{event_of, events_of, new_offices, step_texts, step_dues}
 use Rattle.cvr_cli.specs.Outcome.{bytes_of}
 use Rattle.cvr_cli.specs.Refusals.{is_refusal, is_want, AreDue}

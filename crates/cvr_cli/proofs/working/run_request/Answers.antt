@@ -3,7 +3,7 @@ use Rattle.cvr_cli.specs.Opening.{AreRead}
 use Rattle.cvr_cli.specs.Outcome.{bytes_of}
 use Rattle.cvr_cli.specs.Worked.{Runs}
 use Rattle.cvr_cli.proofs.Known.{text_known, log_known, done_known, refused_known}
-use Rattle.cvr_cli.proofs.working.work.Goals as goal
+use Rattle.cvr_cli.proofs.working.run_request.Goals as goal
 
 pub returns-in-Ok : goal.returns-in-Ok
 returns-in-Ok g c =

@@ -1,0 +1,90 @@
+-- Words that ask for no request.
+use Rattle.std.proofs.Common.{◌≡◌, ◌≢◌, ◌∙◌, ℕ, List, [], Bool, true, false, Option, None, Result, Ok, Err, IfErr, inr, refl, sym, ap, subst}
+use Rattle.std.specs.Prelude.{if◌then◌else◌}
+use Rattle.cdf_types.specs.Device.{appended}
+use Rattle.cvr_words.specs.Fault.{IsLineFault}
+use Rattle.cvr_words.specs.Request.{IsRequest}
+use Rattle.cvr_words.specs.declared.fault.LineFault.{LineFault}
+use Rattle.cvr_words.specs.declared.fault.LineFault.TheVariants.{Refused, Help, BadStep, Memory}
+use Rattle.cvr_words.specs.declared.request.Request.{Request}
+use Rattle.cvr_words.proofs.OneRequest.{no_line_fault_but_memory}
+use Rattle.cvr_cli.specs.Answered.{TellsWords, help_text, is_help, words_line, words_status}
+use Rattle.cvr_cli.specs.declared.printing.PrintFault.{PrintFault}
+use Rattle.cvr_cli.specs.declared.printing.PrintFault.TheVariants as fault
+use Rattle.cvr_cli.specs.declared.refusals.Refusals.{Refusals}
+use Rattle.cvr_cli.specs.declared.status.Status.{Status}
+use Rattle.cvr_cli.specs.declared.status.Status.TheVariants as status
+use Rattle.cvr_cli.specs.Log.{Logs}
+use Rattle.cvr_cli.specs.Outcome.{IsWhole}
+use Rattle.cvr_cli.specs.Printing.{Prints, is_output, end_line, print_line, print_status, status_after}
+use Rattle.cvr_cli.specs.Refusals.{status_of}
+use Rattle.cvr_cli.specs.Told.{out_line}
+use Rattle.cvr_cli.proofs.Known.{not_whole}
+use Rattle.cvr_cli.proofs.Printed.{whole_front}
+use Rattle.cvr_cli.proofs.Telling.{appended_none}
+
+-- a fault that leaves the output as it was
+pub quiet_told : (unchanged : Type 0) (f k : LineFault) (answer : Status) (c : Option (List ℕ)) (g : Bool) (b : Option (List ℕ)) (had : Bool) (a : Option (List ℕ)) (h : Bool) → f ≡ k
+    → answer ≡ words_status k g → unchanged → help_text k ≡ [] → Logs b had a h (words_line k g) → TellsWords unchanged f answer c c g b had a h
+quiet_told unchanged f k answer c g b had a h is status quiet none log =
+    subst (λ (j : LineFault). TellsWords unchanged j answer c c g b had a h) (sym is)
+    (record {
+      status = status;
+      quiet = λ _. quiet;
+      whole = λ _. appended_none c ∙ ap (appended c) (sym none);
+      front = ([], [], none, appended_none c);
+      log = log;
+    })
+
+-- nothing was refused
+none_refused : (r : Refusals) → r.any_refusal ≡ false → r.file_lacking ≡ false → r.path_unspelled ≡ false → status_of r ≡ status.Done
+none_refused r any lacking unspelled = rw (any, lacking, unspelled) refl
+
+help_status : (f : LineFault) (g : Bool) → is_help f ≡ true → words_status f g ≡ (if g then status.Device else status.Done)
+help_status (Refused text) g is = cc
+help_status (Help text) g is = refl
+help_status (BadStep place step) g is = cc
+help_status Memory g is = cc
+
+help_line : (f : LineFault) (g : Bool) → is_help f ≡ true → words_line f g ≡ out_line g
+help_line (Refused text) g is = cc
+help_line (Help text) g is = refl
+help_line (BadStep place step) g is = cc
+help_line Memory g is = cc
+
+-- help that was printed, or not whole
+pub help_told : {T : Type 0} (unchanged : Type 0) (k : LineFault) (printed : Result T PrintFault) (r : Refusals) (answer : Status) (c d : Option (List ℕ)) (g : Bool) (b : Option (List ℕ)) (f : Bool) (a : Option (List ℕ)) (h : Bool)
+    → is_help k ≡ true → Prints c d g printed None (help_text k) → IfErr printed (λ e. e ≡ fault.Device) → r.any_refusal ≡ false → r.file_lacking ≡ false → r.path_unspelled ≡ false
+    → answer ≡ status_after printed r → Logs b f a h (end_line printed) → TellsWords unchanged k answer c d g b f a h
+help_told unchanged k (Ok x) r answer c d g b f a h help p e any lacking unspelled is log = record {
+  status = is ∙ (none_refused r any lacking unspelled ∙ (sym (ap (λ (o : Bool). if o then status.Device else status.Done) p.1) ∙ sym (help_status k g help)));
+  quiet = λ other. absurd (let bad : true ≡ false = sym help ∙ other in cc);
+  whole = λ _. p.0;
+  front = whole_front c d (help_text k) p.0;
+  log = subst (Logs b f a h) (sym (help_line k g help)) (subst (λ (o : Bool). Logs b f a h (out_line o)) (sym p.1) log);
+}
+help_told unchanged k (Err x) r answer c d g b f a h help p e any lacking unspelled is log =
+    let failed : g ≡ true = p.1 ∙ ap is_output e in
+    record {
+      status =
+          is ∙ (ap (λ (o : Bool). if o then status.Memory else print_status x) unspelled
+          ∙ (ap print_status e ∙ (sym (ap (λ (o : Bool). if o then status.Device else status.Done) failed) ∙ sym (help_status k g help))));
+      quiet = λ other. absurd (let bad : true ≡ false = sym help ∙ other in cc);
+      whole = λ works. absurd (let bad : true ≡ false = sym failed ∙ works in cc);
+      front = p.0;
+      log =
+          subst (Logs b f a h) (sym (help_line k g help))
+          (subst (λ (o : Bool). Logs b f a h (out_line o)) (sym failed) (subst (λ y. Logs b f a h (print_line y)) e log));
+    }
+
+-- words that ask for a request are told as want of memory alone
+pub told_memory : (words : List (List ℕ)) (request : Request) (f : LineFault) (answer : Status) (g : Bool) → IsRequest words request → IsLineFault words f → answer ≡ words_status f g
+    → answer ≡ status.Memory
+told_memory words request f answer g asked is told = told ∙ ap (λ k. words_status k g) (no_line_fault_but_memory words request f asked is)
+
+pub not_asked : (words : List (List ℕ)) (request : Request) (f : LineFault) (answer : Status) (g : Bool) → IsRequest words request → IsLineFault words f → answer ≡ words_status f g
+    → IsWhole answer → ⊥
+not_asked words request f answer g asked is told = not_whole answer (inr (told_memory words request f answer g asked is told))
+
+pub not_command_line : (answer : Status) → answer ≡ status.Memory → answer ≢ status.CommandLine
+not_command_line answer is other = cc
