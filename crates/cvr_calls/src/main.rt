@@ -15,6 +15,7 @@ mod same;
 mod table;
 mod tellings;
 mod trying;
+mod words;
 mod writing;
 
 use std::process::ExitCode;

@@ -3,14 +3,12 @@ use crate::records::Records;
 use crate::trying::{Ended, Reading, try_reading};
 use crate::writing::{DATE, DEVICE};
 use cdf_types::{Body, Memory, MemorySink, MemorySource, ReadFault, Seq, Sink};
-use cvr_cli::{
-    Act, FileFault, MemoryFile, MemoryFiles, Request, Status, Step, Task, read_file, run, work,
-};
+use cvr_cli::{Act, FileFault, Request, Status, Step, Task, read_file, run};
 use std::alloc::Global;
 use std::num::NonZeroU32;
 
-// So few bytes that a file is read by several calls, and a text written so.
-const PIECE: usize = 64;
+/// So few bytes that a file is read by several calls, and a text written so.
+pub const PIECE: usize = 64;
 
 /// Reads a file. The source doesn't fail.
 pub fn read_whole(alloc: Global, bytes: &[u8]) -> Result<Vec<u8>, ReadFault> {
@@ -19,15 +17,6 @@ pub fn read_whole(alloc: Global, bytes: &[u8]) -> Result<Vec<u8>, ReadFault> {
         Err(FileFault::Memory) => Err(ReadFault::Memory),
         Err(FileFault::Device) => Err(ReadFault::NotJson),
     }
-}
-
-/// How a run is called.
-#[derive(Clone, Copy)]
-pub enum Call {
-    /// Over the bytes of files.
-    Run,
-    /// Over what opens them.
-    Work,
 }
 
 /// What a run is asked for.
@@ -126,12 +115,15 @@ impl Running {
     }
 }
 
-// How a run ended, and what it wrote.
+/// How a run ended, and what it wrote.
 #[derive(Drop)]
-struct Ran {
-    status: Status,
-    out: MemorySink,
-    log: MemorySink,
+pub struct Ran {
+    /// Its status.
+    pub status: Status,
+    /// The text.
+    pub out: MemorySink,
+    /// The lines.
+    pub log: MemorySink,
 }
 
 // Runs a request over the bytes of its files, if it has a path for each.
@@ -152,42 +144,8 @@ fn run_over(alloc: Global, running: &Running) -> Option<Ran> {
     Some(Ran { status, out, log })
 }
 
-// A file in memory, which doesn't fail.
-fn file_of<'a>(path: &'a str, bytes: &'a [u8]) -> MemoryFile<'a> {
-    MemoryFile {
-        path,
-        bytes,
-        fail_at: 0,
-    }
-}
-
-// Does a request over an opener of its files, if they are two.
-fn work_over(alloc: Global, running: &Running) -> Option<Ran> {
-    let [scan, batched] = running.files.as_slice() else {
-        return None;
-    };
-    let files = [
-        file_of(DEFINITION, running.definition.as_slice()),
-        file_of(SCAN, scan.as_slice()),
-        file_of(BATCHED, batched.as_slice()),
-    ];
-    let mut out = MemorySink::new(alloc, PIECE, 0);
-    let mut log = MemorySink::new(alloc, PIECE, 0);
-    let opener = MemoryFiles { files: &files };
-    let status = work(alloc, &opener, &running.request, &mut out, &mut log);
-    Some(Ran { status, out, log })
-}
-
-// Makes a run.
-fn made(alloc: Global, call: Call, running: &Running) -> Option<Ran> {
-    match call {
-        Call::Run => run_over(alloc, running),
-        Call::Work => work_over(alloc, running),
-    }
-}
-
-// Whether a run ended as another, and wrote the same. A log whose growth was refused has a front of it.
-fn is_like(ran: &Ran, before: &Ran) -> bool {
+/// Whether a run ended as another, and wrote the same. A log whose growth was refused has a front of it.
+pub fn is_like(ran: &Ran, before: &Ran) -> bool {
     let (told, whole) = (ran.log.taken(), before.log.taken());
     ran.status == before.status
         && ran.out.taken() == before.out.taken()
@@ -197,7 +155,6 @@ fn is_like(ran: &Ran, before: &Ran) -> bool {
 // A run beside the one that was made before.
 #[derive(Drop)]
 struct Repeating {
-    call: Call,
     asked: Asked,
     running: Running,
     before: Ran,
@@ -219,7 +176,7 @@ impl Repeating {
 
 impl Reading for Repeating {
     fn is_right(&self, alloc: Global, _records: &Records<'_>) -> Result<bool, ReadFault> {
-        let Some(ran) = made(alloc, self.call, &self.running) else {
+        let Some(ran) = run_over(alloc, &self.running) else {
             return Ok(false);
         };
         if self.is_wanting(&ran) {
@@ -234,15 +191,13 @@ pub fn try_running(
     rt: &HostRuntime,
     name: &str,
     records: &Records<'_>,
-    call: Call,
     asked: Asked,
 ) -> Result<(), Ended> {
     let running = Running::new(rt, asked)?;
-    let Some(before) = made(rt.alloc(), call, &running) else {
+    let Some(before) = run_over(rt.alloc(), &running) else {
         return Err(Ended::NotBuilt);
     };
     let repeating = Repeating {
-        call,
         asked,
         running,
         before,

@@ -1,12 +1,13 @@
 use crate::changes::{try_join_bodies, try_open, try_push};
-use crate::files::{EVERY_KIND, OTHER_BODY, OTHER_DEVICE, OTHER_UNIT};
+use crate::files::{BATCHED, DEFINITION, EVERY_KIND, OTHER_BODY, OTHER_DEVICE, OTHER_UNIT, SCAN};
 use crate::offices::{try_import, try_join};
 use crate::playing::try_playing;
 use crate::readings::{Copying, Filing, Making};
 use crate::records::{Records, try_new_records};
-use crate::running::{Asked, Call, try_running};
+use crate::running::{Asked, try_running};
 use crate::tellings::{Telling, try_telling};
 use crate::trying::{Ended, Reading, try_reading};
+use crate::words::{try_words, try_work};
 use crate::writing::try_writing;
 
 // The scripts. Each public call that can answer want of memory stands in the name of one of them.
@@ -54,15 +55,52 @@ static VOLUMES: [(&str, usize); 2] = [
     ("write_volume, the second", 2),
 ];
 
-static RUNS: [(&str, Call, Asked); 8] = [
-    ("run currents", Call::Run, Asked::Currents),
-    ("run conflicts", Call::Run, Asked::Conflicts),
-    ("run tally", Call::Run, Asked::Tally),
-    ("run check", Call::Run, Asked::Check),
-    ("run merge", Call::Run, Asked::Volume(1)),
-    ("run merge, no such volume", Call::Run, Asked::Volume(9)),
-    ("run drill", Call::Run, Asked::Drill),
-    ("work currents", Call::Work, Asked::Currents),
+static RUNS: [(&str, Asked); 7] = [
+    ("run currents", Asked::Currents),
+    ("run conflicts", Asked::Conflicts),
+    ("run tally", Asked::Tally),
+    ("run check", Asked::Check),
+    ("run merge", Asked::Volume(1)),
+    ("run merge, no such volume", Asked::Volume(9)),
+    ("run drill", Asked::Drill),
+];
+
+static WORDS: [(&str, &[&str]); 9] = [
+    ("read_words currents", &["currents", "d", "a", "b"]),
+    ("read_words conflicts", &["conflicts", "d", "--", "-a"]),
+    ("read_words tally", &["tally", "d", "a", "a"]),
+    ("read_words check", &["check", "d"]),
+    (
+        "read_words merge",
+        &["merge", "d", "date", "desk", "2", "a"],
+    ),
+    (
+        "read_words drill",
+        &["drill", "d", "2", "1=a", "1>2", "2=a"],
+    ),
+    ("read_words, help", &["help", "drill"]),
+    ("read_words, a wrong word", &["taly", "d"]),
+    ("read_words, a bad step", &["drill", "d", "2", "1=a", "x"]),
+];
+
+static WORKS: [(&str, &[&str]); 5] = [
+    ("work currents", &["currents", DEFINITION, SCAN, BATCHED]),
+    (
+        "work drill",
+        &[
+            "drill",
+            DEFINITION,
+            "3",
+            "1=scan_for_ann.json",
+            "2=batched_with_image.json",
+            "1>2",
+            "1>4",
+            "2>3",
+        ],
+    ),
+    ("work, help", &["help", "merge"]),
+    ("work, a wrong word", &["taly", DEFINITION]),
+    ("work, a bad step", &["drill", DEFINITION, "2", "x"]),
 ];
 
 // Each file brings one new fact.
@@ -100,7 +138,8 @@ pub fn try_records(rt: &HostRuntime, records: &Records<'_>) -> Result<(), Ended>
     try_readings(rt, records, &MAKINGS)?;
     try_tellings(rt, records)?;
     try_volumes(rt, records)?;
-    try_runs(rt, records)
+    try_runs(rt, records)?;
+    try_all_words(rt, records)
 }
 
 fn try_readings<R: Reading>(
@@ -150,8 +189,18 @@ fn try_joins(rt: &HostRuntime) -> Result<(), Ended> {
 }
 
 fn try_runs(rt: &HostRuntime, records: &Records<'_>) -> Result<(), Ended> {
-    for (name, call, asked) in &RUNS {
-        try_running(rt, name, records, *call, *asked)?;
+    for (name, asked) in &RUNS {
+        try_running(rt, name, records, *asked)?;
+    }
+    Ok(())
+}
+
+fn try_all_words(rt: &HostRuntime, records: &Records<'_>) -> Result<(), Ended> {
+    for (name, words) in &WORDS {
+        try_words(rt, name, records, words)?;
+    }
+    for (name, words) in &WORKS {
+        try_work(rt, name, records, words)?;
     }
     Ok(())
 }

@@ -26,3 +26,5 @@ mod sets;
 mod texts;
 #[cfg(test)]
 mod volumes;
+#[cfg(test)]
+mod words;

@@ -1,27 +1,15 @@
 //! Runs over files in memory, which an opener finds by their paths.
 use crate::files::*;
-use cdf_types::{Body, MemorySink, Seq};
-use cvr_cli::{MemoryFile, MemoryFiles, Request, Status, Task, work};
+use crate::words::texts;
+use cdf_types::MemorySink;
+use cvr_cli::{MemoryFile, MemoryFiles, Status, work};
 use std::process::Abort;
 
-// The request for the current snapshots of files.
-fn request(rt: &(impl Abort + AllocGlobal), files: &[&str]) -> Request {
-    let mut paths: Seq<Body> = Seq::empty(rt.alloc());
-    for path in files {
-        paths.push(body(rt, *path)).expect(rt, "no memory");
-    }
-    Request {
-        task: Task::Currents,
-        def: body(rt, "def.json"),
-        paths,
-    }
-}
-
-// Whether a run over these paths of the definition, a scan and its adjudication, whose reading fails
+// Whether the work on these words over the definition, a scan and its adjudication, whose reading fails
 // at a call or never (0), ends so, prints this and tells this.
 fn leaves(
     rt: &(impl Abort + AllocGlobal),
-    paths: &[&str],
+    words: &[&str],
     fail_at: usize,
     status: Status,
     text: &str,
@@ -49,9 +37,9 @@ fn leaves(
     ];
     let mut out = MemorySink::new(rt.alloc(), 100, 0);
     let mut log = MemorySink::new(rt.alloc(), 100, 0);
-    let request = request(rt, paths);
+    let words = texts(rt, words);
     let opener = MemoryFiles { files: &files };
-    let ended = work(rt.alloc(), &opener, &request, &mut out, &mut log);
+    let ended = work(rt.alloc(), &opener, &words, &mut out, &mut log);
     ended == status && out.taken() == text.as_bytes() && log.taken() == told.as_bytes()
 }
 
@@ -61,18 +49,56 @@ const MENDED: &str = "\"s1\" \"u1\" \"m\" modified\n";
 
 #[test]
 fn each_file_is_read_at_its_path(rt: HostRuntime) {
-    assert!(rt; leaves(&rt, &["for_ann.json"], 0, Status::Done, SCANNED, ""));
-    assert!(rt; leaves(&rt, &["for_bob.json"], 0, Status::Done, MENDED, ""));
+    assert!(rt;
+        leaves(
+            &rt,
+            &["currents", "def.json", "for_ann.json"],
+            0,
+            Status::Done,
+            SCANNED,
+            ""
+        )
+    );
+    assert!(rt;
+        leaves(
+            &rt,
+            &["currents", "def.json", "for_bob.json"],
+            0,
+            Status::Done,
+            MENDED,
+            ""
+        )
+    );
 }
 
 #[test]
 fn the_first_path_without_a_file_ends_all(rt: HostRuntime) {
-    let paths = ["for_ann.json", "none.json", "nor_this.json"];
-    assert!(rt; leaves(&rt, &paths, 0, Status::Device, "", "none.json: K1\n"));
+    let words = [
+        "currents",
+        "def.json",
+        "for_ann.json",
+        "none.json",
+        "nor_this.json",
+    ];
+    assert!(rt; leaves(&rt, &words, 0, Status::Device, "", "none.json: K1\n"));
 }
 
 #[test]
 fn a_file_that_fails_within_ends_all(rt: HostRuntime) {
-    let paths = ["for_ann.json", "for_bob.json"];
-    assert!(rt; leaves(&rt, &paths, 2, Status::Device, "", "for_bob.json: K1\n"));
+    let words = ["currents", "def.json", "for_ann.json", "for_bob.json"];
+    assert!(rt; leaves(&rt, &words, 2, Status::Device, "", "for_bob.json: K1\n"));
+}
+
+const DRILLED: &str = "office 1 records 1 facts 5 same 1\noffice 2 records 1 facts 5 same 1\n";
+
+#[test]
+fn a_drill_reads_each_file_that_its_steps_name(rt: HostRuntime) {
+    let words = ["drill", "def.json", "2", "1=for_ann.json", "1>2", "1>3"];
+    assert!(rt; leaves(&rt, &words, 0, Status::Refused, DRILLED, "1>3: N1\n"));
+}
+
+#[test]
+fn a_step_that_has_no_form_is_told_by_its_text(rt: HostRuntime) {
+    let words = ["drill", "def.json", "2", "1=none.json", "--", "-1>2", "x"];
+    assert!(rt; leaves(&rt, &words, 0, Status::CommandLine, "", "-1>2: L3\n"));
 }
