@@ -98,7 +98,7 @@ def row(rules, report, name, member, path):
             err += '%s: %s\n' % (file, fault)
         else:
             out += '%s %d\n' % (file, len(json.loads(text).get('CVR', [])))
-    return {'name': 'member %s.%s' % (name, member), 'words': ['check', VECTOR] + list(files), 'files': files,
+    return {'name': 'member %s.%s' % (name, member), 'words': ['check', VECTOR, '--'] + list(files), 'files': files,
             'out': out, 'err': err, 'status': 1 if err else 0}
 
 
