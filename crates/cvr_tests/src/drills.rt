@@ -61,6 +61,7 @@ fn drilled(
         def: body(rt, "def.json"),
         paths,
     };
+    assert_eq!(rt; request.paths.as_slice().len(), files.len());
     let def = report_text(rt, "");
     let mut out = MemorySink::new(rt.alloc(), 100, 0);
     let mut log = MemorySink::new(rt.alloc(), 100, log_fails);
