@@ -22,6 +22,7 @@ use Rattle.cdf_form.specs.Tables.{Entry, table, classes_of, type_text, listed_in
 use Rattle.cdf_form.specs.Form.{is_empty, is_count, is_moment, class_in, find_class, key_text}
 use Rattle.cdf_form.specs.HasForm.{IsRow, HasForm, text, name, count, moment, listed, class, items}
 use Rattle.cdf_form.specs.Parts.{list_of, array_at, text_in, text_at}
+use Rattle.cdf_form.specs.ByRow.{AllClasses, find_row, HasRow, HasClass, IsTextual, ListApart}
 
 -- ---- values by their kinds
 
@@ -66,21 +67,6 @@ is_text_in n s d is = go (get n d) is
 
 -- ---- classes and rows
 
--- of each class of a list
-abbrev pub AllClasses : (Class → Type 0) → List Class → Type 0
-AllClasses P [] = ⊤
-AllClasses P (c ∷ cs) = P c × AllClasses P cs
-
--- the first row of that name
-abbrev pub find_row : List ℕ → List Entry → Option Entry
-find_row n [] = None
-find_row n (r ∷ rs) = cond (bytes_eq n r.name) (Some r) (find_row n rs)
-
--- what a row says of a value: its member is there where it has to be, and has the form of the kind
-pub record HasRow (needed : Bool) (n : List ℕ) (k : Kind) (d : Data) : Type 0 where
-  pub there : needed ≡ true → IsSome (get n d)
-  pub part : (e : Data) → get n d ≡ Some e → HasForm k e
-
 row_at : (b : Bool) (n : List ℕ) (x r : Entry) (rs : List Entry)
     → (find_row n rs ≡ Some r → IsRow rs r) → cond b (Some x) (find_row n rs) ≡ Some r → IsRow (x ∷ rs) r
 row_at true n x r rs later is = inl (inside x r is)
@@ -107,12 +93,6 @@ class_of_group P g d c h is = go (option_and_then as_str (get (codes "@type") d)
     go : (o : Option (List ℕ)) → option_and_then (find_class (classes_of g)) o ≡ Some c → P c
     go None e = absurd (cc)
     go (Some s) e = found_class P (classes_of g) s c h e
-
--- an object's class, with all rows of its table
-pub record HasClass (g : Group) (d : Data) : Type 0 where
-  pub its : Class
-  pub its_is : class_in g d ≡ Some its
-  pub row : (r : Entry) → IsRow (table its) r → HasRow r.required r.name r.kind d
 
 pub has_class : {g : Group} {d : Data} → HasForm (One (leaf.Object g)) d → HasClass g d
 has_class (class {c = c} is needed part) = record {
@@ -147,18 +127,6 @@ is_object g d f = let h = has_class f in go d h.its h.its_is
     go (object ms) c is = (ms, refl)
 
 -- ---- texts
-
--- kinds whose values are texts
-abbrev pub IsTextual : Leaf → Type 0
-IsTextual leaf.Text = ⊤
-IsTextual leaf.Name = ⊤
-IsTextual leaf.Count = ⊥
-IsTextual leaf.Whole = ⊥
-IsTextual leaf.Truth = ⊥
-IsTextual leaf.Moment = ⊤
-IsTextual leaf.Fractional = ⊥
-IsTextual (leaf.Listed l) = ⊤
-IsTextual (leaf.Object g) = ⊥
 
 text_form : {e : Data} → HasForm (One leaf.Text) e → (s : List ℕ) × (as_str e ≡ Some s)
 text_form (text {s = s} is) = (s, is)
@@ -247,11 +215,6 @@ item_there : (ds : Items) (i : ℕ) (e : Data) → i < length (list_of ds) → g
 item_there no_items i e h = absurd (omega arith)
 item_there (item d ds) zero e h = refl
 item_there (item d ds) (suc i) e h = item_there ds i e (omega arith)
-
--- no text under the key stands at two places of a list
-abbrev pub ListApart : Key → List Data → Type 0
-ListApart k xs = (i j : ℕ) (d e : Data) (s : List ℕ) → i < length xs → j < length xs
-    → key_text k (slice_index_or xs i d) ≡ Some s → key_text k (slice_index_or xs j e) ≡ Some s → i ≡ j
 
 -- what the form of an array says of the list of its items
 pub record HasItems (l : Leaf) (least most : ℕ) (k : Key) (xs : List Data) : Type 0 where

@@ -19,3 +19,5 @@ pub mod ContestLists
 pub mod FormParts
 pub mod Bounds
 pub mod Listings
+pub mod Laws
+pub mod Lemmas

@@ -17,6 +17,7 @@ pub mod Removing
 pub mod MemberLaws
 pub mod PartOf
 pub mod PartLaws
+pub mod ByRow
 pub mod TextExamples
 pub mod FormExamples
 pub mod TableExamples

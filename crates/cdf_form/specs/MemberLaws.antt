@@ -1,5 +1,5 @@
 -- Laws of an object's members: one taken out, and one put in.
-use Rattle.std.specs.Prelude.{◌≡◌, ◌≢◌, ℕ, suc, List, Some, None, String, string_bytes}
+use Rattle.std.specs.Prelude.{◌≡◌, ◌≢◌, ℕ, suc, List, Some, None, String, string_bytes, false}
 use Rattle.std.specs.declared.alloc.Global.{Global}
 use Rattle.std.specs.Ordering.{nat_cmp}
 use Rattle.std.specs.Cmp.Lexicographic.{slice_cmp}
@@ -8,6 +8,7 @@ use Rattle.std.specs.Map.{remove_entry}
 use Rattle.serde_json.specs.Data.{Data, object, Members, put}
 use Rattle.serde_json.specs.Find.{get_member}
 use Rattle.serde_json.specs.View.{members_view}
+use Rattle.serde_json.specs.Written.{members_have_float}
 use Rattle.serde_json.specs.declared.value.Value.{Value}
 use Rattle.cdf_form.specs.Proper.{MembersAreWell, IsProper}
 use Rattle.cdf_form.specs.Removing.{without}
@@ -46,6 +47,13 @@ PutBackLaw =
 abbrev pub WithoutIsProperLaw : Type 0
 WithoutIsProperLaw =
     (n : ℕ) (k : List ℕ) (ms : Members) → IsProper n (object ms) → IsProper n (object (without k ms))
+
+-- Members that are well, or hold no float, do so without one of them.
+abbrev pub WithoutIsWellLaw : Type 0
+WithoutIsWellLaw = (k : List ℕ) (ms : Members) → MembersAreWell ms → MembersAreWell (without k ms)
+
+abbrev pub WithoutIsWholeLaw : Type 0
+WithoutIsWholeLaw = (k : List ℕ) (ms : Members) → members_have_float ms ≡ false → members_have_float (without k ms) ≡ false
 
 -- A proper object is proper with proper data put in, one level less deep.
 abbrev pub PutIsProperLaw : Type 0

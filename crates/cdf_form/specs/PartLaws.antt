@@ -1,6 +1,7 @@
 -- Laws of the parts of a value.
 use Rattle.std.specs.Prelude.{◌≡◌, ◌≤◌, ℕ, suc, List, length, All, Contains, Some, false}
-use Rattle.serde_json.specs.Data.{Data, array}
+use Rattle.serde_json.specs.Data.{Data, array, Items}
+use Rattle.serde_json.specs.Events.{items_len}
 use Rattle.serde_json.specs.Find.{get, at}
 use Rattle.serde_json.specs.Read.{read}
 use Rattle.serde_json.specs.View.{items_of}
@@ -29,6 +30,10 @@ ArrayListLaw = (ds : List Data) → list_of (items_of ds) ≡ ds
 abbrev pub PartIsProperLaw : Type 0
 PartIsProperLaw = (n : ℕ) (e d : Data) → IsPart e d → IsProper n d → IsProper n e
 
+-- What is proper is so where it may nest deeper.
+abbrev pub DeeperIsProperLaw : Type 0
+DeeperIsProperLaw = (m n : ℕ) (d : Data) → m ≤ n → IsProper m d → IsProper n d
+
 -- A part of a part is a part.
 abbrev pub PartOfPartLaw : Type 0
 PartOfPartLaw = (a b c : Data) → IsPart a b → IsPart b c → IsPart a c
@@ -40,6 +45,10 @@ ListedIsPartLaw = (name : List ℕ) (d e : Data) → Contains (array_at name d) 
 -- A part's compact text is no longer than the whole's.
 abbrev pub PartIsShorterLaw : Type 0
 PartIsShorterLaw = (e d : Data) → IsPart e d → length (compact_text e) ≤ length (compact_text d)
+
+-- An array has no more items than its compact text has bytes.
+abbrev pub ItemsAreShorterLaw : Type 0
+ItemsAreShorterLaw = (ds : Items) → items_len ds ≤ length (compact_text (array ds))
 
 -- Each part of what was read with no float is read again from its own compact text.
 abbrev pub PartReadsBackLaw : Type 0

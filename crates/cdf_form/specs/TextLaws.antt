@@ -26,3 +26,7 @@ ReadAgainLaw =
 abbrev pub OneTextLaw : Type 0
 OneTextLaw =
     (d e : Data) → IsProper max_depth d → IsProper max_depth e → (compact_text d ≡ compact_text e) ↔ (d ≡ e)
+
+-- Data that was read and has no float is proper.
+abbrev pub ReadIsProperLaw : Type 0
+ReadIsProperLaw = (text : List ℕ) (d : Data) → read text ≡ Some d → has_float d ≡ false → IsProper max_depth d

@@ -7,7 +7,9 @@ ghost use Rattle.cdf_types.specs.VoteVariation.{vote_variation_text};
 ghost use Rattle.cdf_form.specs.declared.table.Listing.TheVariants as listing;
 ghost use Rattle.cdf_form.specs.Listings.{HasTextsOf};
 ghost use Rattle.cdf_form.specs.Reading.{max_file};
-ghost use Rattle.cdf_form.specs.Laws.{FormLaw, TablesInOrder, WholeLaw, WholeMembers, WholeItems};
+ghost use Rattle.cdf_form.specs.Laws.{FormLaw, TablesInOrder, WholeLaw, WholeMembers, WholeItems, WholeValues, NoFloatFaults, WholeDocument};
+ghost use Rattle.cdf_form.specs.ByRow.{HasClassLaw, OnlyClassLaw, RowLaw, ObjectLaw, TextLaw, MayBeTextLaw, MustBeTextLaw, MustBeFoundLaw, MustHaveFormLaw};
+ghost use Rattle.cdf_form.specs.ByRow.{MomentFormLaw, ListedFormLaw, CountFormLaw, ArrayLaw, ItemsLaw, FewLaw, SomeLaw, ApartLaw};
 
 /// A value has no fault exactly where it has the form of its kind.
 pub fn form_law()
@@ -19,11 +21,51 @@ pub fn tables_in_order()
     ensures { TablesInOrder }
 {}
 
-/// A value with no fault of rule 14 holds no float, nor do its members and items.
+/// A value with no fault of rule 14 holds no float, nor do its members and items; and one that
+/// holds none has no such fault.
 pub fn whole_law()
     ensures all { WholeLaw }
+    ensures none { NoFloatFaults }
+    ensures document { WholeDocument }
     ensures members { WholeMembers }
     ensures items { WholeItems }
+    ensures values { WholeValues }
+{}
+
+/// An object that has the form of a group has a class of it, and what each row of that class's
+/// table says.
+pub fn rows_hold()
+    ensures its_class { HasClassLaw }
+    ensures only_class { OnlyClassLaw }
+    ensures is_object { ObjectLaw }
+    ensures each_row { RowLaw }
+{}
+
+/// What stands under a row of texts is a text of the row's kind; where it is required it is there,
+/// and a reader finds it.
+pub fn texts_by_row()
+    ensures has_form { TextLaw }
+    ensures is_text { MayBeTextLaw }
+    ensures is_there { MustBeTextLaw }
+    ensures is_found { MustBeFoundLaw }
+    ensures found_has_form { MustHaveFormLaw }
+{}
+
+/// What has the form of a moment, of a listed text or of a count is one.
+pub fn kinds_of_values()
+    ensures moments { MomentFormLaw }
+    ensures listed { ListedFormLaw }
+    ensures counts { CountFormLaw }
+{}
+
+/// What stands under a row of arrays is an array. Each item has the form, they are as many as the
+/// row allows, and no two have one text under its key.
+pub fn items_by_row()
+    ensures is_array { ArrayLaw }
+    ensures have_form { ItemsLaw }
+    ensures most { FewLaw }
+    ensures least { SomeLaw }
+    ensures apart { ApartLaw }
 {}
 
 /// Each list of texts in the tables has the texts of all values of its enumeration, and no other.

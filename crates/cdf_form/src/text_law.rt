@@ -1,17 +1,18 @@
 // Laws of JSON data and its compact text (RFC 8259). Each is the contract of a function that does nothing.
-ghost use Rattle.cdf_form.specs.TextLaws.{ReadIsWellLaw, ReadIsShallowLaw, ReadsBackLaw, ReadAgainLaw, OneTextLaw};
+ghost use Rattle.cdf_form.specs.TextLaws.{ReadIsWellLaw, ReadIsShallowLaw, ReadIsProperLaw, ReadsBackLaw, ReadAgainLaw, OneTextLaw};
 ghost use Rattle.cdf_form.specs.MemberLaws.{GoneLaw, OthersStayLaw, AbsentLaw, FoundLaw, OthersKeptLaw};
-ghost use Rattle.cdf_form.specs.MemberLaws.{TakenOutLaw, PutBackLaw, WithoutIsProperLaw, PutIsProperLaw, RemovedLaw};
-ghost use Rattle.cdf_form.specs.PartLaws.{MemberIsProperLaw, ItemIsProperLaw, ArrayIsProperLaw, PartIsProperLaw};
-ghost use Rattle.cdf_form.specs.PartLaws.{ArrayListLaw, PartOfPartLaw, ListedIsPartLaw, PartIsShorterLaw};
+ghost use Rattle.cdf_form.specs.MemberLaws.{TakenOutLaw, PutBackLaw, WithoutIsWellLaw, WithoutIsWholeLaw, WithoutIsProperLaw, PutIsProperLaw, RemovedLaw};
+ghost use Rattle.cdf_form.specs.PartLaws.{MemberIsProperLaw, ItemIsProperLaw, ArrayIsProperLaw, PartIsProperLaw, DeeperIsProperLaw};
+ghost use Rattle.cdf_form.specs.PartLaws.{ArrayListLaw, PartOfPartLaw, ListedIsPartLaw, PartIsShorterLaw, ItemsAreShorterLaw};
 ghost use Rattle.cdf_form.specs.PartLaws.{PartReadsBackLaw, ListedReadsBackLaw};
 ghost use Rattle.cdf_form.specs.TextExamples.{ReportExample, SpellingExample, PartExample, RemovingExample};
 ghost use Rattle.cdf_form.specs.TextExamples.{UnorderedExample, RepeatedExample, FloatExample};
 
-/// What is read is well, and nests at most 127 deep.
+/// What is read is well, and nests at most 127 deep; with no float it is proper.
 pub fn was_read()
     ensures well { ReadIsWellLaw }
     ensures shallow { ReadIsShallowLaw }
+    ensures proper { ReadIsProperLaw }
 {}
 
 /// The compact text of data with no float reads as that data.
@@ -44,8 +45,11 @@ pub fn put_back()
     ensures put_back { PutBackLaw }
 {}
 
-/// An object that reads back still does without a member, and with one put in.
+/// An object that reads back still does without a member, and with one put in; members that are
+/// well, or hold no float, do so without one of them.
 pub fn members_stay_proper()
+    ensures well { WithoutIsWellLaw }
+    ensures whole { WithoutIsWholeLaw }
     ensures without { WithoutIsProperLaw }
     ensures put { PutIsProperLaw }
 {}
@@ -55,11 +59,12 @@ pub fn map_remove()
     ensures { RemovedLaw }
 {}
 
-/// A part of data that reads back does so too.
+/// A part of data that reads back does so too, and what may nest so deep may nest deeper.
 pub fn part_is_proper()
     ensures member { MemberIsProperLaw }
     ensures item { ItemIsProperLaw }
     ensures part { PartIsProperLaw }
+    ensures deeper { DeeperIsProperLaw }
 {}
 
 /// An array of data that reads back does so too, and its items are those that it was made of.
@@ -68,11 +73,13 @@ pub fn array_is_proper()
     ensures items { ArrayListLaw }
 {}
 
-/// A part of a part is a part, as an item of an array under a name is, and none has a longer text than the whole.
+/// A part of a part is a part, as an item of an array under a name is, and none has a longer text than the whole;
+/// an array has no more items than its text has bytes.
 pub fn part_of_part()
     ensures part { PartOfPartLaw }
     ensures listed { ListedIsPartLaw }
     ensures shorter { PartIsShorterLaw }
+    ensures fewer { ItemsAreShorterLaw }
 {}
 
 /// Each part of what was read is read again from its own compact text.

@@ -1,4 +1,4 @@
-use Rattle.cdf_form.proofs.Removing.{without_proper, put_proper}
+use Rattle.cdf_form.proofs.Removing.{without_proper, put_proper, without_well, whole-without}
 use Rattle.cdf_form.proofs.text_law.members_stay_proper.Goals as goal
 
 pub returns-clause-without : goal.returns-clause-without
@@ -6,3 +6,9 @@ returns-clause-without c = without_proper
 
 pub returns-clause-put : goal.returns-clause-put
 returns-clause-put c = put_proper
+
+pub returns-clause-well : goal.returns-clause-well
+returns-clause-well c = without_well
+
+pub returns-clause-whole : goal.returns-clause-whole
+returns-clause-whole c = whole-without

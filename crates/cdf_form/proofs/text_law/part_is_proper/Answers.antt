@@ -1,4 +1,4 @@
-use Rattle.cdf_form.proofs.PartLaws.{member_proper, item_proper, part_proper}
+use Rattle.cdf_form.proofs.PartLaws.{member_proper, item_proper, part_proper, proper_deeper}
 use Rattle.cdf_form.proofs.text_law.part_is_proper.Goals as goal
 
 pub returns-clause-member : goal.returns-clause-member
@@ -9,3 +9,6 @@ returns-clause-item c = item_proper
 
 pub returns-clause-part : goal.returns-clause-part
 returns-clause-part c = part_proper
+
+pub returns-clause-deeper : goal.returns-clause-deeper
+returns-clause-deeper c = proper_deeper

@@ -1,5 +1,5 @@
 use Rattle.cdf_form.proofs.PartLaws.{part_of_part, listed_part}
-use Rattle.cdf_form.proofs.Lengths.{part_short}
+use Rattle.cdf_form.proofs.Lengths.{part_short, items_short}
 use Rattle.cdf_form.proofs.text_law.part_of_part.Goals as goal
 
 pub returns-clause-part : goal.returns-clause-part
@@ -10,3 +10,6 @@ returns-clause-listed c = listed_part
 
 pub returns-clause-shorter : goal.returns-clause-shorter
 returns-clause-shorter c = part_short
+
+pub returns-clause-fewer : goal.returns-clause-fewer
+returns-clause-fewer c = items_short
