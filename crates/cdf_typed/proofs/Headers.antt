@@ -9,7 +9,7 @@ use Rattle.serde_json.specs.Written.{has_float}
 use Rattle.serde_json.specs.declared.value.Value.{Value, Object}
 use Rattle.serde_json.proofs.Views.{view-Object}
 use Rattle.cdf_form.specs.Removing.{without}
-use Rattle.cdf_form.proofs.Removing.{view-remove_entry, whole-without}
+use Rattle.cdf_form.proofs.Laws.{view-remove_entry, whole-without}
 use Rattle.cdf_typed.specs.Typed.{header_of}
 
 pub header_of-object : (ms : Members) → header_of (object ms) ≡ object (without (codes "CurrentSnapshotId") (without (codes "CVRSnapshot") ms))
