@@ -9,9 +9,7 @@ use Rattle.serde_json.specs.Written.{compact_text}
 use Rattle.cdf_form.specs.Parts.{list_of, array_at}
 use Rattle.cdf_form.specs.Proper.{IsProper}
 use Rattle.cdf_form.specs.Reading.{value_of}
-use Rattle.cdf_form.proofs.PartLaws.{member_proper, item_proper, proper_deeper}
-use Rattle.cdf_form.proofs.ReadsBack.{read-proper}
-use Rattle.cdf_form.proofs.WasRead.{proper_read}
+use Rattle.cdf_form.proofs.Laws.{member_proper, item_proper, proper_deeper, read-proper, proper_read}
 use Rattle.cdf_check.specs.Acceptance.{IsReport}
 
 -- ---- files

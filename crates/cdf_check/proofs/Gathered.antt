@@ -10,7 +10,7 @@ use Rattle.serde_json.specs.View.{view}
 use Rattle.serde_json.specs.declared.value.Value.{Value}
 use Rattle.cdf_form.specs.Places.{Texts, place_in}
 use Rattle.cdf_form.specs.Kept.{bytes_of}
-use Rattle.cdf_form.proofs.Places.{length-bytes_of}
+use Rattle.cdf_form.proofs.Lemmas.{length-bytes_of}
 use Rattle.cdf_check.specs.Named.{Entry, named, put_all, sorted, pairs, entries_of, ids_of, texts_of, text_of}
 
 -- ---- gathering

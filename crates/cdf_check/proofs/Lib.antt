@@ -20,3 +20,5 @@ pub mod Contents
 pub mod Standing
 pub mod Spelling
 pub mod Utf8
+pub mod Laws
+pub mod Lemmas

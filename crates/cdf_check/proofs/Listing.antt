@@ -12,14 +12,16 @@ use Rattle.cdf_form.specs.Tables as tables
 use Rattle.cdf_form.specs.Tables.{table, classes_of, any, required, optional}
 use Rattle.cdf_form.specs.Form.{key_text}
 use Rattle.cdf_form.specs.Parts.{array_at, id_of, the_election}
-use Rattle.cdf_form.proofs.FormParts.{AllClasses, find_row, HasRow, ListApart, row_of, items_have_form, items_are_apart}
+use Rattle.cdf_form.specs.ByRow.{AllClasses, find_row, HasRow, ListApart}
+use Rattle.cdf_form.proofs.Laws.{row_of, items_have_form, items_are_apart}
 use Rattle.cdf_check.specs.Named.{Entry, named}
 use Rattle.cdf_check.specs.Frame.{entries_at}
 use Rattle.cdf_check.specs.Acceptance.{IsReport}
 use Rattle.cdf_check.specs.Laws.{IsListOf, ListsLaw, AreFoundByIds, PlacesLaw}
 use Rattle.cdf_check.proofs.Empty.{at_head, at_tail}
 use Rattle.cdf_check.proofs.Entries.{IsAmong, AreAlone, sorted_rises, sorted_same}
-use Rattle.cdf_check.proofs.Reports.{contest_row, id_row, report_row, has_id, one_election, election_form}
+use Rattle.cdf_check.specs.Depths.{id_row}
+use Rattle.cdf_check.proofs.Reports.{contest_row, report_row, has_id, one_election, election_form}
 
 -- each value has an id
 abbrev HaveIds : List Data → Type 0

@@ -8,8 +8,8 @@ use Rattle.serde_json.specs.Written.{has_float}
 use Rattle.cdf_form.specs.Parts.{array_at}
 use Rattle.cdf_form.specs.Places.{Texts}
 use Rattle.cdf_form.specs.Reading.{document_faults}
-use Rattle.cdf_form.proofs.FormLaw.{left_nil}
-use Rattle.cdf_form.proofs.Whole.{whole_of, whole_array}
+use Rattle.cdf_form.proofs.Lemmas.{left_nil}
+use Rattle.cdf_form.proofs.Laws.{whole_of, whole_array}
 use Rattle.cdf_check.specs.Named.{named, sorted, texts_of}
 use Rattle.cdf_check.specs.Frame.{Frame, frame_of}
 use Rattle.cdf_check.specs.Sound.{IsSound, IsFrame}

@@ -20,7 +20,9 @@ use Rattle.cdf_form.specs.Tables.{required, optional, any}
 use Rattle.cdf_form.specs.HasForm.{HasForm}
 use Rattle.cdf_form.specs.Parts.{array_at, text_at, text_in}
 use Rattle.cdf_form.specs.Places.{Texts, place_in, Contest, contest_ids, selections_at, selections_of}
-use Rattle.cdf_form.proofs.FormParts.{some_of, row_of, items_have_form, items_are_apart, ListApart}
+use Rattle.cdf_form.proofs.Lemmas.{some_of}
+use Rattle.cdf_form.proofs.Laws.{row_of, items_have_form, items_are_apart}
+use Rattle.cdf_form.specs.ByRow.{ListApart}
 use Rattle.cdf_typed.specs.Typed.{count_at, position_of, selection_place, selection_vote_of, contest_vote_of, snapshot_of, cvr_of, report_of}
 use Rattle.cdf_typed.specs.Range.{IsCount, SelectionInRange, ContestInRange, SnapshotInRange, CvrInRange, ReportInRange}
 use Rattle.cdf_check.specs.Acceptance.{value_in}

@@ -11,19 +11,15 @@ use Rattle.cdf_form.specs.Tables.{Entry, table, classes_of, any, required}
 use Rattle.cdf_form.specs.HasForm.{HasForm}
 use Rattle.cdf_form.specs.Form.{key_text}
 use Rattle.cdf_form.specs.Parts.{array_at, id_of, the_election}
-use Rattle.cdf_form.proofs.FormParts.{AllClasses, find_row, HasRow, row_of, items_are_some, items_are_few, items_have_form, must_text_in}
+use Rattle.cdf_form.specs.ByRow.{AllClasses, find_row, HasRow}
+use Rattle.cdf_form.proofs.Laws.{row_of, items_are_some, items_are_few, items_have_form, must_text_in}
 use Rattle.cdf_check.specs.Acceptance.{IsReport}
 use Rattle.cdf_check.specs.Laws.{OneElectionLaw}
+use Rattle.cdf_check.specs.Depths.{election_row, id_row}
 use Rattle.cdf_check.proofs.Empty.{at_head}
-
-abbrev pub election_row : Entry
-election_row = required (codes "Election") (Array (leaf.Object group.Elections) 1 1 key.Free)
 
 abbrev pub contest_row : Entry
 contest_row = required (codes "Contest") (Array (leaf.Object group.Contests) 0 any key.Id)
-
-abbrev pub id_row : Entry
-id_row = required (codes "@id") (One leaf.Name)
 
 -- a row of reports
 pub report_row : (r : Entry) (d : Data) → find_row r.name (table class.CastVoteRecordReport) ≡ Some r → IsReport d → HasRow r.required r.name r.kind d

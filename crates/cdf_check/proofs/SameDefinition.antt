@@ -14,8 +14,7 @@ use Rattle.serde_json.specs.Written.{compact_text}
 use Rattle.cdf_form.specs.Parts.{array_at, the_election}
 use Rattle.cdf_form.specs.Places.{contest_of}
 use Rattle.cdf_form.specs.Proper.{IsProper}
-use Rattle.cdf_form.proofs.PartLaws.{part_proper, listed_part}
-use Rattle.cdf_form.proofs.ReadsBack.{same_text}
+use Rattle.cdf_form.proofs.Laws.{part_proper, listed_part, same_text}
 use Rattle.cdf_check.specs.Named.{Entry, named, ids_of, texts_of, sorted}
 use Rattle.cdf_check.specs.Frame.{Frame, frame_of, entries_at, IsSame}
 use Rattle.cdf_check.specs.Sound.{IsSound, IsFrame, WasRead}

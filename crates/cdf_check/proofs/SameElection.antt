@@ -12,9 +12,7 @@ use Rattle.cdf_form.specs.Reading.{value_of}
 use Rattle.cdf_form.specs.Parts.{array_at, the_election, id_of}
 use Rattle.cdf_form.specs.Places.{contest_of}
 use Rattle.cdf_form.specs.Proper.{IsProper}
-use Rattle.cdf_form.proofs.PartLaws.{part_proper, listed_part}
-use Rattle.cdf_form.proofs.WasRead.{proper_read}
-use Rattle.cdf_form.proofs.ReadsBack.{same_text}
+use Rattle.cdf_form.proofs.Laws.{part_proper, listed_part, proper_read, same_text}
 use Rattle.cdf_check.specs.Named.{named, text_of, sorted}
 use Rattle.cdf_check.specs.Frame.{Frame, frame_of, entries_at}
 use Rattle.cdf_check.specs.Agreement.{AreListed}

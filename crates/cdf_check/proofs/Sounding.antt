@@ -5,8 +5,8 @@ use Rattle.cdf_form.specs.declared.table.Group.TheVariants as group
 use Rattle.cdf_form.specs.declared.table.Leaf.TheVariants as leaf
 use Rattle.cdf_form.specs.declared.table.Key.TheVariants as key
 use Rattle.cdf_form.specs.declared.table.Kind.TheVariants.{One}
-use Rattle.cdf_form.proofs.FormLaw.{left_nil, right_nil, fits_of, no_faults}
-use Rattle.cdf_form.proofs.Whole.{whole_of, no_float_faults}
+use Rattle.cdf_form.proofs.Lemmas.{left_nil, right_nil}
+use Rattle.cdf_form.proofs.Laws.{fits_of, no_faults, whole_of, no_float_faults}
 use Rattle.cdf_check.specs.Sound.{IsSound}
 use Rattle.cdf_check.specs.Acceptance.{IsReport}
 use Rattle.cdf_check.specs.Laws.{SoundLaw}

@@ -18,8 +18,9 @@ use Rattle.cdf_form.specs.Places.{Texts, contest_of}
 use Rattle.cdf_form.specs.Proper.{MembersAreWell, IsProper}
 use Rattle.cdf_form.specs.Removing.{without}
 use Rattle.cdf_form.specs.Reading.{value_of}
-use Rattle.cdf_form.proofs.FormParts.{HasRow, has_class, class_of_group, only_class, row_of, is_object, must_be_text, items_have_form}
-use Rattle.cdf_form.proofs.Removing.{gone, others_stay, without_well, without_proper}
+use Rattle.cdf_form.specs.ByRow.{HasRow}
+use Rattle.cdf_form.proofs.Laws.{has_class, only_class, row_of, is_object, must_be_text, items_have_form, gone, others_stay, without_well, without_proper}
+use Rattle.cdf_form.proofs.Lemmas.{class_of_group}
 use Rattle.cdf_typed.specs.Typed.{header_of}
 use Rattle.cdf_check.specs.References.{Scope, scope_of, in_cvr, in_snapshot}
 use Rattle.cdf_check.specs.Paths.{each}
@@ -29,7 +30,8 @@ use Rattle.cdf_check.specs.Acceptance.{IsReport, Valid, value_in}
 use Rattle.cdf_check.specs.Bodies.{HasHeaderForm, DeviceStands, HeaderStands, SnapshotStands}
 use Rattle.cdf_check.specs.Laws.{ReferencesLaw, SameElectionLaw, DevicesStandLaw, HeadersStandLaw, SnapshotsStandLaw}
 use Rattle.cdf_check.proofs.Empty.{left_nil}
-use Rattle.cdf_check.proofs.Wider.{Includes, Wider, IsHeaderOf, cvr_parts, differ, is_kept, each_at, snapshot_wider, header_wider, agreed_wider}
+use Rattle.cdf_check.specs.Wider.{Includes, Wider}
+use Rattle.cdf_check.proofs.Wider.{IsHeaderOf, cvr_parts, differ, is_kept, each_at, snapshot_wider, header_wider, agreed_wider}
 use Rattle.cdf_check.proofs.Depths.{report_proper, listed_proper, reads_back}
 
 -- ---- rows

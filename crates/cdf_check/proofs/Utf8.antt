@@ -18,10 +18,8 @@ use Rattle.cdf_form.specs.PartOf.{IsPart, itself, of_member, of_item}
 use Rattle.cdf_form.specs.Proper.{NumFits, IsWell, ItemsAreWell, MembersAreWell, IsProper}
 use Rattle.cdf_form.specs.Reading.{value_of}
 use Rattle.cdf_form.specs.Removing.{without}
-use Rattle.cdf_form.proofs.PartLaws.{found_at, part_proper, part_of_part, listed_part}
-use Rattle.cdf_form.proofs.ReadsBack.{inside}
-use Rattle.cdf_form.proofs.Removing.{without_proper}
-use Rattle.cdf_form.proofs.WasRead.{proper_read}
+use Rattle.cdf_form.proofs.Lemmas.{found_at, inside}
+use Rattle.cdf_form.proofs.Laws.{part_proper, part_of_part, listed_part, without_proper, proper_read}
 use Rattle.cdf_typed.specs.Typed.{header_of}
 use Rattle.cdf_check.specs.Acceptance.{value_in}
 use Rattle.cdf_check.specs.Utf8.{HasUtf8, ItemsHaveUtf8, MembersHaveUtf8, PartUtf8Law, TextUtf8Law}

@@ -18,6 +18,7 @@ use Rattle.cdf_check.specs.Named.{Entry, ids_of, text_of}
 use Rattle.cdf_check.specs.Frame.{Frame, scope_in}
 use Rattle.cdf_check.specs.Agreement.{Agrees}
 use Rattle.cdf_check.specs.Bodies.{IsKept}
+use Rattle.cdf_check.specs.Wider.{Includes, Wider, IsResolved}
 use Rattle.cdf_check.proofs.Empty.{left_nil, right_nil, two, inner, unless_nil, all_items, at_head, at_tail}
 
 -- ---- lists of paths
@@ -37,18 +38,6 @@ each_wider f g h name d e =
     (all_items g (λ x. g x ≡ []) (λ x. ((λ p. p), (λ p. p))) name d).1 (λ x a. h x (each_at f name d x e a))
 
 -- ---- wider scopes
-
--- each text of the first list is in the second
-abbrev pub Includes : Texts → Texts → Type 0
-Includes xs ys = (s : List ℕ) → list_any (bytes_eq s) xs ≡ true → list_any (bytes_eq s) ys ≡ true
-
--- what the first names, the second does, with the same contests
-pub record Wider (a b : Scope) : Type 0 where
-  pub elections : Includes a.elections b.elections
-  pub units : Includes a.units b.units
-  pub parties : Includes a.parties b.parties
-  pub devices : Includes a.devices b.devices
-  pub contests : a.contests ≡ b.contests
 
 unknown_wider : (xs ys : Texts) → Includes xs ys → (o : Option (List ℕ)) → unknown xs o ≡ [] → unknown ys o ≡ []
 unknown_wider xs ys w None e = refl
@@ -77,15 +66,6 @@ snapshot_wider a b same d e =
     each_wider (in_contest_vote a) (in_contest_vote b) (λ x p. sym (vote_same a b same x) ∙ p) (codes "CVRContest") d e
 
 -- ---- the references of a CVR
-
--- that there is none missing, part by part
-pub record IsResolved (a : Scope) (d : Data) : Type 0 where
-  pub unit : one a.units (codes "BallotStyleUnitId") d ≡ []
-  pub snapshots : each (in_snapshot a) (codes "CVRSnapshot") d ≡ []
-  pub device : one a.devices (codes "CreatingDeviceId") d ≡ []
-  pub current : one (ids_at (codes "CVRSnapshot") d) (codes "CurrentSnapshotId") d ≡ []
-  pub election : one a.elections (codes "ElectionId") d ≡ []
-  pub parties : many a.parties (codes "PartyIds") d ≡ []
 
 six_nil : (p q r s t u : List Path) → p ++ (q ++ (r ++ (s ++ (t ++ u)))) ≡ []
     → (p ≡ []) × (q ≡ []) × (r ≡ []) × (s ≡ []) × (t ≡ []) × (u ≡ [])

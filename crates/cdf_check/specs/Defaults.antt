@@ -3,10 +3,16 @@ use Rattle.std.specs.Prelude.{◌≡◌, ◌≤◌, ℕ, List, Some, IsSome, cod
 use Rattle.std.specs.List.{Contains}
 use Rattle.serde_json.specs.Data.{Data}
 use Rattle.serde_json.specs.Find.{get, as_array, as_object}
+use Rattle.cdf_form.specs.declared.table.Group.TheVariants as group
+use Rattle.cdf_form.specs.declared.table.Leaf.TheVariants as leaf
+use Rattle.cdf_form.specs.declared.table.Kind.TheVariants.{One}
+use Rattle.cdf_form.specs.HasForm.{HasForm}
 use Rattle.cdf_form.specs.Parts.{array_at, text_at, text_in, instant_of}
 use Rattle.cdf_form.specs.Places.{Texts, place_in, Contest, contest_ids, selections_of}
 use Rattle.cdf_typed.specs.Typed.{kind_named, indication_named, allocation_named, count_in}
 use Rattle.cdf_typed.specs.Range.{ReportInRange}
+use Rattle.cdf_check.specs.References.{scope_of}
+use Rattle.cdf_check.specs.Resolves.{Resolves}
 use Rattle.cdf_check.specs.Frame.{Frame}
 use Rattle.cdf_check.specs.Sound.{IsFrame}
 use Rattle.cdf_check.specs.Acceptance.{Valid, value_in, report_in}
@@ -84,6 +90,10 @@ pub record ReportIsRead (contests : List Contest) (d : Data) : Type 0 where
   pub listed : IsSome (get (codes "ReportingDevice") d)
   pub devices : HasItems (HasText (codes "@id")) (codes "ReportingDevice") d
   pub cvrs : HasItems (CvrIsRead contests) (codes "CVR") d
+
+-- no default occurs in what has the form of a report and refers to what is there, each place being one of its own
+abbrev pub ReportIsReadLaw : Type 0
+ReportIsReadLaw = (d : Data) → HasForm (One (leaf.Object group.Reports)) d → Resolves d → ReportIsRead (scope_of d).contests d
 
 -- no default occurs in an accepted file, each place being one of the definition's
 abbrev pub NoDefaultLaw : Type 0

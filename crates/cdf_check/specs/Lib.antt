@@ -9,6 +9,8 @@ pub mod Sound
 pub mod Same
 pub mod Acceptance
 pub mod Bodies
+pub mod Wider
+pub mod Depths
 pub mod Laws
 pub mod Defaults
 pub mod Rows

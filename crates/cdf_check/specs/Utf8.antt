@@ -7,6 +7,7 @@ use Rattle.serde_json.specs.Written.{has_float, compact_text}
 use Rattle.cdf_form.specs.Reading.{value_of}
 use Rattle.cdf_form.specs.PartOf.{IsPart}
 use Rattle.cdf_form.specs.Parts.{array_at, id_of, text_at}
+use Rattle.cdf_form.specs.Proper.{IsProper}
 use Rattle.cdf_typed.specs.Typed.{header_of}
 use Rattle.cdf_check.specs.Frame.{Frame}
 use Rattle.cdf_check.specs.Acceptance.{Valid, value_in}
@@ -38,6 +39,13 @@ ReadUtf8Law = (bytes : List ℕ) (d : Data) → value_of bytes ≡ Some d → Ha
 -- and the compact text of each part is UTF-8
 abbrev pub PartUtf8Law : Type 0
 PartUtf8Law = (bytes : List ℕ) (d e : Data) → value_of bytes ≡ Some d → has_float d ≡ false → IsPart e d → IsUtf8 (compact_text e)
+
+-- so is each text and name of a part, and the compact text of what is proper
+abbrev pub PartHasUtf8Law : Type 0
+PartHasUtf8Law = (e d : Data) → IsPart e d → HasUtf8 d → HasUtf8 e
+
+abbrev pub ProperUtf8Law : Type 0
+ProperUtf8Law = (n : ℕ) (d : Data) → IsProper n d → HasUtf8 d → IsUtf8 (compact_text d)
 
 -- so are a text under a name, and the one that stands for an absent text
 abbrev pub TextUtf8Law : Type 0

@@ -1,4 +1,5 @@
 ghost use Rattle.cdf_check.specs.Laws.{ReferencesLaw, AgreementLaw, SoundLaw, SoundFileLaw, ValidFileLaw, OneElectionLaw, SameElectionLaw, ListsLaw, PlacesLaw};
+ghost use Rattle.cdf_check.specs.Depths.{ReportRowLaw, HasIdLaw};
 ghost use Rattle.cdf_check.specs.Same.{SameTextsLaw, SameDefinitionsLaw, OneDefinitionLaw};
 
 /// A list of faults is empty exactly where what the faults tell of holds: of references, of
@@ -14,6 +15,12 @@ pub fn acceptance()
 /// A report has one election.
 pub fn one_election()
     ensures { OneElectionLaw }
+{}
+
+/// Each row of a report says so of it, and an object of a group whose classes have ids has one.
+pub fn report_rows()
+    ensures each_row { ReportRowLaw }
+    ensures id { HasIdLaw }
 {}
 
 /// What agrees with a definition has its election, and so its contests.

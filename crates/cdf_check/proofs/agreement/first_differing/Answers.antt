@@ -2,7 +2,7 @@ use Rattle.std.proofs.Common.{◌≡◌, ◌<◌, false, get_or, length, map, ap
 use Rattle.std.specs.List.{list_any}
 use Rattle.serde_json.specs.View.{view}
 use Rattle.serde_json.specs.Written.{has_float}
-use Rattle.cdf_form.proofs.Whole.{whole_array, whole_there}
+use Rattle.cdf_form.proofs.Laws.{whole_array, whole_there}
 use Rattle.cdf_check.proofs.agreement.first_differing.Goals as goal
 
 pub agrees-requires : goal.agrees-requires

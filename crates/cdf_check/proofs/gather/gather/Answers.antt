@@ -2,7 +2,7 @@ use Rattle.std.proofs.Common.{◌≡◌, ◌<◌, false, get_or, length, ap, ◌
 use Rattle.serde_json.specs.View.{view}
 use Rattle.serde_json.specs.Written.{has_float, compact_text}
 use Rattle.cdf_form.specs.Parts.{id_of}
-use Rattle.cdf_form.proofs.Whole.{whole_there}
+use Rattle.cdf_form.proofs.Laws.{whole_there}
 use Rattle.cdf_check.specs.Named.{named}
 use Rattle.cdf_check.proofs.Gathered.{gathered_more}
 use Rattle.cdf_check.proofs.gather.gather.Goals as goal

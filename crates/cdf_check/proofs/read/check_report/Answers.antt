@@ -1,7 +1,7 @@
 use Rattle.std.proofs.Common.{rules, ◌≡◌, sym, subst}
 use Rattle.serde_json.specs.View.{view}
 use Rattle.cdf_typed.specs.Range.{ReportInRange}
-use Rattle.cdf_form.proofs.Whole.{whole_document}
+use Rattle.cdf_form.proofs.Laws.{whole_document}
 use Rattle.cdf_check.specs.Acceptance.{report_in}
 use Rattle.cdf_check.proofs.Sounding.{sound}
 use Rattle.cdf_check.proofs.Agreeing.{agreement}
