@@ -21,3 +21,5 @@ pub mod ByPlace
 pub mod Gathering
 pub mod WorkedRows
 pub mod Printed
+pub mod Laws
+pub mod Lemmas

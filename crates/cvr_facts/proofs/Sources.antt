@@ -1,29 +1,14 @@
 -- Where in a file a fact comes from.
-use Rattle.std.proofs.Common.{◌≡◌, ℕ, List, map, true, Contains, inl, inr, codes, subst}
+use Rattle.std.proofs.Common.{◌≡◌, ℕ, List, map, true, Contains, inl, inr, subst}
 use Rattle.std.specs.List.{flat_map}
 use Rattle.std.specs.FinSet.{contains}
 use Rattle.std.proofs.lemmas.List.Elements.{Contains-append_left, Contains-append_right, Contains-append_cases}
 use Rattle.serde_json.specs.Data.{Data}
-use Rattle.cdf_form.specs.Parts.{array_at}
 use Rattle.cdf_check.specs.Acceptance.{value_in}
 use Rattle.cvr_facts.specs.Facts.{Fact, fact_total, fact_exact}
 use Rattle.cvr_facts.specs.Reports.{device_fact, header_fact, snapshot_fact, cvr_facts, report_facts, facts}
+use Rattle.cvr_facts.specs.Sources.{devices_in, cvrs_in, snapshots_in, Source, of_device, of_header, of_snapshot}
 use Rattle.cvr_facts.proofs.Members.{at_head, at_tail, head_or_tail, in_map, from_map, in_flat, from_flat, in_set, from_set}
-
-abbrev pub devices_in : Data → List Data
-devices_in d = array_at (codes "ReportingDevice") d
-
-abbrev pub cvrs_in : Data → List Data
-cvrs_in d = array_at (codes "CVR") d
-
-abbrev pub snapshots_in : Data → List Data
-snapshots_in c = array_at (codes "CVRSnapshot") c
-
--- a device of the report, one of its records, or a snapshot of one
-pub data Source (d : Data) : Fact → Type 0 where
-  of_device : (e : Data) → Contains (devices_in d) e → Source d (device_fact e)
-  of_header : (c : Data) → Contains (cvrs_in d) c → Source d (header_fact c)
-  of_snapshot : (c s : Data) → Contains (cvrs_in d) c → Contains (snapshots_in c) s → Source d (snapshot_fact c s)
 
 source_in_cvr : (d c : Data) (f : Fact) → Contains (cvrs_in d) c → Contains (cvr_facts c) f → Source d f
 source_in_cvr d c f a b =

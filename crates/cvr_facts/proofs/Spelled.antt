@@ -11,17 +11,12 @@ use Rattle.cdf_form.specs.Parts.{text_in, text_at}
 use Rattle.cdf_form.specs.Places.{Contest}
 use Rattle.cdf_form.specs.Proper.{IsProper}
 use Rattle.cdf_form.specs.Removing.{without}
-use Rattle.cdf_form.proofs.PartLaws.{listed_part, listed_reads_back, part_proper, part_reads_back}
-use Rattle.cdf_form.proofs.ReadsBack.{read-proper}
-use Rattle.cdf_form.proofs.Removing.{others_stay, without_proper}
-use Rattle.cdf_form.proofs.WasRead.{proper_read}
+use Rattle.cdf_form.proofs.Laws.{listed_part, listed_reads_back, part_proper, part_reads_back, read-proper, others_stay, without_proper, proper_read}
 use Rattle.cdf_typed.specs.Typed.{device_of, snapshot_of, header_of, cvr_of, report_of}
 use Rattle.cdf_check.specs.Frame.{Frame}
 use Rattle.cdf_check.specs.Acceptance.{value_in}
 use Rattle.cdf_check.specs.Bodies.{IsKept}
-use Rattle.cdf_check.proofs.Accepting.{valid_file}
-use Rattle.cdf_check.proofs.Depths.{was_read}
-use Rattle.cdf_check.proofs.Wider.{is_kept}
+use Rattle.cdf_check.proofs.Laws.{valid_file, was_read, is_kept}
 use Rattle.cvr_facts.specs.declared.device.DeviceFact.{DeviceFact}
 use Rattle.cvr_facts.specs.declared.header.HeaderFact.{HeaderFact}
 use Rattle.cvr_facts.specs.declared.snapshot.SnapshotFact.{SnapshotFact}
@@ -29,7 +24,7 @@ use Rattle.cvr_facts.specs.declared.list.FactList.{FactList}
 use Rattle.cvr_facts.specs.Lists.{told_device, told_header, told_snapshot, told_snapshots, IsTold, IsReportOf}
 use Rattle.cvr_facts.specs.Stands.{IsSpelledDevice, IsSpelledHeader, IsSpelledSnapshot, AreSpelled}
 use Rattle.cvr_facts.proofs.Members.{from_map, from_flat}
-use Rattle.cvr_facts.proofs.Sources.{devices_in, cvrs_in, snapshots_in}
+use Rattle.cvr_facts.specs.Sources.{devices_in, cvrs_in, snapshots_in}
 
 -- ---- headers
 

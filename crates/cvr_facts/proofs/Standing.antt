@@ -6,13 +6,12 @@ use Rattle.cdf_check.specs.Frame.{Frame, scope_in}
 use Rattle.cdf_check.specs.References.{Scope}
 use Rattle.cdf_check.specs.Sound.{IsFrame}
 use Rattle.cdf_check.specs.Acceptance.{Valid, value_in}
-use Rattle.cdf_check.proofs.Resolving.{references}
-use Rattle.cdf_check.proofs.SameElection.{contests_agree}
-use Rattle.cdf_check.proofs.Standing.{devices_stand, headers_stand, snapshots_stand}
+use Rattle.cdf_check.proofs.Laws.{references, contests_agree, devices_stand, headers_stand, snapshots_stand}
 use Rattle.cvr_facts.specs.Facts.{Fact}
 use Rattle.cvr_facts.specs.Stands.{Stands}
 use Rattle.cvr_facts.specs.Laws.{FactsStandLaw}
-use Rattle.cvr_facts.proofs.Sources.{Source, of_device, of_header, of_snapshot, fact_source}
+use Rattle.cvr_facts.specs.Sources.{Source, of_device, of_header, of_snapshot}
+use Rattle.cvr_facts.proofs.Sources.{fact_source}
 
 abbrev scope_of_file : Frame → List ℕ → Scope
 scope_of_file frame bytes = scope_in frame (ids_at (codes "ReportingDevice") (value_in bytes))

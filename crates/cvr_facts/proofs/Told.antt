@@ -14,7 +14,8 @@ use Rattle.cvr_facts.specs.Facts.{Fact, fact_cmp, fact_total, fact_exact}
 use Rattle.cvr_facts.specs.Reports.{device_fact, header_fact, snapshot_fact, report_facts, facts}
 use Rattle.cvr_facts.specs.Lists.{told_device, told_header, told_snapshot, told_snapshots, fact_of_device, fact_of_header, fact_of_snapshot, told_facts, IsReportOf}
 use Rattle.cvr_facts.proofs.Members.{in_map, from_map, in_flat, from_flat, same_from_list}
-use Rattle.cvr_facts.proofs.Sources.{devices_in, cvrs_in, snapshots_in, Source, of_device, of_header, of_snapshot, source_of, device_listed, header_listed, snapshot_listed}
+use Rattle.cvr_facts.specs.Sources.{devices_in, cvrs_in, snapshots_in, Source, of_device, of_header, of_snapshot}
+use Rattle.cvr_facts.proofs.Sources.{source_of, device_listed, header_listed, snapshot_listed}
 
 -- ---- the facts, kind by kind
 

@@ -8,6 +8,7 @@ pub mod Choosing
 pub mod Sums
 pub mod Lists
 pub mod Stands
+pub mod Sources
 pub mod Laws
 pub mod SumLaws
 pub mod Rows

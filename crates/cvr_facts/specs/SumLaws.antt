@@ -7,7 +7,8 @@ use Rattle.cdf_types.specs.declared.mark.Indication.TheVariants.{Yes}
 use Rattle.cdf_types.specs.declared.report.Position.{Position}
 use Rattle.cdf_types.specs.declared.report.ContestVote.{ContestVote}
 use Rattle.cdf_form.specs.Places.{Contest}
-use Rattle.cdf_typed.specs.Range.{ContestInRange}
+use Rattle.cdf_types.specs.declared.report.Snapshot.{Snapshot}
+use Rattle.cdf_typed.specs.Range.{ContestInRange, SnapshotInRange}
 use Rattle.cvr_facts.specs.Sums.{counts, is_pending, votes_of, sums_of, sums_in, AreInRange}
 
 -- ---- positions
@@ -30,6 +31,10 @@ AbsentLaw = (p : Position) → p.allocation ≡ None → (counts p ≡ true) ↔
 abbrev pub VotesLaw : Type 0
 VotesLaw = (contests : List Contest) (vote : ContestVote) → ContestInRange contests vote
     → sum (sums_of contests vote).votes + (sums_of contests vote).unassigned ≡ sum_by (votes_of counts) vote.selections
+
+-- the contests of a snapshot that is in range are in range
+abbrev pub InRangeLaw : Type 0
+InRangeLaw = (contests : List Contest) (s : Snapshot) → SnapshotInRange contests s → AreInRange contests s.contests
 
 -- a snapshot has the sums of each of its contests once
 abbrev pub EachOnceLaw : Type 0

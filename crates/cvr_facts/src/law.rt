@@ -3,7 +3,9 @@ ghost use Rattle.std.specs.Prelude.{◌≡◌};
 ghost use Rattle.cvr_facts.specs.Facts.{name_cmp};
 ghost use Rattle.cvr_facts.specs.Lists.{device_cmp};
 ghost use Rattle.cvr_facts.specs.Laws.{ChoosingLaw, EqualLaw, RankLaw, UndatedLaw, EarlierLaw, BytesLaw, BodiesLaw, ExactLaw, CurrentLaw, OneCurrentLaw, MomentLaw, NoMomentLaw, FactsStandLaw, JoiningLaw, RecordsWholeLaw, SumsLaw};
-ghost use Rattle.cvr_facts.specs.SumLaws.{ApartLaw, MarkedLaw, AbsentLaw, VotesLaw, EachOnceLaw, InOrderLaw};
+ghost use Rattle.cvr_facts.specs.SumLaws.{ApartLaw, MarkedLaw, AbsentLaw, VotesLaw, InRangeLaw, EachOnceLaw, InOrderLaw};
+ghost use Rattle.cvr_facts.specs.Sources.{FactSourceLaw, DeviceListedLaw, HeaderListedLaw, SnapshotListedLaw, FactHeldLaw};
+ghost use Rattle.cvr_facts.specs.Sources.{ItemsLaw, HeaderBodiesLaw, SnapshotBodiesLaw, TextsInOrder, TextsAreExact, BodiesInOrder, BodiesAreExact};
 
 use crate::device::DeviceFact;
 use crate::name::RecordName;
@@ -35,6 +37,14 @@ pub fn choosing()
     ensures exact { ExactLaw }
 {}
 
+/// Texts, and bodies in the order of choosing, are in a total order in which only equal ones tie.
+pub fn texts_are_ordered()
+    ensures texts { TextsInOrder }
+    ensures exact_texts { TextsAreExact }
+    ensures bodies { BodiesInOrder }
+    ensures exact_bodies { BodiesAreExact }
+{}
+
 /// A record that has a snapshot has exactly one that is current: the one that none of its snapshots
 /// passes in the order of choosing.
 pub fn currents()
@@ -61,6 +71,7 @@ pub fn positions()
 /// positions. A snapshot has the sums of each of its contests once, in order of place.
 pub fn sums_add_up()
     ensures votes { VotesLaw }
+    ensures ranges { InRangeLaw }
     ensures once { EachOnceLaw }
     ensures order { InOrderLaw }
 {}
@@ -68,6 +79,23 @@ pub fn sums_add_up()
 /// The sums of a contest in one snapshot stay below 2^54.
 pub fn sums_stay_below()
     ensures { SumsLaw }
+{}
+
+/// Each fact of a file comes from a device, a record or a snapshot of it, and each of these gives
+/// one.
+pub fn sources()
+    ensures source { FactSourceLaw }
+    ensures devices { DeviceListedLaw }
+    ensures headers { HeaderListedLaw }
+    ensures snapshots { SnapshotListedLaw }
+    ensures held { FactHeldLaw }
+{}
+
+/// The bodies of a record's headers and snapshots are those of its facts.
+pub fn bodies_of_records()
+    ensures items { ItemsLaw }
+    ensures headers { HeaderBodiesLaw }
+    ensures snapshots { SnapshotBodiesLaw }
 {}
 
 /// The bodies of a valid file's facts would stand in a written report, by the definition and the
