@@ -7,3 +7,4 @@ pub mod Maps
 pub mod Pushes
 pub mod Votes
 pub mod Given
+pub mod Lemmas
