@@ -5,7 +5,7 @@ use Rattle.cdf_form.specs.Parts.{id_of, text_in}
 use Rattle.cdf_form.specs.Places.{Contest}
 use Rattle.cdf_typed.specs.Typed.{kind_of, moment_of, snapshot_of}
 use Rattle.cdf_check.specs.Frame.{Frame}
-use Rattle.cdf_check.proofs.SameDefinition.{same_definitions}
+use Rattle.cdf_check.proofs.Laws.{same_definitions}
 use Rattle.cvr_facts.specs.declared.name.RecordName.{RecordName}
 use Rattle.cvr_facts.specs.declared.header.HeaderFact.{HeaderFact}
 use Rattle.cvr_facts.specs.declared.snapshot.SnapshotFact.{SnapshotFact}

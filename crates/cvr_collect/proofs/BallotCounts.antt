@@ -19,11 +19,8 @@ use Rattle.cdf_check.specs.Frame.{Frame}
 use Rattle.cvr_facts.specs.declared.name.RecordName.{RecordName}
 use Rattle.cvr_facts.specs.Facts.{Facts, Snapshot}
 use Rattle.cvr_facts.specs.Choosing.{header, current, header_bodies, snapshot_bodies}
-use Rattle.cvr_facts.proofs.Choosing.{text_total, text_exact, choice_total}
-use Rattle.cvr_facts.proofs.Greatest.{greatest_is, is_greatest, has_greatest}
-use Rattle.cvr_facts.proofs.Members.{none_listed, at_head, at_tail, head_or_tail, in_map}
-use Rattle.cvr_facts.proofs.Ordered.{keys_rise}
-use Rattle.cvr_facts.proofs.Records.{Contains-header_bodies, Contains-snapshot_bodies}
+use Rattle.cvr_facts.proofs.Laws.{text_total, text_exact, choice_total, Contains-header_bodies, Contains-snapshot_bodies}
+use Rattle.cvr_facts.proofs.Lemmas.{greatest_is, is_greatest, has_greatest, none_listed, at_head, at_tail, head_or_tail, in_map, keys_rise}
 use Rattle.cvr_tally.specs.declared.key.RowKey.{RowKey}
 use Rattle.cvr_tally.specs.declared.row.Row.{Row}
 use Rattle.cvr_tally.specs.Keys.{part_cmp, key_cmp, keys_total, keys_exact}

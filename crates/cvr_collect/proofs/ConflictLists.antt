@@ -13,10 +13,8 @@ use Rattle.std.proofs.lemmas.List.{length-map}
 use Rattle.std.proofs.lemmas.List.Kept.{IsStrictlySortedBy-filter}
 use Rattle.cvr_facts.specs.Facts.{Fact, Facts, text_cmp, fact_total, fact_exact}
 use Rattle.cvr_facts.specs.Ordered.{ordered}
-use Rattle.cvr_facts.proofs.Bools.{tie_decides}
-use Rattle.cvr_facts.proofs.Members.{none_listed, at_head, at_tail, head_or_tail, in_map, from_map, in_set, from_set}
-use Rattle.cvr_facts.proofs.Ordered.{ordered-same}
-use Rattle.cvr_facts.proofs.Records.{contains_iff}
+use Rattle.cvr_facts.proofs.Lemmas.{tie_decides, none_listed, at_head, at_tail, head_or_tail, in_map, from_map, in_set, from_set, ordered-same}
+use Rattle.cvr_facts.proofs.Laws.{contains_iff}
 use Rattle.cvr_collect.specs.declared.any_fact.AnyFact.{AnyFact}
 use Rattle.cvr_collect.specs.declared.conflict.Conflict.{Conflict}
 use Rattle.cvr_collect.specs.declared.conflict.ConflictName.{ConflictName}

@@ -10,7 +10,7 @@ use Rattle.std.proofs.lemmas.Option.{get_or_from_slice_get, slice_get_read}
 use Rattle.cvr_facts.specs.declared.name.RecordName.{RecordName}
 use Rattle.cvr_facts.specs.Facts.{name_cmp}
 use Rattle.cvr_facts.specs.Ordered.{ordered}
-use Rattle.cvr_facts.proofs.Records.{from-filter_map}
+use Rattle.cvr_facts.proofs.Lemmas.{from-filter_map}
 use Rattle.cvr_collect.specs.declared.any_fact.AnyFact.{AnyFact}
 use Rattle.cvr_collect.specs.Names.{record_of, records}
 use Rattle.cvr_collect.specs.Place.{fact_of, any_cmp}

@@ -9,23 +9,19 @@ use Rattle.serde_json.specs.Data.{Data, null}
 use Rattle.serde_json.specs.Read.{read}
 use Rattle.serde_json.specs.Written.{compact_text}
 use Rattle.cdf_form.specs.Places.{Contest}
-use Rattle.cdf_form.proofs.PartLaws.{listed_reads_back}
+use Rattle.cdf_form.proofs.Laws.{listed_reads_back}
 use Rattle.cdf_typed.specs.Range.{SnapshotInRange}
 use Rattle.cdf_typed.specs.Typed.{snapshot_of, cvr_of}
 use Rattle.cdf_check.specs.Acceptance.{Valid, value_in}
 use Rattle.cdf_check.specs.Frame.{Frame}
 use Rattle.cdf_check.specs.Sound.{IsFrame}
-use Rattle.cdf_check.proofs.Depths.{was_read}
-use Rattle.cdf_check.proofs.Ranges.{in_range}
-use Rattle.cdf_check.proofs.SameElection.{contests_agree}
+use Rattle.cdf_check.proofs.Laws.{was_read, in_range, contests_agree}
 use Rattle.cvr_facts.specs.declared.name.RecordName.{RecordName}
 use Rattle.cvr_facts.specs.Facts.{Fact, Device, Header, Snapshot, Facts}
 use Rattle.cvr_facts.specs.Choosing.{data_of, is_name, snapshot_body}
-use Rattle.cvr_facts.proofs.Bounds.{AreInRange-from_snapshot}
-use Rattle.cvr_facts.proofs.Choosing.{current as current_is}
-use Rattle.cvr_facts.proofs.Members.{in_map}
-use Rattle.cvr_facts.proofs.Records.{contains_iff, from-filter_map}
-use Rattle.cvr_facts.proofs.Sources.{cvrs_in, snapshots_in, Source, of_device, of_header, of_snapshot, fact_source}
+use Rattle.cvr_facts.proofs.Laws.{AreInRange-from_snapshot, current as current_is, contains_iff, fact_source}
+use Rattle.cvr_facts.proofs.Lemmas.{in_map, from-filter_map}
+use Rattle.cvr_facts.specs.Sources.{cvrs_in, snapshots_in, Source, of_device, of_header, of_snapshot}
 use Rattle.cvr_collect.specs.Tallied.{sums_of_body}
 use Rattle.cvr_collect.specs.Keeps.{Keeps}
 use Rattle.cvr_collect.specs.Adding.{AreSums, CurrentsAreSums}

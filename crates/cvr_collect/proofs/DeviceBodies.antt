@@ -10,8 +10,8 @@ use Rattle.std.specs.FinSet.{items}
 use Rattle.std.proofs.lemmas.List.Kept.{IsStrictlySortedBy-filter}
 use Rattle.std.proofs.lemmas.Slice.Eq.{bytes_eq-Decides}
 use Rattle.cvr_facts.specs.Facts.{Fact, Device, Header, Snapshot, text_cmp}
-use Rattle.cvr_facts.proofs.Choosing.{text_total, text_exact}
-use Rattle.cvr_facts.proofs.Members.{in_map, from_map}
+use Rattle.cvr_facts.proofs.Laws.{text_total, text_exact}
+use Rattle.cvr_facts.proofs.Lemmas.{in_map, from_map}
 use Rattle.cvr_collect.specs.declared.any_fact.AnyFact.{AnyFact}
 use Rattle.cvr_collect.specs.declared.conflict.ConflictName.TheVariants as name
 use Rattle.cvr_collect.specs.Names.{is_named, body_of, bodies_under, device_in}

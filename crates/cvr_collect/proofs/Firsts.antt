@@ -10,10 +10,7 @@ use Rattle.std.proofs.lemmas.List.Elements.{All-contains, All-from_recursion}
 use Rattle.std.proofs.lemmas.Map.Keys.{sorted_head, sorted_tail}
 use Rattle.std.proofs.lemmas.Map.Made.{is_member-Decides}
 use Rattle.cvr_facts.specs.Ordered.{ordered}
-use Rattle.cvr_facts.proofs.Bools.{tie_decides}
-use Rattle.cvr_facts.proofs.Members.{none_listed, at_head, at_tail, head_or_tail}
-use Rattle.cvr_facts.proofs.Ordered.{ordered_rises, list_any-ordered}
-use Rattle.cvr_facts.proofs.SameLists.{same_lists_of_members}
+use Rattle.cvr_facts.proofs.Lemmas.{tie_decides, none_listed, at_head, at_tail, head_or_tail, ordered_rises, list_any-ordered, same_lists_of_members}
 use Rattle.cvr_collect.specs.Readers.{next}
 
 -- ---- members put in order

@@ -14,16 +14,13 @@ use Rattle.cvr_facts.specs.declared.sums.VoteSums.{VoteSums}
 use Rattle.cvr_facts.specs.Facts.{Fact, Facts, fact_total, fact_exact, text_cmp, name_cmp}
 use Rattle.cvr_facts.specs.Ordered.{keys_of, ordered}
 use Rattle.cvr_facts.specs.Choosing.{choice_cmp, header_body, snapshot_body, current}
-use Rattle.cvr_facts.proofs.Choosing.{text_total, text_exact, choice_total, choice_exact}
-use Rattle.cvr_facts.proofs.Greatest.{greatest_is, is_greatest}
-use Rattle.cvr_facts.proofs.Members.{in_map, from_map}
-use Rattle.cvr_facts.proofs.Ordered.{ordered_rises}
-use Rattle.cvr_facts.proofs.Records.{Contains-filter_map, from-filter_map}
+use Rattle.cvr_facts.proofs.Laws.{text_total, text_exact, choice_total, choice_exact}
+use Rattle.cvr_facts.proofs.Lemmas.{greatest_is, is_greatest, in_map, from_map, ordered_rises, Contains-filter_map, from-filter_map}
 use Rattle.cvr_tally.specs.declared.key.RowKey.{RowKey}
 use Rattle.cvr_tally.specs.declared.row.Row.{Row}
 use Rattle.cvr_tally.specs.Keys.{key_cmp, keys_total}
 use Rattle.cvr_tally.specs.Text.{row_line}
-use Rattle.cvr_tally.proofs.Given.{placed, entries-given}
+use Rattle.cvr_tally.proofs.Lemmas.{placed, entries-given}
 use Rattle.cvr_collect.specs.declared.conflict.ConflictName.{ConflictName}
 use Rattle.cvr_collect.specs.declared.conflict.Conflict.{Conflict}
 use Rattle.cvr_collect.specs.Names.{name_of, body_of, conflict_cmp, is_named, record_of, names, records, conflicts}

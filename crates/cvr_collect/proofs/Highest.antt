@@ -9,8 +9,7 @@ use Rattle.std.specs.FinMap.{IsAntisymmetric}
 use Rattle.std.proofs.lemmas.List.Elements.{Contains-append_left, Contains-push, Contains-push_cases}
 use Rattle.std.proofs.lemmas.Option.{none-some, same_Some}
 use Rattle.cvr_facts.specs.Ordered.{ordered}
-use Rattle.cvr_facts.proofs.Ordered.{ordered_rises}
-use Rattle.cvr_facts.proofs.Members.{none_listed, at_head, at_tail}
+use Rattle.cvr_facts.proofs.Lemmas.{ordered_rises, none_listed, at_head, at_tail}
 use Rattle.cvr_collect.proofs.Firsts.{in_ordered, from_ordered, ordered-members}
 
 -- the highest of some keys, or none where there are none

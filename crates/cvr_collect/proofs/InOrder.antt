@@ -8,8 +8,7 @@ use Rattle.std.specs.FinMap.{IsAntisymmetric}
 use Rattle.std.proofs.lemmas.List.Kept.{IsStrictlySortedBy-dedup}
 use Rattle.std.proofs.lemmas.Map.Made.{is_member-Decides}
 use Rattle.cvr_facts.specs.Ordered.{ordered}
-use Rattle.cvr_facts.proofs.Bools.{tie_decides}
-use Rattle.cvr_facts.proofs.Ordered.{list_any-ordered, ordered-same}
+use Rattle.cvr_facts.proofs.Lemmas.{tie_decides, list_any-ordered, ordered-same}
 
 module _ {K : Type 0} {R : K → K → Ordering} (t : IsTotalOrder R) (e : IsAntisymmetric R) where
   pub from_ordered : (ks : List K) (q : K) → Contains (ordered R ks) q → Contains ks q

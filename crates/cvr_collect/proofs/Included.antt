@@ -8,12 +8,14 @@ use Rattle.std.proofs.lemmas.Map.Views.{Contains-from_any, list_any-from_Contain
 use Rattle.std.proofs.lemmas.Slice.Eq.{bytes_eq-Decides}
 use Rattle.cdf_form.specs.Places.{Texts}
 use Rattle.cdf_check.specs.References.{Scope}
-use Rattle.cdf_check.proofs.Standing.{header_stays, snapshot_stays}
-use Rattle.cdf_check.proofs.Wider.{Includes, Wider}
+use Rattle.cdf_check.proofs.Laws.{header_stays, snapshot_stays}
+use Rattle.cdf_check.specs.Wider.{Includes, Wider}
 use Rattle.cvr_facts.specs.Facts.{Fact, Device, Header, Snapshot, Facts, fact_total}
 use Rattle.cvr_facts.specs.Stands.{Stands, IsWhole, IsOfWhole}
-use Rattle.cvr_facts.proofs.Records.{contains_iff, Contains-filter_map, from-filter_map}
+use Rattle.cvr_facts.proofs.Laws.{contains_iff}
+use Rattle.cvr_facts.proofs.Lemmas.{Contains-filter_map, from-filter_map}
 use Rattle.cvr_collect.specs.Names.{device_in}
+use Rattle.cvr_collect.specs.Under.{device_ids}
 
 -- each fact of s is one of t
 abbrev pub IsWithin : Facts → Facts → Type 0
@@ -49,9 +51,6 @@ module _ (s t : Facts) where
   of_union P a b f h = elim (from_union f h) [ inl x ↦ a f x | inr y ↦ b f y ]
 
 -- ---- ids of devices
-
-abbrev pub device_ids : Facts → Texts
-device_ids s = filter_map device_in (items s)
 
 -- ids that are all among others
 pub includes : (xs ys : Texts) → ((id : List ℕ) → Contains xs id → Contains ys id) → Includes xs ys

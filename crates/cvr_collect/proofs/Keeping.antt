@@ -9,20 +9,18 @@ use Rattle.cdf_check.specs.Acceptance.{Valid, value_in}
 use Rattle.cdf_check.specs.Frame.{Frame, scope_in}
 use Rattle.cdf_check.specs.Same.{AreEqualButDevices}
 use Rattle.cdf_check.specs.Sound.{IsFrame}
-use Rattle.cdf_check.proofs.SameDefinition.{same_definitions}
-use Rattle.cdf_check.proofs.Standing.{more_devices}
-use Rattle.cdf_check.proofs.Utf8.{bodies_utf8}
-use Rattle.cdf_check.proofs.Wider.{Includes}
+use Rattle.cdf_check.proofs.Laws.{same_definitions, more_devices, bodies_utf8}
+use Rattle.cdf_check.specs.Wider.{Includes}
 use Rattle.cvr_facts.specs.Facts.{Fact, Facts, texts}
 use Rattle.cvr_facts.specs.Reports.{facts, device_fact}
 use Rattle.cvr_facts.specs.Stands.{Stands, IsOfWhole}
-use Rattle.cvr_facts.proofs.Members.{from_map}
-use Rattle.cvr_facts.proofs.Sources.{devices_in, Source, of_device, of_header, of_snapshot, device_listed, fact_source, fact_held}
-use Rattle.cvr_facts.proofs.Standing.{facts_stand}
-use Rattle.cvr_facts.proofs.Whole.{records_whole}
+use Rattle.cvr_facts.proofs.Lemmas.{from_map}
+use Rattle.cvr_facts.specs.Sources.{devices_in, Source, of_device, of_header, of_snapshot}
+use Rattle.cvr_facts.proofs.Laws.{device_listed, fact_source, fact_held, facts_stand, records_whole}
 use Rattle.cvr_collect.specs.Keeps.{Keeps, content_scope}
 use Rattle.cvr_collect.specs.Laws.{ImportLaw, JoinLaw}
-use Rattle.cvr_collect.proofs.Included.{IsWithin, of_union, left_within, right_within, device_ids, includes, device_known, devices_within, stands_wider, whole_wider}
+use Rattle.cvr_collect.specs.Under.{device_ids}
+use Rattle.cvr_collect.proofs.Included.{IsWithin, of_union, left_within, right_within, includes, device_known, devices_within, stands_wider, whole_wider}
 use Rattle.cvr_collect.proofs.SameFrames.{agrees_alike, scope_alike}
 
 -- ---- facts that can be taken in

@@ -56,3 +56,5 @@ pub mod MoreFacts
 pub mod SeveralBodies
 pub mod BallotCounts
 pub mod GivenFacts
+pub mod Laws
+pub mod Lemmas

@@ -6,7 +6,7 @@ use Rattle.std.specs.List.Sorted.{IsStrictlySortedBy}
 use Rattle.std.specs.Ordering.{is_gt}
 use Rattle.std.specs.Cmp.{IsTotalOrder, tied_itself}
 use Rattle.cvr_facts.specs.Choosing.{IsGreatest}
-use Rattle.cvr_facts.proofs.Members.{at_head, at_tail, head_or_tail, none_listed}
+use Rattle.cvr_facts.proofs.Lemmas.{at_head, at_tail, head_or_tail, none_listed}
 
 -- ---- what rises still does
 

@@ -2,7 +2,7 @@
 use Rattle.std.proofs.Common.{◌≤◌, subst, arith}
 use Rattle.std.specs.FinSet.{len, union, items}
 use Rattle.cvr_facts.specs.Facts.{fact_total, fact_exact}
-use Rattle.cvr_facts.proofs.Records.{contains_iff}
+use Rattle.cvr_facts.proofs.Laws.{contains_iff}
 use Rattle.cvr_collect.specs.Counting.{GrowthLaw}
 use Rattle.cvr_collect.proofs.Rising.{set_is, len-union}
 

@@ -7,17 +7,17 @@ use Rattle.std.proofs.lemmas.Bool.{false≢true, cases_lt}
 use Rattle.std.proofs.lemmas.List.{get_or-map, length-map}
 use Rattle.std.proofs.lemmas.Option.{slice_get_within, get_or_from_slice_get}
 use Rattle.cdf_check.specs.Frame.{Frame}
-use Rattle.cdf_check.proofs.SameDefinition.{one_definition}
+use Rattle.cdf_check.proofs.Laws.{one_definition}
 use Rattle.cvr_facts.specs.Facts.{Facts}
 use Rattle.cvr_collect.specs.declared.event.Event.TheVariants.{Import, Exchange}
 use Rattle.cvr_collect.specs.declared.event.Outcome.TheVariants.{Accepted, Refused}
 use Rattle.cvr_collect.specs.Keeps.{starting}
 use Rattle.cvr_collect.specs.Reach.{Start, File, origin_cmp, History, reached, content}
 use Rattle.cvr_collect.specs.Outcomes.{no_frame, AreOutcomes}
-use Rattle.cvr_collect.specs.Alike.{AreNewOfOne, ArePlayed, HaveSameFiles, SameFilesLaw}
+use Rattle.cvr_collect.specs.Alike.{AreNewOfOne, ArePlayed, HaveSameFiles, BeganAlike, SameFilesLaw}
 use Rattle.cvr_collect.proofs.Unions.{or_cases, tie_is}
 use Rattle.cvr_collect.proofs.Reached.{origin_total, origin_exact}
-use Rattle.cvr_collect.proofs.SameFiles.{BeganAlike, same_files}
+use Rattle.cvr_collect.proofs.SameFiles.{same_files}
 use Rattle.cvr_collect.proofs.AnsweredAlike.{answer_alike}
 
 -- ---- only offices that are there have reached one

@@ -11,7 +11,7 @@ use Rattle.std.proofs.lemmas.Cmp.{on_total, then_total}
 use Rattle.std.proofs.lemmas.Option.{none-some}
 use Rattle.cvr_facts.specs.declared.name.RecordName.{RecordName}
 use Rattle.cvr_facts.specs.Facts.{text_cmp, name_cmp}
-use Rattle.cvr_facts.proofs.Choosing.{text_total, text_exact}
+use Rattle.cvr_facts.proofs.Laws.{text_total, text_exact}
 use Rattle.cvr_collect.specs.declared.any_fact.AnyFact.{AnyFact}
 use Rattle.cvr_collect.specs.Names.{record_of, records, device_in, devices}
 use Rattle.cvr_collect.specs.Readers.{next}

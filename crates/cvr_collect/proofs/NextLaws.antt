@@ -10,9 +10,8 @@ use Rattle.std.proofs.lemmas.Bool.{false≢true}
 use Rattle.std.proofs.lemmas.Map.Keys.{sorted_tail}
 use Rattle.cvr_facts.specs.Facts.{Fact, Facts}
 use Rattle.cvr_facts.specs.Ordered.{ordered}
-use Rattle.cvr_facts.proofs.Members.{none_listed, at_head, at_tail, head_or_tail}
-use Rattle.cvr_facts.proofs.Ordered.{ordered_rises}
-use Rattle.cvr_facts.proofs.Records.{contains_iff, Contains-filter_map, from-filter_map}
+use Rattle.cvr_facts.proofs.Lemmas.{none_listed, at_head, at_tail, head_or_tail, ordered_rises, Contains-filter_map, from-filter_map}
+use Rattle.cvr_facts.proofs.Laws.{contains_iff}
 use Rattle.cvr_collect.specs.Readers.{next}
 use Rattle.cvr_collect.specs.Laws.{ListedLaw, IsAbove, NextLaw, NoNextLaw}
 use Rattle.cvr_collect.proofs.Firsts.{in_ordered, from_ordered, each_above, IsFirst, find_is, is_above, next-find}

@@ -11,9 +11,8 @@ use Rattle.std.proofs.lemmas.Bool.{cases_lt}
 use Rattle.std.proofs.lemmas.Option.{get_or_from_slice_get, slice_get_within, none-some}
 use Rattle.cvr_facts.specs.Facts.{Fact, fact_total, fact_exact}
 use Rattle.cvr_facts.specs.Ordered.{ordered}
-use Rattle.cvr_facts.proofs.Members.{in_map, from_map, in_set, from_set}
-use Rattle.cvr_facts.proofs.Ordered.{ordered_rises}
-use Rattle.cvr_facts.proofs.Records.{contains_iff, Contains-filter_map, from-filter_map}
+use Rattle.cvr_facts.proofs.Lemmas.{in_map, from_map, in_set, from_set, ordered_rises, Contains-filter_map, from-filter_map}
+use Rattle.cvr_facts.proofs.Laws.{contains_iff}
 use Rattle.cvr_collect.specs.declared.any_fact.AnyFact.{AnyFact}
 use Rattle.cvr_collect.specs.Readers.{next}
 use Rattle.cvr_collect.specs.Place.{fact_of}

@@ -13,10 +13,8 @@ use Rattle.cvr_facts.specs.declared.snapshot.SnapshotFact.{SnapshotFact}
 use Rattle.cvr_facts.specs.Facts.{text_cmp}
 use Rattle.cvr_facts.specs.Choosing.{choice_cmp, fact_choice, header_bodies, snapshot_bodies, header, current, IsGreatest}
 use Rattle.cvr_facts.specs.Stands.{IsSpelledHeader, IsSpelledSnapshot}
-use Rattle.cvr_facts.proofs.Choosing.{text_total, text_exact, choice_total, choice_exact, bodies}
-use Rattle.cvr_facts.proofs.Greatest.{is_greatest}
-use Rattle.cvr_facts.proofs.Members.{at_head, none_listed, in_map}
-use Rattle.cvr_facts.proofs.Records.{Contains-header_bodies, Contains-snapshot_bodies}
+use Rattle.cvr_facts.proofs.Laws.{text_total, text_exact, choice_total, choice_exact, bodies, Contains-header_bodies, Contains-snapshot_bodies}
+use Rattle.cvr_facts.proofs.Lemmas.{is_greatest, at_head, none_listed, in_map}
 use Rattle.cvr_collect.specs.declared.any_fact.AnyFact.{AnyFact}
 use Rattle.cvr_collect.specs.declared.any_fact.AnyFact.TheVariants as any
 use Rattle.cvr_collect.specs.Place.{any_cmp}

@@ -16,8 +16,8 @@ use Rattle.cdf_check.specs.Frame.{frame_of, entries_at}
 use Rattle.cdf_check.specs.Agreement.{AreListed, Agrees}
 use Rattle.cdf_check.specs.Acceptance.{Holds, IsReport, Valid}
 use Rattle.cdf_check.specs.Laws.{IsListOf}
-use Rattle.cdf_check.proofs.Listing.{lists}
-use Rattle.cvr_facts.proofs.Members.{in_map, from_map}
+use Rattle.cdf_check.proofs.Laws.{lists}
+use Rattle.cvr_facts.proofs.Lemmas.{in_map, from_map}
 
 apart : (entries : List Entry) → IsStrictlySortedBy (slice_cmp nat_cmp) (ids_of entries) → IsDistinct bytes_eq (ids_of entries)
 apart entries rises =

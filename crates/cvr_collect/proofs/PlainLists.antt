@@ -14,8 +14,7 @@ use Rattle.cdf_check.specs.Named.{Entry}
 use Rattle.cdf_check.specs.Frame.{Frame, IsSame}
 use Rattle.cdf_check.specs.Sound.{IsFrame}
 use Rattle.cdf_check.specs.Acceptance.{Valid, report_in}
-use Rattle.cdf_check.proofs.Accepting.{valid_file}
-use Rattle.cdf_check.proofs.SameDefinition.{same_definitions}
+use Rattle.cdf_check.proofs.Laws.{valid_file, same_definitions}
 use Rattle.cdf_types.specs.declared.report.Report.{Report}
 use Rattle.cvr_facts.specs.declared.list.FactList.{FactList}
 use Rattle.cvr_facts.specs.Facts.{Fact, Device, fact_cmp, fact_total, fact_exact}
@@ -23,7 +22,7 @@ use Rattle.cvr_facts.specs.Lists.{fact_of_header, fact_of_snapshot, facts_in, Is
 use Rattle.cvr_facts.specs.Reports.{facts}
 use Rattle.cvr_facts.specs.Stands.{AreSpelled}
 use Rattle.cvr_facts.specs.Unions.{empty_union}
-use Rattle.cvr_facts.proofs.Members.{none_listed, in_map, from_map}
+use Rattle.cvr_facts.proofs.Lemmas.{none_listed, in_map, from_map}
 use Rattle.cvr_collect.specs.declared.any_fact.AnyFact.{AnyFact}
 use Rattle.cvr_collect.specs.declared.any_fact.AnyFact.TheVariants as any
 use Rattle.cvr_collect.specs.Keeps.{Keeps, starting}

@@ -17,9 +17,8 @@ use Rattle.std.proofs.lemmas.Map.Text.{is_eq-slice_cmp}
 use Rattle.cvr_facts.specs.declared.name.RecordName.{RecordName}
 use Rattle.cvr_facts.specs.declared.snapshot.SnapshotFact.{SnapshotFact}
 use Rattle.cvr_facts.specs.Facts.{Snapshot, text_cmp}
-use Rattle.cvr_facts.proofs.Choosing.{text_total, text_exact}
-use Rattle.cvr_facts.proofs.Members.{in_map, from_map}
-use Rattle.cvr_facts.proofs.Records.{Contains-filter_map, from-filter_map}
+use Rattle.cvr_facts.proofs.Laws.{text_total, text_exact}
+use Rattle.cvr_facts.proofs.Lemmas.{in_map, from_map, Contains-filter_map, from-filter_map}
 use Rattle.cvr_collect.specs.declared.any_fact.AnyFact.{AnyFact}
 use Rattle.cvr_collect.specs.declared.any_fact.AnyFact.TheVariants as any
 use Rattle.cvr_collect.specs.Names.{snapshot_ids}

@@ -10,9 +10,8 @@ use Rattle.cvr_facts.specs.declared.name.RecordName.{RecordName}
 use Rattle.cvr_facts.specs.declared.header.HeaderFact.{HeaderFact}
 use Rattle.cvr_facts.specs.declared.snapshot.SnapshotFact.{SnapshotFact}
 use Rattle.cvr_facts.specs.Facts.{Header, Snapshot, text_cmp, name_cmp, fact_total, fact_exact}
-use Rattle.cvr_facts.proofs.Choosing.{text_total, text_exact}
-use Rattle.cvr_facts.proofs.Members.{at_head, at_tail, head_or_tail, none_listed, in_map, from_map, in_set, from_set}
-use Rattle.cvr_facts.proofs.Records.{Contains-filter_map, from-filter_map}
+use Rattle.cvr_facts.proofs.Laws.{text_total, text_exact}
+use Rattle.cvr_facts.proofs.Lemmas.{at_head, at_tail, head_or_tail, none_listed, in_map, from_map, in_set, from_set, Contains-filter_map, from-filter_map}
 use Rattle.cvr_collect.specs.declared.any_fact.AnyFact.{AnyFact}
 use Rattle.cvr_collect.specs.declared.any_fact.AnyFact.TheVariants as any
 use Rattle.cvr_collect.specs.Place.{fact_of}

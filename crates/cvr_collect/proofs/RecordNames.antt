@@ -7,8 +7,8 @@ use Rattle.std.proofs.lemmas.Slice.Eq.{bytes_eq-Decides}
 use Rattle.cvr_facts.specs.declared.name.RecordName.{RecordName}
 use Rattle.cvr_facts.specs.Facts.{Fact, Device, Header, Snapshot, Facts}
 use Rattle.cvr_facts.specs.Choosing.{is_name}
-use Rattle.cvr_facts.proofs.Members.{in_map, from_map}
-use Rattle.cvr_facts.proofs.Records.{contains_iff, Contains-filter_map, from-filter_map}
+use Rattle.cvr_facts.proofs.Lemmas.{in_map, from_map, Contains-filter_map, from-filter_map}
+use Rattle.cvr_facts.proofs.Laws.{contains_iff}
 use Rattle.cvr_collect.specs.declared.conflict.ConflictName.TheVariants as name
 use Rattle.cvr_collect.specs.Names.{is_named, body_of, id_in}
 use Rattle.cvr_collect.proofs.RecordMembers.{from_filter, in_filter}

@@ -8,7 +8,7 @@ use Rattle.cdf_form.specs.Places.{Contest}
 use Rattle.cvr_facts.specs.declared.name.RecordName.{RecordName}
 use Rattle.cvr_facts.specs.Facts.{Facts, name_cmp}
 use Rattle.cvr_facts.specs.Ordered.{keys_of, ordered}
-use Rattle.cvr_facts.proofs.Ordered.{ordered_rises}
+use Rattle.cvr_facts.proofs.Lemmas.{ordered_rises}
 use Rattle.cvr_tally.specs.declared.key.RowKey.{RowKey}
 use Rattle.cvr_tally.specs.Keys.{key_cmp, keys_total, keys_exact}
 use Rattle.cvr_tally.specs.Rows.{Rows, ballot_limit}

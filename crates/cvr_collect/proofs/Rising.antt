@@ -12,7 +12,7 @@ use Rattle.std.proofs.lemmas.Cmp.{on_total}
 use Rattle.std.proofs.lemmas.List.Elements.{All-contains, All-from_recursion, Contains-append_left, Contains-append_right, Contains-append_cases}
 use Rattle.std.proofs.lemmas.List.Kept.{Any-dedup, Contains-from_dedup, IsStrictlySortedBy-dedup}
 use Rattle.std.proofs.lemmas.List.Sorted.{Contains-permutation, IsPermutation-sym}
-use Rattle.cvr_facts.proofs.Members.{in_map, from_map, in_set, from_set}
+use Rattle.cvr_facts.proofs.Lemmas.{in_map, from_map, in_set, from_set}
 
 -- ---- tests joined by `||`
 

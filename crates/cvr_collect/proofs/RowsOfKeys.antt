@@ -15,7 +15,7 @@ use Rattle.cvr_facts.specs.declared.name.RecordName.{RecordName}
 use Rattle.cvr_facts.specs.declared.sums.VoteSums.{VoteSums}
 use Rattle.cvr_facts.specs.Facts.{Facts}
 use Rattle.cvr_facts.specs.Choosing.{header, current}
-use Rattle.cvr_facts.proofs.Members.{in_map, in_flat, one_listed}
+use Rattle.cvr_facts.proofs.Lemmas.{in_map, in_flat, one_listed}
 use Rattle.cvr_tally.specs.declared.key.RowKey.{RowKey}
 use Rattle.cvr_tally.specs.Keys.{part_cmp, is_key, keys_total, keys_exact}
 use Rattle.cvr_collect.specs.Names.{records}

@@ -10,8 +10,8 @@ use Rattle.cdf_typed.specs.Greatest.{greater}
 use Rattle.cvr_facts.specs.declared.header.HeaderFact.{HeaderFact}
 use Rattle.cvr_facts.specs.declared.snapshot.SnapshotFact.{SnapshotFact}
 use Rattle.cvr_facts.specs.Choosing.{fact_choice, IsGreatest}
-use Rattle.cvr_facts.proofs.Choosing.{fact_total}
-use Rattle.cvr_facts.proofs.Members.{at_head, head_or_tail, none_listed}
+use Rattle.cvr_facts.proofs.Laws.{fact_total}
+use Rattle.cvr_facts.proofs.Lemmas.{at_head, head_or_tail, none_listed}
 use Rattle.cvr_collect.specs.declared.any_fact.AnyFact.{AnyFact}
 use Rattle.cvr_collect.specs.declared.any_fact.AnyFact.TheVariants as any
 use Rattle.cvr_collect.specs.Runs.{as_header, as_snapshot, headers, snapshots, chosen, IsChosen}

@@ -7,9 +7,7 @@ use Rattle.std.specs.Ordering.{eq_by_cmp, on}
 use Rattle.std.specs.Cmp.Lexicographic.{pointwise, pointwise_decides}
 use Rattle.std.specs.FinSet.{contains, from_list}
 use Rattle.cvr_facts.specs.Facts.{Fact, fact_cmp, fact_total, fact_exact}
-use Rattle.cvr_facts.proofs.Bools.{tie_decides}
-use Rattle.cvr_facts.proofs.Members.{in_set, from_set}
-use Rattle.cvr_facts.proofs.SameLists.{same_lists_of_members}
+use Rattle.cvr_facts.proofs.Lemmas.{tie_decides, in_set, from_set, same_lists_of_members}
 use Rattle.cvr_collect.specs.declared.any_fact.AnyFact.{AnyFact}
 use Rattle.cvr_collect.specs.Place.{fact_of, place_cmp, place_total, place_exact, any_cmp}
 use Rattle.cvr_collect.specs.Plain.{set_of}

@@ -1,18 +1,14 @@
 -- Offices that the same files have reached hold the same, where all began with the same.
-use Rattle.std.proofs.Common.{◌≡◌, ℕ, true, List, [], ◌∷◌, get_or, sym, ap, ◌∙◌}
+use Rattle.std.proofs.Common.{◌≡◌, ℕ, true, List, [], ◌∷◌, sym, ap, ◌∙◌}
 use Rattle.std.specs.List.{list_any}
 use Rattle.std.specs.Cmp.{both_ways}
 use Rattle.std.specs.FinSet.{empty, contains, items, same_set, contains-insert}
 use Rattle.cvr_facts.specs.Facts.{Fact, Facts, fact_total, fact_exact}
 use Rattle.cvr_collect.specs.Reach.{Origin, Start, File, History, reached, brought, content}
-use Rattle.cvr_collect.specs.Alike.{HaveSameFiles}
+use Rattle.cvr_collect.specs.Alike.{HaveSameFiles, BeganAlike}
 use Rattle.cvr_collect.proofs.Unions.{or_left, tie_itself, contains-union_over, member_that_passes, passes_by_member}
 use Rattle.cvr_collect.proofs.Reached.{origin_total, origin_exact}
 use Rattle.cvr_collect.proofs.Ways.{reached_after-stays}
-
--- the offices that have reached this one all started with these facts
-abbrev pub BeganAlike : Facts → List Facts → History → ℕ → Type 0
-BeganAlike start starts past o = (k : ℕ) → contains (reached past o) (Start k) ≡ true → get_or starts k empty ≡ start
 
 -- an office has reached itself
 own : (past : History) (o : ℕ) → contains (reached past o) (Start o) ≡ true

@@ -5,8 +5,8 @@ use Rattle.std.specs.List.{filter}
 use Rattle.std.specs.FinSet.{items}
 use Rattle.std.proofs.lemmas.Bool.{leb-true, le-leb}
 use Rattle.cvr_facts.specs.Facts.{Facts}
-use Rattle.cvr_facts.proofs.Choosing.{text_total, text_exact}
-use Rattle.cvr_facts.proofs.Members.{one_listed, in_map, from_map}
+use Rattle.cvr_facts.proofs.Laws.{text_total, text_exact}
+use Rattle.cvr_facts.proofs.Lemmas.{one_listed, in_map, from_map}
 use Rattle.cvr_collect.specs.declared.conflict.Conflict.{Conflict}
 use Rattle.cvr_collect.specs.declared.conflict.ConflictName.{ConflictName}
 use Rattle.cvr_collect.specs.Names.{name_of, body_of, is_named, names, bodies_under, count_under, counted}

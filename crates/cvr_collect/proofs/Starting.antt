@@ -9,15 +9,13 @@ use Rattle.cdf_check.specs.Acceptance.{IsReport, Valid, value_in}
 use Rattle.cdf_check.specs.Frame.{Frame, frame_of}
 use Rattle.cdf_check.specs.Named.{Entry, named}
 use Rattle.cdf_check.specs.Sound.{IsFrame, WasRead}
-use Rattle.cdf_check.proofs.Listing.{lists}
-use Rattle.cdf_check.proofs.Sounding.{sound}
-use Rattle.cdf_check.proofs.Standing.{devices_stand}
-use Rattle.cdf_check.proofs.Utf8.{bodies_utf8}
+use Rattle.cdf_check.proofs.Laws.{lists, sound, devices_stand, bodies_utf8}
 use Rattle.cvr_facts.specs.Facts.{Fact, Device, fact_total, fact_exact, texts}
 use Rattle.cvr_facts.specs.Reports.{facts, device_fact}
 use Rattle.cvr_facts.specs.Stands.{Stands, IsOfWhole}
-use Rattle.cvr_facts.proofs.Members.{from_map, from_set}
-use Rattle.cvr_facts.proofs.Sources.{devices_in, device_listed, fact_held}
+use Rattle.cvr_facts.proofs.Lemmas.{from_map, from_set}
+use Rattle.cvr_facts.specs.Sources.{devices_in}
+use Rattle.cvr_facts.proofs.Laws.{device_listed, fact_held}
 use Rattle.cvr_collect.specs.Keeps.{starting, content_scope}
 use Rattle.cvr_collect.specs.Laws.{StartLaw}
 use Rattle.cvr_collect.proofs.OwnFrame.{own_valid, entry_source}

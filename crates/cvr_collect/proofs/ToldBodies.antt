@@ -20,12 +20,10 @@ use Rattle.cdf_form.specs.Form.{Fault, faults}
 use Rattle.cdf_form.specs.HasForm.{HasForm}
 use Rattle.cdf_form.specs.Parts.{id_of}
 use Rattle.cdf_form.specs.Proper.{IsProper}
-use Rattle.cdf_form.proofs.FormLaw.{fits_of, no_faults}
-use Rattle.cdf_form.proofs.FormParts.{must_be_text, row_of}
-use Rattle.cdf_form.proofs.ReadsBack.{inside}
-use Rattle.cdf_form.proofs.WasRead.{proper_read}
+use Rattle.cdf_form.proofs.Laws.{fits_of, no_faults, must_be_text, row_of, proper_read}
+use Rattle.cdf_form.proofs.Lemmas.{inside}
 use Rattle.cdf_check.specs.Bodies.{DeviceStands}
-use Rattle.cdf_check.proofs.Reports.{id_row}
+use Rattle.cdf_check.specs.Depths.{id_row}
 use Rattle.cvr_facts.specs.Stands.{Spells}
 
 -- a device's body that stands

@@ -5,7 +5,7 @@ use Rattle.std.specs.List.{dedup}
 use Rattle.std.specs.List.Sorted.{IsSortedBy}
 use Rattle.std.proofs.lemmas.List.{map-append, reverse-append, length-map, get_or-map}
 use Rattle.std.proofs.lemmas.List.Elements.{Contains-append_cases}
-use Rattle.cvr_facts.proofs.Members.{one_listed, head_or_tail, none_listed}
+use Rattle.cvr_facts.proofs.Lemmas.{one_listed, head_or_tail, none_listed}
 
 module _ {X Y : Type 0} (f : X → Y) where
   -- a loop's step: x goes to the end

@@ -16,10 +16,8 @@ use Rattle.cvr_facts.specs.declared.header.HeaderFact.{HeaderFact}
 use Rattle.cvr_facts.specs.declared.snapshot.SnapshotFact.{SnapshotFact}
 use Rattle.cvr_facts.specs.Facts.{Header, Snapshot, text_cmp, fact_total, fact_exact}
 use Rattle.cvr_facts.specs.Choosing.{choice_cmp}
-use Rattle.cvr_facts.proofs.Bools.{tie_is, tie_itself}
-use Rattle.cvr_facts.proofs.Choosing.{text_total, text_exact, choice_total, choice_exact, bodies}
-use Rattle.cvr_facts.proofs.Members.{in_map, from_map, in_set, from_set, one_listed}
-use Rattle.cvr_facts.proofs.Records.{contains_iff, Contains-filter_map, from-filter_map}
+use Rattle.cvr_facts.proofs.Lemmas.{tie_is, tie_itself, in_map, from_map, in_set, from_set, one_listed, Contains-filter_map, from-filter_map}
+use Rattle.cvr_facts.proofs.Laws.{text_total, text_exact, choice_total, choice_exact, bodies, contains_iff}
 use Rattle.cvr_collect.specs.declared.any_fact.AnyFact.{AnyFact}
 use Rattle.cvr_collect.specs.declared.any_fact.AnyFact.TheVariants as any
 use Rattle.cvr_collect.specs.declared.record_facts.IdFacts.{IdFacts}

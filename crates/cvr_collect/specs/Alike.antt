@@ -1,5 +1,5 @@
 -- Offices that hold and answer the same: those of one definition that the same files have reached, and those that are the same. (This project's own.)
-use Rattle.std.specs.Prelude.{◌≡◌, ◌↔◌, ◌<◌, ℕ, List, length, map, get_or, true, Option, Some}
+use Rattle.std.specs.Prelude.{◌≡◌, ◌↔◌, ◌<◌, ℕ, List, [], length, map, get_or, true, Option, Some}
 use Rattle.std.specs.List.{All, slice_get}
 use Rattle.std.specs.FinSet.{contains, union, empty}
 use Rattle.cdf_check.specs.Frame.{Frame, IsSame}
@@ -14,7 +14,7 @@ use Rattle.cvr_tally.specs.declared.key.RowKey.{RowKey}
 use Rattle.cvr_collect.specs.Names.{conflicts}
 use Rattle.cvr_collect.specs.Readers.{IsHeader, IsCurrent}
 use Rattle.cvr_collect.specs.Keeps.{starting, Keeps}
-use Rattle.cvr_collect.specs.Reach.{History, File, reached, content}
+use Rattle.cvr_collect.specs.Reach.{History, Start, File, reached, content}
 use Rattle.cvr_collect.specs.Outcomes.{AreOutcomes}
 use Rattle.cvr_collect.specs.Tallied.{row, rows, tally}
 
@@ -67,7 +67,37 @@ abbrev pub SameFilesLaw : {Office : Type 0} → (Office → Facts) → (Office �
 SameFilesLaw {Office} held defined = (before after : List Office) (files : List (List ℕ)) (past : History)
     → AreNewOfOne held defined before → ArePlayed held defined before after files past → AreAlikeByFiles held defined past after
 
+-- they hold the same, and all are of one definition
+abbrev pub SameContentLaw : {Office : Type 0} → (Office → Facts) → (Office → Frame) → Type 0
+SameContentLaw {Office} held defined = (before after : List Office) (files : List (List ℕ)) (past : History)
+    → AreNewOfOne held defined before → ArePlayed held defined before after files past
+    → (o p : ℕ) (one other : Office) → slice_get after o ≡ Some one → slice_get after p ≡ Some other → HaveSameFiles past o p → held one ≡ held other
+
+abbrev pub SameDefinitionLaw : {Office : Type 0} → (Office → Facts) → (Office → Frame) → Type 0
+SameDefinitionLaw {Office} held defined = (before after : List Office) (files : List (List ℕ)) (past : History)
+    → AreNewOfOne held defined before → ArePlayed held defined before after files past
+    → (o p : ℕ) (one other : Office) → slice_get after o ≡ Some one → slice_get after p ≡ Some other → defined one ≡ defined other
+
+-- ---- what the same files give
+
+-- the offices that have reached this one all started with these facts
+abbrev pub BeganAlike : Facts → List Facts → History → ℕ → Type 0
+BeganAlike start starts past o = (k : ℕ) → contains (reached past o) (Start k) ≡ true → get_or starts k empty ≡ start
+
+-- where all began with the same, the same files give the same
+abbrev pub SameStartLaw : Type 0
+SameStartLaw = (start : Facts) (starts : List Facts) (files : List (List ℕ)) (past : History) (o p : ℕ)
+    → BeganAlike start starts past o → BeganAlike start starts past p → HaveSameFiles past o p → content starts files past o ≡ content starts files past p
+
+-- before any event an office holds what it began with
+abbrev pub NoEventLaw : Type 0
+NoEventLaw = (starts : List Facts) (files : List (List ℕ)) (o : ℕ) → content starts files [] o ≡ get_or starts o empty
+
 -- ---- offices that are the same
+
+-- the same facts beside the same contests answer alike
+abbrev pub AnswerAlikeLaw : Type 0
+AnswerAlikeLaw = (f g : Frame) (s t : Facts) → f.contests ≡ g.contests → s ≡ t → AnswerAlike f g s t
 
 -- the same definition and the same facts answer alike
 abbrev pub SameOfficesLaw : Type 0

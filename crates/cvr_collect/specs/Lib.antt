@@ -1,6 +1,8 @@
 pub mod Names
 pub mod Readers
 pub mod Keeps
+pub mod Under
+pub mod Own
 pub mod Reach
 pub mod Outcomes
 pub mod Laws

@@ -1,9 +1,12 @@
 //! Laws of offices: what they keep, how files reach them, and which hold and answer the same.
 ghost use Rattle.cvr_collect.specs.Reach.{ReachLaw};
 ghost use Rattle.cvr_facts.specs.Facts.{text_cmp, name_cmp};
+ghost use Rattle.cvr_collect.specs.Under.{HeaderUnderLaw, SnapshotUnderLaw, IdUnderLaw, KnownDeviceLaw, DeviceKnownLaw, IncludesLaw};
+ghost use Rattle.cvr_collect.specs.Under.{RecordsInOrder, RecordsAreExact, NamesInOrder, NamesAreExact};
+ghost use Rattle.cvr_collect.specs.Own.{OwnAgreesLaw, SameAgreesLaw, EntryLaw};
 ghost use Rattle.cvr_collect.specs.Names.{record_of, records, device_in, devices};
 ghost use Rattle.cvr_collect.specs.Laws.{StartLaw, ImportLaw, JoinLaw, ListedLaw, NextLaw, NoNextLaw, RowsLaw, BallotsLaw};
-ghost use Rattle.cvr_collect.specs.Alike.{SameFilesLaw, SameOfficesLaw, NewOfficeLaw};
+ghost use Rattle.cvr_collect.specs.Alike.{SameFilesLaw, SameContentLaw, SameDefinitionLaw, SameStartLaw, NoEventLaw, AnswerAlikeLaw, SameOfficesLaw, NewOfficeLaw};
 ghost use Rattle.cvr_collect.specs.Counting.{GrowthLaw, ConflictsLaw, AddUpLaw};
 
 use crate::office::Office;
@@ -19,12 +22,22 @@ pub fn reach()
 /// votes, the same headers, conflicts and rows, and the same text of the tally.
 pub fn same_files<O: Office>()
     ensures alike { SameFilesLaw O.held O.defined }
+    ensures content { SameContentLaw O.held O.defined }
+    ensures definition { SameDefinitionLaw O.held O.defined }
+{}
+
+/// Before any event an office holds what it began with. Where all began with the same, two that the
+/// same files have reached hold the same.
+pub fn same_starts()
+    ensures no_event { NoEventLaw }
+    ensures same { SameStartLaw }
 {}
 
 /// Offices that are the same have the same current snapshots with their votes, the same headers,
 /// conflicts and rows, and the same text of the tally.
 pub fn same_offices()
     ensures alike { SameOfficesLaw }
+    ensures answers { AnswerAlikeLaw }
 {}
 
 /// A new office is the unit of joining among offices with the same starting facts.
@@ -37,6 +50,33 @@ pub fn keeping()
     ensures start { StartLaw }
     ensures import { ImportLaw }
     ensures join { JoinLaw }
+{}
+
+/// A report agrees with the definition that is made of it, and with any that is the same but for its
+/// devices; each entry of a definition is that of an object.
+pub fn own_definitions()
+    ensures own { OwnAgreesLaw }
+    ensures same { SameAgreesLaw }
+    ensures entries { EntryLaw }
+{}
+
+/// The bodies and ids under the names of a record are those of its facts, and the ids of devices
+/// those of theirs.
+pub fn facts_under_names()
+    ensures headers { HeaderUnderLaw }
+    ensures snapshots { SnapshotUnderLaw }
+    ensures ids { IdUnderLaw }
+    ensures known { KnownDeviceLaw }
+    ensures devices { DeviceKnownLaw }
+    ensures more { IncludesLaw }
+{}
+
+/// Names of records, and names of conflicts, are in a total order in which only equal ones tie.
+pub fn names_are_ordered()
+    ensures records { RecordsInOrder }
+    ensures exact_records { RecordsAreExact }
+    ensures names { NamesInOrder }
+    ensures exact_names { NamesAreExact }
 {}
 
 /// The records are exactly those that some fact is of. The next one is the least above the given

@@ -1,4 +1,4 @@
-use Rattle.cvr_facts.proofs.Choosing.{text_total, text_exact}
+use Rattle.cvr_facts.proofs.Laws.{text_total, text_exact}
 use Rattle.cvr_collect.specs.Names.{record_of, device_in}
 use Rattle.cvr_collect.proofs.NextInFacts.{name_total, name_exact}
 use Rattle.cvr_collect.proofs.NextLaws.{listed, next_is_least, no_next}

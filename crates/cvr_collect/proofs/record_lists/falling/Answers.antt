@@ -4,7 +4,7 @@ use Rattle.std.specs.Ordering.{is_lt}
 use Rattle.std.proofs.lemmas.List.Sorted.{IsPermutation-map, ranks_by, answers_always}
 use Rattle.cvr_facts.specs.declared.snapshot.SnapshotFact.{SnapshotFact}
 use Rattle.cvr_facts.specs.Choosing.{fact_choice}
-use Rattle.cvr_facts.proofs.Choosing.{fact_total}
+use Rattle.cvr_facts.proofs.Laws.{fact_total}
 use Rattle.cvr_collect.proofs.ViewedLists.{map-reverse, sorted-map}
 use Rattle.cvr_collect.proofs.record_lists.falling.Goals as goal
 

@@ -1,0 +1,12 @@
+use Rattle.cvr_collect.proofs.NameOrder.{conflict_total, conflict_exact}
+use Rattle.cvr_collect.proofs.NextInFacts.{name_total}
+use Rattle.cvr_collect.proofs.RecordMembers.{name_exact}
+use Rattle.cvr_collect.proofs.law.names_are_ordered.Goals as goal
+
+pub returns : goal.returns
+returns c = record {
+  records = name_total;
+  exact_records = name_exact;
+  names = conflict_total;
+  exact_names = conflict_exact;
+}

@@ -1,0 +1,24 @@
+-- What a definition says of its own file, and the same definition of it. (This project's own.)
+use Rattle.std.specs.Prelude.{◌≡◌, ℕ, List}
+use Rattle.std.specs.List.{Contains}
+use Rattle.serde_json.specs.Data.{Data}
+use Rattle.cdf_form.specs.Parts.{array_at}
+use Rattle.cdf_check.specs.Acceptance.{IsReport}
+use Rattle.cdf_check.specs.Agreement.{Agrees}
+use Rattle.cdf_check.specs.Frame.{Frame, frame_of, entries_at}
+use Rattle.cdf_check.specs.Laws.{IsListOf}
+use Rattle.cdf_check.specs.Named.{Entry, named}
+use Rattle.cdf_check.specs.Same.{AreEqualButDevices}
+
+-- a report agrees with the definition that is made of it
+abbrev pub OwnAgreesLaw : Type 0
+OwnAgreesLaw = (d : Data) → IsReport d → Agrees (frame_of d) d
+
+-- definitions that are equal but for their devices agree with the same reports
+abbrev pub SameAgreesLaw : Type 0
+SameAgreesLaw = (f g : Frame) → AreEqualButDevices f g → (d : Data) → Agrees g d → Agrees f d
+
+-- each entry of a definition's list is that of an object of its array
+abbrev pub EntryLaw : Type 0
+EntryLaw = (name : List ℕ) (d : Data) → IsListOf (entries_at name d) name d → (e : Entry) → Contains (entries_at name d) e
+    → (x : Data) × Contains (array_at name d) x × (named x ≡ e)
