@@ -4,7 +4,7 @@ use Rattle.std.specs.Option.{option_map_or}
 use Rattle.std.specs.declared.cmp.Ordering.{Ordering}
 use Rattle.std.specs.Ordering.{is_gt}
 use Rattle.cdf_typed.specs.Greatest.{greater, greatest}
-use Rattle.cvr_facts.proofs.Members.{at_head, at_tail}
+use Rattle.cvr_facts.proofs.Lemmas.{at_head, at_tail}
 
 module _ {X Y : Type 0} (R : X → X → Ordering) (Q : Y → Y → Ordering) (f : X → Y) (P : X → Type 0) (same : (x y : X) → P x → P y → Q (f x) (f y) ≡ R x y) where
   greater_same : (b : Bool) (x y : X) → cond b (f x) (f y) ≡ f (cond b x y)

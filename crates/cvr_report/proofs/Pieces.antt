@@ -2,7 +2,7 @@
 use Rattle.std.proofs.Common.{◌≡◌, ℕ, List, ◌++◌, Bool, false, Option, Result, Ok, Err, refl, sym, ap, ◌∙◌, append_assoc, append-nil, [], Some, None}
 use Rattle.std.specs.Result.{IsErrAnd}
 use Rattle.cdf_types.specs.Device.{appended, AppendsFront}
-use Rattle.cdf_types.proofs.Fronts.{appended_twice}
+use Rattle.cdf_types.proofs.Lemmas.{appended_twice}
 use Rattle.cvr_report.specs.Writes.{Writes, is_device}
 use Rattle.cvr_report.specs.declared.fault.WriteFault.{WriteFault}
 use Rattle.cvr_report.specs.declared.fault.WriteFault.TheVariants.{Memory}

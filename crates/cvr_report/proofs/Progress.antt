@@ -4,14 +4,14 @@ use Rattle.std.specs.Result.{IsErrAnd}
 use Rattle.std.specs.Cmp.Lexicographic.{nat_list_cmp_total}
 use Rattle.serde_json.specs.Written.{comma_if}
 use Rattle.cdf_types.specs.Device.{appended, AppendsFront}
-use Rattle.cdf_types.proofs.Fronts.{appended_twice}
+use Rattle.cdf_types.proofs.Lemmas.{appended_twice}
 use Rattle.cvr_facts.specs.declared.name.RecordName.{RecordName}
 use Rattle.cvr_facts.specs.Facts.{Facts, name_cmp, text_cmp}
-use Rattle.cvr_facts.proofs.Ordered.{ordered_rises}
+use Rattle.cvr_facts.proofs.Lemmas.{ordered_rises}
 use Rattle.cvr_collect.specs.Names.{records, devices}
 use Rattle.cvr_collect.specs.Readers.{next, device_list}
-use Rattle.cvr_collect.proofs.NextInFacts.{name_total}
-use Rattle.cvr_collect.proofs.Walks.{from, next_listed, from-next_none, from-some}
+use Rattle.cvr_collect.proofs.Laws.{name_total}
+use Rattle.cvr_collect.proofs.Lemmas.{from, next_listed, from-next_none, from-some}
 use Rattle.cvr_report.specs.Record.{joined}
 use Rattle.cvr_report.specs.Page.{shown}
 use Rattle.cvr_report.specs.Pieces.{record_text, record_texts, device_texts}

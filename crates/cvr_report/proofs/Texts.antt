@@ -8,8 +8,7 @@ use Rattle.serde_json.specs.Data.{Data, object, array, string, Items, no_items, 
 use Rattle.serde_json.specs.Find.{get_member}
 use Rattle.serde_json.specs.Written.{compact_text, items_text, members_text, comma_if}
 use Rattle.cdf_form.specs.Proper.{Before, Below, MembersAreWell}
-use Rattle.cdf_form.proofs.Order.{Before-trans, after_is, equal_is, greater_is, Below-trans}
-use Rattle.cdf_form.proofs.Appending.{append}
+use Rattle.cdf_form.proofs.Lemmas.{Before-trans, after_is, equal_is, greater_is, Below-trans, append}
 use Rattle.cvr_report.specs.Record.{snapshots_name, current_name, record_of, IsHeader, front, back, some, inner, joined, texts_of, IsCut}
 use Rattle.cvr_report.proofs.Splitting.{put_twice, text-append}
 

@@ -14,25 +14,22 @@ use Rattle.serde_json.specs.View.{items_of}
 use Rattle.serde_json.specs.Written.{compact_text, has_float}
 use Rattle.cdf_form.specs.Parts.{array_at}
 use Rattle.cdf_form.specs.Reading.{value_of}
-use Rattle.cdf_form.proofs.PartLaws.{part_reads_back, listed_part}
+use Rattle.cdf_form.proofs.Laws.{part_reads_back, listed_part}
 use Rattle.cdf_check.specs.Frame.{Frame}
 use Rattle.cdf_check.specs.Laws.{IsListOf}
 use Rattle.cdf_check.specs.Named.{Entry, named, texts_of}
 use Rattle.cdf_check.specs.Sound.{IsFrame}
-use Rattle.cdf_check.proofs.Listing.{lists}
-use Rattle.cdf_check.proofs.Sounding.{sound}
+use Rattle.cdf_check.proofs.Laws.{lists, sound}
 use Rattle.cvr_facts.specs.Facts.{Fact, Device, Header, Snapshot, Facts}
 use Rattle.cvr_facts.specs.Choosing.{data_of}
 use Rattle.cvr_facts.specs.Stands.{Stands}
-use Rattle.cvr_facts.proofs.Choosing.{text_total, text_exact}
-use Rattle.cvr_facts.proofs.Members.{in_map, from_map}
-use Rattle.cvr_facts.proofs.Records.{contains_iff, from-filter_map}
+use Rattle.cvr_facts.proofs.Laws.{text_total, text_exact, contains_iff}
+use Rattle.cvr_facts.proofs.Lemmas.{in_map, from_map, from-filter_map}
 use Rattle.cvr_collect.specs.declared.conflict.ConflictName.TheVariants as name
 use Rattle.cvr_collect.specs.Names.{records, devices, device_in, is_named, body_of}
 use Rattle.cvr_collect.specs.Readers.{device_list}
 use Rattle.cvr_collect.specs.Keeps.{Keeps, content_scope}
-use Rattle.cvr_collect.proofs.InOrder.{from_ordered, in_ordered, map-map}
-use Rattle.cvr_collect.proofs.RecordMembers.{from_filter, in_filter}
+use Rattle.cvr_collect.proofs.Lemmas.{from_ordered, in_ordered, map-map, from_filter, in_filter}
 use Rattle.cvr_report.specs.Record.{joined, texts_of as items_texts}
 use Rattle.cvr_report.specs.Writes.{list_text}
 use Rattle.cvr_report.specs.Page.{Shown, shown, shown_record, stands, page}

@@ -2,6 +2,7 @@ pub mod Record
 pub mod Scan
 pub mod Writes
 pub mod Page
+pub mod Shows
 pub mod Volume
 pub mod Pieces
 pub mod Head
