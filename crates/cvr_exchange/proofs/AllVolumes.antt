@@ -6,9 +6,9 @@ use Rattle.std.specs.FinSet.{contains, same_set}
 use Rattle.cdf_check.specs.Frame.{Frame}
 use Rattle.cvr_facts.specs.Facts.{Fact, Device, Header, Snapshot, Facts, fact_total, fact_exact}
 use Rattle.cvr_facts.specs.Reports.{facts}
-use Rattle.cvr_facts.proofs.Members.{none_listed, head_or_tail, at_head, at_tail}
+use Rattle.cvr_facts.proofs.Lemmas.{none_listed, head_or_tail, at_head, at_tail}
 use Rattle.cvr_collect.specs.Keeps.{Keeps}
-use Rattle.cvr_collect.proofs.Unions.{or_cases, or_left, or_right, contains-union_over}
+use Rattle.cvr_collect.proofs.Lemmas.{or_cases, or_left, or_right, contains-union_over}
 use Rattle.cvr_report.specs.Head.{Head}
 use Rattle.cvr_report.specs.Page.{volumes}
 use Rattle.cvr_report.specs.Volume.{volume}

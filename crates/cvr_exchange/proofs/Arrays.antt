@@ -17,12 +17,13 @@ use Rattle.cdf_form.specs.Tables.{table, classes_of, any}
 use Rattle.cdf_form.specs.Form.{key_text}
 use Rattle.cdf_form.specs.HasForm.{HasForm, items}
 use Rattle.cdf_form.specs.Parts.{id_of}
-use Rattle.cdf_form.proofs.FormParts.{AllClasses, find_row}
-use Rattle.cdf_form.proofs.ReadsBack.{inside}
-use Rattle.cdf_check.proofs.Reports.{id_row, has_id}
+use Rattle.cdf_form.specs.ByRow.{AllClasses, find_row}
+use Rattle.cdf_form.proofs.Lemmas.{inside}
+use Rattle.cdf_check.specs.Depths.{id_row}
+use Rattle.cdf_check.proofs.Laws.{has_id}
 use Rattle.cvr_facts.specs.Facts.{text_cmp}
-use Rattle.cvr_facts.proofs.Choosing.{text_total}
-use Rattle.cvr_facts.proofs.Members.{at_head, at_tail, head_or_tail, none_listed}
+use Rattle.cvr_facts.proofs.Laws.{text_total}
+use Rattle.cvr_facts.proofs.Lemmas.{at_head, at_tail, head_or_tail, none_listed}
 
 abbrev pub IsRising : List (List ℕ) → Type 0
 IsRising ids = IsStrictlySortedBy text_cmp ids

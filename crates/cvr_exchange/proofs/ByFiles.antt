@@ -7,24 +7,20 @@ use Rattle.std.proofs.lemmas.Bool.{cases_lt, false≢true}
 use Rattle.std.proofs.lemmas.List.{length-map, get_or-map}
 use Rattle.std.proofs.lemmas.Option.{get_or_from_slice_get, slice_get_within}
 use Rattle.cdf_check.specs.Frame.{Frame, IsSame}
-use Rattle.cdf_check.proofs.SameDefinition.{one_definition}
+use Rattle.cdf_check.proofs.Laws.{one_definition}
 use Rattle.cvr_facts.specs.Facts.{Facts}
 use Rattle.cvr_facts.specs.Reports.{facts}
 use Rattle.cvr_collect.specs.declared.event.Event.{Event}
 use Rattle.cvr_collect.specs.declared.event.Event.TheVariants.{Import, Exchange}
 use Rattle.cvr_collect.specs.declared.event.Outcome.{Outcome}
 use Rattle.cvr_collect.specs.declared.event.Outcome.TheVariants.{Accepted, Refused}
-use Rattle.cvr_collect.specs.Alike.{AreNewOfOne, ArePlayed, HaveSameFiles}
+use Rattle.cvr_collect.specs.Alike.{AreNewOfOne, ArePlayed, HaveSameFiles, BeganAlike}
 use Rattle.cvr_collect.specs.Keeps.{Keeps, starting}
 use Rattle.cvr_collect.specs.Outcomes.{no_frame, AreOutcomes}
 use Rattle.cvr_collect.specs.Reach.{History, Start, File, origin_cmp, reached, content}
-use Rattle.cvr_collect.proofs.AnsweredAlike.{answer_alike}
-use Rattle.cvr_collect.proofs.NewOffices.{same_definition}
-use Rattle.cvr_collect.proofs.Reached.{origin_total, origin_exact}
-use Rattle.cvr_collect.proofs.SameFiles.{BeganAlike, same_files}
-use Rattle.cvr_collect.proofs.Starting.{start_keeps}
-use Rattle.cvr_collect.proofs.Unions.{or_cases, tie_is}
-use Rattle.cvr_report.proofs.SameVolumes.{same_volumes}
+use Rattle.cvr_collect.proofs.Laws.{answer_alike, same_definition, same_files, start_keeps}
+use Rattle.cvr_collect.proofs.Lemmas.{origin_total, origin_exact, or_cases, tie_is}
+use Rattle.cvr_report.proofs.Laws.{same_volumes}
 use Rattle.cvr_exchange.specs.Laws.{BeganKept, ByFilesLaw, SameFilesLaw}
 use Rattle.cvr_exchange.specs.Passing.{IsByFiles, begun, event, volumes_of}
 use Rattle.cvr_exchange.proofs.Histories.{after_import, after_exchange, imports_exchange}

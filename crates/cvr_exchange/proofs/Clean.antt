@@ -12,14 +12,10 @@ use Rattle.serde_json.specs.View.{items_of}
 use Rattle.serde_json.specs.Written.{compact_text}
 use Rattle.cdf_form.specs.Proper.{IsProper}
 use Rattle.cdf_form.specs.Reading.{value_of}
-use Rattle.cdf_form.proofs.Lists.{array_proper}
-use Rattle.cdf_form.proofs.PartLaws.{proper_deeper}
-use Rattle.cdf_form.proofs.ReadsBack.{read-proper}
-use Rattle.cdf_form.proofs.Removing.{put_proper}
+use Rattle.cdf_form.proofs.Laws.{array_proper, proper_deeper, read-proper, put_proper}
 use Rattle.cdf_check.specs.Utf8.{HasUtf8, ItemsHaveUtf8, MembersHaveUtf8}
-use Rattle.cdf_check.proofs.Spelling.{file_utf8}
-use Rattle.cdf_check.proofs.Utf8.{proper_utf8}
-use Rattle.cvr_facts.proofs.Members.{at_head, at_tail}
+use Rattle.cdf_check.proofs.Laws.{file_utf8, proper_utf8}
+use Rattle.cvr_facts.proofs.Lemmas.{at_head, at_tail}
 
 -- at most n deep, with no float, and each text in it is UTF-8
 pub record IsClean (n : ℕ) (d : Data) : Type 0 where

@@ -5,11 +5,11 @@ use Rattle.std.specs.Cmp.{both_ways}
 use Rattle.std.specs.FinSet.{contains, union, empty, insert, items, same_set, contains-union}
 use Rattle.cdf_check.specs.Acceptance.{first_refusal}
 use Rattle.cdf_check.specs.Frame.{Frame}
-use Rattle.cdf_check.proofs.Accepting.{valid_file}
+use Rattle.cdf_check.proofs.Laws.{valid_file}
 use Rattle.cvr_facts.specs.Facts.{Facts, fact_total, fact_exact}
 use Rattle.cvr_facts.specs.Reports.{facts}
 use Rattle.cvr_facts.specs.Unions.{union_laws}
-use Rattle.cvr_facts.proofs.Members.{at_head, at_tail}
+use Rattle.cvr_facts.proofs.Lemmas.{at_head, at_tail}
 use Rattle.cvr_collect.specs.declared.event.Event.{Event}
 use Rattle.cvr_collect.specs.declared.event.Event.TheVariants.{Import, Exchange}
 use Rattle.cvr_collect.specs.declared.event.Outcome.{Outcome}
@@ -18,8 +18,7 @@ use Rattle.cvr_collect.specs.Keeps.{Keeps}
 use Rattle.cvr_collect.specs.Outcomes.{no_frame, due}
 use Rattle.cvr_collect.specs.Readers.{growth}
 use Rattle.cvr_collect.specs.Reach.{History, File, Origins, reached, brought, union_over, content}
-use Rattle.cvr_collect.proofs.Reached.{origin_total, origin_exact}
-use Rattle.cvr_collect.proofs.Unions.{contains-union_over, over_union, over_insert}
+use Rattle.cvr_collect.proofs.Lemmas.{origin_total, origin_exact, contains-union_over, over_union, over_insert}
 use Rattle.cvr_report.specs.Head.{Head}
 use Rattle.cvr_report.specs.Volume.{volume}
 use Rattle.cvr_exchange.specs.Laws.{ImportsLaw, AcceptedLaw}

@@ -9,17 +9,17 @@ use Rattle.cdf_types.specs.declared.fault.ReadFault.{ReadFault}
 use Rattle.cdf_check.specs.Acceptance.{Valid, first_refusal}
 use Rattle.cdf_check.specs.Frame.{Frame, IsSame}
 use Rattle.cdf_check.specs.Named.{texts_of}
-use Rattle.cdf_check.proofs.Accepting.{valid_file}
+use Rattle.cdf_check.proofs.Laws.{valid_file}
 use Rattle.cvr_facts.specs.Facts.{Facts, text_cmp}
 use Rattle.cvr_facts.specs.Reports.{facts}
-use Rattle.cvr_facts.proofs.Choosing.{text_total, text_exact}
+use Rattle.cvr_facts.proofs.Laws.{text_total, text_exact}
 use Rattle.cvr_collect.specs.declared.event.Event.TheVariants.{Import, Exchange}
 use Rattle.cvr_collect.specs.declared.event.Outcome.TheVariants.{Accepted, Refused}
 use Rattle.cvr_collect.specs.Keeps.{Keeps}
 use Rattle.cvr_collect.specs.Outcomes.{no_frame, due, AreOutcomes, IsImportOutcome, IsExchangeOutcome}
 use Rattle.cvr_collect.specs.Reach.{History, content}
-use Rattle.cvr_collect.proofs.Keeping.{import_keeps, join_keeps}
-use Rattle.cvr_collect.proofs.Reached.{content-none, at_eq}
+use Rattle.cvr_collect.proofs.Laws.{import_keeps, join_keeps, content-none}
+use Rattle.cvr_collect.proofs.Lemmas.{at_eq}
 use Rattle.cvr_exchange.specs.Laws.{BeganKept}
 use Rattle.cvr_exchange.proofs.Histories.{after_import, after_exchange}
 

@@ -10,8 +10,8 @@ use Rattle.cdf_form.specs.Places.{Texts, contest_ids, selections_of}
 use Rattle.cdf_check.specs.Paths.{each}
 use Rattle.cdf_check.specs.References.{Scope, unknown, one, many, in_selection_vote, in_votes, in_contest_vote, in_snapshot}
 use Rattle.cdf_check.specs.Resolves.{Names, AllName, Each, VoteResolves, SnapshotResolves, SelectionResolves, ElectionResolves}
-use Rattle.cdf_check.proofs.Empty.{left_nil, right_nil, inner, unless_nil}
-use Rattle.cdf_check.proofs.Wider.{each_at}
+use Rattle.cdf_check.proofs.Lemmas.{left_nil, right_nil, inner, unless_nil}
+use Rattle.cdf_check.proofs.Laws.{each_at}
 
 -- ---- no path is missing
 

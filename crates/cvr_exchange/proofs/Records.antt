@@ -18,14 +18,14 @@ use Rattle.cdf_form.specs.HasForm.{HasForm, IsRow, text, class}
 use Rattle.cdf_form.specs.Parts.{list_of, array_at, ids_at, id_of, text_at}
 use Rattle.cdf_form.specs.Places.{Texts}
 use Rattle.cdf_form.specs.Removing.{without}
-use Rattle.cdf_form.proofs.Lists.{list_of-items_of}
-use Rattle.cdf_form.proofs.ReadsBack.{inside}
-use Rattle.cdf_form.proofs.Removing.{without-put}
+use Rattle.cdf_form.proofs.Laws.{list_of-items_of, without-put}
+use Rattle.cdf_form.proofs.Lemmas.{inside}
 use Rattle.cdf_typed.specs.Typed.{header_of}
 use Rattle.cdf_check.specs.Bodies.{IsKept, HeaderStands, SnapshotStands}
 use Rattle.cdf_check.specs.References.{Scope, one, many}
 use Rattle.cdf_check.specs.Resolves.{Names, AllName, CvrResolves}
-use Rattle.cdf_check.proofs.Wider.{differ, is_kept, cvr_parts}
+use Rattle.cdf_check.proofs.Lemmas.{differ}
+use Rattle.cdf_check.proofs.Laws.{is_kept, cvr_parts}
 use Rattle.cvr_report.specs.Record.{snapshots_name, current_name, record_members}
 use Rattle.cvr_exchange.proofs.Arrays.{IsRising, objects_form}
 use Rattle.cvr_exchange.proofs.Clean.{IsClean, clean_string, clean_array, clean_put}

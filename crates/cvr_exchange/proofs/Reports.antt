@@ -23,25 +23,23 @@ use Rattle.cdf_form.specs.PartOf.{IsPart, itself, of_member}
 use Rattle.cdf_form.specs.Parts.{list_of, array_at, ids_at, id_of, first_or_null}
 use Rattle.cdf_form.specs.Places.{contest_of}
 use Rattle.cdf_form.specs.Reading.{value_of, max_file}
-use Rattle.cdf_form.proofs.FormParts.{items_have_form}
-use Rattle.cdf_form.proofs.Lengths.{items_short, part_short}
-use Rattle.cdf_form.proofs.Lists.{list_of-items_of}
-use Rattle.cdf_form.proofs.PartLaws.{listed_part, part_of_part}
-use Rattle.cdf_form.proofs.ReadsBack.{inside}
+use Rattle.cdf_form.proofs.Laws.{items_have_form, items_short, part_short, list_of-items_of, listed_part, part_of_part}
+use Rattle.cdf_form.proofs.Lemmas.{inside}
 use Rattle.cdf_check.specs.Acceptance.{Valid, value_in}
 use Rattle.cdf_check.specs.Agreement.{Agrees}
 use Rattle.cdf_check.specs.Frame.{Frame}
 use Rattle.cdf_check.specs.Named.{Entry, ids_of}
 use Rattle.cdf_check.specs.References.{Scope, scope_of}
 use Rattle.cdf_check.specs.Resolves.{Resolves, CvrResolves, ElectionResolves}
-use Rattle.cdf_check.proofs.Reports.{election_row, report_row, one_election}
+use Rattle.cdf_check.specs.Depths.{election_row}
+use Rattle.cdf_check.proofs.Laws.{report_row, one_election}
 use Rattle.cvr_facts.specs.declared.name.RecordName.{RecordName}
 use Rattle.cvr_facts.specs.Facts.{Device, Facts, fact_total, fact_exact}
-use Rattle.cvr_facts.proofs.Members.{in_map, from_map, in_set}
+use Rattle.cvr_facts.proofs.Lemmas.{in_map, from_map, in_set}
 use Rattle.cvr_collect.specs.Keeps.{Keeps}
 use Rattle.cvr_collect.specs.Names.{records, devices}
 use Rattle.cvr_collect.specs.Readers.{header_list}
-use Rattle.cvr_collect.proofs.RecordMembers.{from_filter}
+use Rattle.cvr_collect.proofs.Lemmas.{from_filter}
 use Rattle.cvr_report.specs.Head.{Head}
 use Rattle.cvr_report.specs.Page.{page, shown, shown_snapshots, stands, current_id, shown_record}
 use Rattle.cvr_report.specs.Record.{snapshots_name}

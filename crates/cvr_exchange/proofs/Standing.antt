@@ -20,21 +20,21 @@ use Rattle.cdf_check.specs.Bodies.{DeviceStands, HeaderStands, SnapshotStands}
 use Rattle.cdf_check.specs.Frame.{Frame, scope_in}
 use Rattle.cdf_check.specs.References.{Scope}
 use Rattle.cdf_check.specs.Resolves.{CvrResolves}
-use Rattle.cdf_check.proofs.Standing.{more_devices, header_stays, snapshot_stays}
-use Rattle.cdf_check.proofs.Wider.{Wider, is_kept}
+use Rattle.cdf_check.proofs.Laws.{more_devices, header_stays, snapshot_stays, is_kept}
+use Rattle.cdf_check.specs.Wider.{Wider}
 use Rattle.cvr_facts.specs.declared.name.RecordName.{RecordName}
 use Rattle.cvr_facts.specs.Facts.{Device, Header, Snapshot, Facts, text_cmp}
 use Rattle.cvr_facts.specs.Choosing.{data_of}
 use Rattle.cvr_facts.specs.Reports.{device_fact, header_fact, snapshot_fact}
 use Rattle.cvr_facts.specs.Stands.{Stands}
-use Rattle.cvr_facts.proofs.Choosing.{text_total, text_exact}
-use Rattle.cvr_facts.proofs.Members.{at_head, at_tail, in_map, from_map}
-use Rattle.cvr_facts.proofs.Ordered.{ordered_rises}
+use Rattle.cvr_facts.proofs.Laws.{text_total, text_exact}
+use Rattle.cvr_facts.proofs.Lemmas.{at_head, at_tail, in_map, from_map, ordered_rises}
 use Rattle.cvr_collect.specs.Keeps.{Keeps, content_scope}
 use Rattle.cvr_collect.specs.Names.{records, devices, snapshot_ids, id_in}
 use Rattle.cvr_collect.specs.Readers.{header_list, device_list, snapshot_list}
-use Rattle.cvr_collect.proofs.Included.{device_ids, includes}
-use Rattle.cvr_collect.proofs.InOrder.{in_ordered}
+use Rattle.cvr_collect.specs.Under.{device_ids}
+use Rattle.cvr_collect.proofs.Laws.{includes}
+use Rattle.cvr_collect.proofs.Lemmas.{in_ordered}
 use Rattle.cvr_report.specs.Page.{Shown, shown, shown_snapshots, shown_record, current_id}
 use Rattle.cvr_report.specs.Volume.{members_in, record_data}
 use Rattle.cvr_report.specs.Record.{snapshots_name}

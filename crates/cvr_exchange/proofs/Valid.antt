@@ -3,9 +3,8 @@ use Rattle.std.proofs.Common.{◌≡◌, Bool, true, false, Option, Some, None, 
 use Rattle.cdf_types.specs.declared.fault.ReadFault.{ReadFault}
 use Rattle.cdf_check.specs.Acceptance.{first_refusal}
 use Rattle.cdf_check.specs.Frame.{Frame, IsSame}
-use Rattle.cdf_check.proofs.Accepting.{valid_file}
-use Rattle.cdf_check.proofs.SameDefinition.{same_definitions}
-use Rattle.cvr_collect.proofs.SameFrames.{agrees_alike}
+use Rattle.cdf_check.proofs.Laws.{valid_file, same_definitions}
+use Rattle.cvr_collect.proofs.Laws.{agrees_alike}
 use Rattle.cvr_report.specs.Volume.{volume}
 use Rattle.cvr_exchange.specs.Laws.{ValidLaw, ValidForSameLaw}
 use Rattle.cvr_exchange.proofs.Definitions.{of_definition}
