@@ -6,7 +6,7 @@ use Rattle.cdf_typed.specs.Greatest.{greatest}
 use Rattle.cvr_facts.specs.Facts.{Fact, name_cmp}
 use Rattle.cvr_facts.specs.Choosing.{choice_cmp, snapshot_body}
 use Rattle.cvr_collect.specs.Names.{record_of}
-use Rattle.cvr_collect.proofs.GivenFacts.{sorted, records-given, current-given}
+use Rattle.cvr_collect.proofs.Lemmas.{sorted, records-given, current-given}
 use Rattle.cvr_cli.specs.Currents.{line_of, currents}
 
 pub currents-given : (fs : List Fact) → currents (from_list fs)

@@ -16,8 +16,8 @@ use Rattle.cvr_collect.specs.declared.event.Event.TheVariants.{Import, Exchange}
 use Rattle.cvr_collect.specs.declared.event.Outcome.TheVariants.{Accepted}
 use Rattle.cvr_collect.specs.Readers.{growth}
 use Rattle.cvr_collect.specs.Reach.{History, File, reached, brought, union_over, content}
-use Rattle.cvr_collect.proofs.Unions.{over_insert, over_union}
-use Rattle.cvr_collect.proofs.Reached.{origin_total, origin_exact, content-none}
+use Rattle.cvr_collect.proofs.Lemmas.{over_insert, over_union, origin_total, origin_exact}
+use Rattle.cvr_collect.proofs.Laws.{content-none}
 use Rattle.cvr_words.specs.declared.request.Step.{Step}
 use Rattle.cvr_cli.specs.Drill.{event_of, events_of, certain, event_due, step_dues, brings, outcome_by, new_offices, past_of, drilled}
 use Rattle.cvr_cli.specs.File.{held_bytes}

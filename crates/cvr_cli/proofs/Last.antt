@@ -6,7 +6,7 @@ use Rattle.std.proofs.lemmas.Bool.Decides.{nat_tests}
 use Rattle.cvr_facts.specs.Facts.{Facts}
 use Rattle.cvr_collect.specs.declared.conflict.Conflict.{Conflict}
 use Rattle.cvr_collect.specs.Names.{most, names, counted, conflicts}
-use Rattle.cvr_collect.proofs.InOrder.{map-map}
+use Rattle.cvr_collect.proofs.Lemmas.{map-map}
 use Rattle.cvr_report.specs.Page.{volumes}
 use Rattle.cvr_cli.specs.Currents.{volumes_of}
 use Rattle.cvr_cli.proofs.Most.{most-cons}

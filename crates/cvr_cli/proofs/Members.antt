@@ -17,8 +17,8 @@ use Rattle.cvr_collect.specs.declared.event.Outcome.TheVariants.{Accepted}
 use Rattle.cvr_collect.specs.Keeps.{starting}
 use Rattle.cvr_collect.specs.Reach.{History, File, reached, brought, content, union_over}
 use Rattle.cvr_collect.specs.Outcomes.{due}
-use Rattle.cvr_collect.proofs.Unions.{over_insert, or_cases, or_left, or_right, contains-union_over}
-use Rattle.cvr_collect.proofs.Reached.{origin_total, origin_exact, content-none}
+use Rattle.cvr_collect.proofs.Lemmas.{over_insert, or_cases, or_left, or_right, contains-union_over, origin_total, origin_exact}
+use Rattle.cvr_collect.proofs.Laws.{content-none}
 use Rattle.cvr_cli.specs.Laws.{imports, HaveSameFiles}
 use Rattle.cvr_cli.specs.Outcome.{accepted_facts, held}
 

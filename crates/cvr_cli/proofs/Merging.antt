@@ -13,7 +13,7 @@ use Rattle.cvr_report.specs.declared.heading.HeadFault.TheVariants as head
 use Rattle.cvr_report.specs.Head.{Head, IsHead, IsFault, is_device_of}
 use Rattle.cvr_report.specs.Page.{volumes, page}
 use Rattle.cvr_report.specs.Volume.{volume, volume_data, cover_of, records_data}
-use Rattle.cvr_report.proofs.Report.{volume_text}
+use Rattle.cvr_report.proofs.Lemmas.{volume_text}
 use Rattle.serde_json.specs.Written.{compact_text}
 use Rattle.cvr_cli.specs.declared.merge.MergeFault.{MergeFault}
 use Rattle.cvr_cli.specs.declared.merge.MergeFault.TheVariants.{NotMoment, NoDevice, NoVolume}

@@ -4,7 +4,7 @@ use Rattle.std.specs.List.{flat_map}
 use Rattle.std.specs.Result.{is_err}
 use Rattle.std.proofs.lemmas.List.{at_drop_more}
 use Rattle.cdf_types.specs.Device.{appended, AppendsFront}
-use Rattle.cdf_types.proofs.Fronts.{appended_twice}
+use Rattle.cdf_types.proofs.Lemmas.{appended_twice}
 
 -- the bytes of pieces
 abbrev pub bytes_of : List (Bor (List ℕ)) → List ℕ

@@ -25,8 +25,7 @@ use Rattle.cvr_collect.specs.declared.fault.JoinFault.TheVariants as join
 use Rattle.cvr_collect.specs.Readers.{growth}
 use Rattle.cvr_collect.specs.Reach.{History, history, content}
 use Rattle.cvr_collect.specs.Outcomes.{no_frame, due, IsImportOutcome, IsExchangeOutcome, IsOutcome, AreOutcomes}
-use Rattle.cvr_collect.proofs.Reached.{at_eq, is_eq}
-use Rattle.cvr_collect.proofs.ViewedLists.{map-reverse}
+use Rattle.cvr_collect.proofs.Lemmas.{at_eq, is_eq, map-reverse}
 use Rattle.cvr_words.specs.declared.request.Step.{Step}
 use Rattle.cvr_cli.specs.Drill.{event_of, events_of, certain, exchange_due, event_due, step_due, step_dues, drill_refused, brings, outcome_by, new_offices, past_of, drilled}
 use Rattle.cvr_cli.specs.Refusals.{Due, no_due, file_due, IsDue, AreDue, cause_in, is_refusal, is_want, wants_memory}

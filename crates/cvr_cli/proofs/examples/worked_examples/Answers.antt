@@ -3,7 +3,7 @@ use Rattle.std.specs.Fmt.{digits}
 use Rattle.serde_json.proofs.OnLiterals.{serde_json_on_literals}
 use Rattle.jiff.proofs.OnLiterals.{jiff_on_literals}
 use Rattle.cvr_collect.specs.Examples.{contests}
-use Rattle.cvr_collect.proofs.GivenFacts.{conflicts-given, tally-given}
+use Rattle.cvr_collect.proofs.Lemmas.{conflicts-given, tally-given}
 use Rattle.cvr_cli.specs.Currents.{conflict_text}
 use Rattle.cvr_cli.specs.Examples.{of_five, several_bodies, one_body_each}
 use Rattle.cvr_cli.proofs.GivenTexts.{currents-given}

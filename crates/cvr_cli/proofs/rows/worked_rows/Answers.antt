@@ -5,7 +5,7 @@ use Rattle.json.specs.Print.{escape_byte}
 use Rattle.serde_json.proofs.OnLiterals.{serde_json_on_literals}
 use Rattle.jiff.proofs.OnLiterals.{jiff_on_literals}
 use Rattle.cdf_check.specs.Rows as file
-use Rattle.cdf_check.proofs.Ascii.{ascii_unsound, ascii_refusal}
+use Rattle.cdf_check.proofs.Lemmas.{ascii_unsound, ascii_refusal}
 use Rattle.cvr_cli.specs.Rows as row
 use Rattle.cvr_cli.proofs.ToldRows.{told_of_definition, told_of_one, told_of_three, told_of_drill}
 use Rattle.cvr_cli.proofs.rows.worked_rows.Goals as goal
