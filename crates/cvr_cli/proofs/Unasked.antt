@@ -7,7 +7,7 @@ use Rattle.cvr_words.specs.Request.{IsRequest}
 use Rattle.cvr_words.specs.declared.fault.LineFault.{LineFault}
 use Rattle.cvr_words.specs.declared.fault.LineFault.TheVariants.{Refused, Help, BadStep, Memory}
 use Rattle.cvr_words.specs.declared.request.Request.{Request}
-use Rattle.cvr_words.proofs.OneRequest.{no_line_fault_but_memory}
+use Rattle.cvr_words.proofs.Laws.{no_line_fault_but_memory}
 use Rattle.cvr_cli.specs.Answered.{TellsWords, help_text, is_help, words_line, words_status}
 use Rattle.cvr_cli.specs.declared.printing.PrintFault.{PrintFault}
 use Rattle.cvr_cli.specs.declared.printing.PrintFault.TheVariants as fault

@@ -12,3 +12,4 @@ pub mod Commands
 pub mod Named
 pub mod Refused
 pub mod OneRequest
+pub mod Laws

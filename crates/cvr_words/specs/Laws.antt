@@ -1,8 +1,10 @@
 -- What words can ask for. (This project's own.)
 use Rattle.std.specs.Prelude.{◌≡◌, List}
 use Rattle.clap.specs.Words.{Text}
-use Rattle.cvr_words.specs.Fault.{IsFault}
+use Rattle.cvr_words.specs.Fault.{IsFault, IsLineFault}
 use Rattle.cvr_words.specs.Request.{IsRequest}
+use Rattle.cvr_words.specs.declared.fault.LineFault.{LineFault}
+use Rattle.cvr_words.specs.declared.fault.LineFault.TheVariants as line
 use Rattle.cvr_words.specs.declared.fault.WordFault.{WordFault}
 use Rattle.cvr_words.specs.declared.fault.WordFault.TheVariants.{Memory}
 use Rattle.cvr_words.specs.declared.request.Request.{Request}
@@ -14,3 +16,7 @@ OneRequestLaw = (words : List Text) (one other : Request) → IsRequest words on
 -- words that ask for a request have no fault but want of memory
 abbrev pub NoFaultLaw : Type 0
 NoFaultLaw = (words : List Text) (request : Request) (fault : WordFault) → IsRequest words request → IsFault words fault → fault ≡ Memory
+
+-- nor one that tells the step
+abbrev pub NoLineFaultLaw : Type 0
+NoLineFaultLaw = (words : List Text) (request : Request) (fault : LineFault) → IsRequest words request → IsLineFault words fault → fault ≡ line.Memory

@@ -2,7 +2,7 @@ use Rattle.std.proofs.Common.{◌≡◌, ◌∷◌, ◌++◌, true, false, inl, 
 use Rattle.cdf_types.specs.Device.{appended}
 use Rattle.cvr_words.specs.Line.{named}
 use Rattle.cvr_words.specs.declared.request.Request.{Request}
-use Rattle.cvr_words.proofs.OneRequest.{one_request}
+use Rattle.cvr_words.proofs.Laws.{one_request}
 use Rattle.cvr_cli.specs.Log.{Logs}
 use Rattle.cvr_cli.specs.Merge.{merge_lines}
 use Rattle.cvr_cli.specs.Opening.{AreAt}
