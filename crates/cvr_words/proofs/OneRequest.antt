@@ -124,11 +124,11 @@ no_bad_step words r rows place a is bad =
 pub no_fault_but_memory : (words : List Text) (r : Request) (f : WordFault) → IsRequest words r → IsFault words f → f ≡ fault.Memory
 no_fault_but_memory words r (fault.Refused t) a h = absurd (no_kind (fault_of cvr_line words) h.0 a.0 h.1)
 no_fault_but_memory words r (fault.Help t) a h = absurd (no_kind (fault_of cvr_line words) _ a.0 h)
-no_fault_but_memory words r (fault.BadStep n) a h = absurd (no_bad_step words r h.0 n a h.1 h.2)
+no_fault_but_memory words r (fault.BadStep n) a h = absurd (no_bad_step words r h.1 n a h.2 h.3)
 no_fault_but_memory words r fault.Memory a h = refl
 
 pub no_line_fault_but_memory : (words : List Text) (r : Request) (f : LineFault) → IsRequest words r → IsLineFault words f → f ≡ line.Memory
 no_line_fault_but_memory words r (line.Refused t) a h = absurd (no_kind (fault_of cvr_line words) h.0 a.0 h.1)
 no_line_fault_but_memory words r (line.Help t) a h = absurd (no_kind (fault_of cvr_line words) _ a.0 h)
-no_line_fault_but_memory words r (line.BadStep n s) a h = absurd (no_bad_step words r h.0 n a h.1 h.2.0)
+no_line_fault_but_memory words r (line.BadStep n s) a h = absurd (no_bad_step words r h.1 n a h.2 h.3.0)
 no_line_fault_but_memory words r line.Memory a h = refl

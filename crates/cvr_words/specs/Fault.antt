@@ -1,5 +1,5 @@
 -- Why words give no request. (This project's own.)
-use Rattle.std.specs.Prelude.{◌≡◌, ◌≢◌, List, Some, ⊤, codes}
+use Rattle.std.specs.Prelude.{◌≡◌, ◌≢◌, List, [], Some, ⊤, codes}
 use Rattle.clap.specs.Words.{IsAmong, Row, Text, fault_of, subcommand_of}
 use Rattle.clap.specs.declared.error.ErrorKind.{ErrorKind}
 use Rattle.clap.specs.declared.error.ErrorKind.TheVariants.{DisplayHelp, OutOfMemory}
@@ -31,12 +31,13 @@ IsDrillFault name rows (line.BadStep place step) = (name ≡ codes "drill") × I
 IsDrillFault name rows line.Memory = ⊤
 IsDrillFault name rows _ = ⊥
 
--- clap refused the words for another cause than help or memory; it answered help; the words name a
--- drill with a bad step; or memory was refused
+-- clap refused the words for another cause than help or memory; it answered help; it found no fault in them,
+-- and they name a drill with a bad step; or memory was refused
 abbrev pub IsFault : List Text → WordFault → Type 0
 IsFault words (fault.Refused text) = (kind : ErrorKind) × IsAmong kind (fault_of cvr_line words) × (kind ≢ DisplayHelp) × (kind ≢ OutOfMemory)
 IsFault words (fault.Help text) = IsAmong DisplayHelp (fault_of cvr_line words)
-IsFault words (fault.BadStep place) = (rows : List Row) × (subcommand_of cvr_line words ≡ Some (codes "drill", rows))
+IsFault words (fault.BadStep place) =
+    (fault_of cvr_line words ≡ []) × (rows : List Row) × (subcommand_of cvr_line words ≡ Some (codes "drill", rows))
     × (bad_place (words_in (codes "STEP") rows) ≡ Some place)
 IsFault words fault.Memory = ⊤
 
@@ -44,6 +45,7 @@ IsFault words fault.Memory = ⊤
 abbrev pub IsLineFault : List Text → LineFault → Type 0
 IsLineFault words (line.Refused text) = IsFault words (fault.Refused text)
 IsLineFault words (line.Help text) = IsFault words (fault.Help text)
-IsLineFault words (line.BadStep place step) = (rows : List Row) × (subcommand_of cvr_line words ≡ Some (codes "drill", rows))
+IsLineFault words (line.BadStep place step) =
+    (fault_of cvr_line words ≡ []) × (rows : List Row) × (subcommand_of cvr_line words ≡ Some (codes "drill", rows))
     × IsBadStep (words_in (codes "STEP") rows) (line.BadStep place step)
 IsLineFault words line.Memory = ⊤

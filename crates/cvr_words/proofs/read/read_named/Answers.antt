@@ -48,7 +48,9 @@ returns-in-Some-clause-fault c =
     let met = subst (λ (a : App). HasMatchesOf a words c.in-Ok.matches) e c.in-Ok.ensures.matches simple in
     let pair : subcommand_rows_of c.in-Ok.matches ≡ Some (c.in-Some.name.now, rows_of (found_of c.in-Some.found.now)) =
     paired _ _ _ _ _ c.in-Some.ensures.name c.in-Some.ensures.rows in
-    IfErr-weaker c.request_of.result _ _ (λ f h. drill_fault_is words _ _ f (sym met.1 ∙ pair) h) c.request_of.ensures.err
+    let kinds = subst (λ (a : App). is_simple_and_free a ≡ true → FailsBy (fault_of a words) c.try_get_matches_from.result) e c.try_get_matches_from.ensures.kinds simple_and_free in
+    let fine = no_fault (fault_of cvr_line words) c.try_get_matches_from.result c.in-Ok.matches kinds c.in-Ok.is in
+    IfErr-weaker c.request_of.result _ _ (λ f h. drill_fault_is words _ _ f fine (sym met.1 ∙ pair) h) c.request_of.ensures.err
 
 pub returns-in-Err-clause-fault : goal.returns-in-Err-clause-fault
 returns-in-Err-clause-fault c =
