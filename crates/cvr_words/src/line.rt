@@ -203,9 +203,14 @@ fn drill_command<'a>(alloc: Global) -> Result<Command<'a>, AllocError>
 fn bare_command<'a>(alloc: Global) -> Command<'a>
     ensures { app_of result ≡ bare_line }
 {
-    Command::new(alloc, "cvr").subcommand_required(true).about(
-        "Check, collect and tally cast vote records in NIST's Common Data Format 1.0 (SP 1500-103, JSON)",
-    )
+    Command::new(alloc, "cvr")
+        .subcommand_required(true)
+        .about(
+            "Check, collect and tally cast vote records in NIST's Common Data Format 1.0 (SP 1500-103, JSON)",
+        )
+        .after_help(
+            "What is refused is told on standard error, by a code: cvr(1) and docs/FAULTS.md say what each means.",
+        )
 }
 
 /// The whole command line.
