@@ -12,4 +12,6 @@ pub mod Commands
 pub mod Named
 pub mod Refused
 pub mod OneRequest
+pub mod DoneSteps
+pub mod OneForm
 pub mod Laws

@@ -5,7 +5,7 @@ use Rattle.cvr_words.specs.Step.{StepForm, Text, path_in, step_form}
 use Rattle.cvr_words.specs.Steps.{bad_from, bad_place, path_of, paths_of, step_at, step_of, steps_of}
 use Rattle.cvr_words.specs.declared.request.Step.{Step}
 
-none_later : (o : Option StepForm) (later : Option ℕ) → bad_from o later ≡ None → later ≡ None
+pub none_later : (o : Option StepForm) (later : Option ℕ) → bad_from o later ≡ None → later ≡ None
 none_later None later h = cc
 none_later (Some f) None h = refl
 none_later (Some f) (Some n) h = cc

@@ -5,3 +5,5 @@ pub mod Fault
 pub mod Line
 pub mod Request
 pub mod Laws
+pub mod StepLaws
+pub mod Examples

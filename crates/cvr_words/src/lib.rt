@@ -1,6 +1,7 @@
 //! The words of the command line, and what they ask for.
 #![tactic(auto)]
 
+pub mod examples;
 mod fault;
 pub mod law;
 mod line;
