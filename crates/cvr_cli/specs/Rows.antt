@@ -29,15 +29,16 @@ DefinitionRefused = run_lines Currents (codes "def.json") file.two_faults_file t
 
 -- ---- a drill of three offices
 
-abbrev pub eight_steps : List Step
-eight_steps =
-    record { text = codes "1=b.json"; act = Import 1 1 } ∷ record { text = codes "2=a.json"; act = Import 2 0 } ∷ record { text = codes "1>4"; act = Exchange 1 4 } ∷
+-- as words give them: each import has the path of its own
+abbrev pub seven_steps : List Step
+seven_steps =
+    record { text = codes "2=a.json"; act = Import 2 0 } ∷ record { text = codes "1>4"; act = Exchange 1 4 } ∷
     record { text = codes "1>3"; act = Exchange 1 3 } ∷ record { text = codes "0=b.json"; act = Import 0 1 } ∷ record { text = codes "3=c.json"; act = Import 3 2 } ∷
     record { text = codes "2>2"; act = Exchange 2 2 } ∷ record { text = codes "3>0"; act = Exchange 3 0 } ∷ []
 
 -- a line for each of the five that are refused: two for their files, and three since there is no office 4 and no office 0
 abbrev pub FiveStepsRefused : Type 0
 FiveStepsRefused =
-    run_lines (Drill 3 eight_steps) (codes "def.json") file.definition_file three_paths three_files
+    run_lines (Drill 3 seven_steps) (codes "def.json") file.definition_file three_paths three_files
     ≡ codes "2=a.json: E3 /CVR/0/UniqueId 2\n" ++ codes "1>4: N1\n" ++ codes "0=b.json: N1\n"
     ++ codes "3=c.json: E4 /CVR/0/CVRSnapshot/0/CVRContest/0/CVRContestSelection/0/ContestSelectionId\n" ++ codes "3>0: N1\n"

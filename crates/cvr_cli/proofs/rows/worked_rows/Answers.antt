@@ -26,7 +26,7 @@ returns c = record {
       (ascii_refusal file.definition_file file.other_election_file _ refl refl refl refl)
       refl;
   five_steps_refused =
-      told_of_drill (codes "def.json") file.definition_file row.three_paths file.two_faults_file file.one_file file.other_selection_file _ _ _ 3 row.eight_steps _
+      told_of_drill (codes "def.json") file.definition_file row.three_paths file.two_faults_file file.one_file file.other_selection_file _ _ _ 3 row.seven_steps _
       (ascii_unsound file.definition_file _ refl refl refl)
       (ascii_refusal file.definition_file file.two_faults_file _ refl refl refl refl)
       (ascii_refusal file.definition_file file.one_file _ refl refl refl refl)
