@@ -11,6 +11,7 @@ mod read;
 mod request;
 mod step;
 mod steps;
+mod text;
 
 pub use fault::{LineFault, WordFault};
 pub use read::{read_line, read_words};

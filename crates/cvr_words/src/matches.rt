@@ -1,4 +1,4 @@
-ghost use Rattle.std.specs.Prelude.{◌≡◌, [], IfErr, IfOk, None, codes, map};
+ghost use Rattle.std.specs.Prelude.{◌≡◌, IfErr, IfOk, None, codes, map};
 ghost use Rattle.std.specs.Int.NonZero.{non_zero_u32_get};
 ghost use Rattle.std.specs.List.{Any};
 ghost use Rattle.clap.specs.Words.{found_of, rows_of};
@@ -11,6 +11,7 @@ ghost use Rattle.cvr_words.specs.Rows.{HasNumber, HasWord, IsMergeWhole, IsNumbe
 use crate::fault::LineFault;
 use crate::request::{Request, Task};
 use crate::steps::{Steps, read_steps};
+use crate::text::body;
 use cdf_types::{Body, Memory, Seq};
 use clap::ArgMatches;
 use std::alloc::Global;
@@ -21,14 +22,17 @@ fn text_at<'a>(matches: &ArgMatches<'a>, id: &str) -> &'a str
     requires { HasWord id.now (rows_of (found_of matches.now)) }
     ensures { IsWord id.now (rows_of (found_of matches.now)) result.now }
 {
-    matches.get_str(id).unwrap_or("")
+    match matches.get_str(id) {
+        Some(text) => text,
+        None => unreachable!(),
+    }
 }
 
 fn word_at(alloc: Global, matches: &ArgMatches<'_>, id: &str) -> Result<Body, Memory>
     requires { HasWord id.now (rows_of (found_of matches.now)) }
     ensures { IfOk result (λ word. IsWord id.now (rows_of (found_of matches.now)) word) }
 {
-    Ok(Body::new(String::from_str(alloc, text_at(matches, id))?))
+    body(alloc, text_at(matches, id))
 }
 
 fn copies(alloc: Global, texts: &[&str]) -> Result<Seq<Body>, Memory>
@@ -36,7 +40,7 @@ fn copies(alloc: Global, texts: &[&str]) -> Result<Seq<Body>, Memory>
 {
     let mut all = Seq::empty(alloc);
     for text in texts {
-        all.push(Body::new(String::from_str(alloc, *text)?))?;
+        all.push(body(alloc, *text)?)?;
     }
     Ok(all)
 }
@@ -45,20 +49,7 @@ fn copies(alloc: Global, texts: &[&str]) -> Result<Seq<Body>, Memory>
 fn words_at(alloc: Global, matches: &ArgMatches<'_>, id: &str) -> Result<Seq<Body>, Memory>
     ensures { IfOk result (λ all. all ≡ words_in id.now (rows_of (found_of matches.now))) }
 {
-    match matches.get_strs(id) {
-        Some(texts) => copies(alloc, texts),
-        None => Ok(Seq::empty(alloc)),
-    }
-}
-
-fn no_steps(alloc: Global) -> Steps
-    ensures steps { result.steps ≡ [] }
-    ensures paths { result.paths ≡ [] }
-{
-    Steps {
-        steps: Seq::empty(alloc),
-        paths: Seq::empty(alloc),
-    }
+    copies(alloc, matches.get_strs(id).unwrap_or(&[]))
 }
 
 // The steps of a drill.
@@ -68,10 +59,7 @@ fn steps_at(alloc: Global, matches: &ArgMatches<'_>) -> Result<Steps, LineFault>
     ensures paths { IfOk result (λ r. r.paths ≡ paths_of (words_in (codes "STEP") (rows_of (found_of matches.now)))) }
     ensures err { IfErr result (λ f. IsBadStep (words_in (codes "STEP") (rows_of (found_of matches.now))) f) }
 {
-    match matches.get_strs("STEP") {
-        Some(texts) => read_steps(alloc, texts),
-        None => Ok(no_steps(alloc)),
-    }
+    read_steps(alloc, matches.get_strs("STEP").unwrap_or(&[]))
 }
 
 // The request of a command with FILE..
@@ -92,7 +80,10 @@ fn volume_number(matches: &ArgMatches<'_>) -> u32
     requires { HasNumber (codes "VOLUME") 1 4294967295 (rows_of (found_of matches.now)) }
     ensures { IsNumber (codes "VOLUME") 1 4294967295 (rows_of (found_of matches.now)) result }
 {
-    matches.get_one::<u32>("VOLUME").unwrap_or(1)
+    match matches.get_one::<u32>("VOLUME") {
+        Some(number) => number,
+        None => unreachable!(),
+    }
 }
 
 fn volume_of(matches: &ArgMatches<'_>) -> NonZeroU32
@@ -109,7 +100,10 @@ fn offices_of(matches: &ArgMatches<'_>) -> u32
     requires { HasNumber (codes "OFFICES") 1 64 (rows_of (found_of matches.now)) }
     ensures { IsNumber (codes "OFFICES") 1 64 (rows_of (found_of matches.now)) result }
 {
-    matches.get_one::<u32>("OFFICES").unwrap_or(1)
+    match matches.get_one::<u32>("OFFICES") {
+        Some(offices) => offices,
+        None => unreachable!(),
+    }
 }
 
 fn merge_task(alloc: Global, matches: &ArgMatches<'_>) -> Result<Task, Memory>

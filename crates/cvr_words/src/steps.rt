@@ -6,6 +6,7 @@ ghost use Rattle.cvr_words.specs.declared.fault.LineFault.TheVariants.{BadStep};
 use crate::fault::LineFault;
 use crate::request::{Act, Step};
 use crate::step::{Form, read_step};
+use crate::text::body;
 use cdf_types::{Body, Memory, Seq};
 use std::alloc::Global;
 
@@ -14,12 +15,6 @@ use std::alloc::Global;
 pub(crate) struct Steps {
     pub(crate) steps: Seq<Step>,
     pub(crate) paths: Seq<Body>,
-}
-
-fn body(alloc: Global, text: &str) -> Result<Body, Memory>
-    ensures { IfOk result (λ b. b ≡ text.now) }
-{
-    Ok(Body::new(String::from_str(alloc, text)?))
 }
 
 // What a form does, where the next path stands at the place.
