@@ -73,7 +73,7 @@ impl Office for PlainOffice {
     }
 
     fn same(&self, other: &Self) -> bool {
-        self.definition.same(&other.definition) && self.facts == other.facts
+        self.facts == other.facts && self.definition.same(&other.definition)
     }
 
     fn current(&self, key: &RecordName) -> Option<&SnapshotFact> {
