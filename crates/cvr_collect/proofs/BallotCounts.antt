@@ -40,7 +40,7 @@ module _ {X : Type 0} where
   sum_by-both f g h is [] = omega arith
   sum_by-both f g h is (x ∷ xs) = omega (arith, is x, sum_by-cons f x xs, sum_by-cons g x xs, sum_by-cons h x xs, sum_by-both f g h is xs)
 
-  sum_by-same : (f g : X → ℕ) (xs : List X) → ((x : X) → Contains xs x → f x ≡ g x) → sum_by f xs ≡ sum_by g xs
+  pub sum_by-same : (f g : X → ℕ) (xs : List X) → ((x : X) → Contains xs x → f x ≡ g x) → sum_by f xs ≡ sum_by g xs
   sum_by-same f g [] is = refl
   sum_by-same f g (x ∷ xs) is =
       omega (arith, is x (at_head x xs), sum_by-cons f x xs, sum_by-cons g x xs, sum_by-same f g xs (λ y at. is y (at_tail x y xs at)))

@@ -1,17 +1,19 @@
 -- What is told of a set of facts that is given by a list.
-use Rattle.std.proofs.Common.{◌≡◌, ℕ, ◌==◌, ◌&&◌, Bool, true, cond, List, [], ◌∷◌, map, length, find, get_or, is_some, Contains, Option, Some, None, option_map, Ordering, nat_le, refl, sym, ap, ◌∙◌, subst}
+use Rattle.std.proofs.Common.{◌≡◌, ℕ, ◌==◌, ◌&&◌, ◌||◌, Bool, true, cond, List, [], ◌∷◌, ◌++◌, map, length, find, get_or, is_some, Contains, Option, Some, None, option_map, Ordering, nat_le, refl, sym, ap, ◌∙◌, subst}
 use Rattle.std.specs.List.{filter, filter_map, flat_map, sum_by, range_with_len}
 use Rattle.std.specs.Option.{option_map_or}
 use Rattle.std.specs.Cmp.{IsTotalOrder, eq_by_cmp_equiv}
+use Rattle.std.specs.Ordering.{eq_by_cmp}
 use Rattle.std.specs.FinMap as map_of
 use Rattle.std.specs.FinMap.{IsAntisymmetric, from_entries}
-use Rattle.std.specs.FinSet.{items, from_list, contains-items, contains-from_list}
+use Rattle.std.specs.FinSet.{items, from_list, union, same_set, contains-items, contains-from_list, contains-union}
 use Rattle.std.proofs.lemmas.Map.Views.{Contains-from_any, list_any-from_Contains, tells_apart}
+use Rattle.std.proofs.lemmas.List.Folds.{list_any-append}
 use Rattle.cdf_form.specs.Places.{Contest, selections_at}
 use Rattle.cdf_typed.specs.Greatest.{greatest}
 use Rattle.cvr_facts.specs.declared.name.RecordName.{RecordName}
 use Rattle.cvr_facts.specs.declared.sums.VoteSums.{VoteSums}
-use Rattle.cvr_facts.specs.Facts.{Fact, Facts, fact_total, fact_exact, text_cmp, name_cmp}
+use Rattle.cvr_facts.specs.Facts.{Fact, Facts, fact_cmp, fact_total, fact_exact, text_cmp, name_cmp}
 use Rattle.cvr_facts.specs.Ordered.{keys_of, ordered}
 use Rattle.cvr_facts.specs.Choosing.{choice_cmp, header_body, snapshot_body, current}
 use Rattle.cvr_facts.proofs.Laws.{text_total, text_exact, choice_total, choice_exact}
@@ -24,7 +26,7 @@ use Rattle.cvr_tally.proofs.Lemmas.{placed, entries-given}
 use Rattle.cvr_collect.specs.declared.conflict.ConflictName.{ConflictName}
 use Rattle.cvr_collect.specs.declared.conflict.Conflict.{Conflict}
 use Rattle.cvr_collect.specs.Names.{name_of, body_of, conflict_cmp, is_named, record_of, names, records, conflicts}
-use Rattle.cvr_collect.specs.Tallied.{unit_of, batch_of, sums_of_body, is_headed, rows, tally}
+use Rattle.cvr_collect.specs.Tallied.{unit_of, batch_of, sums_of_body, is_headed, row, rows, tally}
 use Rattle.cvr_collect.proofs.Firsts.{in_ordered, from_ordered, ordered-members}
 use Rattle.cvr_collect.proofs.NameOrder.{conflict_total, conflict_exact}
 use Rattle.cvr_collect.proofs.NextInFacts.{name_total, name_exact}
@@ -44,16 +46,16 @@ ordered-is : {K : Type 0} {R : K → K → Ordering} → IsTotalOrder R → (ks 
 ordered-is {R = R} t ks = ap map_of.keys (keys_given R ks) ∙ ap (map (λ e. e.0)) (entries-given t (map (λ k. (k, tt {0})) ks))
 
 -- the members alone tell the list in order, and the greatest
-record HaveSame {K : Type 0} (xs ys : List K) : Type 0 where
-  there : (k : K) → Contains xs k → Contains ys k
-  back : (k : K) → Contains ys k → Contains xs k
+pub record HaveSame {K : Type 0} (xs ys : List K) : Type 0 where
+  pub there : (k : K) → Contains xs k → Contains ys k
+  pub back : (k : K) → Contains ys k → Contains xs k
 
 sorted-same : {K : Type 0} {R : K → K → Ordering} → IsTotalOrder R → IsAntisymmetric R → (xs ys : List K) → HaveSame xs ys → ordered R xs ≡ sorted R ys
 sorted-same {R = R} t e xs ys same =
     ordered-members t e xs (ordered R ys) (ordered_rises R ys) (λ k at. in_ordered t e ys k (same.there k at)) (λ k at. same.back k (from_ordered t e ys k at))
     ∙ ordered-is t ys
 
-greatest-same : {K : Type 0} {R : K → K → Ordering} → IsTotalOrder R → IsAntisymmetric R → (xs ys : List K) → HaveSame xs ys → greatest R xs ≡ greatest R ys
+pub greatest-same : {K : Type 0} {R : K → K → Ordering} → IsTotalOrder R → IsAntisymmetric R → (xs ys : List K) → HaveSame xs ys → greatest R xs ≡ greatest R ys
 greatest-same {R = R} t e xs ys same =
     elim (greatest R xs) as (λ o. greatest R xs ≡ o → o ≡ greatest R ys) [
       | Some x ↦ λ is. let top = greatest_is t xs x is in sym (is_greatest t e ys x (record { listed = same.there x top.listed; top = λ y at. top.top y (same.back y at) }))
@@ -158,8 +160,11 @@ module _ (contests : List Contest) (rs : List RecordName) (head now : RecordName
   abbrev keys_with : RecordName → List RowKey
   keys_with r = option_map_or (λ h. map (λ v. record { contest = v.contest; unit = unit_of h; batch = batch_of h }) (option_map_or (sums_of_body contests) (now r) [])) (head r) []
 
+  abbrev found_row : RowKey → Option Row
+  found_row q = row_with q (filter (stands q) rs)
+
   abbrev found_rows : List (RowKey × Row)
-  found_rows = filter_map (λ q. option_map (λ r. (q, r)) (row_with q (filter (stands q) rs))) (flat_map keys_with rs)
+  found_rows = filter_map (λ q. option_map (λ r. (q, r)) (found_row q)) (flat_map keys_with rs)
 
 abbrev pub rows_in : List Contest → List Fact → List (RowKey × Row)
 rows_in contests fs = found_rows contests (sorted name_cmp (filter_map record_of fs)) (λ r. greatest text_cmp (filter_map (header_body r) fs)) (λ r. greatest choice_cmp (filter_map (snapshot_body r) fs))
@@ -172,3 +177,19 @@ pub tally-given : (contests : List Contest) (fs : List Fact) → tally contests 
 tally-given contests fs =
     ap (λ m. flat_map (row_line contests) (map_of.entries m)) (rows-given contests fs)
     ∙ ap (flat_map (row_line contests)) (entries-given keys_total (rows_in contests fs))
+
+-- ---- one row
+
+abbrev pub row_in : List Contest → List Fact → RowKey → Option Row
+row_in contests fs q = found_row contests (sorted name_cmp (filter_map record_of fs)) (λ r. greatest text_cmp (filter_map (header_body r) fs)) (λ r. greatest choice_cmp (filter_map (snapshot_body r) fs)) q
+
+pub row-given : (contests : List Contest) (fs : List Fact) (q : RowKey) → row contests (given fs) q ≡ row_in contests fs q
+row-given contests fs q =
+    λ i. found_row contests (records-given fs i) (λ r. greatest-same text_total text_exact _ _ (picked fs (header_body r)) i) (λ r. current-given fs r i) q
+
+-- the facts of two lists are those of both
+pub union-given : (xs ys : List Fact) → union (given xs) (given ys) ≡ given (xs ++ ys)
+union-given xs ys = same_set fact_total fact_exact _ _ (λ q.
+    contains-union fact_total (given xs) (given ys) q
+    ∙ ((λ i. contains-from_list fact_total xs q i || contains-from_list fact_total ys q i)
+    ∙ (sym (list_any-append (eq_by_cmp fact_cmp q) xs ys) ∙ sym (contains-from_list fact_total (xs ++ ys) q))))

@@ -56,5 +56,6 @@ pub mod MoreFacts
 pub mod SeveralBodies
 pub mod BallotCounts
 pub mod GivenFacts
+pub mod InParts
 pub mod Laws
 pub mod Lemmas

@@ -14,7 +14,7 @@ use Rattle.cvr_tally.specs.Rows.{zero_row, row_plus}
 use Rattle.cvr_collect.specs.Tallied.{sums_at, column, row_of}
 
 -- rows with equal numbers
-same_row : {b b' o o' u u' w w' p p' a a' : ℕ} {v v' : List ℕ} → b ≡ b' → o ≡ o' → u ≡ u' → w ≡ w' → p ≡ p' → a ≡ a' → v ≡ v'
+pub same_row : {b b' o o' u u' w w' p p' a a' : ℕ} {v v' : List ℕ} → b ≡ b' → o ≡ o' → u ≡ u' → w ≡ w' → p ≡ p' → a ≡ a' → v ≡ v'
     → ◌≡◌ {A = Row} (record { ballots = b; overvotes = o; undervotes = u; write_ins = w; pending = p; unassigned = a; votes = v })
     (record { ballots = b'; overvotes = o'; undervotes = u'; write_ins = w'; pending = p'; unassigned = a'; votes = v' })
 same_row b o u w p a v = λ i. record { ballots = b i; overvotes = o i; undervotes = u i; write_ins = w i; pending = p i; unassigned = a i; votes = v i }

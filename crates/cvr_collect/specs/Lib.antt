@@ -15,4 +15,6 @@ pub mod Tallied
 pub mod Adding
 pub mod Alike
 pub mod Counting
+pub mod Parts
 pub mod Examples
+pub mod PartExamples

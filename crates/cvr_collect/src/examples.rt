@@ -1,9 +1,19 @@
-//! Worked examples: facts of a few records, their conflicts and their tally.
+//! Worked examples: facts of a few records, their conflicts and their tally, whole and in parts.
 ghost use Rattle.cvr_collect.specs.Examples.{ConflictsOfMixed, TallyOfFour};
+ghost use Rattle.cvr_collect.specs.PartExamples.{RowsOfFirst, RowsOfSecond, RowsOfBoth, SumsOfRows};
 
 /// The conflicts among facts of two records and three devices, and the whole text of the tally of
 /// four records in three contests.
 pub fn worked_examples()
     ensures conflicts { ConflictsOfMixed }
     ensures tally { TallyOfFour }
+{}
+
+/// Facts in two parts without a record in common: the rows of each part, and those of both, which
+/// are their sums. One row has a ballot of each part, two have a ballot of one alone.
+pub fn rows_of_parts()
+    ensures first { RowsOfFirst }
+    ensures second { RowsOfSecond }
+    ensures both { RowsOfBoth }
+    ensures sums { SumsOfRows }
 {}

@@ -8,6 +8,8 @@ ghost use Rattle.cvr_collect.specs.Names.{record_of, records, device_in, devices
 ghost use Rattle.cvr_collect.specs.Laws.{StartLaw, ImportLaw, JoinLaw, ListedLaw, NextLaw, NoNextLaw, RowsLaw, BallotsLaw};
 ghost use Rattle.cvr_collect.specs.Alike.{SameFilesLaw, SameContentLaw, SameDefinitionLaw, SameStartLaw, NoEventLaw, AnswerAlikeLaw, SameOfficesLaw, NewOfficeLaw};
 ghost use Rattle.cvr_collect.specs.Counting.{GrowthLaw, ConflictsLaw, AddUpLaw};
+ghost use Rattle.cvr_collect.specs.Parts.{RowsOfPartsLaw, CurrentsOfPartsLaw, HeadersOfPartsLaw, RecordsOfPartsLaw, RecordsRiseLaw};
+ghost use Rattle.cvr_collect.specs.Parts.{RowsOfManyLaw, CurrentsOfManyLaw, HeadersOfManyLaw, RecordsOfManyLaw};
 
 use crate::office::Office;
 
@@ -111,4 +113,23 @@ pub fn conflicting()
 /// it.
 pub fn ballots()
     ensures records { AddUpLaw }
+{}
+
+/// Where no record is in both of two sets of facts, each row of their union is the sum of theirs, a
+/// record keeps the current snapshot and the header of its part, and the records are those of both,
+/// each once, in order of name. So a tally may be computed in parts, split by record.
+pub fn parts()
+    ensures rows { RowsOfPartsLaw }
+    ensures currents { CurrentsOfPartsLaw }
+    ensures headers { HeadersOfPartsLaw }
+    ensures records { RecordsOfPartsLaw }
+    ensures order { RecordsRiseLaw }
+{}
+
+/// The same of any number of parts, where no record is in two of them.
+pub fn many_parts()
+    ensures rows { RowsOfManyLaw }
+    ensures currents { CurrentsOfManyLaw }
+    ensures headers { HeadersOfManyLaw }
+    ensures records { RecordsOfManyLaw }
 {}

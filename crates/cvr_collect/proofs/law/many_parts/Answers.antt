@@ -1,0 +1,10 @@
+use Rattle.cvr_collect.proofs.InParts.{rows_of_many, currents_of_many, headers_of_many, records_of_many}
+use Rattle.cvr_collect.proofs.law.many_parts.Goals as goal
+
+pub returns : goal.returns
+returns c = record {
+  rows = rows_of_many;
+  currents = currents_of_many;
+  headers = headers_of_many;
+  records = records_of_many;
+}
