@@ -25,6 +25,9 @@ pub const OTHER_DEVICE: &str = "device_other_body.json";
 
 pub const BATCHED: &str = "batched_with_image.json";
 
+/// A file that is refused: E3 at /CVR/0/UniqueId, rule 2.
+pub const REFUSED: &str = "scan_without_unique_id.json";
+
 /// The bytes of a file.
 pub fn bytes_of(rt: &HostRuntime, name: &str) -> Result<Vec<u8>, Ended> {
     let Ok(file) = fs::open(rt, name) else {

@@ -6,6 +6,8 @@
 
 mod changes;
 mod files;
+mod lines;
+mod logs;
 mod offices;
 mod playing;
 mod readings;

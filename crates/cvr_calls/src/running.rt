@@ -1,4 +1,5 @@
-use crate::files::{BATCHED, DEFINITION, SCAN, all_bytes, bytes_of};
+use crate::files::{BATCHED, DEFINITION, REFUSED, SCAN, all_bytes, bytes_of};
+use crate::logs::tells;
 use crate::records::Records;
 use crate::trying::{Ended, Reading, try_reading};
 use crate::writing::{DATE, DEVICE};
@@ -32,14 +33,29 @@ pub enum Asked {
     Drill,
 }
 
-// Each file comes to an office, and on to others; there is no office 4.
-static STEPS: [(&str, Act); 5] = [
+// Two files come to an office each, and on to others. The third is refused, and there is no office 4.
+static STEPS: [(&str, Act); 6] = [
     ("1=scan", Act::Import { office: 1, path: 0 }),
     ("2=batched", Act::Import { office: 2, path: 1 }),
+    ("2=refused", Act::Import { office: 2, path: 2 }),
     ("1>2", Act::Exchange { from: 1, to: 2 }),
     ("1>4", Act::Exchange { from: 1, to: 4 }),
     ("2>3", Act::Exchange { from: 2, to: 3 }),
 ];
+
+// What the drill tells where the path of its refused file could not be spelled.
+const UNSPELLED: &[u8] = b"memory\n1>4: N1\n";
+
+// How a line ends that tells want of memory for a file or a step.
+static WANTS: [&[u8]; 2] = [b": E6\n", b": J2\n"];
+
+// The files of a task. The refused one is the drill's alone.
+fn files_of(asked: Asked) -> &'static [&'static str] {
+    match asked {
+        Asked::Drill => &[SCAN, BATCHED, REFUSED],
+        _ => &[SCAN, BATCHED],
+    }
+}
 
 // The steps of a drill.
 fn drill_of(alloc: Global) -> Result<Task, Ended> {
@@ -84,21 +100,21 @@ struct Running {
     files: Vec<Vec<u8>>,
 }
 
-// The paths of two files.
-fn paths_of(alloc: Global) -> Result<Seq<Body>, Memory> {
+// The paths of files.
+fn paths_of(alloc: Global, files: &[&str]) -> Result<Seq<Body>, Memory> {
     let mut paths = Seq::empty(alloc);
-    for path in [SCAN, BATCHED] {
+    for path in files {
         paths.push(Body::new(path.to_string(alloc)?))?;
     }
     Ok(paths)
 }
 
-// The request of a task over two files.
+// The request of a task over its files.
 fn request_of(alloc: Global, asked: Asked) -> Result<Request, Ended> {
     Ok(Request {
         task: task_of(alloc, asked)?,
         def: Body::new(DEFINITION.to_string(alloc)?),
-        paths: paths_of(alloc)?,
+        paths: paths_of(alloc, files_of(asked))?,
     })
 }
 
@@ -106,7 +122,7 @@ impl Running {
     fn new(rt: &HostRuntime, asked: Asked) -> Result<Running, Ended> {
         let request = request_of(rt.alloc(), asked)?;
         let definition = bytes_of(rt, DEFINITION)?;
-        let files = all_bytes(rt, &[SCAN, BATCHED])?;
+        let files = all_bytes(rt, files_of(asked))?;
         Ok(Running {
             request,
             definition,
@@ -161,15 +177,26 @@ struct Repeating {
 }
 
 impl Repeating {
-    // Whether a run says that memory was refused. One that ends for want of memory has printed nothing,
-    // or a front of a volume, and one whose output failed has a sink whose growth was refused.
+    // Whether a run says that memory was refused. One that ends for want of memory tells it, and one
+    // whose output failed has a sink whose growth was refused.
     fn is_wanting(&self, ran: &Ran) -> bool {
-        let (taken, whole) = (ran.out.taken(), self.before.out.taken());
-        match (ran.status, self.asked) {
-            (Status::Memory, Asked::Volume(_)) => whole.starts_with(taken),
-            (Status::Memory, _) => taken.is_empty(),
-            (Status::Device, _) => ran.out.failed() && whole.starts_with(taken),
+        match ran.status {
+            Status::Memory => tells(&ran.log, &WANTS) && self.is_cut_short(ran),
+            Status::Device => {
+                ran.out.failed() && self.before.out.taken().starts_with(ran.out.taken())
+            }
             _ => false,
+        }
+    }
+
+    // Whether a run that ends for want of memory has printed nothing, or a front of a volume; or the whole
+    // text of the drill, where only the path of the refused file could not be spelled.
+    fn is_cut_short(&self, ran: &Ran) -> bool {
+        let (taken, whole) = (ran.out.taken(), self.before.out.taken());
+        match self.asked {
+            Asked::Volume(_) => whole.starts_with(taken),
+            Asked::Drill => taken.is_empty() || taken == whole && ran.log.taken() == UNSPELLED,
+            _ => taken.is_empty(),
         }
     }
 }

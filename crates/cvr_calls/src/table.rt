@@ -1,5 +1,6 @@
 use crate::changes::{try_join_bodies, try_open, try_push};
 use crate::files::{BATCHED, DEFINITION, EVERY_KIND, OTHER_BODY, OTHER_DEVICE, OTHER_UNIT, SCAN};
+use crate::lines::try_line;
 use crate::offices::{try_import, try_join};
 use crate::playing::try_playing;
 use crate::readings::{Copying, Filing, Making};
@@ -83,6 +84,13 @@ static WORDS: [(&str, &[&str]); 9] = [
     ("read_words, a bad step", &["drill", "d", "2", "1=a", "x"]),
 ];
 
+static LINES: [(&str, &[&str]); 4] = [
+    ("read_line", &["drill", "d", "2", "1=a", "1>2", "2=a"]),
+    ("read_line, help", &["help", "drill"]),
+    ("read_line, a wrong word", &["taly", "d"]),
+    ("read_line, a bad step", &["drill", "d", "2", "1=a", "x"]),
+];
+
 static WORKS: [(&str, &[&str]); 5] = [
     ("work currents", &["currents", DEFINITION, SCAN, BATCHED]),
     (
@@ -139,7 +147,9 @@ pub fn try_records(rt: &HostRuntime, records: &Records<'_>) -> Result<(), Ended>
     try_tellings(rt, records)?;
     try_volumes(rt, records)?;
     try_runs(rt, records)?;
-    try_all_words(rt, records)
+    try_all_words(rt, records)?;
+    try_lines(rt, records)?;
+    try_works(rt, records)
 }
 
 fn try_readings<R: Reading>(
@@ -199,6 +209,17 @@ fn try_all_words(rt: &HostRuntime, records: &Records<'_>) -> Result<(), Ended> {
     for (name, words) in &WORDS {
         try_words(rt, name, records, words)?;
     }
+    Ok(())
+}
+
+fn try_lines(rt: &HostRuntime, records: &Records<'_>) -> Result<(), Ended> {
+    for (name, words) in &LINES {
+        try_line(rt, name, records, words)?;
+    }
+    Ok(())
+}
+
+fn try_works(rt: &HostRuntime, records: &Records<'_>) -> Result<(), Ended> {
     for (name, words) in &WORKS {
         try_work(rt, name, records, words)?;
     }

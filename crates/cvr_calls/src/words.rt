@@ -1,4 +1,5 @@
 use crate::files::{BATCHED, DEFINITION, SCAN, all_bytes};
+use crate::logs::tells;
 use crate::records::Records;
 use crate::running::{PIECE, Ran, is_like};
 use crate::trying::{Ended, Reading, try_reading};
@@ -8,8 +9,8 @@ use cvr_cli::{
 };
 use std::alloc::{AllocError, Global};
 
-// The words as texts of their own.
-fn texts_of(alloc: Global, words: &[&str]) -> Result<Vec<String>, AllocError> {
+/// The words as texts of their own.
+pub fn texts_of(alloc: Global, words: &[&str]) -> Result<Vec<String>, AllocError> {
     let mut texts = Vec::new(alloc);
     for word in words {
         texts.push(word.to_string(alloc)?)?;
@@ -81,8 +82,8 @@ fn is_same_task(one: &Task, other: &Task) -> bool {
     }
 }
 
-// Whether two requests are the same.
-fn is_same_request(one: &Request, other: &Request) -> bool {
+/// Whether two requests are the same.
+pub fn is_same_request(one: &Request, other: &Request) -> bool {
     is_same_task(&one.task, &other.task)
         && one.def == other.def
         && one.paths.as_slice() == other.paths.as_slice()
@@ -163,6 +164,9 @@ fn work_over(alloc: Global, working: &Working) -> Option<Ran> {
     Some(Ran { status, out, log })
 }
 
+// How a line ends that tells want of memory for a file, while it is read or checked, or for a step.
+static WANTS: [&[u8]; 3] = [b": E6\n", b": J2\n", b": K2\n"];
+
 // Words beside what they left before.
 #[derive(Drop)]
 struct Reworked {
@@ -171,11 +175,11 @@ struct Reworked {
 }
 
 impl Reworked {
-    // Whether this says that memory was refused: nothing is printed then, or a front where the output
-    // failed, which is a sink whose growth was refused.
+    // Whether this says that memory was refused: it is told and nothing is printed, or a front where the
+    // output failed, which is a sink whose growth was refused.
     fn is_wanting(&self, ran: &Ran) -> bool {
         match ran.status {
-            Status::Memory => ran.out.taken().is_empty(),
+            Status::Memory => tells(&ran.log, &WANTS) && ran.out.taken().is_empty(),
             Status::Device => {
                 ran.out.failed() && self.before.out.taken().starts_with(ran.out.taken())
             }
