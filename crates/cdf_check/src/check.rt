@@ -124,7 +124,7 @@ fn check_agreement(alloc: Global, definition: &Definition, value: &Value) -> Res
 ///
 /// # Errors
 /// As `check_own`; else `Disagrees` at the first object that isn't the definition's.
-#[tactic(auto, using(cdf_form::proofs::Whole::whole_document))]
+#[tactic(auto, using(cdf_form::proofs::Laws::whole_document))]
 pub fn check_value(alloc: Global, definition: &Definition, value: &Value) -> Result<(), ReadFault>
     ensures sound { OnOk result (IsSound (view value.now)) }
     ensures agrees { OnOk result (disagreements definition.now (view value.now) ≡ []) }
