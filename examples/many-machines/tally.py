@@ -1,5 +1,5 @@
 #!/usr/bin/env python3
-"""tally.py [--cvr PATH] [--parts N] [--workers N] [--engine plain|distributed] [--scheduler ADDRESS] [--hold] DEF FILE..
+"""tally.py [--cvr PATH] [--parts N] [--workers N] [--engine plain|distributed] [--scheduler ADDRESS] [--hold] [--] DEF FILE..
 
 Prints what `cvr tally DEF FILE..` prints, worked out in parts: `cvr check` on each file, the accepted ones split by
 record, `cvr tally` on each part, and the rows of the parts added up. Status and log lines are those of `cvr`. With --hold
@@ -33,7 +33,7 @@ def checked_and_split(job):
     """Checks a file, and writes an accepted one once for each part that it has a record of, with these records alone:
     (status, log, the path written for each part)."""
     cvr, definition, path, parts, folder, place = job
-    (status, _, log), records = run([cvr, 'check', definition, path]), {}
+    (status, _, log), records = run([cvr, 'check', '--', definition, path]), {}
     if status == 0:
         with open(path, encoding='utf-8') as file:
             report = json.load(file)
@@ -42,7 +42,7 @@ def checked_and_split(job):
     made = {part: os.path.join(folder, '%d-%d.json' % (place, part)) for part in records}
     for part in made:
         with open(made[part], 'w', encoding='utf-8') as file:
-            json.dump(dict(report, CVR=records[part]), file)
+            json.dump(dict(report, CVR=records[part]), file, ensure_ascii=False, separators=(',', ':'))   # no longer than the file
     return status, log, made
 
 
@@ -73,17 +73,17 @@ def added(texts, contests):
 
 def tally(words, each, folder):
     """(status, output, log) of the whole; `each` does a list of jobs in workers, and gives their answers in order."""
-    head = run([words.cvr, 'check', words.definition])
-    if head[0]:
-        return head
+    head = run([words.cvr, 'check', '--', words.definition])
     jobs = [(words.cvr, words.definition, path, words.parts, folder, place) for place, path in enumerate(words.files)]
     checks, files = each(checked_and_split, jobs), {}
-    for status, log, made in checks:
+    for status, log, made in [(head[0], head[2], {})] + checks:
         if status > 1:
             return status, b'', log
         for part, path in made.items():
             files.setdefault(part, []).append(path)
-    texts = each(run, [[words.cvr, 'tally', words.definition] + files[part] for part in sorted(files)])
+    if head[0]:     # the definition is refused: told once all files were read
+        return head
+    texts = each(run, [[words.cvr, 'tally', '--', words.definition] + files[part] for part in sorted(files)])
     for status, _, log in texts:
         if status:
             return status, b'', log
@@ -108,7 +108,7 @@ def main():
     with engine, tempfile.TemporaryDirectory() as folder:
         each = engine.map if words.engine == 'plain' else lambda *it: engine.gather(engine.map(*it, pure=False))
         status, text, log = tally(words, lambda *it: list(each(*it)), folder)
-    if words.hold and (status, text, log) != run([words.cvr, 'tally', words.definition] + words.files):
+    if words.hold and (status, text, log) != run([words.cvr, 'tally', '--', words.definition] + words.files):
         status, text, log = 70, b'', b'tally.py: one run over all files answers otherwise\n'
     sys.stdout.buffer.write(text)
     sys.stderr.buffer.write(log)

@@ -3,10 +3,11 @@
 
 Holds the program against rules.py and printed.py on files that no one has thought of. First vectors with one to three changes
 by chance, members in any order and now and then twice: each file is checked beside its vector's definition, and has to have
-the fault that rules.py gives. Then several files at once, reports by chance as of round_trip.py and changed vectors: what
-`currents`, `tally`, `conflicts` and `merge` print of them, and a `drill` of steps by chance, and what they tell, has to be what
-printed.py gives. Each difference is told with its files. With one seed the files are the same on every machine; how many there
-are depends on the seconds. The last line is `files: N right, M wrong`, of files that were checked and of commands; the status
+the fault that rules.py gives, or its number of records; and output, log and status have to be those of all of them. Then
+several files at once, reports by chance as of round_trip.py and changed vectors: what `currents`, `tally`, `conflicts` and
+`merge` print of them, and a `drill` of steps by chance, and what they tell, has to be what printed.py gives. Each difference is
+told with its files. With one seed the files are the same on every machine; how many there are depends on the seconds. The last
+line is `files: N right, M wrong`, of files that were checked and of commands; the status
 is 0 only where M is 0 and N is not."""
 import argparse
 import copy
@@ -105,23 +106,22 @@ def run(cvr, words, folder):
     return done.stdout.decode('utf-8'), done.stderr.decode('utf-8'), done.returncode
 
 
-def told_by(cvr, definition, files):
-    """What the program tells of each file: its fault, or None where it is accepted."""
-    held = {name: text.encode('utf-8') for name, text in files.items()}
-    out, err, _ = laid(dict(held, definition=VECTORS[definition]), lambda folder: run(cvr, ['check', 'definition'] + list(files), folder))
-    told = dict(line.split(': ', 1) for line in err.splitlines())
-    told.update((line.split(' ')[0], None) for line in out.splitlines())
-    return told
+def told_of(out, err):
+    """What the program tells of each file: its fault, or the number of its records where it is accepted."""
+    return dict([line.rsplit(' ', 1) for line in out.splitlines()] + [line.split(': ', 1) for line in err.splitlines()])
 
 
 def checked(cvr, rules, chance, names):
-    """Files checked one by one. Yields each difference, or None."""
+    """Files checked one by one, and then output, log and status of the whole. Yields each difference, or None."""
     vector, definition = chance.choice(sorted(DEFINITIONS.items()))
-    files = {'%d' % n: made(chance, vector, names) for n in range(FILES)}
-    told = told_by(cvr, definition, files)
-    for name, text in files.items():
-        wanted = members.answer(rules, text, json.loads(VECTORS[definition]))
-        yield None if told.get(name, '') == wanted else '%r, expected %r: %s' % (told.get(name, ''), wanted, text)
+    files = {'%d' % n: made(chance, vector, names).encode('utf-8') for n in range(FILES)}
+    known, words = read(rules, VECTORS[definition]), ['check', 'definition'] + list(files)
+    got = laid(dict(files, definition=VECTORS[definition]), lambda folder: run(cvr, words, folder))
+    wanted = printed.answer(printed.Texts(), words, known, [(name, read(rules, data, known)) for name, data in files.items()])
+    told, expected = told_of(*got[:2]), told_of(*wanted[:2])
+    for name, data in files.items():
+        yield None if told.get(name) == expected[name] else '%r, expected %r: %s' % (told.get(name), expected[name], data.decode('utf-8'))
+    yield None if got == wanted else 'check of %d files: %r, expected %r' % (len(files), got, wanted)
 
 
 # ---- several files
