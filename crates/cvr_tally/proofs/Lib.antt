@@ -8,3 +8,4 @@ pub mod Pushes
 pub mod Votes
 pub mod Given
 pub mod Lemmas
+pub mod Lasts

@@ -58,3 +58,35 @@ fn body_of(alloc: Global, text: &str) -> Result<Body, Memory>
 {
     Ok(Body::new(String::from_str(alloc, text)?))
 }
+
+// Equal ids, in order.
+pub(crate) fn copy_ids(alloc: Global, contests: &[ContestIds]) -> Result<Vec<ContestIds>, Memory>
+    ensures { IfOk result (λ copies. copies.items ≡ contests.now) }
+{
+    let mut copies = Vec::with_capacity(alloc, contests.len())?;
+    for contest in contests {
+        copies.push(copy_contest(alloc, contest)?)?;
+    }
+    Ok(copies)
+}
+
+// Equal ids of one contest.
+fn copy_contest(alloc: Global, contest: &ContestIds) -> Result<ContestIds, Memory>
+    ensures { IfOk result (λ copy. copy ≡ contest.now) }
+{
+    Ok(ContestIds {
+        id: contest.id.copy()?,
+        selections: copy_bodies(alloc, contest.selections.as_slice())?,
+    })
+}
+
+// Equal texts, in order.
+fn copy_bodies(alloc: Global, bodies: &[Body]) -> Result<Seq<Body>, Memory>
+    ensures { IfOk result (λ copies. copies ≡ bodies.now) }
+{
+    let mut copies = Vec::with_capacity(alloc, bodies.len())?;
+    for body in bodies {
+        copies.push(body.copy()?)?;
+    }
+    Ok(Seq::new(copies))
+}

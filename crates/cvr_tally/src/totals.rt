@@ -12,7 +12,7 @@ ghost use Rattle.cvr_tally.specs.Contests.{contests_of};
 ghost use Rattle.cvr_tally.specs.Rows.{IsTotals, HasRoom, HasSums, zero_row, row_plus, row_minus, row_closed, rows_plus, rows_minus, rows_opened, rows_closed};
 
 use crate::changes::{add_to, take_from};
-use crate::contest_ids::{ContestIds, contest_ids};
+use crate::contest_ids::{ContestIds, contest_ids, copy_ids};
 use crate::key::RowKey;
 use crate::moves::Moves;
 use crate::row::Row;
@@ -61,6 +61,20 @@ impl Totals {
         })
     }
 
+    /// Equal rows beside equal ids. Its changes are counted from 0.
+    ///
+    /// # Errors
+    /// `Memory` where a growth was refused.
+    pub fn copy(&self, alloc: Global) -> Result<Totals, Memory>
+        ensures { IfOk result (λ t. t ≡ record { contests = self.now.contests; rows = self.now.rows; moves = 0 }) }
+    {
+        Ok(Totals {
+            contests: copy_ids(alloc, &self.contests)?,
+            rows: copy_rows(alloc, &self.rows)?,
+            moves: Moves::new(),
+        })
+    }
+
     /// Makes a row of zeros where there is none.
     ///
     /// # Errors
@@ -88,6 +102,7 @@ impl Totals {
         ensures rows { self.new.rows ≡ rows_plus self.old.rows key.now sums.now }
         ensures moves { self.new.moves ≡ self.old.moves + 1 }
         ensures contests { self.new.contests ≡ self.old.contests }
+        ensures whole { IsTotals self.old }
     {
         add_at(&mut self.rows, key, sums);
         self.moves = self.moves.next();
@@ -101,6 +116,7 @@ impl Totals {
         ensures rows { self.new.rows ≡ rows_minus self.old.rows key.now sums.now }
         ensures moves { self.new.moves ≡ self.old.moves + 1 }
         ensures contests { self.new.contests ≡ self.old.contests }
+        ensures whole { IsTotals self.old }
     {
         take_at(&mut self.rows, key, sums);
         self.moves = self.moves.next();
@@ -113,6 +129,14 @@ impl Totals {
         ensures contests { self.new.contests ≡ self.old.contests }
     {
         close_at(&mut self.rows, key);
+    }
+
+    /// Does nothing, and tells contracts that each row is one of a contest of the definition, with a
+    /// number for each of its selections.
+    pub fn are_whole(&self)
+        ensures { IsTotals self.now }
+    {
+        let _ = self.contests();
     }
 
     // The ids of the contests: each row is of one of them. Takes no memory.
@@ -195,4 +219,18 @@ fn close_at(rows: &mut BTreeMap<RowKey, Row>, key: &RowKey)
     if empty {
         let _ = rows.remove(key);
     }
+}
+
+// Equal rows under equal keys.
+fn copy_rows(
+    alloc: Global,
+    rows: &BTreeMap<RowKey, Row>,
+) -> Result<BTreeMap<RowKey, Row>, Memory>
+    ensures { IfOk result (λ copies. copies.entries ≡ rows.now.entries) }
+{
+    let mut copies = BTreeMap::new(alloc);
+    for (key, row) in rows.iter() {
+        copies.insert(key.copy()?, row.copy(alloc)?)?;
+    }
+    Ok(copies)
 }

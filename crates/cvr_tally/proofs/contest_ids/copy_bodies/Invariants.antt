@@ -1,0 +1,5 @@
+use Rattle.std.proofs.Common.{◌≡◌, take}
+use Rattle.cvr_tally.proofs.contest_ids.copy_bodies.Given as goal
+
+abbrev pub invariant-loop-body : goal.invariant-loop-body
+invariant-loop-body l = l.copies.items ≡ take l.body-index l.bodies
