@@ -1,7 +1,7 @@
 -- The sums of each current snapshot are those of contests of the definition, in range.
 use Rattle.std.proofs.Common.{◌≡◌, ℕ, List, true, false, cond, Contains, Some, None, codes, sym, ap, subst}
 use Rattle.std.specs.Prelude.{unwrap_or}
-use Rattle.std.specs.FinSet.{items}
+use Rattle.std.specs.FinSet.{items, contains}
 use Rattle.std.proofs.Math.Logic.{∥∥₁_elim}
 use Rattle.std.proofs.Math.Nat.{ℕ_set}
 use native.Mathlib.Bridge.{le_prop}
@@ -70,3 +70,10 @@ currents_are_sums frame s keeps key body is =
     let held = (contains_iff s at.0).1 at.1 in
     ∥∥₁_elim (keeps.given at.0 held) (hlevel (IsDistinct-prop, ℕ_set, le_prop))
     (λ q. sums_of_fact frame at.0 key body (source_in_range frame q.0 keeps.sound q.1 at.0 (fact_source q.0 at.0 q.2)) at.2)
+
+-- so are those of each snapshot
+pub facts_are_sums : (frame : Frame) (s : Facts) → Keeps frame s → (d u i b : List ℕ) → contains s (Snapshot d u i b) ≡ true → AreSums frame.contests (sums_of_body frame.contests b)
+facts_are_sums frame s keeps d u i b held =
+    ∥∥₁_elim (keeps.given (Snapshot d u i b) held) (hlevel (IsDistinct-prop, ℕ_set, le_prop))
+    (λ q. sums_in_place frame.contests (snapshot_of frame.contests (data_of b)).contests
+    (AreInRange-from_snapshot frame.contests (snapshot_of frame.contests (data_of b)) (source_in_range frame q.0 keeps.sound q.1 (Snapshot d u i b) (fact_source q.0 (Snapshot d u i b) q.2))))

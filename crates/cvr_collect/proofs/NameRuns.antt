@@ -17,7 +17,7 @@ use Rattle.cvr_collect.proofs.NameOrder.{conflict_total, not_below, has_own_name
 -- ---- runs
 
 -- the runs of a list that goes on after `bodies` facts of the name `n`
-abbrev runs_from : ConflictName → ℕ → List AnyFact → List Conflict
+abbrev pub runs_from : ConflictName → ℕ → List AnyFact → List Conflict
 runs_from n bodies [] = record { name = n; bodies = bodies } ∷ []
 runs_from n bodies (fact ∷ facts) =
     if has_name n fact then runs_from n (suc bodies) facts else record { name = n; bodies = bodies } ∷ runs_from (any_name fact) 1 facts

@@ -70,7 +70,7 @@ module _ (first : AnyFact) (bodies : ℕ) (rest more : List AnyFact) (cut : IsCu
 
 -- ---- the greatest number
 
-most-cons : (n : ℕ) (ns : List ℕ) → most (n ∷ ns) ≡ max n (most ns)
+pub most-cons : (n : ℕ) (ns : List ℕ) → most (n ∷ ns) ≡ max n (most ns)
 most-cons n ns =
     elim (leb_tells n (most ns)) [
       | inl met ↦ ap (λ b. cond b (most ns) n) met.0 ∙ omega (arith, met.1)
@@ -88,7 +88,7 @@ ord_max-is a b =
     not_less true = refl
     not_less false = refl
 
-max_more : (greatest bodies left rest new top : ℕ) → rest ≡ max bodies left → max greatest rest ≡ top → new ≡ ord_max nat_cmp greatest bodies → max new left ≡ top
+pub max_more : (greatest bodies left rest new top : ℕ) → rest ≡ max bodies left → max greatest rest ≡ top → new ≡ ord_max nat_cmp greatest bodies → max new left ≡ top
 max_more greatest bodies left rest new top a b c = omega (arith, ord_max-is greatest bodies)
 
 pub greatest-more : (first : AnyFact) (bodies : ℕ) (rest more : List AnyFact) → IsCut first bodies rest more → (greatest new top : ℕ)

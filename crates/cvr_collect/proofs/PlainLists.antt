@@ -83,12 +83,12 @@ map-records list =
     map-append fact_of (map any.Header list.headers) (map any.Snapshot list.snapshots)
     ∙ (λ i. map-map fact_of any.Header list.headers i ++ map-map fact_of any.Snapshot list.snapshots i)
 
-map-all_of : (list : FactList) → map fact_of (all_of list) ≡ facts_in list
+pub map-all_of : (list : FactList) → map fact_of (all_of list) ≡ facts_in list
 map-all_of list =
     map-append fact_of (map any.Device list.devices) (map any.Header list.headers ++ map any.Snapshot list.snapshots)
     ∙ (λ i. map-map fact_of any.Device list.devices i ++ map-records list i)
 
-all_spelled : (contests : List Contest) (list : FactList) → AreSpelled contests list → (f : AnyFact) → Contains (all_of list) f → IsSpelled contests f
+pub all_spelled : (contests : List Contest) (list : FactList) → AreSpelled contests list → (f : AnyFact) → Contains (all_of list) f → IsSpelled contests f
 all_spelled contests list are f at =
     elim (Contains-append_cases (map any.Device list.devices) (map any.Header list.headers ++ map any.Snapshot list.snapshots) f at) [
       | inl a ↦ let found = from_map any.Device f list.devices a in subst (IsSpelled contests) found.2 tt

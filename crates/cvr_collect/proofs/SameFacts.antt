@@ -13,7 +13,7 @@ use Rattle.cvr_collect.specs.Place.{fact_of, place_cmp, place_total, place_exact
 use Rattle.cvr_collect.specs.Plain.{set_of}
 
 module _ {X K : Type 0} (key : X → K) where
-  pointwise-on : (E : K → K → Bool) (xs ys : List X) → pointwise (on key E) xs ys ≡ pointwise E (map key xs) (map key ys)
+  pub pointwise-on : (E : K → K → Bool) (xs ys : List X) → pointwise (on key E) xs ys ≡ pointwise E (map key xs) (map key ys)
   pointwise-on E [] [] = refl
   pointwise-on E [] (y ∷ ys) = refl
   pointwise-on E (x ∷ xs) [] = refl
@@ -33,7 +33,7 @@ module _ (xs ys : List AnyFact) (h : IsStrictlySortedBy any_cmp xs) (k : IsStric
   within vs ws same f at =
       from_set fact_total fact_exact (map fact_of ws) f (subst (λ s. contains s f ≡ true) same (in_set fact_total fact_exact (map fact_of vs) f at))
 
-  same_facts : set_of xs ≡ set_of ys → map fact_of xs ≡ map fact_of ys
+  pub same_facts : set_of xs ≡ set_of ys → map fact_of xs ≡ map fact_of ys
   same_facts same =
       same_lists_of_members place_total place_exact (map fact_of xs) (map fact_of ys)
       (IsStrictlySortedBy-map fact_of place_cmp xs h) (IsStrictlySortedBy-map fact_of place_cmp ys k) (within xs ys same) (within ys xs (sym same))

@@ -11,7 +11,7 @@ use std::cmp::Ordering;
 // A fact of any kind. Devices come before records, a record's headers before its snapshots; ties of
 // name go by body.
 #[derive(Drop)]
-pub(crate) enum AnyFact {
+pub enum AnyFact {
     Device(DeviceFact),
     Header(HeaderFact),
     Snapshot(SnapshotFact),
@@ -19,7 +19,7 @@ pub(crate) enum AnyFact {
 
 impl AnyFact {
     // An equal fact, in every field.
-    pub(crate) fn copy(&self, alloc: Global) -> Result<AnyFact, Memory>
+    pub fn copy(&self, alloc: Global) -> Result<AnyFact, Memory>
         ensures { IfOk result (λ fact. fact ≡ self.now) }
     {
         match self {

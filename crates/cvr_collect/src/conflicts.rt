@@ -12,7 +12,7 @@ use cdf_types::{Memory, Seq};
 use std::alloc::Global;
 
 // The names with two bodies or more, in order.
-pub(crate) fn conflicts_in(alloc: Global, facts: &[AnyFact]) -> Result<ConflictList, Memory>
+pub fn conflicts_in(alloc: Global, facts: &[AnyFact]) -> Result<ConflictList, Memory>
     requires { IsStrictlySortedBy any_cmp facts.now }
     ensures { IfOk result (λ list. list ≡ conflicts (set_of facts.now)) }
 {
@@ -32,7 +32,7 @@ pub(crate) fn conflicts_in(alloc: Global, facts: &[AnyFact]) -> Result<ConflictL
 }
 
 // The greatest number of bodies under one name, 0 where there is none.
-pub(crate) fn greatest_count_in(facts: &[AnyFact]) -> usize
+pub fn greatest_count_in(facts: &[AnyFact]) -> usize
     requires { IsStrictlySortedBy any_cmp facts.now }
     ensures { result ≡ greatest_count (set_of facts.now) }
 {

@@ -13,7 +13,7 @@ use crate::any_fact::AnyFact;
 use cdf_types::Body;
 
 // The least device id above the given one, or the least of all. Takes no memory.
-pub(crate) fn next_device_in<'a>(facts: &'a [AnyFact], after: Option<&str>) -> Option<&'a str>
+pub fn next_device_in<'a>(facts: &'a [AnyFact], after: Option<&str>) -> Option<&'a str>
     requires { IsStrictlySortedBy any_cmp facts.now }
     ensures { option_map (λ i. i.now) result ≡ next text_cmp (devices (set_of facts.now)) (option_map (λ i. i.now) after.entry) }
 {
@@ -22,7 +22,7 @@ pub(crate) fn next_device_in<'a>(facts: &'a [AnyFact], after: Option<&str>) -> O
 }
 
 // How many bodies the device with this id has. Takes no memory.
-pub(crate) fn device_count_in(facts: &[AnyFact], id: &str) -> usize
+pub fn device_count_in(facts: &[AnyFact], id: &str) -> usize
     requires { IsStrictlySortedBy any_cmp facts.now }
     ensures { result ≡ count_under (set_of facts.now) (name.Device id.now) }
 {
@@ -30,7 +30,7 @@ pub(crate) fn device_count_in(facts: &[AnyFact], id: &str) -> usize
 }
 
 // Body number `k` of the device with this id, from 1, greatest first. Takes no memory.
-pub(crate) fn device_body_in<'a>(facts: &'a [AnyFact], id: &str, k: usize) -> Option<&'a Body>
+pub fn device_body_in<'a>(facts: &'a [AnyFact], id: &str, k: usize) -> Option<&'a Body>
     requires { IsStrictlySortedBy any_cmp facts.now }
     ensures { option_map (λ b. b.now) result ≡ numbered (device_list (set_of facts.now) id.now) k }
 {

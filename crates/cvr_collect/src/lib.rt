@@ -1,22 +1,22 @@
 //! Offices that collect cast vote records, and the events by which records come to them.
 #![tactic(auto)]
 
-mod any_fact;
+pub mod any_fact;
 mod conflict;
-mod conflicts;
-mod devices;
+pub mod conflicts;
+pub mod devices;
 mod event;
 pub mod examples;
 mod fault;
 pub mod law;
-mod names;
+pub mod names;
 mod office;
-mod one_record;
+pub mod one_record;
 mod plain;
 mod playing;
-mod putting;
+pub mod putting;
 mod record_facts;
-mod record_lists;
+pub mod record_lists;
 mod tallying;
 
 pub use conflict::{Conflict, ConflictList, ConflictName};

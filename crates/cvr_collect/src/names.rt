@@ -10,7 +10,7 @@ use crate::any_fact::AnyFact;
 use cvr_facts::RecordName;
 
 // The least record name above the given one, or the least of all. Takes no memory.
-pub(crate) fn next_record_in<'a>(
+pub fn next_record_in<'a>(
     facts: &'a [AnyFact],
     after: Option<&RecordName>,
 ) -> Option<&'a RecordName>
@@ -22,7 +22,7 @@ pub(crate) fn next_record_in<'a>(
 }
 
 // How many records there are. Takes no memory.
-pub(crate) fn record_count_in(facts: &[AnyFact]) -> usize
+pub fn record_count_in(facts: &[AnyFact]) -> usize
     requires { IsStrictlySortedBy any_cmp facts.now }
     ensures { result ≡ length (records (set_of facts.now)) }
 {

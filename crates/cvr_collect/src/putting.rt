@@ -1,4 +1,4 @@
-ghost use Rattle.std.specs.Prelude.{◌≡◌, map, IfOk, OnOk, OnErr};
+ghost use Rattle.std.specs.Prelude.{◌≡◌, ◌++◌, map, IfOk, OnOk, OnErr};
 ghost use Rattle.std.specs.List.Sorted.{IsStrictlySortedBy};
 ghost use Rattle.cvr_facts.specs.Facts.{Device};
 ghost use Rattle.cvr_collect.specs.Readers.{growth};
@@ -14,7 +14,7 @@ use std::alloc::Global;
 
 // Puts more facts into a list in order, each once, and answers how many are new. A list of a few
 // rising stretches is sorted in linear time.
-pub(crate) fn put_in(facts: &mut Vec<AnyFact>, mut more: Vec<AnyFact>) -> Result<usize, Memory>
+pub fn put_in(facts: &mut Vec<AnyFact>, mut more: Vec<AnyFact>) -> Result<usize, Memory>
     requires { IsStrictlySortedBy any_cmp facts.old.items }
     ensures put { OnOk result (IsPut facts.old.items more.items facts.new.items) }
     ensures new { IfOk result (λ n. n ≡ growth (set_of facts.old.items) (set_of more.items)) }
@@ -31,7 +31,7 @@ pub(crate) fn put_in(facts: &mut Vec<AnyFact>, mut more: Vec<AnyFact>) -> Result
 }
 
 // The devices of a definition.
-pub(crate) fn own_devices(alloc: Global, definition: &Definition) -> Result<Vec<AnyFact>, Memory>
+pub fn own_devices(alloc: Global, definition: &Definition) -> Result<Vec<AnyFact>, Memory>
     ensures { IfOk result (λ facts. map fact_of facts.items ≡ map (λ e. Device e.0 e.1) definition.now.devices) }
 {
     let bodies = definition.devices();
@@ -47,17 +47,29 @@ pub(crate) fn own_devices(alloc: Global, definition: &Definition) -> Result<Vec<
 }
 
 // The facts of all kinds in one list.
-pub(crate) fn in_one(alloc: Global, list: FactList) -> Result<Vec<AnyFact>, Memory>
+pub fn in_one(alloc: Global, list: FactList) -> Result<Vec<AnyFact>, Memory>
     ensures { IfOk result (λ facts. facts.items ≡ all_of list) }
 {
     let mut facts = of_devices(alloc, list.devices)?;
-    facts.append(&mut of_headers(alloc, list.headers)?)?;
-    facts.append(&mut of_snapshots(alloc, list.snapshots)?)?;
+    facts.append(&mut of_records(alloc, list.headers, list.snapshots)?)?;
+    Ok(facts)
+}
+
+// The headers and snapshots as facts of any kind.
+pub fn of_records(
+    alloc: Global,
+    headers: Seq<HeaderFact>,
+    snapshots: Seq<SnapshotFact>,
+) -> Result<Vec<AnyFact>, Memory>
+    ensures { IfOk result (λ facts. facts.items ≡ map any.Header headers ++ map any.Snapshot snapshots) }
+{
+    let mut facts = of_headers(alloc, headers)?;
+    facts.append(&mut of_snapshots(alloc, snapshots)?)?;
     Ok(facts)
 }
 
 // The devices as facts of any kind.
-fn of_devices(alloc: Global, devices: Seq<DeviceFact>) -> Result<Vec<AnyFact>, Memory>
+pub fn of_devices(alloc: Global, devices: Seq<DeviceFact>) -> Result<Vec<AnyFact>, Memory>
     ensures { IfOk result (λ facts. facts.items ≡ map any.Device devices) }
 {
     let devices = devices.into_vec();
@@ -93,7 +105,7 @@ fn of_snapshots(alloc: Global, snapshots: Seq<SnapshotFact>) -> Result<Vec<AnyFa
 }
 
 // Puts copies of facts into a list in order, as `put_in`.
-pub(crate) fn put_copies(facts: &mut Vec<AnyFact>, theirs: &[AnyFact]) -> Result<usize, Memory>
+pub fn put_copies(facts: &mut Vec<AnyFact>, theirs: &[AnyFact]) -> Result<usize, Memory>
     requires { IsStrictlySortedBy any_cmp facts.old.items }
     ensures put { OnOk result (IsPut facts.old.items theirs.now facts.new.items) }
     ensures new { IfOk result (λ n. n ≡ growth (set_of facts.old.items) (set_of theirs.now)) }
@@ -104,7 +116,7 @@ pub(crate) fn put_copies(facts: &mut Vec<AnyFact>, theirs: &[AnyFact]) -> Result
 }
 
 // Equal facts, in order.
-fn copies(alloc: Global, facts: &[AnyFact]) -> Result<Vec<AnyFact>, Memory>
+pub fn copies(alloc: Global, facts: &[AnyFact]) -> Result<Vec<AnyFact>, Memory>
     ensures { IfOk result (λ copies. copies.items ≡ facts.now) }
 {
     let mut copies = Vec::with_capacity(alloc, facts.len())?;

@@ -18,7 +18,7 @@ use std::alloc::Global;
 use std::cmp::Ordering;
 
 // All facts of a record, where there are any.
-pub(crate) fn record_facts_in<'a>(
+pub fn record_facts_in<'a>(
     alloc: Global,
     facts: &'a [AnyFact],
     key: &RecordName,
@@ -36,7 +36,7 @@ pub(crate) fn record_facts_in<'a>(
 }
 
 // The headers of a run, the last first.
-fn headers_down(alloc: Global, run: &[AnyFact]) -> Result<Vec<&HeaderFact>, Memory>
+pub fn headers_down(alloc: Global, run: &[AnyFact]) -> Result<Vec<&HeaderFact>, Memory>
     ensures { IfOk result (λ found. map (λ h. h.now) found.items ≡ reverse (headers run.now)) }
 {
     let mut headers = Vec::new(alloc);
@@ -50,7 +50,7 @@ fn headers_down(alloc: Global, run: &[AnyFact]) -> Result<Vec<&HeaderFact>, Memo
 }
 
 // The ids of a run's snapshots, each with its snapshots.
-fn grouped(alloc: Global, run: &[AnyFact]) -> Result<Vec<IdFacts<'_>>, Memory>
+pub fn grouped(alloc: Global, run: &[AnyFact]) -> Result<Vec<IdFacts<'_>>, Memory>
     requires { RisesById run.now }
     ensures { IfOk result (λ groups. AreGrouped run.now groups.items) }
 {
