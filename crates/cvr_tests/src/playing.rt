@@ -163,7 +163,7 @@ fn name_of(cause: &Cause) -> &'static str {
 }
 
 // Tells an outcome: the number of new facts, or the refusal.
-fn tell_outcome(rt: &(impl Abort + AllocGlobal), text: &mut String, outcome: &Outcome) {
+pub(crate) fn tell_outcome(rt: &(impl Abort + AllocGlobal), text: &mut String, outcome: &Outcome) {
     let told = match outcome {
         Outcome::Accepted(count) => write!(text, "{count} "),
         Outcome::Refused(cause) => write!(text, "{} ", name_of(cause)),

@@ -1,0 +1,57 @@
+-- What an office keeps that holds devices alone.
+use Rattle.std.proofs.Common.{◌≡◌, ◌<◌, ◌^◌, ℕ, List, [], ◌∷◌, ◌++◌, length, map, Contains, inl, inr, Option, Some, None, refl, sym, ap, ◌∙◌, subst, append-nil}
+use Rattle.std.specs.FinMap.{empty, same_map, get-empty}
+use Rattle.std.specs.Map.{keys_of}
+use Rattle.cdf_form.specs.Places.{Contest}
+use Rattle.cdf_check.specs.Named.{Entry}
+use Rattle.cdf_check.specs.Frame.{Frame}
+use Rattle.cvr_facts.specs.declared.name.RecordName.{RecordName}
+use Rattle.cvr_facts.specs.Facts.{Fact, Device, name_cmp}
+use Rattle.cvr_facts.proofs.Members.{none_listed, in_map, from_map}
+use Rattle.cvr_tally.specs.declared.key.RowKey.{RowKey}
+use Rattle.cvr_tally.specs.Rows.{Rows}
+use Rattle.cvr_tally.specs.Keys.{key_cmp, keys_total, keys_exact}
+use Rattle.cvr_collect.specs.declared.any_fact.AnyFact.{AnyFact}
+use Rattle.cvr_collect.specs.Names.{record_of, records}
+use Rattle.cvr_collect.specs.Place.{fact_of, any_cmp}
+use Rattle.cvr_collect.specs.Plain.{set_of, IsPlain, IsPut}
+use Rattle.cvr_collect.specs.Tallied.{row, rows, row_over}
+use Rattle.cvr_collect.proofs.RowsOfKeys.{rows_law}
+use Rattle.cvr_cached.specs.Contents.{Entries, listed}
+use Rattle.cvr_cached.specs.Held.{AreOwn, IsHeld, IsCached}
+use Rattle.cvr_cached.proofs.Listed.{sorted_nil}
+use Rattle.cvr_cached.proofs.Answering.{records_are}
+
+module _ (frame : Frame) (none more d : List AnyFact) (empty_is : none ≡ []) (are : map fact_of more ≡ map (λ (e : Entry). Device e.0 e.1) frame.devices) (put : IsPut none more d) (es : Entries) (no_entries : es ≡ []) where
+  own_devices : (f : AnyFact) → Contains d f → record_of (fact_of f) ≡ None
+  own_devices f at = elim (put.from f at) [
+    | inl was ↦ absurd (none_listed f (subst (λ xs. Contains xs f) empty_is was))
+    | inr came ↦
+        let e = from_map (λ (e : Entry). Device e.0 e.1) (fact_of f) frame.devices (subst (λ fs. Contains fs (fact_of f)) are (in_map fact_of f more came)) in
+        ap record_of (sym e.2)
+  ]
+
+  own_nil : AreOwn d []
+  own_nil = record {
+    names_rise = sorted_nil name_cmp;
+    devices_rise = put.rises;
+    devices_are = own_devices;
+    contents_rise = λ k facts is. Prim.cc is;
+    contents_are = λ k facts is f at. Prim.cc is;
+    full = λ k facts is. Prim.cc is;
+  }
+
+  pub alone : listed d es ≡ d
+  alone = ap (listed d) no_entries ∙ append-nil d
+
+  no_rows : (contests : List Contest) (m : Rows) → m ≡ empty → m ≡ rows contests (set_of (listed d []))
+  no_rows contests m is = same_map keys_total keys_exact m (rows contests (set_of (listed d []))) (λ q.
+      ap (λ m. Rattle.std.specs.FinMap.get m q) is ∙ (get-empty key_cmp q
+      ∙ sym (rows_law contests (set_of (listed d [])) q ∙ ap (row_over contests (set_of (listed d [])) q) (records_are d [] own_nil))))
+
+  pub cached_start : IsPlain frame d → (contests : List Contest) (m : Rows) (count : ℕ) → contests ≡ frame.contests → m ≡ empty → count ≡ length d → count < 2 ^ 64 → IsCached frame d es contests m count
+  cached_start plain contests m count same rows_are is fits = subst (λ es. IsCached frame d es contests m count) (sym no_entries) record {
+    plain = subst (IsPlain frame) (sym (append-nil d)) plain;
+    held = record { own = own_nil; rows_are = no_rows contests m rows_are; counted = is ∙ ap length (sym (append-nil d)); fits = fits };
+    contests_are = same;
+  }

@@ -1,0 +1,63 @@
+-- Each number of the running totals is below 2^118.
+use Rattle.std.proofs.Common.{◌≡◌, ℕ, ◌+◌, ◌*◌, ◌^◌, ◌<◌, ◌≤◌, List, length, Contains, map, Option, Some, None, IfSome, refl, sym, ap, ◌∙◌, arith}
+use Rattle.std.specs.List.{sum_by, flat_map}
+use Rattle.std.specs.Map.{values_of}
+use Rattle.std.specs.FinMap.{get}
+use Rattle.std.proofs.lemmas.List.Elements.{Contains-append_right}
+use Rattle.cdf_form.specs.Places.{Contest}
+use Rattle.cdf_check.specs.Frame.{Frame}
+use Rattle.cvr_facts.specs.declared.name.RecordName.{RecordName}
+use Rattle.cvr_facts.specs.Facts.{fact_total, fact_exact}
+use Rattle.cvr_facts.proofs.Members.{in_map, in_set, in_flat}
+use Rattle.cvr_tally.specs.declared.key.RowKey.{RowKey}
+use Rattle.cvr_tally.specs.declared.row.Row.{Row}
+use Rattle.cvr_tally.specs.Rows.{Rows}
+use Rattle.cvr_collect.specs.declared.any_fact.AnyFact.{AnyFact}
+use Rattle.cvr_collect.specs.Place.{fact_of}
+use Rattle.cvr_collect.specs.Plain.{set_of, IsPlain}
+use Rattle.cvr_collect.specs.Tallied.{rows, total_limit, IsBelow}
+use Rattle.cvr_collect.proofs.CurrentSums.{currents_are_sums}
+use Rattle.cvr_cached.specs.Contents.{Entries, listed, pairs_of}
+use Rattle.cvr_cached.specs.Cells.{Column, Ballots, Overvotes, Undervotes, WriteIns, Pending, Unassigned, Vote, shares, total}
+use Rattle.cvr_cached.specs.Held.{IsCached, IsSummed}
+use Rattle.cvr_cached.proofs.CellSums.{cell_of}
+use Rattle.cvr_cached.proofs.Listed.{found_own}
+use Rattle.cvr_cached.proofs.RowLink.{agrees_rows}
+use Rattle.cvr_cached.proofs.Rooms.{cap, shares_le, values_le, full_le, summed}
+use Rattle.cvr_cached.proofs.Taken.{listed_long}
+
+few_records : (j : Column) (a x : ℕ) → a ≤ x * cap j → x < 2 ^ 64 → a < total_limit
+unfolding cap
+few_records Ballots a x h lt = omega (arith, h, lt)
+few_records Overvotes a x h lt = omega (arith, h, lt)
+few_records Undervotes a x h lt = omega (arith, h, lt)
+few_records WriteIns a x h lt = omega (arith, h, lt)
+few_records Pending a x h lt = omega (arith, h, lt)
+few_records Unassigned a x h lt = omega (arith, h, lt)
+few_records (Vote i) a x h lt = omega (arith, h, lt)
+
+row_below : (o : Option Row) → ((j : Column) → cell_of o j < total_limit) → IfSome o (IsBelow total_limit)
+row_below None h = tt
+row_below (Some r) h = record { ballots = h Ballots; overvotes = h Overvotes; undervotes = h Undervotes; write_ins = h WriteIns; pending = h Pending; unassigned = h Unassigned; votes = λ i. h (Vote i) }
+
+module _ (frame : Frame) (d : List AnyFact) (es : Entries) (contests : List Contest) (m : Rows) (count : ℕ) (is : IsCached frame d es contests m count) where
+  summed_each : (e : RecordName × List AnyFact) → Contains es e → (x : AnyFact) → Contains e.1 x → IsSummed frame.contests x
+  summed_each e at x in_it =
+      let here = Contains-append_right d (flat_map (λ (e : RecordName × List AnyFact). e.1) es) x (in_flat (λ (e : RecordName × List AnyFact). e.1) e x es at in_it) in
+      summed frame (set_of (listed d es)) is.plain.keeps x (in_set fact_total fact_exact (map fact_of (listed d es)) (fact_of x) (in_map fact_of x (listed d es) here)) (is.plain.spelled x here)
+
+  rows_at : m ≡ rows frame.contests (set_of (listed d es))
+  rows_at = is.held.rows_are ∙ ap (λ cs. rows cs (set_of (listed d es))) is.contests_are
+
+  cell_below : (q : RowKey) (j : Column) → cell_of (get m q) j < total_limit
+  cell_below q j =
+      let same = agrees_rows frame d es is.plain is.held.own (currents_are_sums frame (set_of (listed d es)) is.plain.keeps) m rows_at q j in
+      let most = values_le (λ facts. shares (pairs_of facts) q j) (cap j) es (λ e at. shares_le frame.contests e.1 (summed_each e at) q j) in
+      let many = full_le es (λ e at. is.held.own.full e.0 e.1 (found_own es is.held.own.names_rise e at)) in
+      let few = is.held.fits in
+      let long = is.held.counted ∙ listed_long d es in
+      let below = few_records j (total es q j) (length es) most (omega (arith, many, few, long)) in
+      omega (arith, same, below)
+
+  pub all_below : (q : RowKey) → IfSome (get m q) (IsBelow total_limit)
+  all_below q = row_below (get m q) (cell_below q)

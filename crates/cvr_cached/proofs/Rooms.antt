@@ -1,0 +1,242 @@
+-- The sums of contents go to rows of the definition, and no column gets too large.
+use Rattle.std.proofs.Common.{◌≡◌, ℕ, zero, suc, ◌+◌, ◌*◌, ◌^◌, ◌<◌, ◌≤◌, Bool, true, false, List, [], ◌∷◌, map, length, get_or, cond, ◌||◌, ◌==◌, le_trans, le_of_eq, mul_comm, mul-le-mul_right, Contains, inl, inr, Option, Some, None, refl, sym, ap, ◌∙◌, subst, arith}
+use Rattle.std.proofs.lemmas.List.{get_or_past, length-map}
+use Rattle.std.proofs.lemmas.Map.Steps.{length-le_from_distinct_below}
+use Rattle.std.specs.Prelude.{◌⊎◌}
+use Rattle.std.specs.List.{sum_by, list_any}
+use Rattle.std.specs.Map.{keys_of, values_of}
+use Rattle.std.specs.Option.{option_map_or}
+use Rattle.std.specs.FinSet.{contains, union}
+use Rattle.std.proofs.lemmas.Bool.{cases_lt, eqb-true}
+use Rattle.std.proofs.lemmas.List.Elements.{Contains-get_or}
+use Rattle.std.proofs.lemmas.List.Sums.{sum_by-cons}
+use Rattle.cdf_form.specs.Places.{Contest}
+use Rattle.cdf_check.specs.Frame.{Frame}
+use Rattle.cvr_facts.specs.declared.name.RecordName.{RecordName}
+use Rattle.cvr_facts.specs.declared.header.HeaderFact.{HeaderFact}
+use Rattle.cvr_facts.specs.declared.snapshot.SnapshotFact.{SnapshotFact}
+use Rattle.cvr_facts.specs.declared.sums.VoteSums.{VoteSums}
+use Rattle.cvr_facts.specs.Facts.{Facts}
+use Rattle.cvr_facts.specs.Choosing.{fact_choice}
+use Rattle.cvr_facts.specs.Sums.{sum_limit}
+use Rattle.cvr_facts.proofs.Choosing.{fact_total}
+use Rattle.cvr_facts.proofs.Greatest.{greatest_is}
+use Rattle.cvr_facts.proofs.Members.{at_head, at_tail, head_or_tail, none_listed, from_map}
+use Rattle.cvr_facts.proofs.Records.{from-filter_map}
+use Rattle.cvr_tally.specs.declared.key.RowKey.{RowKey}
+use Rattle.cvr_tally.specs.Keys.{is_key}
+use Rattle.cvr_collect.specs.declared.any_fact.AnyFact.{AnyFact}
+use Rattle.cvr_collect.specs.declared.any_fact.AnyFact.TheVariants as any
+use Rattle.cvr_collect.specs.Adding.{IsSums, AreSums, key_for, sums_for}
+use Rattle.cvr_collect.specs.Keeps.{Keeps}
+use Rattle.cvr_collect.specs.Place.{fact_of}
+use Rattle.cvr_collect.specs.Plain.{IsSpelled}
+use Rattle.cvr_collect.specs.Runs.{as_snapshot, snapshots}
+use Rattle.cvr_collect.proofs.CurrentSums.{facts_are_sums}
+use Rattle.cvr_collect.proofs.RowSteps.{found}
+use Rattle.cvr_cached.specs.declared.change.Keys.{Keys}
+use Rattle.cvr_cached.specs.Contents.{Entries, facts_at, header_in, current_in, keys_in, pairs_of}
+use Rattle.cvr_cached.specs.Cells.{Column, Ballots, Overvotes, Undervotes, WriteIns, Pending, Unassigned, Vote, worth, cell_limit, shares, total, AreFit}
+use Rattle.cvr_cached.specs.Held.{IsRoomy, IsSummed}
+use Rattle.cvr_cached.specs.Plans.{all_moves, AreChanges, IsPlan}
+use Rattle.cvr_cached.proofs.Listed.{at_name, found_listed}
+use Rattle.cvr_cached.proofs.Pairs.{pairs_are}
+use Rattle.cvr_cached.proofs.RowLink.{gives, sum_pairs, share_found}
+
+-- ---- a spelled fact of a set that is kept
+
+pub summed : (frame : Frame) (s : Facts) → Keeps frame s → (x : AnyFact) → contains s (fact_of x) ≡ true → IsSpelled frame.contests x → IsSummed frame.contests x
+summed frame s keeps (any.Device d) held spelled = tt
+summed frame s keeps (any.Header h) held spelled = tt
+summed frame s keeps (any.Snapshot n) held spelled = subst (AreSums frame.contests) (sym spelled.votes) (facts_are_sums frame s keeps n.key.device n.key.unique n.id n.body held)
+
+-- ---- the most that a content adds to a column
+
+pub cap : Column → ℕ
+cap Ballots = 1
+cap Overvotes = sum_limit
+cap Undervotes = sum_limit
+cap WriteIns = sum_limit
+cap Pending = sum_limit
+cap Unassigned = sum_limit
+cap (Vote i) = sum_limit
+
+worth_le : (contests : List Contest) (v : VoteSums) → IsSums contests v → (j : Column) → worth j v ≤ cap j
+unfolding cap
+worth_le contests v is Ballots = omega arith
+worth_le contests v is Overvotes = let lt = is.below.overvotes in omega (arith, lt)
+worth_le contests v is Undervotes = let lt = is.below.undervotes in omega (arith, lt)
+worth_le contests v is WriteIns = let lt = is.below.write_ins in omega (arith, lt)
+worth_le contests v is Pending = let lt = is.below.pending in omega (arith, lt)
+worth_le contests v is Unassigned = let lt = is.below.unassigned in omega (arith, lt)
+worth_le contests v is (Vote i) = elim (cases_lt i (length v.votes)) [
+  | inl lt ↦ let less = is.below.votes (get_or v.votes i 0) (Contains-get_or v.votes i 0 lt) in omega (arith, less)
+  | inr le ↦ let e = get_or_past v.votes i 0 le in omega (arith, e)
+]
+
+is_snapshot : (x : AnyFact) (n : SnapshotFact) → as_snapshot x ≡ Some n → x ≡ any.Snapshot n
+is_snapshot (any.Device d) n e = Prim.cc e
+is_snapshot (any.Header h) n e = Prim.cc e
+is_snapshot (any.Snapshot s) n e = let same : s ≡ n = Prim.cc e in ap any.Snapshot same
+
+any_below : (n : ℕ) (votes : List VoteSums) → ((v : VoteSums) → Contains votes v → v.contest < n) → (q : ℕ) → list_any (λ c. q == c) (map (λ (v : VoteSums). v.contest) votes) ≡ true → q < n
+any_below n [] below q e = Prim.cc e
+any_below n (v ∷ votes) below q e =
+    elim (q == v.contest) as (λ b. (q == v.contest) ≡ b → (b || list_any (λ c. q == c) (map (λ (v : VoteSums). v.contest) votes)) ≡ true → q < n) [
+      | true ↦ λ is here. let lt = below v (at_head v votes) in let same = eqb-true q v.contest is in omega (arith, lt, same)
+      | false ↦ λ is later. any_below n votes (λ w at. below w (at_tail v w votes at)) q later
+    ] refl e
+
+-- no contest stands twice, so there are no more sums than contests
+votes_few : (contests : List Contest) (votes : List VoteSums) → AreSums contests votes → length votes ≤ length contests
+votes_few contests votes are =
+    subst (λ n. n ≤ length contests) (length-map votes (λ (v : VoteSums). v.contest))
+    (length-le_from_distinct_below (map (λ (v : VoteSums). v.contest) votes) (length contests) are.once (any_below (length contests) votes (λ v at. (are.each v at).place)))
+
+module _ (contests : List Contest) (xs : List AnyFact) (told : (x : AnyFact) → Contains xs x → IsSummed contests x) where
+  now_summed : (n : SnapshotFact) → current_in xs ≡ Some n → AreSums contests n.votes
+  now_summed n is =
+      let at = from-filter_map as_snapshot xs n (greatest_is fact_total (snapshots xs) n is).listed in
+      subst (IsSummed contests) (is_snapshot at.0 n at.2) (told at.0 at.1)
+
+  fit_from : (h : Option HeaderFact) (n : Option SnapshotFact) → header_in xs ≡ h → current_in xs ≡ n → AreFit contests (pairs_of xs)
+  fit_from None n a b = subst (AreFit contests) (sym (pairs_are xs None n a b)) (λ p at. absurd (none_listed p at))
+  fit_from (Some h) None a b = subst (AreFit contests) (sym (pairs_are xs (Some h) None a b)) (λ p at. absurd (none_listed p at))
+  fit_from (Some h) (Some n) a b = subst (AreFit contests) (sym (pairs_are xs (Some h) (Some n) a b)) (λ p at.
+      let from = from_map (λ (v : VoteSums). (key_for h.unit h.batch v, v)) p n.votes at in
+      subst (λ (p : RowKey × VoteSums). (p.0.contest ≡ p.1.contest) × IsSums contests p.1) from.2 (refl, (now_summed n b).each from.0 from.1))
+
+  pub fit : AreFit contests (pairs_of xs)
+  fit = fit_from (header_in xs) (current_in xs) refl refl
+
+  one_le : (q : RowKey) (j : Column) (h : HeaderFact) (n : SnapshotFact) → current_in xs ≡ Some n → (o : Option VoteSums) → sums_for h.unit h.batch q n.votes ≡ o → option_map_or (worth j) o 0 ≤ cap j
+  one_le q j h n b None is = omega arith
+  one_le q j h n b (Some v) is = worth_le contests v ((now_summed n b).each v (found (λ v. is_key q (key_for h.unit h.batch v)) n.votes v is).0) j
+
+  le_from : (q : RowKey) (j : Column) (h : Option HeaderFact) (n : Option SnapshotFact) → header_in xs ≡ h → current_in xs ≡ n → shares (pairs_of xs) q j ≤ cap j
+  le_from q j None n a b = subst (λ ps. shares ps q j ≤ cap j) (sym (pairs_are xs None n a b)) (omega arith)
+  le_from q j (Some h) None a b = subst (λ ps. shares ps q j ≤ cap j) (sym (pairs_are xs (Some h) None a b)) (omega arith)
+  le_from q j (Some h) (Some n) a b =
+      let is = ap (λ ps. shares ps q j) (pairs_are xs (Some h) (Some n) a b) ∙ (sum_pairs h.unit h.batch q j n.votes ∙ share_found h.unit h.batch q j n.votes (now_summed n b).once) in
+      subst (λ k. k ≤ cap j) (sym is) (one_le q j h n b _ refl)
+
+  pub shares_le : (q : RowKey) (j : Column) → shares (pairs_of xs) q j ≤ cap j
+  shares_le q j = le_from q j (header_in xs) (current_in xs) refl refl
+
+  keys_few : (h : Option HeaderFact) (n : Option SnapshotFact) → header_in xs ≡ h → current_in xs ≡ n → length (keys_in xs) ≤ length contests
+  keys_few None n a b = subst (λ ps. length (map (λ (p : RowKey × VoteSums). p.0) ps) ≤ length contests) (sym (pairs_are xs None n a b)) (omega arith)
+  keys_few (Some h) None a b = subst (λ ps. length (map (λ (p : RowKey × VoteSums). p.0) ps) ≤ length contests) (sym (pairs_are xs (Some h) None a b)) (omega arith)
+  keys_few (Some h) (Some n) a b =
+      let pair : VoteSums → RowKey × VoteSums = λ v. (key_for h.unit h.batch v, v) in
+      subst (λ ps. length (map (λ (p : RowKey × VoteSums). p.0) ps) ≤ length contests) (sym (pairs_are xs (Some h) (Some n) a b))
+      (subst (λ k. k ≤ length contests) (sym (length-map (map pair n.votes) (λ (p : RowKey × VoteSums). p.0) ∙ length-map n.votes pair)) (votes_few contests n.votes (now_summed n b)))
+
+  -- a content has at most one key of each contest
+  pub few_keys : length (keys_in xs) ≤ length contests
+  few_keys = keys_few (header_in xs) (current_in xs) refl refl
+
+-- ---- added up
+
+pub values_le : (f : List AnyFact → ℕ) (m : ℕ) (es : Entries) → ((e : RecordName × List AnyFact) → Contains es e → f e.1 ≤ m) → sum_by f (values_of es) ≤ length es * m
+values_le f m [] h = omega arith
+values_le f m (e ∷ es) h =
+    let a = h e (at_head e es) in
+    let b = values_le f m es (λ d at. h d (at_tail e d es at)) in
+    let c = sum_by-cons f e.1 (values_of es) in
+    omega (arith, a, b, c)
+
+given_le : (f : List AnyFact → ℕ) (m : ℕ) (es : Entries) → ((e : RecordName × List AnyFact) → Contains es e → f e.1 ≤ m) → sum_by (λ e. f e.1) es ≤ length es * m
+given_le f m [] h = omega arith
+given_le f m (e ∷ es) h =
+    let a = h e (at_head e es) in
+    let b = given_le f m es (λ d at. h d (at_tail e d es at)) in
+    let c = sum_by-cons (λ (e : RecordName × List AnyFact). f e.1) e es in
+    omega (arith, a, b, c)
+
+pub full_le : (es : Entries) → ((e : RecordName × List AnyFact) → Contains es e → 0 < length e.1) → length es ≤ sum_by length (values_of es)
+full_le [] h = omega arith
+full_le (e ∷ es) h =
+    let a = h e (at_head e es) in
+    let b = full_le es (λ d at. h d (at_tail e d es at)) in
+    let c = sum_by-cons length e.1 (values_of es) in
+    omega (arith, a, b, c)
+
+below : (j : Column) (a b x y : ℕ) → a ≤ x * cap j → b ≤ y * cap j → x + y < 2 ^ 64 → a + b < cell_limit j
+unfolding cap
+below Ballots a b x y h k lt = omega (arith, h, k, lt)
+below Overvotes a b x y h k lt = omega (arith, h, k, lt)
+below Undervotes a b x y h k lt = omega (arith, h, k, lt)
+below WriteIns a b x y h k lt = omega (arith, h, k, lt)
+below Pending a b x y h k lt = omega (arith, h, k, lt)
+below Unassigned a b x y h k lt = omega (arith, h, k, lt)
+below (Vote i) a b x y h k lt = omega (arith, h, k, lt)
+
+-- ---- a plan
+
+module _ (f : RecordName → Option (List AnyFact)) (g : RecordName → List AnyFact) where
+  pub changed : (cs : Entries) (ks : List Keys) → AreChanges f g cs ks → (c : RecordName × List AnyFact) → Contains cs c → (x : AnyFact) → Contains c.1 x → Contains (facts_at (f c.0)) x ⊎ Contains (g c.0) x
+  changed [] ks h c at x in_it = absurd (none_listed c at)
+  changed (d ∷ cs) [] h c at x in_it = absurd h
+  changed (d ∷ cs) (k ∷ ks) h c at x in_it = elim (head_or_tail d c cs at) [
+    | inl is ↦ subst (λ (p : RecordName × List AnyFact). Contains p.1 x → Contains (facts_at (f p.0)) x ⊎ Contains (g p.0) x) is (h.0.put.from x) in_it
+    | inr more ↦ changed cs ks h.1 c more x in_it
+  ]
+
+  pub grows : (cs : Entries) (ks : List Keys) → AreChanges f g cs ks → length cs + sum_by (λ c. length (facts_at (f c.0))) cs ≤ sum_by (λ c. length c.1) cs
+  grows [] ks h = omega arith
+  grows (c ∷ cs) [] h = absurd h
+  grows (c ∷ cs) (k ∷ ks) h =
+      let a = sum_by-cons (λ (c : RecordName × List AnyFact). length (facts_at (f c.0))) c cs in
+      let b = sum_by-cons (λ (c : RecordName × List AnyFact). length c.1) c cs in
+      let more = h.0.more in
+      let rest = grows cs ks h.1 in
+      omega (arith, a, b, more, rest)
+
+  -- a change moves each of its keys once
+  moves_le : (w : ℕ) (cs : Entries) (ks : List Keys) → AreChanges f g cs ks → ((c : RecordName × List AnyFact) → Contains cs c → length (keys_in (facts_at (f c.0))) + length (keys_in c.1) ≤ w) → all_moves ks ≤ length cs * w
+  moves_le w [] [] h few = omega arith
+  moves_le w [] (k ∷ ks) h few = absurd h
+  moves_le w (c ∷ cs) [] h few = absurd h
+  moves_le w (c ∷ cs) (k ∷ ks) h few =
+      let one = sum_by-cons (λ (k : Keys). length k.old.items + length k.new.items) k ks in
+      let old = ap length h.0.old in
+      let new = ap length h.0.new in
+      let here = few c (at_head c cs) in
+      let rest = moves_le w cs ks h.1 (λ d at. few d (at_tail c d cs at)) in
+      omega (arith, one, old, new, here, rest)
+
+module _ (contests : List Contest) (es cs : Entries) (ks : List Keys) (n : ℕ) (g : RecordName → List AnyFact) (full : (e : RecordName × List AnyFact) → Contains es e → 0 < length e.1) (plan : IsPlan (λ k. at_name k es) g cs ks n)
+    (old : (e : RecordName × List AnyFact) → Contains es e → (x : AnyFact) → Contains e.1 x → IsSummed contests x) (new : (k : RecordName) (x : AnyFact) → Contains (g k) x → IsSummed contests x) where
+  old_at : (k : RecordName) (o : Option (List AnyFact)) → at_name k es ≡ o → (x : AnyFact) → Contains (facts_at o) x → IsSummed contests x
+  old_at k None is x at = absurd (none_listed x at)
+  old_at k (Some facts) is x at = old (k, facts) (found_listed es k facts is) x at
+
+  new_at : (c : RecordName × List AnyFact) → Contains cs c → (x : AnyFact) → Contains c.1 x → IsSummed contests x
+  new_at c at x in_it = elim (changed (λ k. at_name k es) g cs ks plan.changes c at x in_it) [
+    | inl was ↦ old_at c.0 (at_name c.0 es) refl x was
+    | inr came ↦ new c.0 x came
+  ]
+
+  pub roomy : sum_by length (values_of es) + n < 2 ^ 64 → IsRoomy contests (λ k. at_name k es) (total es) cs
+  roomy few = record {
+    fit_old = λ q. fit contests (facts_at (at_name q es)) (old_at q (at_name q es) refl);
+    fit_new = λ c at. fit contests c.1 (new_at c at);
+    room = λ q j.
+        let a = values_le (λ facts. shares (pairs_of facts) q j) (cap j) es (λ e at. shares_le contests e.1 (old e at) q j) in
+        let b = given_le (λ facts. shares (pairs_of facts) q j) (cap j) cs (λ c at. shares_le contests c.1 (new_at c at) q j) in
+        let many = full_le es full in
+        let more = grows (λ k. at_name k es) g cs ks plan.changes in
+        let count = plan.count in
+        below j _ _ (length es) (length cs) a b (omega (arith, many, more, count, few));
+  }
+
+  -- each new fact moves at most two keys of each contest
+  pub moves_few : all_moves ks ≤ 2 * length contests * n
+  moves_few =
+      let each = moves_le (λ k. at_name k es) g (2 * length contests) cs ks plan.changes (λ c at.
+          let old = few_keys contests (facts_at (at_name c.0 es)) (old_at c.0 (at_name c.0 es) refl) in
+          let new = few_keys contests c.1 (new_at c at) in
+          omega (arith, old, new)) in
+      let more = grows (λ k. at_name k es) g cs ks plan.changes in
+      let few : length cs ≤ n = omega (arith, more, plan.count) in
+      le_trans each (le_trans (mul-le-mul_right (2 * length contests) few) (le_of_eq (mul_comm n (2 * length contests))))

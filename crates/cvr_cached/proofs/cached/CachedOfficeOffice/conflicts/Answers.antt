@@ -1,0 +1,19 @@
+use Rattle.std.proofs.Common.{◌≡◌, ◌∙◌, ◌++◌, subst}
+use Rattle.std.specs.Prelude.{IfOk}
+use Rattle.std.specs.List.{flat_map}
+use Rattle.std.specs.List.Sorted.{IsStrictlySortedBy}
+use Rattle.cvr_collect.specs.Names.{conflicts}
+use Rattle.cvr_collect.specs.Place.{any_cmp}
+use Rattle.cvr_collect.specs.Plain.{set_of}
+use Rattle.cvr_cached.proofs.Apart.{conflicts_apart}
+use Rattle.cvr_cached.proofs.cached.CachedOfficeOffice.conflicts.Goals as goal
+
+pub conflicts_over-requires : goal.conflicts_over-requires
+conflicts_over-requires c = rw c.deref.ensures.value c.self.invariant.held.own.devices_rise
+
+pub returns : goal.returns
+returns c =
+    let d = c.self.inside.devices.items in
+    let es = c.self.inside.records.entries in
+    let told = rw c.deref.ensures.value at c.conflicts_over.ensures in
+    rw (← c.self.view_is) (subst (λ cs. IfOk c.conflicts_over.result (λ list. list ≡ cs)) (conflicts_apart d es c.self.invariant.held.own) told)

@@ -1,0 +1,22 @@
+use Rattle.std.proofs.Common.{◌∙◌, ap, sym, subst}
+use Rattle.std.specs.FinMap.{get}
+use Rattle.std.specs.Option.{IfSome}
+use Rattle.cvr_tally.specs.Rows.{Rows}
+use Rattle.cvr_collect.specs.Plain.{set_of}
+use Rattle.cvr_collect.specs.Tallied.{rows, total_limit, IsBelow}
+use Rattle.cvr_cached.specs.Contents.{listed}
+use Rattle.cvr_cached.proofs.Bounds.{all_below}
+use Rattle.cvr_cached.proofs.cached.CachedOfficeOffice.totals.Goals as goal
+
+pub returns-clause-rows : goal.returns-clause-rows
+returns-clause-rows c =
+    let s = set_of (listed c.self.inside.devices.items c.self.inside.records.entries) in
+    rw (← c.self.view_is) (ap (λ t. t.rows) c.in_ok-totals.ensures ∙ (c.self.invariant.held.rows_are ∙ ap (λ cs. rows cs s) c.self.invariant.contests_are))
+
+pub returns-clause-contests : goal.returns-clause-contests
+returns-clause-contests c = rw (← c.self.view_is) (ap (λ t. t.contests) c.in_ok-totals.ensures ∙ c.self.invariant.contests_are)
+
+pub returns-clause-below : goal.returns-clause-below
+returns-clause-below c q =
+    subst (λ (m : Rows). IfSome (get m q) (IsBelow total_limit)) (sym (ap (λ t. t.rows) c.in_ok-totals.ensures))
+    (all_below c.self.inside.definition c.self.inside.devices.items c.self.inside.records.entries c.self.inside.totals.contests c.self.inside.totals.rows c.self.inside.count c.self.invariant q)

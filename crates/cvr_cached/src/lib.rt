@@ -1,0 +1,14 @@
+//! An office that remembers what it answers: contents by record, and running totals.
+#![tactic(auto)]
+
+mod cached;
+mod change;
+mod commit;
+mod content;
+mod listing;
+mod names;
+mod plan;
+mod rows;
+mod taking;
+
+pub use cached::CachedOffice;

@@ -1,0 +1,112 @@
+ghost use Rattle.std.specs.Prelude.{◌≡◌, OnOk, IfOk, IsTrue, false};
+ghost use Rattle.std.specs.List.{Contains};
+ghost use Rattle.std.specs.FinSet.{contains};
+ghost use Rattle.cvr_collect.specs.declared.any_fact.AnyFact.{AnyFact};
+ghost use Rattle.std.specs.List.Sorted.{IsStrictlySortedBy};
+ghost use Rattle.std.specs.BTreeMap.{get};
+ghost use Rattle.cvr_facts.specs.Facts.{name_cmp};
+ghost use Rattle.cvr_facts.specs.declared.name.RecordName.{RecordName};
+ghost use Rattle.cvr_collect.specs.Place.{fact_of, any_cmp};
+ghost use Rattle.cvr_collect.specs.Plain.{set_of, IsPut};
+ghost use Rattle.cvr_collect.specs.Runs.{run};
+ghost use Rattle.cvr_cached.specs.Contents.{facts_at};
+ghost use Rattle.cvr_cached.specs.Plans.{IsPlan, IsStep};
+
+use crate::change::{Keys, Plan};
+use crate::content::RecordContent;
+use cdf_types::Memory;
+use cvr_collect::any_fact::AnyFact;
+use cvr_collect::names::next_record_in;
+use cvr_collect::one_record::run_of;
+use cvr_facts::RecordName;
+use std::alloc::Global;
+use std::collections::BTreeMap;
+
+// What facts in order change in the contents of records.
+pub(crate) fn plan_of(
+    alloc: Global,
+    records: &BTreeMap<RecordName, RecordContent>,
+    more: &[AnyFact],
+) -> Result<Plan, Memory>
+    requires more { IsStrictlySortedBy any_cmp more.now }
+    requires rise { (q : RecordName) → IsStrictlySortedBy any_cmp (facts_at (get name_cmp records.now q)) }
+    ensures { IfOk result (λ plan. IsPlan (get name_cmp records.now) (λ k. run k more.now) plan.contents.items plan.keys.items plan.new_facts) }
+{
+    let mut plan = Plan {
+        contents: Vec::new(alloc),
+        keys: Vec::new(alloc),
+        new_facts: 0,
+    };
+    let mut next = next_record_in(more, None);
+    while let Some(name) = next {
+        add_change(alloc, &mut plan, records, name, run_of(more, name))?;
+        next = next_record_in(more, Some(name));
+    }
+    Ok(plan)
+}
+
+// What another office's contents change in these.
+pub(crate) fn plan_of_contents(
+    alloc: Global,
+    records: &BTreeMap<RecordName, RecordContent>,
+    theirs: &BTreeMap<RecordName, RecordContent>,
+) -> Result<Plan, Memory>
+    requires { (q : RecordName) → IsStrictlySortedBy any_cmp (facts_at (get name_cmp records.now q)) }
+    ensures { IfOk result (λ plan. IsPlan (get name_cmp records.now) (λ k. facts_at (get name_cmp theirs.now k)) plan.contents.items plan.keys.items plan.new_facts) }
+{
+    let mut plan = Plan {
+        contents: Vec::new(alloc),
+        keys: Vec::new(alloc),
+        new_facts: 0,
+    };
+    for (name, content) in theirs.iter() {
+        add_change(alloc, &mut plan, records, name, content.facts())?;
+    }
+    Ok(plan)
+}
+
+// Adds what a record's facts change in its content, if they do.
+fn add_change(
+    alloc: Global,
+    plan: &mut Plan,
+    records: &BTreeMap<RecordName, RecordContent>,
+    name: &RecordName,
+    group: &[AnyFact],
+) -> Result<(), Memory>
+    ensures { OnOk result (IsStep (facts_at (get name_cmp records.now name.now)) group.now name.now plan.old.contents.items plan.old.keys.items plan.old.new_facts plan.new.contents.items plan.new.keys.items plan.new.new_facts) }
+{
+    let none = RecordContent::empty(alloc);
+    let old = records.get(name).unwrap_or(&none);
+    if has_all(old.facts(), group) {
+        return Ok(());
+    }
+    let content = old.joined(alloc, group)?;
+    let grown = content.facts().len() - old.facts().len();
+    let new_facts = match plan.new_facts.checked_add(grown) {
+        Some(sum) => sum,
+        None => return Err(Memory),
+    };
+    let keys = Keys {
+        old: old.keys(alloc)?,
+        new: content.keys(alloc)?,
+    };
+    let name = name.copy()?;
+    plan.keys.push(keys)?;
+    plan.contents.push((name, content))?;
+    plan.new_facts = new_facts;
+    Ok(())
+}
+
+// Whether all of a group are among the facts.
+pub(crate) fn has_all(facts: &[AnyFact], group: &[AnyFact]) -> bool
+    requires { IsStrictlySortedBy any_cmp facts.now }
+    ensures all { IsTrue result → IsPut facts.now group.now facts.now }
+    ensures some { result ≡ false → (x : AnyFact) × Contains group.now x × (contains (set_of facts.now) (fact_of x) ≡ false) }
+{
+    for fact in group {
+        if facts.binary_search(fact).is_err() {
+            return false;
+        }
+    }
+    true
+}

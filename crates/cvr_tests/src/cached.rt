@@ -1,0 +1,264 @@
+//! An office that remembers what it answers: its running totals, and how it stands beside a plain one.
+use crate::files::*;
+use crate::playing::tell_outcome;
+use cvr_cached::CachedOffice;
+use cvr_cli::{conflicts_text, currents_text};
+use cvr_collect::{Event, Office, PlainOffice, play};
+use cvr_tally::tally_text;
+use std::process::Abort;
+
+// A new office with the definition, changed so.
+fn new_office<O: Office>(rt: &(impl Abort + AllocGlobal), changes: Changes) -> O {
+    O::new(rt.alloc(), definition(rt, changes)).expect(rt, "no memory")
+}
+
+// Has an office take a file, and answers how many facts were new.
+fn take(rt: &(impl Abort + AllocGlobal), office: &mut CachedOffice, changes: Changes) -> usize {
+    let text = file(rt, changes);
+    let receipt = office.import(text.as_bytes());
+    receipt.expect(rt, "a file is refused").new_facts
+}
+
+// The text of the running totals.
+fn kept_text(rt: &(impl Abort + AllocGlobal), office: &CachedOffice) -> String {
+    tally_text(rt.alloc(), office.kept()).expect(rt, "no memory")
+}
+
+// ---- rows after each file
+
+// A file, how many facts are held once it has come, and the rows then.
+struct Step {
+    file: Changes,
+    facts: usize,
+    rows: &'static str,
+}
+
+const STEPS: [Step; 7] = [
+    Step {
+        file: SCAN,
+        facts: 5,
+        rows: "\"mayor\" \"p1\" null 1 0 0 0 0 0 \"ann\" 1 \"bob\" 0 \"wi\" 0\n",
+    },
+    Step {
+        file: OTHER_RECORD,
+        facts: 7,
+        rows: "\"mayor\" \"p1\" null 1 0 0 0 0 0 \"ann\" 1 \"bob\" 0 \"wi\" 0\n\"mayor\" \"p1\" \"b1\" 1 0 0 0 0 0 \"ann\" 1 \"bob\" 0 \"wi\" 0\n",
+    },
+    Step {
+        file: MOVED,
+        facts: 8,
+        rows: "\"mayor\" \"p1\" \"b1\" 1 0 0 0 0 0 \"ann\" 1 \"bob\" 0 \"wi\" 0\n\"mayor\" \"p2\" null 1 0 0 0 0 0 \"ann\" 1 \"bob\" 0 \"wi\" 0\n",
+    },
+    Step {
+        file: ADJUDICATED,
+        facts: 9,
+        rows: "\"mayor\" \"p1\" \"b1\" 1 0 0 0 0 0 \"ann\" 1 \"bob\" 0 \"wi\" 0\n\"mayor\" \"p2\" null 1 0 0 0 0 0 \"ann\" 0 \"bob\" 1 \"wi\" 0\n",
+    },
+    Step {
+        file: READING,
+        facts: 10,
+        rows: "\"mayor\" \"p1\" \"b1\" 1 0 0 0 0 0 \"ann\" 1 \"bob\" 0 \"wi\" 0\n\"mayor\" \"p2\" null 1 0 0 0 0 0 \"ann\" 0 \"bob\" 1 \"wi\" 0\n",
+    },
+    Step {
+        file: FOR_WRITE_IN,
+        facts: 11,
+        rows: "\"mayor\" \"p1\" \"b1\" 1 0 0 0 0 0 \"ann\" 1 \"bob\" 0 \"wi\" 0\n\"mayor\" \"p2\" null 1 0 0 0 0 0 \"ann\" 0 \"bob\" 0 \"wi\" 1\n",
+    },
+    Step {
+        file: EVERY_KIND,
+        facts: 12,
+        rows: "\"mayor\" \"p1\" \"b1\" 1 0 0 0 0 0 \"ann\" 1 \"bob\" 0 \"wi\" 0\n\"mayor\" \"p2\" null 1 0 0 0 0 0 \"ann\" 0 \"bob\" 0 \"wi\" 1\n",
+    },
+];
+
+// Ends the test where other facts or rows are held.
+fn check(rt: &(impl Abort + AllocGlobal), office: &CachedOffice, facts: usize, rows: &str) {
+    let text = kept_text(rt, office);
+    assert!(rt; office.fact_count() == facts && text.as_str() == rows, "{text}");
+}
+
+#[test]
+fn totals_follow_each_file(rt: HostRuntime) {
+    let mut office: CachedOffice = new_office(&rt, &[]);
+    for step in &STEPS {
+        let _ = take(&rt, &mut office, step.file);
+        check(&rt, &office, step.facts, step.rows);
+    }
+}
+
+// The row of the mayor once the record is adjudicated, and no other.
+const FOR_BOB: &str = "\"mayor\" \"p1\" null 1 0 0 0 0 0 \"ann\" 0 \"bob\" 1 \"wi\" 0\n";
+
+#[test]
+fn a_row_that_its_last_record_leaves_goes_away(rt: HostRuntime) {
+    let mut office: CachedOffice = new_office(&rt, &[]);
+    let _ = take(&rt, &mut office, EVERY_KIND);
+    let _ = take(&rt, &mut office, ADJUDICATED);
+    check(&rt, &office, 6, FOR_BOB);
+}
+
+// That row, and that of the other record.
+const FOR_BOTH: &str =
+    "\"mayor\" \"p1\" null 1 0 0 0 0 0 \"ann\" 0 \"bob\" 1 \"wi\" 0\n\"mayor\" \"p1\" \"b1\" 1 0 0 0 0 0 \"ann\" 1 \"bob\" 0 \"wi\" 0\n";
+
+// Has an office join another, and answers how many facts were new.
+fn join(rt: &(impl Abort + AllocGlobal), office: &mut CachedOffice, other: &CachedOffice) -> usize {
+    office.join(other).expect(rt, "the join is refused")
+}
+
+#[test]
+fn totals_follow_a_join(rt: HostRuntime) {
+    let mut office: CachedOffice = new_office(&rt, &[]);
+    let mut other: CachedOffice = new_office(&rt, &[]);
+    let _ = take(&rt, &mut office, SCAN);
+    let _ = take(&rt, &mut other, ADJUDICATED);
+    let _ = take(&rt, &mut other, OTHER_RECORD);
+    assert_eq!(rt; join(&rt, &mut office, &other), 3);
+    check(&rt, &office, 8, FOR_BOTH);
+}
+
+// ---- beside a plain office
+
+// Files that are accepted by the first two offices, but the last two, which no office accepts.
+const FILES: [Changes; 14] = [
+    SCAN,
+    OTHER_RECORD,
+    MOVED,
+    ADJUDICATED,
+    READING,
+    FOR_WRITE_IN,
+    EVERY_KIND,
+    WITH_THIRD,
+    WITH_MODEL_OF_THIRD,
+    WITH_MODEL_OF_FIRST,
+    WITHOUT_SECOND,
+    UNITS_EXCHANGED,
+    UNNAMED,
+    OF_NO_TYPE,
+];
+
+// The definitions of the offices: the third has another election.
+const DEFINITIONS: [Changes; 3] = [&[], WITHOUT_SECOND, OF_NAMED_ELECTION];
+
+fn new_offices<O: Office + Drop>(rt: &(impl Abort + AllocGlobal)) -> Vec<O> {
+    let mut offices = Vec::new(rt.alloc());
+    for changes in &DEFINITIONS {
+        offices.push(new_office(rt, changes)).expect(rt, "no memory");
+    }
+    offices
+}
+
+// What an office answers: counts, current snapshots, conflicts, rows.
+fn tell_office<O: Office>(rt: &(impl Abort + AllocGlobal), text: &mut String, office: &O) {
+    let (records, facts) = (office.record_count(), office.fact_count());
+    let bodies = office.greatest_count();
+    write!(text, "{records} {facts} {bodies}\n").expect(rt, "no memory");
+    let currents = currents_text(rt.alloc(), office).expect(rt, "no memory");
+    text.push_str(currents.as_str()).expect(rt, "no memory");
+    let list = office.conflicts(rt.alloc()).expect(rt, "no memory");
+    let conflicts = conflicts_text(rt.alloc(), &list).expect(rt, "no memory");
+    text.push_str(conflicts.as_str()).expect(rt, "no memory");
+    let totals = office.totals(rt.alloc()).expect(rt, "no memory");
+    let rows = tally_text(rt.alloc(), &totals).expect(rt, "no memory");
+    text.push_str(rows.as_str()).expect(rt, "no memory");
+}
+
+// What offices answer, and which of them are the same as the first.
+fn answers<O: Office>(rt: &(impl Abort + AllocGlobal), offices: &[O]) -> String {
+    let mut text = String::new(rt.alloc());
+    for office in offices {
+        tell_office(rt, &mut text, office);
+        let same = match offices.first() {
+            Some(first) => first.same(office),
+            None => false,
+        };
+        write!(text, "{same}\n").expect(rt, "no memory");
+    }
+    text
+}
+
+// Plays one event, and tells what became of it.
+fn outcome_of<O: Office>(
+    rt: &(impl Abort + AllocGlobal),
+    offices: &mut [O],
+    files: &[Vec<u8>],
+    event: Event,
+) -> String {
+    let mut text = String::new(rt.alloc());
+    let outcomes = play(rt.alloc(), offices, files, &[event]).expect(rt, "no memory");
+    for outcome in &outcomes {
+        tell_outcome(rt, &mut text, outcome);
+    }
+    text
+}
+
+// Whether the running totals of each office are its rows.
+fn are_kept(rt: &(impl Abort + AllocGlobal), offices: &[CachedOffice]) -> bool {
+    for office in offices {
+        let totals = office.totals(rt.alloc()).expect(rt, "no memory");
+        let rows = tally_text(rt.alloc(), &totals).expect(rt, "no memory");
+        if kept_text(rt, office).as_str() != rows.as_str() {
+            return false;
+        }
+    }
+    true
+}
+
+// The numbers of a drill, each of which follows from the one before it.
+struct Numbers {
+    state: u64,
+}
+
+impl Numbers {
+    fn next(&mut self) -> u64 {
+        self.state = self
+            .state
+            .wrapping_mul(6364136223846793005)
+            .wrapping_add(1442695040888963407);
+        self.state >> 33
+    }
+
+    // An event among three offices and fourteen files, or one with an office or a file too many.
+    fn event(&mut self) -> Event {
+        let (kind, one, other) = (self.next() % 3, self.next() % 4, self.next() % 15);
+        match kind {
+            0 => Event::Exchange {
+                from: one as usize,
+                to: (other % 4) as usize,
+            },
+            _ => Event::Import {
+                office: one as usize,
+                file: other as usize,
+            },
+        }
+    }
+}
+
+// Whether these texts are among what was told.
+fn all_told(told: &str, wanted: &[&str]) -> bool {
+    for text in wanted {
+        if !told.contains(*text) {
+            return false;
+        }
+    }
+    true
+}
+
+#[test]
+fn a_drill_goes_the_same_way_in_plain_offices(rt: HostRuntime) {
+    let files = bytes_of(&rt, &FILES);
+    let mut cached: Vec<CachedOffice> = new_offices(&rt);
+    let mut plain: Vec<PlainOffice> = new_offices(&rt);
+    let mut numbers = Numbers { state: 20261123 };
+    let mut told = String::new(rt.alloc());
+    for _ in 0..120 {
+        let event = numbers.event();
+        let one = outcome_of(&rt, &mut cached, &files, event);
+        let other = outcome_of(&rt, &mut plain, &files, event);
+        assert!(rt; one.as_str() == other.as_str(), "{one}{other}");
+        let (here, there) = (answers(&rt, &cached), answers(&rt, &plain));
+        assert!(rt; here.as_str() == there.as_str() && are_kept(&rt, &cached), "{here}{there}");
+        told.push_str(one.as_str()).expect(&rt, "no memory");
+    }
+    assert!(rt; all_told(told.as_str(), &["0 ", "1 ", "2 ", "E ", "J1 ", "N1 ", "N2 "]), "{told}");
+}
