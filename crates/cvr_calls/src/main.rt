@@ -12,6 +12,7 @@ mod offices;
 mod playing;
 mod readings;
 mod records;
+mod remembering;
 mod running;
 mod same;
 mod table;

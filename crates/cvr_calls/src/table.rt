@@ -5,6 +5,7 @@ use crate::offices::{try_import, try_join};
 use crate::playing::try_playing;
 use crate::readings::{Copying, Filing, Making};
 use crate::records::{Records, try_new_records};
+use crate::remembering::{try_remembered_import, try_remembered_join};
 use crate::running::{Asked, try_running};
 use crate::tellings::{Telling, try_telling};
 use crate::trying::{Ended, Reading, try_reading};
@@ -131,12 +132,33 @@ static JOINS: [(&str, &[&str], usize); 4] = [
     ),
 ];
 
+// What an office that remembers imports, and the new facts that a file brings.
+static REMEMBERED: [(&str, &str, usize); 5] = [
+    ("CachedOffice::import, another body of a snapshot", OTHER_BODY, 1),
+    ("CachedOffice::import, another body of a header", OTHER_UNIT, 1),
+    ("CachedOffice::import, one more snapshot", EVERY_KIND, 1),
+    ("CachedOffice::import, one more device", OTHER_DEVICE, 1),
+    ("CachedOffice::import, one more record", BATCHED, 2),
+];
+
+// What it joins.
+static REMEMBERED_JOINS: [(&str, &[&str], usize); 2] = [
+    ("CachedOffice::join, another body of a header", &[OTHER_UNIT], 1),
+    (
+        "CachedOffice::join, all four",
+        &[OTHER_UNIT, EVERY_KIND, OTHER_DEVICE, BATCHED],
+        5,
+    ),
+];
+
 /// Tries each script, up to the first in a copy.
 pub fn try_all(rt: &HostRuntime) -> Result<(), Ended> {
     try_new_records(rt)?;
     try_changes(rt)?;
     try_imports(rt)?;
-    try_joins(rt)
+    try_joins(rt)?;
+    try_remembered_imports(rt)?;
+    try_remembered_joins(rt)
 }
 
 /// Tries the calls that change nothing.
@@ -194,6 +216,20 @@ fn try_imports(rt: &HostRuntime) -> Result<(), Ended> {
 fn try_joins(rt: &HostRuntime) -> Result<(), Ended> {
     for (name, files, new_facts) in &JOINS {
         try_join(rt, name, files, *new_facts)?;
+    }
+    Ok(())
+}
+
+fn try_remembered_imports(rt: &HostRuntime) -> Result<(), Ended> {
+    for (name, file, new_facts) in &REMEMBERED {
+        try_remembered_import(rt, name, file, *new_facts)?;
+    }
+    Ok(())
+}
+
+fn try_remembered_joins(rt: &HostRuntime) -> Result<(), Ended> {
+    for (name, files, new_facts) in &REMEMBERED_JOINS {
+        try_remembered_join(rt, name, files, *new_facts)?;
     }
     Ok(())
 }

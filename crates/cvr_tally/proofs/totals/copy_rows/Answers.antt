@@ -8,8 +8,8 @@ use Rattle.cvr_tally.specs.Keys.{key_cmp, keys_total}
 use Rattle.cvr_tally.proofs.Lasts.{insert_next}
 use Rattle.cvr_tally.proofs.totals.copy_rows.Goals as goal
 
-pub loop-key-preserved-in_ok-insert : goal.loop-key-preserved-in_ok-insert
-loop-key-preserved-in_ok-insert c =
+pub loop-key-preserved : goal.loop-key-preserved
+loop-key-preserved c =
     let rest = rest_more deref_pair c.loop-key.key-iterator c.next.new.self c.next.result _ c.in-Some.is c.next.ensures.steps in
     let all = ap (λ es. c.loop-key.copies.entries ++ es) (sym rest) ∙ c.loop-key.invariant in
     let last = insert_next keys_total c.loop-key.copies.entries _ c.next.new.self (subst (λ es. IsStrictlySortedBy key_cmp (keys_of es)) (sym all) c.iter-key-items.ensures.ordered) in
