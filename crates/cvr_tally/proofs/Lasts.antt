@@ -1,5 +1,5 @@
 -- An entry whose key is above all others comes last.
-use Rattle.std.proofs.Common.{◌≡◌, List, [], ◌∷◌, ◌++◌, Less, Greater, refl, sym, ap, subst, ◌∙◌}
+use Rattle.std.proofs.Common.{◌≡◌, List, [], ◌∷◌, ◌++◌, Less, Greater, refl, sym, ap, subst, ◌∙◌, append_assoc}
 use Rattle.std.specs.BTreeMap.{insert_entry}
 use Rattle.std.specs.Cmp.{IsTotalOrder}
 use Rattle.std.specs.List.{AllByRecursion}
@@ -25,5 +25,13 @@ all_before R [] e fs rises = tt
 all_before R (d ∷ es) e fs rises = (all_at (λ y. R d.0 y ≡ Less) es e fs rises.0, all_before R es e fs rises.1)
 
 -- the next of entries in order comes last
-pub insert_next : {K X : Type 0} {R : K → K → Ordering} → IsTotalOrder R → (es : List (K × X)) (e : K × X) (fs : List (K × X)) → IsStrictlySortedBy R (keys_of (es ++ e ∷ fs)) → insert_entry R es e.0 e.1 ≡ es ++ e ∷ []
+insert_next : {K X : Type 0} {R : K → K → Ordering} → IsTotalOrder R → (es : List (K × X)) (e : K × X) (fs : List (K × X)) → IsStrictlySortedBy R (keys_of (es ++ e ∷ fs)) → insert_entry R es e.0 e.1 ≡ es ++ e ∷ []
 insert_next {R = R} o es e fs rises = insert_last o es e.0 e.1 (all_before R es e fs rises)
+
+-- one more of the entries that are left is put in its place
+pub put_next : {K X : Type 0} {R : K → K → Ordering} → IsTotalOrder R → (done left rest all new : List (K × X)) (k j : K) (v w : X) → left ≡ (k, v) ∷ rest → done ++ left ≡ all
+    → IsStrictlySortedBy R (keys_of all) → new ≡ insert_entry R done j w → j ≡ k → w ≡ v → new ++ rest ≡ all
+put_next {R = R} o done left rest all new k j v w is was rises put key value =
+    let split = ap (λ es. done ++ es) (sym is) ∙ was in
+    let last = insert_next o done (k, v) rest (subst (λ es. IsStrictlySortedBy R (keys_of es)) (sym split) rises) in
+    ap (λ es. es ++ rest) (put ∙ ((λ i. insert_entry R done (key i) (value i)) ∙ last)) ∙ (append_assoc done ((k, v) ∷ []) rest ∙ split)
