@@ -234,9 +234,9 @@ module _ (contests : List Contest) (es cs : Entries) (ks : List Keys) (n : ℕ) 
   pub moves_few : all_moves ks ≤ 2 * length contests * n
   moves_few =
       let each = moves_le (λ k. at_name k es) g (2 * length contests) cs ks plan.changes (λ c at.
-          let old = few_keys contests (facts_at (at_name c.0 es)) (old_at c.0 (at_name c.0 es) refl) in
-          let new = few_keys contests c.1 (new_at c at) in
-          omega (arith, old, new)) in
+      let old = few_keys contests (facts_at (at_name c.0 es)) (old_at c.0 (at_name c.0 es) refl) in
+      let new = few_keys contests c.1 (new_at c at) in
+      omega (arith, old, new)) in
       let more = grows (λ k. at_name k es) g cs ks plan.changes in
       let few : length cs ≤ n = omega (arith, more, plan.count) in
       le_trans each (le_trans (mul-le-mul_right (2 * length contests) few) (le_of_eq (mul_comm n (2 * length contests))))

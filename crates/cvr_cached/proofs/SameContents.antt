@@ -1,14 +1,14 @@
 -- Two offices hold the same facts exactly where their devices are equal and their contents are.
 use Rattle.std.proofs.Common.{◌≡◌, Bool, true, false, cond, ◌&&◌, List, [], ◌∷◌, ◌++◌, map, Contains, inl, inr, Option, Some, None, Equal, refl, sym, ap, ◌∙◌, subst, append-nil}
-use Rattle.std.specs.Prelude.{◌↔◌, is_none}
+use Rattle.std.specs.Prelude.{◌↔◌, is_none, bytes_eq}
 use Rattle.std.specs.List.{filter, flat_map}
 use Rattle.std.specs.List.Sorted.{IsStrictlySortedBy}
 use Rattle.std.specs.Map.{keys_of}
 use Rattle.std.specs.Option.{option_cmp}
 use Rattle.std.specs.Ordering.{is_eq, eq_by_cmp}
-use Rattle.std.specs.Cmp.{tied_itself}
 use Rattle.std.specs.Cmp.Lexicographic.{pointwise, pointwise_decides}
 use Rattle.std.specs.FinSet.{from_list}
+use Rattle.std.proofs.lemmas.Slice.Eq.{bytes_eq-Decides}
 use Rattle.std.proofs.lemmas.List.{map-append}
 use Rattle.std.proofs.lemmas.List.Elements.{filter-append}
 use Rattle.cvr_facts.specs.declared.name.RecordName.{RecordName}
@@ -19,9 +19,6 @@ use Rattle.cvr_collect.specs.declared.any_fact.AnyFact.{AnyFact}
 use Rattle.cvr_collect.specs.Names.{record_of, records}
 use Rattle.cvr_collect.specs.Place.{fact_of, place_cmp, place_total, place_exact, any_cmp}
 use Rattle.cvr_collect.specs.Plain.{set_of}
-use Rattle.cvr_collect.specs.Runs.{is_of, run}
-use Rattle.cvr_collect.proofs.RecordMembers.{name_exact, same_name, own_name}
-use Rattle.cvr_collect.proofs.Runs.{name_total}
 use Rattle.cvr_collect.proofs.SameFacts.{pointwise-on, same_facts}
 use Rattle.cvr_cached.specs.Contents.{Entries, listed, facts_at}
 use Rattle.cvr_cached.specs.Held.{AreOwn}
@@ -32,9 +29,12 @@ use Rattle.cvr_cached.proofs.Listed.{at_name, filter_none, filter_all, found_own
 abbrev pub are_equal : List AnyFact → List AnyFact → Bool
 are_equal xs ys = pointwise (eq_by_cmp any_cmp) xs ys
 
+abbrev pub is_same_name : RecordName → RecordName → Bool
+is_same_name a b = bytes_eq a.device b.device && bytes_eq a.unique b.unique
+
 -- content by content, each under its name
 abbrev pub are_same : Entries → Entries → Bool
-are_same es fs = pointwise (λ e f. is_eq (name_cmp e.0 f.0) && are_equal e.1 f.1) es fs
+are_same es fs = pointwise (λ e f. is_same_name e.0 f.0 && are_equal e.1 f.1) es fs
 
 -- ---- lists
 
@@ -50,6 +50,9 @@ both_true false b e = Prim.cc e
 
 and_true : (a b : Bool) → a ≡ true → b ≡ true → (a && b) ≡ true
 and_true a b p q = ap (λ a. a && b) p ∙ q
+
+own_name : (a b : RecordName) → a ≡ b → is_same_name a b ≡ true
+own_name a b is = subst (λ k. is_same_name a k ≡ true) is (and_true _ _ ((bytes_eq-Decides a.device a.device).1 refl) ((bytes_eq-Decides a.unique a.unique).1 refl))
 
 -- what is told by the facts alone
 map-filter : (p : Fact → Bool) (xs : List AnyFact) → map fact_of (filter (λ x. p (fact_of x)) xs) ≡ filter p (map fact_of xs)

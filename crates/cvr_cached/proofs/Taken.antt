@@ -159,20 +159,25 @@ name_is o n k is e = is ∙ ap Some (same_name n k (ap (λ o. is_eq (Rattle.std.
 
 module _ (theirs more : List AnyFact) (devices : (f : AnyFact) → Contains theirs f → record_of (fact_of f) ≡ None) (of : (f : AnyFact) → Contains more f → (k : RecordName) × (record_of (fact_of f) ≡ Some k)) where
   pub apart_devices : (f : AnyFact) → Contains theirs f ↔ (Contains (theirs ++ more) f × (record_of (fact_of f) ≡ None))
-  apart_devices f = (λ at. (Contains-append_left theirs more f at, devices f at), λ both. elim (Contains-append_cases theirs more f both.0) [
-    | inl a ↦ a
-    | inr b ↦ let is = of f b in let clash : Some is.0 ≡ None = sym is.1 ∙ both.1 in Prim.cc clash
-  ])
+  apart_devices f = (
+    λ at. (Contains-append_left theirs more f at, devices f at),
+    λ both. elim (Contains-append_cases theirs more f both.0) [
+      | inl a ↦ a
+      | inr b ↦ let is = of f b in let clash : Some is.0 ≡ None = sym is.1 ∙ both.1 in Prim.cc clash
+    ],
+  )
 
   pub apart_runs : (k : RecordName) (f : AnyFact) → Contains (run k more) f ↔ (Contains (theirs ++ more) f × (record_of (fact_of f) ≡ Some k))
-  apart_runs k f = (λ at.
-    let from = from_filter (is_of k) more f at in
-    let is = of f from.0 in
-    (Contains-append_right theirs more f from.0, name_is (record_of (fact_of f)) is.0 k is.1 from.1),
+  apart_runs k f = (
+    λ at.
+        let from = from_filter (is_of k) more f at in
+        let is = of f from.0 in
+        (Contains-append_right theirs more f from.0, name_is (record_of (fact_of f)) is.0 k is.1 from.1),
     λ both. elim (Contains-append_cases theirs more f both.0) [
       | inl a ↦ let clash : None ≡ Some k = sym (devices f a) ∙ both.1 in Prim.cc clash
       | inr b ↦ in_filter (is_of k) more f b (ap (λ o. is_eq (Rattle.std.specs.Option.option_cmp name_cmp o (Some k))) both.1 ∙ own_name k k refl)
-    ])
+    ],
+  )
 
 -- ---- all of it, or nothing
 
@@ -218,15 +223,20 @@ held_still contests contests' d d' es fs m m' count count' held a b e f counted 
 
 module _ (theirs : List AnyFact) (ts : Entries) (own : AreOwn theirs ts) where
   pub own_devices : (f : AnyFact) → Contains theirs f ↔ (Contains (listed theirs ts) f × (record_of (fact_of f) ≡ None))
-  own_devices f = (λ at. (Contains-append_left theirs (flat_map (λ (e : RecordName × List AnyFact). e.1) ts) f at, own.devices_are f at), λ both. elim (Contains-append_cases theirs (flat_map (λ (e : RecordName × List AnyFact). e.1) ts) f both.0) [
-    | inl a ↦ a
-    | inr b ↦
-        let from = from_flat (λ (e : RecordName × List AnyFact). e.1) f ts b in
-        let clash : Some from.0.0 ≡ None = sym (own_each theirs ts own from.0 from.1 f from.2) ∙ both.1 in Prim.cc clash
-  ])
+  own_devices f = (
+    λ at. (Contains-append_left theirs (flat_map (λ (e : RecordName × List AnyFact). e.1) ts) f at, own.devices_are f at),
+    λ both. elim (Contains-append_cases theirs (flat_map (λ (e : RecordName × List AnyFact). e.1) ts) f both.0) [
+      | inl a ↦ a
+      | inr b ↦
+          let from = from_flat (λ (e : RecordName × List AnyFact). e.1) f ts b in
+          let clash : Some from.0.0 ≡ None = sym (own_each theirs ts own from.0 from.1 f from.2) ∙ both.1 in Prim.cc clash
+    ],
+  )
 
   pub own_runs : (k : RecordName) (f : AnyFact) → Contains (facts_at (at_name k ts)) f ↔ (Contains (listed theirs ts) f × (record_of (fact_of f) ≡ Some k))
-  own_runs k f = (λ at.
-    let from = from_filter (is_of k) (listed theirs ts) f (subst (λ xs. Contains xs f) (sym (run_listed theirs ts own k)) at) in
-    (from.0, of_name k f from.1),
-    λ both. subst (λ xs. Contains xs f) (run_listed theirs ts own k) (in_filter (is_of k) (listed theirs ts) f both.0 (ap (λ o. is_eq (Rattle.std.specs.Option.option_cmp name_cmp o (Some k))) both.1 ∙ own_name k k refl)))
+  own_runs k f = (
+    λ at.
+        let from = from_filter (is_of k) (listed theirs ts) f (subst (λ xs. Contains xs f) (sym (run_listed theirs ts own k)) at) in
+        (from.0, of_name k f from.1),
+    λ both. subst (λ xs. Contains xs f) (run_listed theirs ts own k) (in_filter (is_of k) (listed theirs ts) f both.0 (ap (λ o. is_eq (Rattle.std.specs.Option.option_cmp name_cmp o (Some k))) both.1 ∙ own_name k k refl)),
+  )

@@ -40,7 +40,7 @@ impl Model for CachedOffice {
 }
 
 impl CachedOffice {
-    ghost use Rattle.std.specs.Prelude.{◌≡◌};
+    ghost use Rattle.std.specs.Prelude.{◌≡◌, ◌↔◌, IsTrue};
     ghost use Rattle.std.specs.FinMap.{get};
     ghost use Rattle.std.specs.Option.{IfSome};
     ghost use Rattle.cvr_tally.specs.declared.key.RowKey.{RowKey};
@@ -55,6 +55,13 @@ impl CachedOffice {
         ensures moves { result.now.moves ≡ self.now.moves }
     {
         &self.totals
+    }
+
+    // Whether both hold the same facts. Takes no memory.
+    fn holds_the_same(&self, other: &CachedOffice) -> bool
+        ensures { IsTrue result ↔ (self.now.content.facts ≡ other.now.content.facts) }
+    {
+        self.devices == other.devices && self.records == other.records
     }
 }
 
@@ -155,9 +162,7 @@ impl Office for CachedOffice {
     }
 
     fn same(&self, other: &Self) -> bool {
-        self.definition.same(&other.definition)
-            && self.devices == other.devices
-            && self.records == other.records
+        self.definition.same(&other.definition) && self.holds_the_same(other)
     }
 
     fn current(&self, key: &RecordName) -> Option<&SnapshotFact> {

@@ -134,8 +134,16 @@ static JOINS: [(&str, &[&str], usize); 4] = [
 
 // What an office that remembers imports, and the new facts that a file brings.
 static REMEMBERED: [(&str, &str, usize); 5] = [
-    ("CachedOffice::import, another body of a snapshot", OTHER_BODY, 1),
-    ("CachedOffice::import, another body of a header", OTHER_UNIT, 1),
+    (
+        "CachedOffice::import, another body of a snapshot",
+        OTHER_BODY,
+        1,
+    ),
+    (
+        "CachedOffice::import, another body of a header",
+        OTHER_UNIT,
+        1,
+    ),
     ("CachedOffice::import, one more snapshot", EVERY_KIND, 1),
     ("CachedOffice::import, one more device", OTHER_DEVICE, 1),
     ("CachedOffice::import, one more record", BATCHED, 2),
@@ -143,7 +151,11 @@ static REMEMBERED: [(&str, &str, usize); 5] = [
 
 // What it joins.
 static REMEMBERED_JOINS: [(&str, &[&str], usize); 2] = [
-    ("CachedOffice::join, another body of a header", &[OTHER_UNIT], 1),
+    (
+        "CachedOffice::join, another body of a header",
+        &[OTHER_UNIT],
+        1,
+    ),
     (
         "CachedOffice::join, all four",
         &[OTHER_UNIT, EVERY_KIND, OTHER_DEVICE, BATCHED],

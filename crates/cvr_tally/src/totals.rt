@@ -222,10 +222,7 @@ fn close_at(rows: &mut BTreeMap<RowKey, Row>, key: &RowKey)
 }
 
 // Equal rows under equal keys.
-fn copy_rows(
-    alloc: Global,
-    rows: &BTreeMap<RowKey, Row>,
-) -> Result<BTreeMap<RowKey, Row>, Memory>
+fn copy_rows(alloc: Global, rows: &BTreeMap<RowKey, Row>) -> Result<BTreeMap<RowKey, Row>, Memory>
     ensures { IfOk result (λ copies. copies.entries ≡ rows.now.entries) }
 {
     let mut copies = BTreeMap::new(alloc);

@@ -74,7 +74,10 @@ const STEPS: [Step; 7] = [
 // Ends the test where other facts or rows are held.
 fn check(rt: &(impl Abort + AllocGlobal), office: &CachedOffice, facts: usize, rows: &str) {
     let text = kept_text(rt, office);
-    assert!(rt; office.fact_count() == facts && text.as_str() == rows, "{text}");
+    assert!(rt;
+        office.fact_count() == facts && text.as_str() == rows,
+        "{text}"
+    );
 }
 
 #[test]
@@ -143,7 +146,9 @@ const DEFINITIONS: [Changes; 3] = [&[], WITHOUT_SECOND, OF_NAMED_ELECTION];
 fn new_offices<O: Office + Drop>(rt: &(impl Abort + AllocGlobal)) -> Vec<O> {
     let mut offices = Vec::new(rt.alloc());
     for changes in &DEFINITIONS {
-        offices.push(new_office(rt, changes)).expect(rt, "no memory");
+        offices
+            .push(new_office(rt, changes))
+            .expect(rt, "no memory");
     }
     offices
 }
@@ -205,6 +210,7 @@ fn are_kept(rt: &(impl Abort + AllocGlobal), offices: &[CachedOffice]) -> bool {
 }
 
 // The numbers of a drill, each of which follows from the one before it.
+#[derive(Drop)]
 struct Numbers {
     state: u64,
 }
@@ -257,8 +263,17 @@ fn a_drill_goes_the_same_way_in_plain_offices(rt: HostRuntime) {
         let other = outcome_of(&rt, &mut plain, &files, event);
         assert!(rt; one.as_str() == other.as_str(), "{one}{other}");
         let (here, there) = (answers(&rt, &cached), answers(&rt, &plain));
-        assert!(rt; here.as_str() == there.as_str() && are_kept(&rt, &cached), "{here}{there}");
+        assert!(rt;
+            here.as_str() == there.as_str() && are_kept(&rt, &cached),
+            "{here}{there}"
+        );
         told.push_str(one.as_str()).expect(&rt, "no memory");
     }
-    assert!(rt; all_told(told.as_str(), &["0 ", "1 ", "2 ", "E ", "J1 ", "N1 ", "N2 "]), "{told}");
+    assert!(rt;
+        all_told(
+            told.as_str(),
+            &["0 ", "1 ", "2 ", "E ", "J1 ", "N1 ", "N2 "]
+        ),
+        "{told}"
+    );
 }
