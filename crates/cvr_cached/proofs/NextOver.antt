@@ -5,7 +5,7 @@ use Rattle.std.specs.List.{filter}
 use Rattle.std.specs.Map.{keys_of}
 use Rattle.std.specs.Ordering.{is_gt, is_lt, ordering_reverse}
 use Rattle.std.specs.BTreeMap.Range.{entries_between}
-use Rattle.std.specs.declared.ops.bounds.Bound.TheVariants.{Excluded, Unbounded}
+use Rattle.std.specs.declared.ops.Bound.TheVariants.{Excluded, Unbounded}
 use Rattle.cvr_facts.specs.declared.name.RecordName.{RecordName}
 use Rattle.cvr_facts.specs.Facts.{name_cmp}
 use Rattle.cvr_collect.specs.Readers.{next}

@@ -52,7 +52,7 @@ summed frame s keeps (any.Snapshot n) held spelled = subst (AreSums frame.contes
 
 -- ---- the most that a content adds to a column
 
-pub cap : Column → ℕ
+unfoldable pub cap : Column → ℕ
 cap Ballots = 1
 cap Overvotes = sum_limit
 cap Undervotes = sum_limit

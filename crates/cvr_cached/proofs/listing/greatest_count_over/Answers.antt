@@ -24,7 +24,7 @@ loop-content-preserved c =
     let here = c.greatest_count_in.ensures ∙ ap (λ xs. greatest_count (set_of xs)) c.facts.ensures.is in
     max_more c.loop-content.greatest c.greatest_count_in.result (most (of c.next.new.self)) (most (of c.loop-content.content-iterator)) _ _
     (ap (λ es. most (of es)) rest ∙ (most-cons (greatest_count (set_of c.in-Some.content.now)) (of c.next.new.self) ∙ ap (λ n. max n (most (of c.next.new.self))) (sym here)))
-    c.loop-content.invariant (cc)
+    c.loop-content.invariant c.max-greatest.ensures
 
 pub returns : goal.returns
 returns c =
