@@ -6,7 +6,7 @@ use Rattle.cvr_facts.specs.declared.name.RecordName.{RecordName}
 use Rattle.cvr_collect.specs.declared.any_fact.AnyFact.{AnyFact}
 use Rattle.cvr_collect.specs.Names.{most, greatest_count}
 use Rattle.cvr_collect.specs.Plain.{set_of}
-use Rattle.cvr_collect.proofs.NameSteps.{most-cons, max_more}
+use Rattle.cvr_collect.proofs.NameSteps.{most-cons}
 use Rattle.cvr_cached.proofs.listing.greatest_count_over.Goals as goal
 
 abbrev of : List (RecordName × List AnyFact) → List ℕ
@@ -22,9 +22,8 @@ pub loop-content-preserved : goal.loop-content-preserved
 loop-content-preserved c =
     let rest = rest_more deref_pair c.loop-content.content-iterator c.next.new.self c.next.result _ c.in-Some.is c.next.ensures.steps in
     let here = c.greatest_count_in.ensures ∙ ap (λ xs. greatest_count (set_of xs)) c.facts.ensures.is in
-    max_more c.loop-content.greatest c.greatest_count_in.result (most (of c.next.new.self)) (most (of c.loop-content.content-iterator)) _ _
-    (ap (λ es. most (of es)) rest ∙ (most-cons (greatest_count (set_of c.in-Some.content.now)) (of c.next.new.self) ∙ ap (λ n. max n (most (of c.next.new.self))) (sym here)))
-    c.loop-content.invariant c.max-greatest.ensures
+    let left = ap (λ es. most (of es)) rest ∙ most-cons (greatest_count (set_of c.in-Some.content.now)) (of c.next.new.self) in
+    omega (arith, left, here, c.loop-content.invariant, c.max-greatest.ensures)
 
 pub returns : goal.returns
 returns c =
