@@ -9,7 +9,7 @@ use cvr_collect::putting::{of_devices, of_records, own_devices, put_in};
 use cvr_collect::record_lists::{grouped, headers_down};
 use cvr_collect::{ConflictList, JoinFault, Office, Receipt, RecordFacts};
 use cvr_facts::{HeaderFact, RecordName, SnapshotFact, facts_of};
-use cvr_tally::{Row, RowKey, Totals};
+use cvr_tally::{Row, RowKey, Totals, tally_text};
 use std::alloc::Global;
 use std::collections::BTreeMap;
 use std::marker::Model;
@@ -216,6 +216,11 @@ impl Office for CachedOffice {
     fn totals(&self, alloc: Global) -> Result<Totals, Memory> {
         let totals = self.totals.copy(alloc)?;
         Ok(totals)
+    }
+
+    fn tally_text(&self, alloc: Global) -> Result<String, Memory> {
+        let text = tally_text(alloc, &self.totals)?;
+        Ok(text)
     }
 
     fn record_count(&self) -> usize {

@@ -15,7 +15,6 @@ use crate::status::Status;
 use cdf_types::{DeviceFault, Memory, Sink, write_all};
 use cvr_collect::Office;
 use cvr_report::{HeadFault, WriteFault};
-use cvr_tally::tally_text;
 use cvr_words::Task;
 use std::alloc::Global;
 
@@ -138,8 +137,7 @@ fn print_tally<O: Office, W: Sink>(alloc: Global, office: &O, out: &mut W) -> Re
     requires { W.has_failed out.old ≡ false }
     ensures { Prints (W.taken out.old) (W.taken out.new) (W.has_failed out.new) result None (tally (O.defined office.now).contests (O.held office.now)) }
 {
-    let totals = office.totals(alloc)?;
-    let text = tally_text(alloc, &totals)?;
+    let text = office.tally_text(alloc)?;
     print_text(text.as_str(), out)
 }
 

@@ -1,4 +1,4 @@
-ghost use Rattle.std.specs.Prelude.{◌≡◌, ◌+◌, ℕ, List, IsTrue, ◌↔◌, ◌⊎◌, OnOk, OnErr, IfOk, IfErr, map, length, Option, None, Some, option_map};
+ghost use Rattle.std.specs.Prelude.{◌≡◌, ◌+◌, ℕ, List, IsTrue, ◌↔◌, ◌⊎◌, OnOk, OnErr, IfOk, IfErr, map, length, Option, None, Some, option_map, string_bytes};
 ghost use Rattle.std.specs.FinMap.{get};
 ghost use Rattle.std.specs.FinSet.{union, len};
 ghost use Rattle.std.specs.Option.{IfSome};
@@ -15,7 +15,7 @@ ghost use Rattle.cvr_collect.specs.declared.conflict.ConflictName.TheVariants as
 ghost use Rattle.cvr_collect.specs.declared.fault.JoinFault.TheVariants as join_fault;
 ghost use Rattle.cvr_collect.specs.Keeps.{starting, Keeps};
 ghost use Rattle.cvr_collect.specs.Readers.{next, numbered, growth, device_list, IsHeader, IsCurrent, AreRecordFacts};
-ghost use Rattle.cvr_collect.specs.Tallied.{row, rows, total_limit, IsBelow};
+ghost use Rattle.cvr_collect.specs.Tallied.{row, rows, tally, total_limit, IsBelow};
 
 use crate::conflict::ConflictList;
 use crate::fault::JoinFault;
@@ -151,6 +151,13 @@ pub trait Office {
         ensures rows { IfOk result (λ t. t.rows ≡ rows (defined self.now).contests (held self.now)) }
         ensures contests { IfOk result (λ t. t.contests ≡ (defined self.now).contests) }
         ensures below { IfOk result (λ t. (q : RowKey) → IfSome (get t.rows q) (IsBelow total_limit)) };
+
+    /// The lines of the tally: those of its rows.
+    ///
+    /// # Errors
+    /// `Memory` where a growth was refused.
+    fn tally_text(&self, alloc: Global) -> Result<String, Memory>
+        ensures { IfOk result (λ text. string_bytes text ≡ tally (defined self.now).contests (held self.now)) };
 
     /// How many records it has. Takes no memory.
     fn record_count(&self) -> usize

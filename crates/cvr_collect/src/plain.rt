@@ -9,7 +9,7 @@ use crate::one_record::{current_in, header_in};
 use crate::putting::{in_one, own_devices, put_copies, put_in};
 use crate::record_facts::RecordFacts;
 use crate::record_lists::record_facts_in;
-use crate::tallying::{row_in, totals_in};
+use crate::tallying::{row_in, tally_in, totals_in};
 use cdf_check::{Definition, check_report};
 use cdf_types::{Body, Memory, ReadFault};
 use cvr_facts::{HeaderFact, RecordName, SnapshotFact, facts_of};
@@ -121,6 +121,11 @@ impl Office for PlainOffice {
     fn totals(&self, alloc: Global) -> Result<Totals, Memory> {
         let totals = totals_in(alloc, &self.definition, &self.facts)?;
         Ok(totals)
+    }
+
+    fn tally_text(&self, alloc: Global) -> Result<String, Memory> {
+        let text = tally_in(alloc, &self.definition, &self.facts)?;
+        Ok(text)
     }
 
     fn record_count(&self) -> usize {

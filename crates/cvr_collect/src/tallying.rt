@@ -1,4 +1,4 @@
-ghost use Rattle.std.specs.Prelude.{◌≡◌, ℕ, List, IfOk, OnOk};
+ghost use Rattle.std.specs.Prelude.{◌≡◌, ℕ, List, IfOk, OnOk, string_bytes};
 ghost use Rattle.std.specs.FinMap.{get};
 ghost use Rattle.std.specs.Option.{IfSome};
 ghost use Rattle.std.specs.List.Sorted.{IsStrictlySortedBy};
@@ -6,7 +6,7 @@ ghost use Rattle.cvr_tally.specs.declared.key.RowKey.{RowKey};
 ghost use Rattle.cvr_collect.specs.Place.{any_cmp};
 ghost use Rattle.cvr_collect.specs.Plain.{set_of, IsPlain};
 ghost use Rattle.cvr_collect.specs.Runs.{AreSpelled};
-ghost use Rattle.cvr_collect.specs.Tallied.{row, rows, total_limit, IsBelow};
+ghost use Rattle.cvr_collect.specs.Tallied.{row, rows, tally, total_limit, IsBelow};
 ghost use Rattle.cvr_collect.specs.Adding.{AreSums, CurrentsAreSums, key_for, sums_for, added, row_with, HaveRoom};
 
 use crate::any_fact::AnyFact;
@@ -15,7 +15,7 @@ use crate::one_record::{current_in, header_in};
 use cdf_check::Definition;
 use cdf_types::Memory;
 use cvr_facts::{HeaderFact, RecordName, VoteSums};
-use cvr_tally::{Row, RowKey, Totals};
+use cvr_tally::{Row, RowKey, Totals, tally_text};
 use std::alloc::Global;
 
 // The rows of the tally, record by record.
@@ -36,6 +36,19 @@ pub(crate) fn totals_in(
         next = next_record_in(facts, Some(name));
     }
     Ok(totals)
+}
+
+// The lines of these rows.
+pub(crate) fn tally_in(
+    alloc: Global,
+    definition: &Definition,
+    facts: &[AnyFact],
+) -> Result<String, Memory>
+    requires { IsPlain definition.now facts.now }
+    ensures { IfOk result (λ text. string_bytes text ≡ tally definition.now.contests (set_of facts.now)) }
+{
+    let totals = totals_in(alloc, definition, facts)?;
+    tally_text(alloc, &totals)
 }
 
 // The row of a key, if a record stands in it.
