@@ -119,7 +119,7 @@ fn open(totals: &mut Totals, contests: usize, key: &RowKey) -> Result<bool, Memo
 impl OpeningRow {
     // Before the row is opened, or after.
     fn new(rt: &HostRuntime, is_done: bool) -> Result<OpeningRow, Ended> {
-        let office = office_of(rt, &[SCAN, ADJUDICATED, BATCHED])?;
+        let office: PlainOffice = office_of(rt, &[SCAN, ADJUDICATED, BATCHED])?;
         Ok(OpeningRow::over(rt.alloc(), &office, is_done)?)
     }
 

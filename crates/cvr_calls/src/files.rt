@@ -2,7 +2,7 @@ use crate::trying::Ended;
 use cdf_check::{Definition, check_report};
 use cdf_types::ReadFault;
 use cvr_cli::{OverRead, read_file};
-use cvr_collect::{Office, PlainOffice};
+use cvr_collect::Office;
 use cvr_facts::{FactList, facts_of};
 use std::alloc::Global;
 use std::fs;
@@ -52,7 +52,7 @@ pub fn definition(rt: &HostRuntime) -> Result<Definition, Ended> {
 }
 
 /// Has an office take files.
-pub fn take(rt: &HostRuntime, office: &mut PlainOffice, names: &[&str]) -> Result<(), Ended> {
+pub fn take<O: Office>(rt: &HostRuntime, office: &mut O, names: &[&str]) -> Result<(), Ended> {
     for name in names {
         take_bytes(office, bytes_of(rt, name)?.as_slice())?;
     }
@@ -60,7 +60,7 @@ pub fn take(rt: &HostRuntime, office: &mut PlainOffice, names: &[&str]) -> Resul
 }
 
 // Has an office take a file. A function of its own, so that no other proof has to carry all that is said of `import`.
-fn take_bytes(office: &mut PlainOffice, bytes: &[u8]) -> Result<(), Ended> {
+fn take_bytes<O: Office>(office: &mut O, bytes: &[u8]) -> Result<(), Ended> {
     match office.import(bytes) {
         Ok(_) => Ok(()),
         Err(_) => Err(Ended::NotBuilt),
@@ -68,8 +68,8 @@ fn take_bytes(office: &mut PlainOffice, bytes: &[u8]) -> Result<(), Ended> {
 }
 
 /// An office beside the definition that took files.
-pub fn office_of(rt: &HostRuntime, names: &[&str]) -> Result<PlainOffice, Ended> {
-    let mut office = PlainOffice::new(rt.alloc(), definition(rt)?)?;
+pub fn office_of<O: Office + Drop>(rt: &HostRuntime, names: &[&str]) -> Result<O, Ended> {
+    let mut office = O::new(rt.alloc(), definition(rt)?)?;
     take(rt, &mut office, names)?;
     Ok(office)
 }

@@ -12,7 +12,6 @@ mod offices;
 mod playing;
 mod readings;
 mod records;
-mod remembering;
 mod running;
 mod same;
 mod table;

@@ -2,7 +2,7 @@ use crate::files::{ADJUDICATED, OTHER_UNIT, SCAN, all_bytes, office_of};
 use crate::same::are_same_offices;
 use crate::trying::{Ended, end, is_copy, was_refused};
 use cdf_types::{Memory, ReadFault};
-use cvr_collect::{Cause, Event, Office, Outcome, PlainOffice, play};
+use cvr_collect::{Cause, Event, Office, Outcome, play};
 use std::alloc::Global;
 
 static EVENTS: [Event; 3] = [
@@ -13,7 +13,11 @@ static EVENTS: [Event; 3] = [
 
 // Imports into an office the files of which the import was accepted, and answers how many were refused
 // for want of memory. None where an outcome isn't what that import tells.
-fn refused_of(wanted: &mut PlainOffice, files: &[Vec<u8>], outcomes: &[Outcome]) -> Option<usize> {
+fn refused_of<O: Office>(
+    wanted: &mut O,
+    files: &[Vec<u8>],
+    outcomes: &[Outcome],
+) -> Option<usize> {
     let mut refused = 0usize;
     for (outcome, file) in outcomes.iter().zip(files) {
         match outcome {
@@ -34,8 +38,8 @@ fn refused_of(wanted: &mut PlainOffice, files: &[Vec<u8>], outcomes: &[Outcome])
 
 // Whether the outcomes are right, with so many refusals at most. The office that is wanted gets the
 // files that were accepted.
-fn are_right(
-    wanted: &mut PlainOffice,
+fn are_right<O: Office>(
+    wanted: &mut O,
     files: &[Vec<u8>],
     outcomes: &Result<Vec<Outcome>, Memory>,
     most: usize,
@@ -50,9 +54,9 @@ fn are_right(
 }
 
 // Plays the imports. A function of its own, so that no other proof has to carry all that is said of `play`.
-fn played(
+fn played<O: Office>(
     alloc: Global,
-    offices: &mut [PlainOffice],
+    offices: &mut [O],
     files: &[Vec<u8>],
 ) -> Result<Vec<Outcome>, Memory> {
     play(alloc, offices, files, &EVENTS)
@@ -60,11 +64,11 @@ fn played(
 
 // Plays where memory may be refused. Where an allocation is refused alone, one import at most is refused;
 // the allocation after the last event tells whether all are refused from some point on.
-fn is_kept(
+fn is_kept<O: Office>(
     rt: &HostRuntime,
     files: &[Vec<u8>],
-    offices: &mut [PlainOffice],
-    wanted: &mut PlainOffice,
+    offices: &mut [O],
+    wanted: &mut O,
 ) -> bool {
     let outcomes = played(rt.alloc(), offices, files);
     let is_last_refused = Box::new(rt.alloc(), 0u8).is_err();
@@ -77,18 +81,18 @@ fn is_kept(
 }
 
 // Plays the same again, with memory.
-fn is_made_whole(
+fn is_made_whole<O: Office>(
     alloc: Global,
     files: &[Vec<u8>],
-    offices: &mut [PlainOffice],
-    wanted: &mut PlainOffice,
+    offices: &mut [O],
+    wanted: &mut O,
 ) -> bool {
     let outcomes = played(alloc, offices, files);
     are_right(wanted, files, &outcomes, 0) && is_first(alloc, offices, wanted)
 }
 
 // Whether the first office is as another.
-fn is_first(alloc: Global, offices: &[PlainOffice], wanted: &PlainOffice) -> bool {
+fn is_first<O: Office>(alloc: Global, offices: &[O], wanted: &O) -> bool {
     match offices {
         [office, ..] => are_same_offices(alloc, office, wanted).unwrap_or(false),
         [] => false,
@@ -96,14 +100,14 @@ fn is_first(alloc: Global, offices: &[PlainOffice], wanted: &PlainOffice) -> boo
 }
 
 // Tries to play these files into a new office, which is then to be as the whole.
-fn try_files(
+fn try_files<O: Office + Drop>(
     rt: &HostRuntime,
     name: &str,
     files: &[Vec<u8>],
-    whole: &PlainOffice,
+    whole: &O,
 ) -> Result<(), Ended> {
     let mut offices = [office_of(rt, &[])?];
-    let mut wanted = office_of(rt, &[])?;
+    let mut wanted: O = office_of(rt, &[])?;
     if !is_copy(rt, name) {
         return Ok(());
     }
@@ -114,9 +118,9 @@ fn try_files(
 }
 
 /// Tries to play three imports into a new office: what it then holds, and once all is played again.
-pub fn try_playing(rt: &HostRuntime, name: &str) -> Result<(), Ended> {
+pub fn try_playing<O: Office + Drop>(rt: &HostRuntime, name: &str) -> Result<(), Ended> {
     let names = [SCAN, ADJUDICATED, OTHER_UNIT];
     let files = all_bytes(rt, &names)?;
-    let whole = office_of(rt, &names)?;
+    let whole: O = office_of(rt, &names)?;
     try_files(rt, name, files.as_slice(), &whole)
 }

@@ -11,11 +11,12 @@ use crate::trying::Reading;
 use crate::writing::{DATE, DEVICE};
 use cdf_check::Definition;
 use cdf_types::{Memory, ReadFault};
+use cvr_cached::CachedOffice;
 use cvr_collect::{Office, PlainOffice};
 use cvr_facts::text::{push_quoted, push_word, quoted};
 use cvr_facts::{BodySet, DeviceFact, HeaderFact, SnapshotFact, VoteSums};
 use cvr_report::{HeadFault, Heading};
-use cvr_tally::RowKey;
+use cvr_tally::{RowKey, tally_text};
 use std::alloc::Global;
 
 /// Copies.
@@ -29,6 +30,7 @@ pub enum Copying {
     Key,
     KeyUnder,
     Row,
+    Totals,
     Definition,
 }
 
@@ -45,6 +47,7 @@ impl Reading for Copying {
             Copying::Key => is_key_copied(header)?,
             Copying::KeyUnder => is_key_of(header)?,
             Copying::Row => is_row_copied(alloc, records)?,
+            Copying::Totals => are_totals_copied(alloc, records.cached)?,
             Copying::Definition => is_definition_copied(alloc, records.definition)?,
         };
         Ok(is_right)
@@ -82,6 +85,13 @@ fn is_row_copied(alloc: Global, records: &Records<'_>) -> Result<bool, Memory> {
         Some(row) => Ok(are_same_rows(&row.copy(alloc)?, &row)),
         None => Ok(false),
     }
+}
+
+// Whether a copy of the running totals has the same lines.
+fn are_totals_copied(alloc: Global, office: &CachedOffice) -> Result<bool, Memory> {
+    let copy = office.kept().copy(alloc)?;
+    let wanted = tally_text(alloc, office.kept())?;
+    Ok(!wanted.is_empty() && tally_text(alloc, &copy)?.as_str() == wanted.as_str())
 }
 
 fn is_definition_copied(alloc: Global, definition: &Definition) -> Result<bool, Memory> {
@@ -127,6 +137,7 @@ pub enum Making {
     PushedQuoted,
     Word,
     Office,
+    CachedOffice,
     Heading,
 }
 
@@ -138,7 +149,8 @@ impl Reading for Making {
             Making::Quoted => quoted(alloc, "a\"b")?.as_str() == "\"a\\\"b\"",
             Making::PushedQuoted => is_quoted_pushed(alloc)?,
             Making::Word => is_word_pushed(alloc)?,
-            Making::Office => is_office_made(alloc, records.definition)?,
+            Making::Office => is_office_made::<PlainOffice>(alloc, records.definition)?,
+            Making::CachedOffice => is_office_made::<CachedOffice>(alloc, records.definition)?,
             Making::Heading => is_heading_made(alloc, records.definition)?,
         };
         Ok(is_right)
@@ -176,9 +188,12 @@ fn is_word_pushed(alloc: Global) -> Result<bool, Memory> {
 }
 
 // Whether a new office beside a definition has the definition's devices alone.
-fn is_office_made(alloc: Global, definition: &Definition) -> Result<bool, Memory> {
+fn is_office_made<O: Office + Drop>(
+    alloc: Global,
+    definition: &Definition,
+) -> Result<bool, Memory> {
     let copy = definition.copy(alloc)?;
-    let office = PlainOffice::new(alloc, copy)?;
+    let office = O::new(alloc, copy)?;
     Ok(office.record_count() == 0 && office.fact_count() == definition.devices().len())
 }
 

@@ -5,8 +5,16 @@ use crate::files::{
 use crate::table::try_records;
 use crate::trying::Ended;
 use cdf_check::Definition;
+use cvr_cached::CachedOffice;
 use cvr_collect::PlainOffice;
 use cvr_facts::{BodySet, DeviceFact, FactList, HeaderFact, SnapshotFact, VoteSums};
+
+/// The kinds of offices.
+#[derive(Clone, Copy)]
+pub enum Kind {
+    Plain,
+    Cached,
+}
 
 /// What the calls that change nothing read.
 #[derive(Drop)]
@@ -28,6 +36,8 @@ pub struct Records<'a> {
     /// An office of all other files, with conflicts of every kind. It has the record of the snapshot, and
     /// that of the header.
     pub office: &'a PlainOffice,
+    /// One that holds the same.
+    pub cached: &'a CachedOffice,
 }
 
 // The header of the file with a batch.
@@ -58,10 +68,6 @@ fn try_facts(
     facts: &FactList,
     header: &HeaderFact,
 ) -> Result<(), Ended> {
-    let device = first(facts.devices.as_slice())?;
-    let snapshot = first(facts.snapshots.as_slice())?;
-    let sums = first(snapshot.votes.as_slice())?;
-    let devices = BodySet::new(rt.alloc(), definition.devices())?;
     let files = [
         SCAN,
         ADJUDICATED,
@@ -70,7 +76,24 @@ fn try_facts(
         OTHER_DEVICE,
         BATCHED,
     ];
-    let office = office_of(rt, &files)?;
+    let office: PlainOffice = office_of(rt, &files)?;
+    let cached: CachedOffice = office_of(rt, &files)?;
+    try_offices(rt, bytes, definition, facts, header, &office, &cached)
+}
+
+fn try_offices(
+    rt: &HostRuntime,
+    bytes: &[u8],
+    definition: &Definition,
+    facts: &FactList,
+    header: &HeaderFact,
+    office: &PlainOffice,
+    cached: &CachedOffice,
+) -> Result<(), Ended> {
+    let device = first(facts.devices.as_slice())?;
+    let snapshot = first(facts.snapshots.as_slice())?;
+    let sums = first(snapshot.votes.as_slice())?;
+    let devices = BodySet::new(rt.alloc(), definition.devices())?;
     let records = Records {
         bytes,
         definition,
@@ -80,7 +103,8 @@ fn try_facts(
         snapshot,
         sums,
         header,
-        office: &office,
+        office,
+        cached,
     };
     try_records(rt, &records)
 }

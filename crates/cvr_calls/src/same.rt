@@ -1,8 +1,7 @@
-use crate::tellings::tally_of;
 use cdf_check::Definition;
 use cdf_types::Memory;
 use cvr_cli::currents_text;
-use cvr_collect::{Office, PlainOffice};
+use cvr_collect::Office;
 use cvr_facts::{BodySet, FactList, HeaderFact, SnapshotFact, VoteSums};
 use cvr_tally::Row;
 use std::alloc::Global;
@@ -86,26 +85,18 @@ pub fn are_same_rows(one: &Row, other: &Row) -> bool {
 }
 
 // Whether offices have the same lines of current snapshots.
-fn have_same_currents(
-    alloc: Global,
-    one: &PlainOffice,
-    other: &PlainOffice,
-) -> Result<bool, Memory> {
+fn have_same_currents<O: Office>(alloc: Global, one: &O, other: &O) -> Result<bool, Memory> {
     let text = currents_text(alloc, one)?;
     let wanted = currents_text(alloc, other)?;
     Ok(text.as_str() == wanted.as_str())
 }
 
 /// Whether offices are the same, and tell the same.
-pub fn are_same_offices(
-    alloc: Global,
-    one: &PlainOffice,
-    other: &PlainOffice,
-) -> Result<bool, Memory> {
+pub fn are_same_offices<O: Office>(alloc: Global, one: &O, other: &O) -> Result<bool, Memory> {
     if !one.same(other) || !have_same_currents(alloc, one, other)? {
         return Ok(false);
     }
-    let text = tally_of(alloc, one)?;
-    let wanted = tally_of(alloc, other)?;
+    let text = one.tally_text(alloc)?;
+    let wanted = other.tally_text(alloc)?;
     Ok(text.as_str() == wanted.as_str())
 }

@@ -4,17 +4,18 @@ use crate::lines::try_line;
 use crate::offices::{try_import, try_join};
 use crate::playing::try_playing;
 use crate::readings::{Copying, Filing, Making};
-use crate::records::{Records, try_new_records};
-use crate::remembering::{try_remembered_import, try_remembered_join};
+use crate::records::{Kind, Records, try_new_records};
 use crate::running::{Asked, try_running};
 use crate::tellings::{Telling, try_telling};
 use crate::trying::{Ended, Reading, try_reading};
 use crate::words::{try_words, try_work};
 use crate::writing::try_writing;
+use cvr_cached::CachedOffice;
+use cvr_collect::PlainOffice;
 
 // The scripts. Each public call that can answer want of memory stands in the name of one of them.
 
-static COPIES: [(&str, Copying); 10] = [
+static COPIES: [(&str, Copying); 11] = [
     ("Body::copy", Copying::Body),
     ("RecordName::copy", Copying::Name),
     ("DeviceFact::copy", Copying::Device),
@@ -24,6 +25,7 @@ static COPIES: [(&str, Copying); 10] = [
     ("RowKey::copy", Copying::Key),
     ("RowKey::under", Copying::KeyUnder),
     ("Row::copy", Copying::Row),
+    ("Totals::copy, tally_text", Copying::Totals),
     ("Definition::copy", Copying::Definition),
 ];
 
@@ -33,23 +35,46 @@ static FILINGS: [(&str, Filing); 3] = [
     ("check_report, facts_of", Filing::Facts),
 ];
 
-static MAKINGS: [(&str, Making); 7] = [
+static MAKINGS: [(&str, Making); 8] = [
     ("BodySet::new", Making::BodySet),
     ("join_both", Making::JoinBoth),
     ("quoted", Making::Quoted),
     ("push_quoted", Making::PushedQuoted),
     ("push_word", Making::Word),
     ("Office::new", Making::Office),
+    ("CachedOffice::new", Making::CachedOffice),
     ("Heading::new", Making::Heading),
 ];
 
-static TELLINGS: [(&str, Telling); 6] = [
-    ("Totals::new, Totals::open_row, tally_text", Telling::Opened),
-    ("Office::row", Telling::Row),
-    ("Office::record_facts", Telling::Record),
-    ("Office::conflicts, conflicts_text", Telling::Conflicts),
-    ("currents_text", Telling::Currents),
-    ("Office::totals, tally_text", Telling::Tally),
+static TELLINGS: [(&str, Kind, Telling); 12] = [
+    (
+        "Totals::new, Totals::open_row, tally_text",
+        Kind::Plain,
+        Telling::Opened,
+    ),
+    ("Office::row", Kind::Plain, Telling::Row),
+    ("Office::record_facts", Kind::Plain, Telling::Record),
+    (
+        "Office::conflicts, conflicts_text",
+        Kind::Plain,
+        Telling::Conflicts,
+    ),
+    ("currents_text", Kind::Plain, Telling::Currents),
+    ("Office::totals, tally_text", Kind::Plain, Telling::Totals),
+    ("Office::tally_text", Kind::Plain, Telling::Tally),
+    ("CachedOffice::row", Kind::Cached, Telling::Row),
+    ("CachedOffice::record_facts", Kind::Cached, Telling::Record),
+    (
+        "CachedOffice::conflicts, conflicts_text",
+        Kind::Cached,
+        Telling::Conflicts,
+    ),
+    (
+        "CachedOffice::totals, tally_text",
+        Kind::Cached,
+        Telling::Totals,
+    ),
+    ("CachedOffice::tally_text", Kind::Cached, Telling::Tally),
 ];
 
 static VOLUMES: [(&str, usize); 2] = [
@@ -112,52 +137,106 @@ static WORKS: [(&str, &[&str]); 5] = [
     ("work, a bad step", &["drill", DEFINITION, "2", "x"]),
 ];
 
-// Each file brings one new fact.
-static IMPORTS: [(&str, &str); 4] = [
-    ("Office::import, another body of a snapshot", OTHER_BODY),
-    ("Office::import, another body of a header", OTHER_UNIT),
-    ("Office::import, one more snapshot", EVERY_KIND),
-    ("Office::import, one more device", OTHER_DEVICE),
-];
-
-// The files of the other office, and the new facts that they bring.
-static JOINS: [(&str, &[&str], usize); 4] = [
-    ("Office::join, another body of a header", &[OTHER_UNIT], 1),
-    ("Office::join, one more snapshot", &[EVERY_KIND], 1),
-    ("Office::join, one more device", &[OTHER_DEVICE], 1),
+// A file, and the new facts that it brings.
+static IMPORTS: [(&str, Kind, &str, usize); 10] = [
     (
-        "Office::join, all three",
-        &[OTHER_UNIT, EVERY_KIND, OTHER_DEVICE],
-        3,
+        "Office::import, another body of a snapshot",
+        Kind::Plain,
+        OTHER_BODY,
+        1,
     ),
-];
-
-// What an office that remembers imports, and the new facts that a file brings.
-static REMEMBERED: [(&str, &str, usize); 5] = [
+    (
+        "Office::import, another body of a header",
+        Kind::Plain,
+        OTHER_UNIT,
+        1,
+    ),
+    (
+        "Office::import, one more snapshot",
+        Kind::Plain,
+        EVERY_KIND,
+        1,
+    ),
+    (
+        "Office::import, one more device",
+        Kind::Plain,
+        OTHER_DEVICE,
+        1,
+    ),
+    ("Office::import, one more record", Kind::Plain, BATCHED, 2),
     (
         "CachedOffice::import, another body of a snapshot",
+        Kind::Cached,
         OTHER_BODY,
         1,
     ),
     (
         "CachedOffice::import, another body of a header",
+        Kind::Cached,
         OTHER_UNIT,
         1,
     ),
-    ("CachedOffice::import, one more snapshot", EVERY_KIND, 1),
-    ("CachedOffice::import, one more device", OTHER_DEVICE, 1),
-    ("CachedOffice::import, one more record", BATCHED, 2),
+    (
+        "CachedOffice::import, one more snapshot",
+        Kind::Cached,
+        EVERY_KIND,
+        1,
+    ),
+    (
+        "CachedOffice::import, one more device",
+        Kind::Cached,
+        OTHER_DEVICE,
+        1,
+    ),
+    (
+        "CachedOffice::import, one more record",
+        Kind::Cached,
+        BATCHED,
+        2,
+    ),
 ];
 
-// What it joins.
-static REMEMBERED_JOINS: [(&str, &[&str], usize); 2] = [
+// The files of the other office, and the new facts that they bring.
+static JOINS: [(&str, Kind, &[&str], usize); 7] = [
     (
-        "CachedOffice::join, another body of a header",
+        "Office::join, another body of a header",
+        Kind::Plain,
         &[OTHER_UNIT],
         1,
     ),
     (
+        "Office::join, one more snapshot",
+        Kind::Plain,
+        &[EVERY_KIND],
+        1,
+    ),
+    (
+        "Office::join, one more device",
+        Kind::Plain,
+        &[OTHER_DEVICE],
+        1,
+    ),
+    (
+        "Office::join, all four",
+        Kind::Plain,
+        &[OTHER_UNIT, EVERY_KIND, OTHER_DEVICE, BATCHED],
+        5,
+    ),
+    (
+        "CachedOffice::join, another body of a header",
+        Kind::Cached,
+        &[OTHER_UNIT],
+        1,
+    ),
+    (
+        "CachedOffice::join, one more device",
+        Kind::Cached,
+        &[OTHER_DEVICE],
+        1,
+    ),
+    (
         "CachedOffice::join, all four",
+        Kind::Cached,
         &[OTHER_UNIT, EVERY_KIND, OTHER_DEVICE, BATCHED],
         5,
     ),
@@ -168,9 +247,7 @@ pub fn try_all(rt: &HostRuntime) -> Result<(), Ended> {
     try_new_records(rt)?;
     try_changes(rt)?;
     try_imports(rt)?;
-    try_joins(rt)?;
-    try_remembered_imports(rt)?;
-    try_remembered_joins(rt)
+    try_joins(rt)
 }
 
 /// Tries the calls that change nothing.
@@ -198,8 +275,8 @@ fn try_readings<R: Reading>(
 }
 
 fn try_tellings(rt: &HostRuntime, records: &Records<'_>) -> Result<(), Ended> {
-    for (name, telling) in &TELLINGS {
-        try_telling(rt, name, records, telling)?;
+    for (name, kind, telling) in &TELLINGS {
+        try_telling(rt, name, records, *kind, telling)?;
     }
     Ok(())
 }
@@ -215,33 +292,26 @@ fn try_changes(rt: &HostRuntime) -> Result<(), Ended> {
     try_push(rt, "Seq::push")?;
     try_join_bodies(rt, "BodySet::join")?;
     try_open(rt, "Totals::open_row")?;
-    try_playing(rt, "play")
+    try_playing::<PlainOffice>(rt, "play")?;
+    try_playing::<CachedOffice>(rt, "play, CachedOffice")
 }
 
 fn try_imports(rt: &HostRuntime) -> Result<(), Ended> {
-    for (name, file) in &IMPORTS {
-        try_import(rt, name, file)?;
+    for (name, kind, file, new_facts) in &IMPORTS {
+        match kind {
+            Kind::Plain => try_import::<PlainOffice>(rt, name, file, *new_facts)?,
+            Kind::Cached => try_import::<CachedOffice>(rt, name, file, *new_facts)?,
+        }
     }
     Ok(())
 }
 
 fn try_joins(rt: &HostRuntime) -> Result<(), Ended> {
-    for (name, files, new_facts) in &JOINS {
-        try_join(rt, name, files, *new_facts)?;
-    }
-    Ok(())
-}
-
-fn try_remembered_imports(rt: &HostRuntime) -> Result<(), Ended> {
-    for (name, file, new_facts) in &REMEMBERED {
-        try_remembered_import(rt, name, file, *new_facts)?;
-    }
-    Ok(())
-}
-
-fn try_remembered_joins(rt: &HostRuntime) -> Result<(), Ended> {
-    for (name, files, new_facts) in &REMEMBERED_JOINS {
-        try_remembered_join(rt, name, files, *new_facts)?;
+    for (name, kind, files, new_facts) in &JOINS {
+        match kind {
+            Kind::Plain => try_join::<PlainOffice>(rt, name, files, *new_facts)?,
+            Kind::Cached => try_join::<CachedOffice>(rt, name, files, *new_facts)?,
+        }
     }
     Ok(())
 }

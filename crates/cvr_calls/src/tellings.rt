@@ -1,10 +1,10 @@
 use crate::changes::opened_text;
-use crate::records::Records;
+use crate::records::{Kind, Records};
 use crate::trying::{Ended, Reading, try_reading};
 use cdf_types::{Memory, ReadFault};
 use cvr_cli::{conflicts_text, currents_text};
-use cvr_collect::{Office, PlainOffice, RecordFacts};
-use cvr_facts::HeaderFact;
+use cvr_collect::{Office, RecordFacts};
+use cvr_facts::{HeaderFact, RecordName};
 use cvr_tally::{Row, RowKey, tally_text};
 use std::alloc::Global;
 
@@ -15,36 +15,56 @@ pub enum Telling {
     Record,
     Conflicts,
     Currents,
+    Totals,
     Tally,
 }
 
 impl Telling {
     // The text, which tells all that the calls answer. Empty where they answer that there is nothing.
-    fn text(&self, alloc: Global, records: &Records<'_>) -> Result<String, Memory> {
+    fn text<O: Office>(
+        &self,
+        alloc: Global,
+        office: &O,
+        records: &Records<'_>,
+    ) -> Result<String, Memory> {
         match self {
             Telling::Opened => opened_text(alloc, records.definition),
-            Telling::Row => told_row(alloc, records),
-            Telling::Record => told_record(alloc, records),
-            Telling::Conflicts => conflicts_text(alloc, &records.office.conflicts(alloc)?),
-            Telling::Currents => currents_text(alloc, records.office),
-            Telling::Tally => tally_of(alloc, records.office),
+            Telling::Row => told_row(alloc, office, records.header),
+            Telling::Record => told_record(alloc, office, &records.snapshot.key),
+            Telling::Conflicts => conflicts_text(alloc, &office.conflicts(alloc)?),
+            Telling::Currents => currents_text(alloc, office),
+            Telling::Totals => tally_text(alloc, &office.totals(alloc)?),
+            Telling::Tally => office.tally_text(alloc),
+        }
+    }
+
+    // The text over the office of a kind.
+    fn text_by(
+        &self,
+        alloc: Global,
+        kind: Kind,
+        records: &Records<'_>,
+    ) -> Result<String, Memory> {
+        match kind {
+            Kind::Plain => self.text(alloc, records.office, records),
+            Kind::Cached => self.text(alloc, records.cached, records),
         }
     }
 }
 
 /// The row of a header's unit and batch in the first contest, if the office has it.
-pub fn row_of(
+pub fn row_of<O: Office>(
     alloc: Global,
-    office: &PlainOffice,
+    office: &O,
     header: &HeaderFact,
 ) -> Result<Option<Row>, Memory> {
     let key = RowKey::under(header, 0)?;
     office.row(alloc, &key)
 }
 
-// The numbers of the row of the header.
-fn told_row(alloc: Global, records: &Records<'_>) -> Result<String, Memory> {
-    match row_of(alloc, records.office, records.header)? {
+// The numbers of the row of a header.
+fn told_row<O: Office>(alloc: Global, office: &O, header: &HeaderFact) -> Result<String, Memory> {
+    match row_of(alloc, office, header)? {
         Some(row) => row_text(alloc, &row),
         None => Ok(String::new(alloc)),
     }
@@ -61,9 +81,9 @@ fn row_text(alloc: Global, row: &Row) -> Result<String, Memory> {
     Ok(text)
 }
 
-// All facts of the snapshot's record, which has several headers, ids and bodies under one id.
-fn told_record(alloc: Global, records: &Records<'_>) -> Result<String, Memory> {
-    match records.office.record_facts(alloc, &records.snapshot.key)? {
+// All facts of a record, which has several headers, ids and bodies under one id.
+fn told_record<O: Office>(alloc: Global, office: &O, key: &RecordName) -> Result<String, Memory> {
+    match office.record_facts(alloc, key)? {
         Some(record) => record_text(alloc, &record),
         None => Ok(String::new(alloc)),
     }
@@ -84,35 +104,37 @@ fn record_text(alloc: Global, record: &RecordFacts<'_>) -> Result<String, Memory
     Ok(text)
 }
 
-/// The lines of an office's tally.
-pub fn tally_of(alloc: Global, office: &PlainOffice) -> Result<String, Memory> {
-    let totals = office.totals(alloc)?;
-    tally_text(alloc, &totals)
-}
-
-// A text beside the one that was told before.
+// A text over the office of a kind, beside the one that was told before.
 #[derive(Drop)]
 struct Repeating<'a> {
     telling: &'a Telling,
+    kind: Kind,
     wanted: String,
 }
 
 impl Reading for Repeating<'_> {
     fn is_right(&self, alloc: Global, records: &Records<'_>) -> Result<bool, ReadFault> {
-        Ok(self.telling.text(alloc, records)?.as_str() == self.wanted.as_str())
+        let text = self.telling.text_by(alloc, self.kind, records)?;
+        Ok(text.as_str() == self.wanted.as_str())
     }
 }
 
-/// Tries what is told by a text, which isn't empty.
+/// Tries what an office of a kind tells by a text, which isn't empty, and which a plain one tells too.
 pub fn try_telling(
     rt: &HostRuntime,
     name: &str,
     records: &Records<'_>,
+    kind: Kind,
     telling: &Telling,
 ) -> Result<(), Ended> {
-    let wanted = telling.text(rt.alloc(), records)?;
+    let wanted = telling.text_by(rt.alloc(), Kind::Plain, records)?;
     if wanted.is_empty() {
         return Err(Ended::NotBuilt);
     }
-    try_reading(rt, name, records, &Repeating { telling, wanted })
+    let repeating = Repeating {
+        telling,
+        kind,
+        wanted,
+    };
+    try_reading(rt, name, records, &repeating)
 }
