@@ -1,16 +1,11 @@
 //! An office that remembers what it answers: its running totals, and how it stands beside a plain one.
 use crate::files::*;
-use crate::playing::tell_outcome;
+use crate::playing::{new_offices, tell_outcome};
 use cvr_cached::CachedOffice;
 use cvr_cli::{conflicts_text, currents_text};
 use cvr_collect::{Event, Office, PlainOffice, play};
 use cvr_tally::tally_text;
 use std::process::Abort;
-
-// A new office with the definition, changed so.
-fn new_office<O: Office>(rt: &(impl Abort + AllocGlobal), changes: Changes) -> O {
-    O::new(rt.alloc(), definition(rt, changes)).expect(rt, "no memory")
-}
 
 // Has an office take a file, and answers how many facts were new.
 fn take(rt: &(impl Abort + AllocGlobal), office: &mut CachedOffice, changes: Changes) -> usize {
@@ -143,16 +138,6 @@ const FILES: [Changes; 14] = [
 // The definitions of the offices: the third has another election.
 const DEFINITIONS: [Changes; 3] = [&[], WITHOUT_SECOND, OF_NAMED_ELECTION];
 
-fn new_offices<O: Office + Drop>(rt: &(impl Abort + AllocGlobal)) -> Vec<O> {
-    let mut offices = Vec::new(rt.alloc());
-    for changes in &DEFINITIONS {
-        offices
-            .push(new_office(rt, changes))
-            .expect(rt, "no memory");
-    }
-    offices
-}
-
 // What an office answers: counts, current snapshots, conflicts, rows.
 fn tell_office<O: Office>(rt: &(impl Abort + AllocGlobal), text: &mut String, office: &O) {
     let (records, facts) = (office.record_count(), office.fact_count());
@@ -163,8 +148,7 @@ fn tell_office<O: Office>(rt: &(impl Abort + AllocGlobal), text: &mut String, of
     let list = office.conflicts(rt.alloc()).expect(rt, "no memory");
     let conflicts = conflicts_text(rt.alloc(), &list).expect(rt, "no memory");
     text.push_str(conflicts.as_str()).expect(rt, "no memory");
-    let totals = office.totals(rt.alloc()).expect(rt, "no memory");
-    let rows = tally_text(rt.alloc(), &totals).expect(rt, "no memory");
+    let rows = office.tally_text(rt.alloc()).expect(rt, "no memory");
     text.push_str(rows.as_str()).expect(rt, "no memory");
 }
 
@@ -253,8 +237,8 @@ fn all_told(told: &str, wanted: &[&str]) -> bool {
 #[test]
 fn a_drill_goes_the_same_way_in_plain_offices(rt: HostRuntime) {
     let files = bytes_of(&rt, &FILES);
-    let mut cached: Vec<CachedOffice> = new_offices(&rt);
-    let mut plain: Vec<PlainOffice> = new_offices(&rt);
+    let mut cached: Vec<CachedOffice> = new_offices(&rt, &DEFINITIONS);
+    let mut plain: Vec<PlainOffice> = new_offices(&rt, &DEFINITIONS);
     let mut numbers = Numbers { state: 20261123 };
     let mut told = String::new(rt.alloc());
     for _ in 0..120 {

@@ -1,7 +1,7 @@
 //! Files of one small election, each told as changes of one scan, and what is made of them.
 use cdf_check::Definition;
 use cdf_types::Body;
-use cvr_collect::{Office, PlainOffice};
+use cvr_collect::Office;
 use cvr_facts::RecordName;
 use std::process::Abort;
 
@@ -137,13 +137,13 @@ pub fn definition(rt: &(impl Abort + AllocGlobal), changes: Changes) -> Definiti
 }
 
 /// A new office with the definition, changed so.
-pub fn office(rt: &(impl Abort + AllocGlobal), changes: Changes) -> PlainOffice {
-    PlainOffice::new(rt.alloc(), definition(rt, changes)).expect(rt, "no memory")
+pub fn new_office<O: Office>(rt: &(impl Abort + AllocGlobal), changes: Changes) -> O {
+    O::new(rt.alloc(), definition(rt, changes)).expect(rt, "no memory")
 }
 
 /// An office that took files.
-pub fn office_of(rt: &(impl Abort + AllocGlobal), files: &[Changes]) -> PlainOffice {
-    let mut office = office(rt, &[]);
+pub fn office_of<O: Office>(rt: &(impl Abort + AllocGlobal), files: &[Changes]) -> O {
+    let mut office: O = new_office(rt, &[]);
     for changes in files {
         take(rt, &mut office, changes);
     }
@@ -151,7 +151,7 @@ pub fn office_of(rt: &(impl Abort + AllocGlobal), files: &[Changes]) -> PlainOff
 }
 
 // Has an office take a file. A function of its own, so that no other proof has to carry all that is said of `import`.
-fn take(rt: &(impl Abort + AllocGlobal), office: &mut PlainOffice, changes: Changes) {
+fn take<O: Office>(rt: &(impl Abort + AllocGlobal), office: &mut O, changes: Changes) {
     let text = file(rt, changes);
     let _ = office
         .import(text.as_bytes())

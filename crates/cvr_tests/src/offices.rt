@@ -1,5 +1,6 @@
 //! What an office answers of the files that it took.
 use crate::files::*;
+use cvr_cached::CachedOffice;
 use cvr_collect::{Office, PlainOffice, RecordFacts};
 use cvr_facts::{HeaderFact, RecordName};
 use cvr_tally::{RowKey, tally_text};
@@ -25,7 +26,7 @@ fn are_of_the_move(facts: &RecordFacts<'_>) -> bool {
 }
 
 // Whether the header of a record is that of `p2`.
-fn has_moved(office: &PlainOffice, key: &RecordName) -> bool {
+fn has_moved<O: Office>(office: &O, key: &RecordName) -> bool {
     match office.header(key) {
         Some(header) => is_in(header, "p2"),
         None => false,
@@ -33,22 +34,32 @@ fn has_moved(office: &PlainOffice, key: &RecordName) -> bool {
 }
 
 // Whether the facts of a record are those of the move.
-fn are_both_kept(rt: &(impl Abort + AllocGlobal), office: &PlainOffice, key: &RecordName) -> bool {
+fn are_both_kept<O: Office>(
+    rt: &(impl Abort + AllocGlobal),
+    office: &O,
+    key: &RecordName,
+) -> bool {
     match office.record_facts(rt.alloc(), key).expect(rt, "no memory") {
         Some(facts) => are_of_the_move(&facts),
         None => false,
     }
 }
 
+// Whether the record has moved in an office, and both its headers are kept.
+fn is_moved<O: Office>(rt: &(impl Abort + AllocGlobal), office: &O) -> bool {
+    let key = name(rt, "u1");
+    has_moved(office, &key) && are_both_kept(rt, office, &key)
+}
+
 #[test]
 fn a_record_that_moves_keeps_both_headers(rt: HostRuntime) {
-    let (office, key) = (office_of(&rt, &[SCAN, MOVED]), name(&rt, "u1"));
-    let is_moved = has_moved(&office, &key);
-    assert!(rt; is_moved && are_both_kept(&rt, &office, &key));
+    let plain: PlainOffice = office_of(&rt, &[SCAN, MOVED]);
+    let cached: CachedOffice = office_of(&rt, &[SCAN, MOVED]);
+    assert!(rt; is_moved(&rt, &plain) && is_moved(&rt, &cached));
 }
 
 // Whether records come in order of their names, each once.
-fn come_in_order(rt: &(impl Abort + AllocGlobal), office: &PlainOffice) -> bool {
+fn come_in_order<O: Office>(rt: &(impl Abort + AllocGlobal), office: &O) -> bool {
     let (one, other) = (name(rt, "u1"), name(rt, "u2"));
     office.next_record(None) == Some(&one)
         && office.next_record(Some(&one)) == Some(&other)
@@ -57,26 +68,37 @@ fn come_in_order(rt: &(impl Abort + AllocGlobal), office: &PlainOffice) -> bool 
 
 #[test]
 fn records_come_in_order_of_their_names(rt: HostRuntime) {
-    let office = office_of(&rt, &[OTHER_RECORD, SCAN]);
-    assert!(rt; come_in_order(&rt, &office));
+    let plain: PlainOffice = office_of(&rt, &[OTHER_RECORD, SCAN]);
+    let cached: CachedOffice = office_of(&rt, &[OTHER_RECORD, SCAN]);
+    assert!(rt; come_in_order(&rt, &plain) && come_in_order(&rt, &cached));
 }
 
 // Whether body number k of the third scanner is this one.
-fn is_body_of_third(office: &PlainOffice, k: usize, body: &str) -> bool {
+fn is_body_of_third<O: Office>(office: &O, k: usize, body: &str) -> bool {
     match office.device_body("s3", k) {
         Some(text) => text.as_str() == body,
         None => false,
     }
 }
 
+// The two bodies of the third scanner, the greatest first.
+const THIRD: &str = r#"{"@id":"s3","@type":"CVR.ReportingDevice"}"#;
+
+const THIRD_WITH_MODEL: &str = r#"{"@id":"s3","@type":"CVR.ReportingDevice","Model":"x"}"#;
+
+// Whether an office has both, the greatest first.
+fn has_both_bodies<O: Office>(office: &O) -> bool {
+    office.next_device(Some("s2")) == Some("s3")
+        && office.device_count("s3") == 2
+        && is_body_of_third(office, 1, THIRD)
+        && is_body_of_third(office, 2, THIRD_WITH_MODEL)
+}
+
 #[test]
 fn bodies_of_a_device_come_greatest_first(rt: HostRuntime) {
-    let office = office_of(&rt, &[WITH_MODEL_OF_THIRD, WITH_THIRD]);
-    let third = r#"{"@id":"s3","@type":"CVR.ReportingDevice"}"#;
-    let with_model = r#"{"@id":"s3","@type":"CVR.ReportingDevice","Model":"x"}"#;
-    assert!(rt; office.next_device(Some("s2")) == Some("s3"));
-    assert_eq!(rt; office.device_count("s3"), 2);
-    assert!(rt; is_body_of_third(&office, 1, third) && is_body_of_third(&office, 2, with_model));
+    let plain: PlainOffice = office_of(&rt, &[WITH_MODEL_OF_THIRD, WITH_THIRD]);
+    let cached: CachedOffice = office_of(&rt, &[WITH_MODEL_OF_THIRD, WITH_THIRD]);
+    assert!(rt; has_both_bodies(&plain) && has_both_bodies(&cached));
 }
 
 // Both rows of the mayor once all has come: one of each record, under the greatest header.
@@ -94,12 +116,19 @@ const FILES: [Changes; 7] = [
     EVERY_KIND,
 ];
 
+// Whether these are the rows of an office.
+fn has_rows<O: Office>(rt: &(impl Abort + AllocGlobal), office: &O) -> bool {
+    let totals = office.totals(rt.alloc()).expect(rt, "no memory");
+    let rows = tally_text(rt.alloc(), &totals).expect(rt, "no memory");
+    let text = office.tally_text(rt.alloc()).expect(rt, "no memory");
+    rows.as_str() == ROWS && text.as_str() == ROWS
+}
+
 #[test]
 fn totals_are_those_of_current_snapshots(rt: HostRuntime) {
-    let office = office_of(&rt, &FILES);
-    let totals = office.totals(rt.alloc()).expect(&rt, "no memory");
-    let text = tally_text(rt.alloc(), &totals).expect(&rt, "no memory");
-    assert!(rt; text.as_str() == ROWS, "{text}");
+    let plain: PlainOffice = office_of(&rt, &FILES);
+    let cached: CachedOffice = office_of(&rt, &FILES);
+    assert!(rt; has_rows(&rt, &plain) && has_rows(&rt, &cached));
 }
 
 // The key of the mayor's row in a unit, of no batch.
@@ -112,9 +141,9 @@ fn key_in(rt: &(impl Abort + AllocGlobal), unit: &str) -> RowKey {
 }
 
 // The ballots of the mayor's row in a unit, and the votes of its last selection. None where there is no row.
-fn last_in(
+fn last_in<O: Office>(
     rt: &(impl Abort + AllocGlobal),
-    office: &PlainOffice,
+    office: &O,
     unit: &str,
 ) -> Option<(u128, u128)> {
     let found = office.row(rt.alloc(), &key_in(rt, unit));
@@ -124,9 +153,14 @@ fn last_in(
     }
 }
 
+// Whether an office has the row of the one unit, and none of the other.
+fn has_one_row<O: Office>(rt: &(impl Abort + AllocGlobal), office: &O) -> bool {
+    last_in(rt, office, "p2") == Some((1, 1)) && last_in(rt, office, "p1").is_none()
+}
+
 #[test]
 fn a_row_is_found_by_its_key(rt: HostRuntime) {
-    let office = office_of(&rt, &FILES);
-    let (there, lacking) = (last_in(&rt, &office, "p2"), last_in(&rt, &office, "p1"));
-    assert!(rt; there == Some((1, 1)) && lacking.is_none());
+    let plain: PlainOffice = office_of(&rt, &FILES);
+    let cached: CachedOffice = office_of(&rt, &FILES);
+    assert!(rt; has_one_row(&rt, &plain) && has_one_row(&rt, &cached));
 }

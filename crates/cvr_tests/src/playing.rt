@@ -1,5 +1,6 @@
 //! Events over new offices: what becomes of each, and what the offices then hold.
 use crate::files::*;
+use cvr_cached::CachedOffice;
 use cvr_collect::Event::{Exchange, Import};
 use cvr_collect::{Cause, Event, JoinFault, Office, Outcome, PlainOffice, play};
 use std::process::Abort;
@@ -139,15 +140,18 @@ const SEVEN_FILES: Drill = Drill {
 };
 
 // New offices, each with its definition.
-fn new_offices(rt: &(impl Abort + AllocGlobal), definitions: &[Changes]) -> Vec<PlainOffice> {
+pub(crate) fn new_offices<O: Office + Drop>(
+    rt: &(impl Abort + AllocGlobal),
+    definitions: &[Changes],
+) -> Vec<O> {
     let mut offices = Vec::new(rt.alloc());
     for changes in definitions {
-        add(rt, &mut offices, office(rt, changes));
+        add(rt, &mut offices, new_office(rt, changes));
     }
     offices
 }
 
-fn add(rt: &(impl Abort + AllocGlobal), offices: &mut Vec<PlainOffice>, office: PlainOffice) {
+fn add<O: Office + Drop>(rt: &(impl Abort + AllocGlobal), offices: &mut Vec<O>, office: O) {
     offices.push(office).expect(rt, "no memory");
 }
 
@@ -172,7 +176,7 @@ pub(crate) fn tell_outcome(rt: &(impl Abort + AllocGlobal), text: &mut String, o
 }
 
 // The place of the first office that is the same.
-fn first_same(offices: &[PlainOffice], office: &PlainOffice) -> usize {
+fn first_same<O: Office>(offices: &[O], office: &O) -> usize {
     offices
         .iter()
         .take_while(|other| !other.same(office))
@@ -180,7 +184,11 @@ fn first_same(offices: &[PlainOffice], office: &PlainOffice) -> usize {
 }
 
 // What is told of offices after these outcomes.
-fn told(rt: &(impl Abort + AllocGlobal), offices: &[PlainOffice], outcomes: &[Outcome]) -> String {
+fn told<O: Office>(
+    rt: &(impl Abort + AllocGlobal),
+    offices: &[O],
+    outcomes: &[Outcome],
+) -> String {
     let mut text = String::new(rt.alloc());
     for outcome in outcomes {
         tell_outcome(rt, &mut text, outcome);
@@ -194,28 +202,43 @@ fn told(rt: &(impl Abort + AllocGlobal), offices: &[PlainOffice], outcomes: &[Ou
     text
 }
 
-// What is told of a drill.
-fn played(rt: &(impl Abort + AllocGlobal), drill: &Drill) -> String {
-    let mut offices = new_offices(rt, drill.offices);
+// What is told of a drill among these new offices.
+fn played<O: Office + Drop>(
+    rt: &(impl Abort + AllocGlobal),
+    mut offices: Vec<O>,
+    drill: &Drill,
+) -> String {
     let files = bytes_of(rt, drill.files);
     let outcomes = outcomes_of(rt, &mut offices, &files, drill.events);
     told(rt, &offices, &outcomes)
 }
 
 // Plays events. A function of its own, so that no other proof has to carry all that is said of `play`.
-fn outcomes_of(
+fn outcomes_of<O: Office>(
     rt: &(impl Abort + AllocGlobal),
-    offices: &mut [PlainOffice],
+    offices: &mut [O],
     files: &[Vec<u8>],
     events: &[Event],
 ) -> Vec<Outcome> {
     play(rt.alloc(), offices, files, events).expect(rt, "no memory")
 }
 
-// Plays a drill, and ends the test where another thing is told of it.
-fn check(rt: &(impl Abort + AllocGlobal), drill: &Drill) {
-    let told = played(rt, drill);
+// Plays a drill among new offices, and ends the test where another thing is told of it.
+fn check_among<O: Office + Drop>(
+    rt: &(impl Abort + AllocGlobal),
+    offices: Vec<O>,
+    drill: &Drill,
+) {
+    let told = played(rt, offices, drill);
     assert!(rt; told.as_str() == drill.told, "{told}");
+}
+
+// Plays a drill among offices of each kind.
+fn check(rt: &(impl Abort + AllocGlobal), drill: &Drill) {
+    let plain: Vec<PlainOffice> = new_offices(rt, drill.offices);
+    check_among(rt, plain, drill);
+    let cached: Vec<CachedOffice> = new_offices(rt, drill.offices);
+    check_among(rt, cached, drill);
 }
 
 #[test]

@@ -1,5 +1,6 @@
 //! A row of the tally in each of its columns.
 use crate::files::*;
+use cvr_cached::CachedOffice;
 use cvr_collect::{Office, PlainOffice};
 use cvr_tally::{Row, RowKey};
 use std::process::Abort;
@@ -28,7 +29,7 @@ fn is_copied(rt: &(impl Abort + AllocGlobal), row: &Row) -> bool {
 }
 
 // Whether an office has the row of the unit with these numbers, in a copy too.
-fn has_numbered(rt: &(impl Abort + AllocGlobal), office: &PlainOffice) -> bool {
+fn has_numbered<O: Office>(rt: &(impl Abort + AllocGlobal), office: &O) -> bool {
     let key = RowKey {
         contest: 0,
         unit: Some(body(rt, "p1")),
@@ -42,6 +43,7 @@ fn has_numbered(rt: &(impl Abort + AllocGlobal), office: &PlainOffice) -> bool {
 
 #[test]
 fn a_row_is_told_and_copied_in_each_column(rt: HostRuntime) {
-    let office = office_of(&rt, &[NUMBERED]);
-    assert!(rt; has_numbered(&rt, &office));
+    let plain: PlainOffice = office_of(&rt, &[NUMBERED]);
+    let cached: CachedOffice = office_of(&rt, &[NUMBERED]);
+    assert!(rt; has_numbered(&rt, &plain) && has_numbered(&rt, &cached));
 }

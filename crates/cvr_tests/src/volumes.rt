@@ -69,21 +69,21 @@ fn is_written(
 
 #[test]
 fn an_office_of_no_files_writes_no_records(rt: HostRuntime) {
-    let office = office_of(&rt, &[]);
+    let office: PlainOffice = office_of(&rt, &[]);
     assert_eq!(rt; volumes(&office), 1);
     assert!(rt; is_written(&rt, &office, 1, ""));
 }
 
 #[test]
 fn a_record_is_written_with_its_snapshot(rt: HostRuntime) {
-    let office = office_of(&rt, &[SCAN]);
+    let office: PlainOffice = office_of(&rt, &[SCAN]);
     assert_eq!(rt; volumes(&office), 1);
     assert!(rt; is_written(&rt, &office, 1, SCANNED));
 }
 
 #[test]
 fn two_bodies_under_one_id_make_two_volumes(rt: HostRuntime) {
-    let office = office_of(&rt, &[SCAN, ADJUDICATED, FOR_WRITE_IN]);
+    let office: PlainOffice = office_of(&rt, &[SCAN, ADJUDICATED, FOR_WRITE_IN]);
     assert_eq!(rt; volumes(&office), 2);
     assert!(rt; is_written(&rt, &office, 1, FIRST));
     assert!(rt; is_written(&rt, &office, 2, SECOND));
@@ -102,7 +102,7 @@ fn is_cut_short(
 
 #[test]
 fn a_sink_that_fails_has_taken_a_front(rt: HostRuntime) {
-    let office = office_of(&rt, &[SCAN, ADJUDICATED, FOR_WRITE_IN]);
+    let office: PlainOffice = office_of(&rt, &[SCAN, ADJUDICATED, FOR_WRITE_IN]);
     let text = text_of(&rt, FIRST);
     let bytes = text.as_bytes();
     for taken in 0..bytes.len() {
@@ -125,7 +125,7 @@ fn fault_of(
 
 #[test]
 fn a_heading_has_a_moment_and_a_device_of_the_definition(rt: HostRuntime) {
-    let office = office_of(&rt, &[WITH_THIRD]);
+    let office: PlainOffice = office_of(&rt, &[WITH_THIRD]);
     assert!(rt; fault_of(&rt, &office, "2024-11-06", "desk") == Some(HeadFault::NotMoment));
     assert!(rt;
         fault_of(&rt, &office, "2024-11-06T08:00:00Z[UTC]", "desk") == Some(HeadFault::NotMoment)
