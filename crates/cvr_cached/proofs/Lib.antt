@@ -13,6 +13,7 @@ pub mod Begins
 pub mod CellSums
 pub mod RowLink
 pub mod Closing
+pub mod KeyTests
 pub mod Putting
 pub mod Rooms
 pub mod Taken
