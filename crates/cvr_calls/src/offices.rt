@@ -7,7 +7,7 @@ use std::alloc::Global;
 
 // The office of two files, or of these and more.
 fn office_with<O: Office + Drop>(rt: &HostRuntime, more: &[&str]) -> Result<O, Ended> {
-    let mut office = office_of(rt, &[SCAN, ADJUDICATED])?;
+    let mut office: O = office_of(rt, &[SCAN, ADJUDICATED])?;
     take(rt, &mut office, more)?;
     Ok(office)
 }
@@ -29,7 +29,7 @@ impl<O: Office + Drop> Importing<O> {
         is_done: bool,
     ) -> Result<Importing<O>, Ended> {
         let bytes = bytes_of(rt, name)?;
-        let office = if is_done {
+        let office: O = if is_done {
             office_with(rt, &[name])?
         } else {
             office_with(rt, &[])?
@@ -72,8 +72,8 @@ impl<O: Office + Drop> Joining<O> {
         new_facts: usize,
         is_done: bool,
     ) -> Result<Joining<O>, Ended> {
-        let other = office_of(rt, names)?;
-        let office = if is_done {
+        let other: O = office_of(rt, names)?;
+        let office: O = if is_done {
             office_with(rt, names)?
         } else {
             office_with(rt, &[])?
@@ -105,8 +105,8 @@ pub fn try_import<O: Office + Drop>(
     new_facts: usize,
 ) -> Result<(), Ended> {
     let before: Result<Importing<O>, Ended> = Importing::new(rt, file, new_facts, false);
-    let after = Importing::new(rt, file, new_facts, true);
-    let change = Importing::new(rt, file, new_facts, false);
+    let after: Result<Importing<O>, Ended> = Importing::new(rt, file, new_facts, true);
+    let change: Result<Importing<O>, Ended> = Importing::new(rt, file, new_facts, false);
     try_change(rt, name, change, before, after)
 }
 
@@ -118,7 +118,7 @@ pub fn try_join<O: Office + Drop>(
     new_facts: usize,
 ) -> Result<(), Ended> {
     let before: Result<Joining<O>, Ended> = Joining::new(rt, files, new_facts, false);
-    let after = Joining::new(rt, files, new_facts, true);
-    let change = Joining::new(rt, files, new_facts, false);
+    let after: Result<Joining<O>, Ended> = Joining::new(rt, files, new_facts, true);
+    let change: Result<Joining<O>, Ended> = Joining::new(rt, files, new_facts, false);
     try_change(rt, name, change, before, after)
 }

@@ -106,14 +106,15 @@ fn try_files<O: Office + Drop>(
     files: &[Vec<u8>],
     whole: &O,
 ) -> Result<(), Ended> {
-    let mut offices = [office_of(rt, &[])?];
+    let mut offices: Vec<O> = Vec::new(rt.alloc());
+    offices.push(office_of(rt, &[])?)?;
     let mut wanted: O = office_of(rt, &[])?;
     if !is_copy(rt, name) {
         return Ok(());
     }
-    let is_right = is_kept(rt, files, &mut offices, &mut wanted)
-        && is_made_whole(rt.alloc(), files, &mut offices, &mut wanted)
-        && is_first(rt.alloc(), &offices, whole);
+    let is_right = is_kept(rt, files, offices.as_mut_slice(), &mut wanted)
+        && is_made_whole(rt.alloc(), files, offices.as_mut_slice(), &mut wanted)
+        && is_first(rt.alloc(), offices.as_slice(), whole);
     end(rt, name, is_right)
 }
 
