@@ -7,7 +7,7 @@ use Rattle.cdf_check.specs.Named.{Entry}
 use Rattle.cdf_check.specs.Frame.{Frame}
 use Rattle.cvr_facts.specs.declared.name.RecordName.{RecordName}
 use Rattle.cvr_facts.specs.Facts.{Fact, Device, name_cmp}
-use Rattle.cvr_facts.proofs.Members.{none_listed, in_map, from_map}
+use Rattle.cvr_facts.proofs.Lemmas.{none_listed, in_map, from_map}
 use Rattle.cvr_tally.specs.declared.key.RowKey.{RowKey}
 use Rattle.cvr_tally.specs.Rows.{Rows}
 use Rattle.cvr_tally.specs.Keys.{key_cmp, keys_total, keys_exact}

@@ -8,7 +8,7 @@ use Rattle.cdf_form.specs.Places.{Contest}
 use Rattle.cdf_check.specs.Frame.{Frame}
 use Rattle.cvr_facts.specs.declared.name.RecordName.{RecordName}
 use Rattle.cvr_facts.specs.Facts.{fact_total, fact_exact}
-use Rattle.cvr_facts.proofs.Members.{in_map, in_set, in_flat}
+use Rattle.cvr_facts.proofs.Lemmas.{in_map, in_set, in_flat}
 use Rattle.cvr_tally.specs.declared.key.RowKey.{RowKey}
 use Rattle.cvr_tally.specs.declared.row.Row.{Row}
 use Rattle.cvr_tally.specs.Rows.{Rows}

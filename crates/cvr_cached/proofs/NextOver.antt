@@ -9,7 +9,7 @@ use Rattle.std.specs.declared.ops.Bound.TheVariants.{Excluded, Unbounded}
 use Rattle.cvr_facts.specs.declared.name.RecordName.{RecordName}
 use Rattle.cvr_facts.specs.Facts.{name_cmp}
 use Rattle.cvr_collect.specs.Readers.{next}
-use Rattle.cvr_collect.proofs.Runs.{name_total}
+use Rattle.cvr_collect.proofs.Laws.{name_total}
 use Rattle.cvr_cached.specs.Contents.{Entries}
 
 abbrev pub first_of : Entries → Option RecordName

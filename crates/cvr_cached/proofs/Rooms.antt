@@ -19,10 +19,8 @@ use Rattle.cvr_facts.specs.declared.sums.VoteSums.{VoteSums}
 use Rattle.cvr_facts.specs.Facts.{Facts}
 use Rattle.cvr_facts.specs.Choosing.{fact_choice}
 use Rattle.cvr_facts.specs.Sums.{sum_limit}
-use Rattle.cvr_facts.proofs.Choosing.{fact_total}
-use Rattle.cvr_facts.proofs.Greatest.{greatest_is}
-use Rattle.cvr_facts.proofs.Members.{at_head, at_tail, head_or_tail, none_listed, from_map}
-use Rattle.cvr_facts.proofs.Records.{from-filter_map}
+use Rattle.cvr_facts.proofs.Laws.{fact_total}
+use Rattle.cvr_facts.proofs.Lemmas.{greatest_is, at_head, at_tail, head_or_tail, none_listed, from_map, from-filter_map}
 use Rattle.cvr_tally.specs.declared.key.RowKey.{RowKey}
 use Rattle.cvr_tally.specs.Keys.{is_key}
 use Rattle.cvr_collect.specs.declared.any_fact.AnyFact.{AnyFact}

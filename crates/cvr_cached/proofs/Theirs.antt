@@ -14,8 +14,8 @@ use Rattle.cvr_facts.specs.Facts.{name_cmp}
 use Rattle.cvr_collect.specs.declared.any_fact.AnyFact.{AnyFact}
 use Rattle.cvr_collect.specs.Place.{any_cmp}
 use Rattle.cvr_collect.specs.Plain.{IsPut}
-use Rattle.cvr_collect.proofs.RecordMembers.{name_exact, own_name}
-use Rattle.cvr_collect.proofs.Runs.{name_total}
+use Rattle.cvr_collect.proofs.Laws.{name_exact, name_total}
+use Rattle.cvr_collect.proofs.RecordMembers.{own_name}
 use Rattle.cvr_cached.specs.declared.change.Keys.{Keys}
 use Rattle.cvr_cached.specs.Contents.{Entries, facts_at}
 use Rattle.cvr_cached.specs.Plans.{IsPassed, IsPlanned, IsPlan, IsStep}

@@ -3,8 +3,7 @@ use Rattle.std.specs.BTreeMap.{get}
 use Rattle.std.proofs.lemmas.Map.Lookups.{btree_map_from_get}
 use Rattle.cvr_facts.specs.Facts.{name_cmp}
 use Rattle.cvr_collect.specs.Runs.{run}
-use Rattle.cvr_collect.proofs.RecordMembers.{name_exact}
-use Rattle.cvr_collect.proofs.Runs.{name_total}
+use Rattle.cvr_collect.proofs.Laws.{name_exact, name_total}
 use Rattle.cvr_cached.specs.Contents.{listed}
 use Rattle.cvr_cached.specs.Plans.{all_moves}
 use Rattle.cvr_cached.proofs.After.{own_after, put_after}
