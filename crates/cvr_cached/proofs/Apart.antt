@@ -11,8 +11,7 @@ use Rattle.std.proofs.lemmas.List.Elements.{filter-append, Contains-append_left,
 use Rattle.std.proofs.lemmas.Map.Keys.{sorted_head, sorted_tail}
 use Rattle.cvr_facts.specs.declared.name.RecordName.{RecordName}
 use Rattle.cvr_facts.specs.Facts.{Fact, Device, Header, Snapshot, name_cmp}
-use Rattle.cvr_facts.proofs.Lemmas.{at_head, at_tail, in_map}
-use Rattle.cvr_facts.proofs.Members.{from_flat}
+use Rattle.cvr_facts.proofs.Lemmas.{at_head, at_tail, in_map, from_flat}
 use Rattle.cvr_collect.specs.declared.any_fact.AnyFact.{AnyFact}
 use Rattle.cvr_collect.specs.declared.conflict.Conflict.{Conflict}
 use Rattle.cvr_collect.specs.declared.conflict.ConflictName.{ConflictName}
@@ -24,8 +23,8 @@ use Rattle.cvr_collect.specs.Plain.{set_of}
 use Rattle.cvr_collect.proofs.Laws.{name_total}
 use Rattle.cvr_collect.proofs.NameOrder.{name_is}
 use Rattle.cvr_collect.proofs.NameRuns.{runs_from, counted_runs}
-use Rattle.cvr_collect.proofs.NameSteps.{most-cons}
 use Rattle.cvr_collect.proofs.ConflictLists.{of_several, most_of, conflicts-is, greatest_count-is}
+use Rattle.cvr_collect.proofs.Lemmas.{most-cons}
 use Rattle.cvr_cached.specs.Contents.{Entries, listed}
 use Rattle.cvr_cached.specs.Held.{AreOwn}
 use Rattle.cvr_cached.proofs.Listed.{each_of, own_each, found_own, listed_rises}

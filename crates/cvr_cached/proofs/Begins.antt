@@ -16,7 +16,7 @@ use Rattle.cvr_collect.specs.Names.{record_of, records}
 use Rattle.cvr_collect.specs.Place.{fact_of, any_cmp}
 use Rattle.cvr_collect.specs.Plain.{set_of, IsPlain, IsPut}
 use Rattle.cvr_collect.specs.Tallied.{row, rows, row_over}
-use Rattle.cvr_collect.proofs.RowsOfKeys.{rows_law}
+use Rattle.cvr_collect.proofs.Laws.{rows_law}
 use Rattle.cvr_cached.specs.Contents.{Entries, listed}
 use Rattle.cvr_cached.specs.Held.{AreOwn, IsHeld, IsCached}
 use Rattle.cvr_cached.proofs.Listed.{sorted_nil}

@@ -1,14 +1,27 @@
--- Tests of keys: a key is its own, and what holds of none of a list holds of none of its parts.
+-- Tests of keys and of names: a tie tells that two are the same, and what holds of none of a list holds of none of its parts.
 use Rattle.std.proofs.Common.{◌≡◌, Bool, true, false, ◌||◌, List, ◌++◌, refl, sym, ◌∙◌}
 use Rattle.std.specs.List.{list_any}
-use Rattle.std.specs.Cmp.{Equal-is, tied_itself}
+use Rattle.std.specs.Ordering.{is_eq}
 use Rattle.std.proofs.lemmas.Bool.{false≢true}
 use Rattle.std.proofs.lemmas.List.Folds.{list_any-append}
 use Rattle.cvr_tally.specs.declared.key.RowKey.{RowKey}
-use Rattle.cvr_tally.specs.Keys.{is_key, key_cmp, keys_total}
+use Rattle.cvr_tally.specs.Keys.{is_key, keys_total, keys_exact}
+use Rattle.cvr_facts.specs.declared.name.RecordName.{RecordName}
+use Rattle.cvr_facts.specs.Facts.{name_cmp}
+use Rattle.cvr_facts.proofs.Lemmas.{tie_is, tie_itself}
+use Rattle.cvr_collect.proofs.Laws.{name_total, name_exact}
 
 pub self_key : (k : RowKey) → is_key k k ≡ true
-self_key k = (Equal-is (key_cmp k k)).1 (tied_itself keys_total k)
+self_key k = tie_itself keys_total k k refl
+
+pub same_key : (q k : RowKey) → is_key q k ≡ true → q ≡ k
+same_key q k e = tie_is keys_exact q k e
+
+pub own_name : (a b : RecordName) → a ≡ b → is_eq (name_cmp a b) ≡ true
+own_name a b e = tie_itself name_total a b e
+
+pub same_name : (a b : RecordName) → is_eq (name_cmp a b) ≡ true → a ≡ b
+same_name a b h = tie_is name_exact a b h
 
 pub or_split : (a b : Bool) → (a || b) ≡ false → (a ≡ false) × (b ≡ false)
 or_split true b h = absurd (false≢true (sym h))

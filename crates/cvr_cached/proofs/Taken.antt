@@ -17,8 +17,7 @@ use Rattle.cdf_form.specs.Places.{Contest, selections_at}
 use Rattle.cdf_check.specs.Frame.{Frame}
 use Rattle.cvr_facts.specs.declared.name.RecordName.{RecordName}
 use Rattle.cvr_facts.specs.Facts.{name_cmp, fact_total, fact_exact}
-use Rattle.cvr_facts.proofs.Lemmas.{at_head, at_tail, none_listed, in_map, in_set, in_flat}
-use Rattle.cvr_facts.proofs.Members.{from_flat}
+use Rattle.cvr_facts.proofs.Lemmas.{at_head, at_tail, none_listed, in_map, in_set, in_flat, from_flat}
 use Rattle.cvr_tally.specs.declared.key.RowKey.{RowKey}
 use Rattle.cvr_tally.specs.declared.row.Row.{Row}
 use Rattle.cvr_tally.specs.Rows.{Rows, row_closed, TotalsValue, IsTotals}
@@ -31,12 +30,10 @@ use Rattle.cvr_collect.specs.Plain.{set_of, IsPlain, IsPut}
 use Rattle.cvr_collect.specs.Readers.{growth}
 use Rattle.cvr_collect.specs.Runs.{is_of, run}
 use Rattle.cvr_collect.specs.Tallied.{row, rows}
-use Rattle.cvr_collect.proofs.Lemmas.{from_filter, in_filter}
+use Rattle.cvr_collect.proofs.Lemmas.{from_filter, in_filter, in_union}
 use Rattle.cvr_collect.proofs.CurrentSums.{currents_are_sums}
 use Rattle.cvr_collect.proofs.PlainLists.{len-set_of, spelled_put}
-use Rattle.cvr_collect.proofs.RecordMembers.{same_name, own_name}
-use Rattle.cvr_collect.proofs.Rising.{in_union}
-use Rattle.cvr_collect.proofs.RowsOfKeys.{rows_law, ballots_law}
+use Rattle.cvr_collect.proofs.Laws.{rows_law, ballots_law}
 use Rattle.cvr_cached.specs.declared.change.Keys.{Keys}
 use Rattle.cvr_cached.specs.Contents.{Entries, facts_at, standing, listed}
 use Rattle.cvr_cached.specs.Cells.{Column, total, Agrees}
@@ -47,6 +44,7 @@ use Rattle.cvr_cached.proofs.Listed.{at_name, found_own, sorted_nil, own_each, r
 use Rattle.cvr_cached.proofs.Passing.{of_name}
 use Rattle.cvr_cached.proofs.RowLink.{rows_agree, agrees_rows}
 use Rattle.cvr_cached.proofs.Rooms.{summed, roomy, moves_few}
+use Rattle.cvr_cached.proofs.KeyTests.{same_name, own_name}
 
 -- ---- as many facts as contents have
 

@@ -15,13 +15,13 @@ use Rattle.cvr_collect.specs.declared.any_fact.AnyFact.{AnyFact}
 use Rattle.cvr_collect.specs.Place.{any_cmp}
 use Rattle.cvr_collect.specs.Plain.{IsPut}
 use Rattle.cvr_collect.proofs.Laws.{name_exact, name_total}
-use Rattle.cvr_collect.proofs.RecordMembers.{own_name}
 use Rattle.cvr_cached.specs.declared.change.Keys.{Keys}
 use Rattle.cvr_cached.specs.Contents.{Entries, facts_at}
 use Rattle.cvr_cached.specs.Plans.{IsPassed, IsPlanned, IsPlan, IsStep}
 use Rattle.cvr_cached.proofs.Listed.{at_name, each_of, all_of_each, less_other, turned}
 use Rattle.cvr_cached.proofs.Passing.{planned_none, planned_step, all_planned}
 use Rattle.cvr_cached.proofs.Searched.{put_nothing}
+use Rattle.cvr_cached.proofs.KeyTests.{own_name}
 
 -- the name of the first
 abbrev pub first_name : Entries → Option RecordName

@@ -9,6 +9,7 @@ pub use Rattle.cvr_collect.proofs.OwnFrame.{entry_source, own_agrees}
 pub use Rattle.cvr_collect.proofs.Reached.{content-none}
 pub use Rattle.cvr_collect.proofs.RecordMembers.{name_exact}
 pub use Rattle.cvr_collect.proofs.RecordNames.{header_under, id_under, snapshot_under}
+pub use Rattle.cvr_collect.proofs.RowsOfKeys.{ballots_law, rows_law}
 pub use Rattle.cvr_collect.proofs.SameFiles.{same_files}
 pub use Rattle.cvr_collect.proofs.SameFrames.{agrees_alike}
 pub use Rattle.cvr_collect.proofs.Starting.{start_keeps}

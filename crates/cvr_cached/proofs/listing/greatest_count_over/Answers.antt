@@ -6,7 +6,7 @@ use Rattle.cvr_facts.specs.declared.name.RecordName.{RecordName}
 use Rattle.cvr_collect.specs.declared.any_fact.AnyFact.{AnyFact}
 use Rattle.cvr_collect.specs.Names.{most, greatest_count}
 use Rattle.cvr_collect.specs.Plain.{set_of}
-use Rattle.cvr_collect.proofs.NameSteps.{most-cons}
+use Rattle.cvr_collect.proofs.Lemmas.{most-cons}
 use Rattle.cvr_cached.proofs.listing.greatest_count_over.Goals as goal
 
 abbrev of : List (RecordName × List AnyFact) → List ℕ
