@@ -22,8 +22,9 @@ use Rattle.cvr_collect.specs.Names.{name_of, body_of, is_named, names, bodies_un
 use Rattle.cvr_collect.specs.Place.{fact_of, any_cmp}
 use Rattle.cvr_collect.specs.Plain.{set_of}
 use Rattle.cvr_collect.specs.AnyNames.{any_name, has_name}
+use Rattle.cvr_collect.specs.NameRuns.{counted_runs, of_several, most_of}
 use Rattle.cvr_collect.proofs.NameOrder.{conflict_total, conflict_exact, name_is, bodies_less}
-use Rattle.cvr_collect.proofs.NameRuns.{counted_runs, count, run_names, runs_counted, run_names-rise, in_run_names, from_run_names}
+use Rattle.cvr_collect.proofs.NameRuns.{count, run_names, runs_counted, run_names-rise, in_run_names, from_run_names}
 
 -- ---- a list in order
 
@@ -140,18 +141,10 @@ module _ (s : Facts) where
       let rest = bodies_again cs (λ d at. h d (at_tail c d cs at)) in
       λ i. same i ∷ rest i
 
--- those of the runs that have at least two
-abbrev pub of_several : List Conflict → List Conflict
-of_several cs = filter (λ c. nat_le 2 c.bodies) cs
-
 pub conflicts-is : (xs : List AnyFact) → IsStrictlySortedBy any_cmp xs → conflicts (set_of xs) ≡ of_several (counted_runs xs)
 conflicts-is xs rises = ap of_several
     (ap (map (counted (set_of xs))) (names-is xs rises)
     ∙ counted_again (set_of xs) (counted_runs xs) (λ c at. count_under-is xs rises c.name ∙ sym (runs_counted xs rises c at)))
-
--- the greatest of their numbers
-abbrev pub most_of : List Conflict → ℕ
-most_of cs = most (map (λ c. c.bodies) cs)
 
 pub greatest_count-is : (xs : List AnyFact) → IsStrictlySortedBy any_cmp xs → greatest_count (set_of xs) ≡ most_of (counted_runs xs)
 greatest_count-is xs rises = ap most

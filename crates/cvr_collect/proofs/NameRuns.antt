@@ -12,20 +12,10 @@ use Rattle.cvr_collect.specs.declared.conflict.ConflictName.{ConflictName}
 use Rattle.cvr_collect.specs.Names.{conflict_cmp}
 use Rattle.cvr_collect.specs.Place.{fact_of, any_cmp}
 use Rattle.cvr_collect.specs.AnyNames.{any_name, has_name}
+use Rattle.cvr_collect.specs.NameRuns.{runs_from, counted_runs}
 use Rattle.cvr_collect.proofs.NameOrder.{conflict_total, not_below, has_own_name, name_is, Reaches, names_reach}
 
 -- ---- runs
-
--- the runs of a list that goes on after `bodies` facts of the name `n`
-abbrev pub runs_from : ConflictName → ℕ → List AnyFact → List Conflict
-runs_from n bodies [] = record { name = n; bodies = bodies } ∷ []
-runs_from n bodies (fact ∷ facts) =
-    if has_name n fact then runs_from n (suc bodies) facts else record { name = n; bodies = bodies } ∷ runs_from (any_name fact) 1 facts
-
--- each name with how many facts stand there under it
-abbrev pub counted_runs : List AnyFact → List Conflict
-counted_runs [] = []
-counted_runs (fact ∷ facts) = runs_from (any_name fact) 1 facts
 
 -- ---- one run after the other
 

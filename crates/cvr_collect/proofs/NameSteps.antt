@@ -8,8 +8,8 @@ use Rattle.cvr_collect.specs.declared.any_fact.AnyFact.{AnyFact}
 use Rattle.cvr_collect.specs.declared.conflict.Conflict.{Conflict}
 use Rattle.cvr_collect.specs.Names.{most}
 use Rattle.cvr_collect.specs.AnyNames.{any_name, has_name}
-use Rattle.cvr_collect.proofs.NameRuns.{counted_runs, counted_runs-is, prefix_len-some}
-use Rattle.cvr_collect.proofs.ConflictLists.{of_several, most_of}
+use Rattle.cvr_collect.specs.NameRuns.{counted_runs, of_several, most_of}
+use Rattle.cvr_collect.proofs.NameRuns.{counted_runs-is, prefix_len-some}
 
 -- `more` is what is left of `rest` after its first run, of `bodies` facts
 pub record IsCut (first : AnyFact) (bodies : ℕ) (rest more : List AnyFact) : Type 0 where

@@ -27,7 +27,7 @@ use Rattle.cvr_collect.specs.declared.any_fact.AnyFact.{AnyFact}
 use Rattle.cvr_collect.specs.declared.any_fact.AnyFact.TheVariants as any
 use Rattle.cvr_collect.specs.Keeps.{Keeps, starting}
 use Rattle.cvr_collect.specs.Place.{fact_of, place_total, any_cmp}
-use Rattle.cvr_collect.specs.Plain.{set_of, all_of, IsSpelled, IsPlain, IsPut}
+use Rattle.cvr_collect.specs.Plain.{set_of, all_of, IsSpelled, IsPlain, IsPut, IsTheFiles}
 use Rattle.cvr_collect.proofs.Starting.{start_keeps}
 use Rattle.cvr_collect.proofs.Keeping.{import_keeps, join_keeps}
 use Rattle.cvr_collect.proofs.Rising.{len-from_list}
@@ -97,11 +97,6 @@ all_spelled contests list are f at =
         | inr s ↦ let found = from_map any.Snapshot f list.snapshots s in subst (IsSpelled contests) found.2 (are.snapshots found.0 found.1)
       ]
     ]
-
--- the facts that a list tells of a file are the file's, and spelled
-pub record IsTheFiles (frame : Frame) (bytes : List ℕ) (list : FactList) : Type 0 where
-  pub file : from_list {R = fact_cmp} (facts_in list) ≡ facts bytes
-  pub spelled : AreSpelled frame.contests list
 
 pub of_file : (frame : Frame) (bytes : List ℕ) (report : Report) (list : FactList) → Valid frame bytes → report ≡ report_in frame.contests bytes
     → ((bytes : List ℕ) → IsReportOf frame bytes report → from_list {R = fact_cmp} (facts_in list) ≡ facts bytes)

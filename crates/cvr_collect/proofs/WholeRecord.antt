@@ -1,5 +1,5 @@
 -- All facts of a record, from its run.
-use Rattle.std.proofs.Common.{◌≡◌, ℕ, ◌+◌, ◌<◌, arith, true, false, List, length, get_or, map, Contains, Bor, Some, refl, sym, ap, ◌∙◌, subst}
+use Rattle.std.proofs.Common.{◌≡◌, ℕ, ◌+◌, ◌<◌, arith, true, false, List, [], length, get_or, map, Contains, Bor, Some, refl, sym, ap, ◌∙◌, subst}
 use Rattle.std.specs.Prelude.{◌==◌, reverse}
 use Rattle.std.proofs.lemmas.Bool.{eqb-true, eqb-false}
 use Rattle.std.specs.List.{IsDistinct}
@@ -82,6 +82,9 @@ module _ (facts : List AnyFact) (key : RecordName) where
         let long : 0 < length (run key facts) = omega (arith, ap length is, eqb-false (length found) 0 some) in
         let one = one_listed (run key facts) long in
         of_run one.0 one.1
+
+  pub none_of : run key facts ≡ [] → ¬ Contains (records (set_of facts)) key
+  none_of none at = no_record [] (sym none) refl at
 
   module _ (rises : IsStrictlySortedBy any_cmp facts) where
     -- ---- headers

@@ -9,8 +9,10 @@ use Rattle.cdf_form.specs.Places.{Contest}
 use Rattle.cdf_check.specs.Named.{Entry}
 use Rattle.cdf_check.specs.Frame.{Frame}
 use Rattle.cvr_facts.specs.declared.list.FactList.{FactList}
-use Rattle.cvr_facts.specs.Facts.{Facts, coded_facts}
-use Rattle.cvr_facts.specs.Stands.{IsSpelledHeader, IsSpelledSnapshot}
+use Rattle.cvr_facts.specs.Facts.{Facts, fact_cmp, coded_facts}
+use Rattle.cvr_facts.specs.Lists.{facts_in}
+use Rattle.cvr_facts.specs.Reports.{facts}
+use Rattle.cvr_facts.specs.Stands.{IsSpelledHeader, IsSpelledSnapshot, AreSpelled}
 use Rattle.cvr_collect.specs.declared.any_fact.AnyFact.{AnyFact}
 use Rattle.cvr_collect.specs.declared.any_fact.AnyFact.TheVariants as any
 use Rattle.cvr_collect.specs.Place.{fact_of, any_cmp}
@@ -66,3 +68,8 @@ pub record IsPut (old more new : List AnyFact) : Type 0 where
   pub rises : IsStrictlySortedBy any_cmp new
   pub from : (fact : AnyFact) → Contains new fact → Contains old fact ⊎ Contains more fact
   pub set : set_of new ≡ union (set_of old) (set_of more)
+
+-- the facts that a list tells of a file are the file's, and spelled
+pub record IsTheFiles (frame : Frame) (bytes : List ℕ) (list : FactList) : Type 0 where
+  pub file : from_list {R = fact_cmp} (facts_in list) ≡ facts bytes
+  pub spelled : AreSpelled frame.contests list

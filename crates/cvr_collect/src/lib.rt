@@ -9,6 +9,7 @@ mod event;
 pub mod examples;
 mod fault;
 pub mod law;
+pub mod list_law;
 pub mod names;
 mod office;
 pub mod one_record;

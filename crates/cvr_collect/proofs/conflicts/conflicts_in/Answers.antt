@@ -1,6 +1,6 @@
 use Rattle.std.proofs.Common.{◌++◌, [], ◌∷◌, length, refl, ap, sym, ◌∙◌, append-nil, arith}
-use Rattle.cvr_collect.proofs.NameRuns.{counted_runs}
-use Rattle.cvr_collect.proofs.ConflictLists.{of_several, conflicts-is}
+use Rattle.cvr_collect.specs.NameRuns.{counted_runs, of_several}
+use Rattle.cvr_collect.proofs.ConflictLists.{conflicts-is}
 use Rattle.cvr_collect.proofs.NameSteps.{cut, list-more, list-same, runs-end}
 use Rattle.cvr_collect.proofs.conflicts.conflicts_in.Goals as goal
 

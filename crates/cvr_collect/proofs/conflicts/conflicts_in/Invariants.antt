@@ -1,6 +1,5 @@
 use Rattle.std.proofs.Common.{◌≡◌, ◌++◌, length}
-use Rattle.cvr_collect.proofs.NameRuns.{counted_runs}
-use Rattle.cvr_collect.proofs.ConflictLists.{of_several}
+use Rattle.cvr_collect.specs.NameRuns.{counted_runs, of_several}
 use Rattle.cvr_collect.proofs.conflicts.conflicts_in.Given as goal
 
 abbrev pub invariant-loop-first : goal.invariant-loop-first

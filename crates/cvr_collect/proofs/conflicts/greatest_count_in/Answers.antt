@@ -1,6 +1,6 @@
 use Rattle.std.proofs.Common.{ap, arith}
-use Rattle.cvr_collect.proofs.NameRuns.{counted_runs}
-use Rattle.cvr_collect.proofs.ConflictLists.{most_of, greatest_count-is}
+use Rattle.cvr_collect.specs.NameRuns.{counted_runs, most_of}
+use Rattle.cvr_collect.proofs.ConflictLists.{greatest_count-is}
 use Rattle.cvr_collect.proofs.NameSteps.{cut, greatest-more, runs-end}
 use Rattle.cvr_collect.proofs.conflicts.greatest_count_in.Goals as goal
 

@@ -1,7 +1,6 @@
 use Rattle.std.proofs.Common.{◌≡◌, length}
 use Rattle.std.specs.Prelude.{max}
-use Rattle.cvr_collect.proofs.NameRuns.{counted_runs}
-use Rattle.cvr_collect.proofs.ConflictLists.{most_of}
+use Rattle.cvr_collect.specs.NameRuns.{counted_runs, most_of}
 use Rattle.cvr_collect.proofs.conflicts.greatest_count_in.Given as goal
 
 abbrev pub invariant-loop-first : goal.invariant-loop-first

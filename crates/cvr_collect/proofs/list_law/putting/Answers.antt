@@ -1,0 +1,11 @@
+use Rattle.cvr_collect.proofs.Puts.{put_growth}
+use Rattle.cvr_collect.proofs.PlainLists.{spelled_put}
+use Rattle.cvr_collect.proofs.SameFacts.{same_facts}
+use Rattle.cvr_collect.proofs.list_law.putting.Goals as goal
+
+pub returns : goal.returns
+returns c = record {
+  same = same_facts;
+  growth = put_growth;
+  spelled = spelled_put;
+}

@@ -1,0 +1,10 @@
+use Rattle.cvr_collect.proofs.CurrentSums.{currents_are_sums, facts_are_sums}
+use Rattle.cvr_collect.proofs.RowSteps.{sums_there}
+use Rattle.cvr_collect.proofs.list_law.sums.Goals as goal
+
+pub returns : goal.returns
+returns c = record {
+  currents = currents_are_sums;
+  snapshots = facts_are_sums;
+  at = sums_there;
+}

@@ -1,0 +1,110 @@
+-- Laws of lists of facts in order, which offices keep: what is put in, what a record's run tells, and its conflicts. (This project's own.)
+use Rattle.std.specs.Prelude.{◌≡◌, ◌≤◌, ◌-◌, ◌==◌, ℕ, List, [], map, length, reverse, true, Option, None}
+use Rattle.std.specs.List.{Contains, last_or}
+use Rattle.std.specs.List.Sorted.{IsStrictlySortedBy}
+use Rattle.std.specs.FinSet.{from_list}
+use Rattle.cdf_types.specs.declared.report.Report.{Report}
+use Rattle.cdf_form.specs.Places.{Contest}
+use Rattle.cdf_check.specs.Frame.{Frame, IsSame}
+use Rattle.cdf_check.specs.Sound.{IsFrame}
+use Rattle.cdf_check.specs.Acceptance.{Valid, report_in}
+use Rattle.cvr_facts.specs.declared.name.RecordName.{RecordName}
+use Rattle.cvr_facts.specs.declared.header.HeaderFact.{HeaderFact}
+use Rattle.cvr_facts.specs.declared.snapshot.SnapshotFact.{SnapshotFact}
+use Rattle.cvr_facts.specs.declared.list.FactList.{FactList}
+use Rattle.cvr_facts.specs.Facts.{Fact, Device, fact_cmp}
+use Rattle.cvr_facts.specs.Lists.{facts_in, IsReportOf}
+use Rattle.cvr_facts.specs.Reports.{facts}
+use Rattle.cvr_facts.specs.Stands as stands
+use Rattle.cvr_facts.specs.Stands.{IsSpelledHeader}
+use Rattle.cvr_collect.specs.declared.any_fact.AnyFact.{AnyFact}
+use Rattle.cvr_collect.specs.declared.any_fact.AnyFact.TheVariants as any
+use Rattle.cvr_collect.specs.declared.conflict.ConflictName.{ConflictName}
+use Rattle.cvr_collect.specs.declared.record_facts.RecordFacts.{RecordFacts}
+use Rattle.cvr_collect.specs.Names.{name_of, is_named, records, conflicts, greatest_count}
+use Rattle.cvr_collect.specs.Keeps.{starting}
+use Rattle.cvr_collect.specs.Place.{fact_of, any_cmp}
+use Rattle.cvr_collect.specs.Plain.{set_of, all_of, IsSpelled, IsPlain, IsPut, IsTheFiles}
+use Rattle.cvr_collect.specs.Readers.{growth, IsHeader, IsCurrent, AreFactsOf}
+use Rattle.cvr_collect.specs.Runs.{run, headers, snapshots, IsChosen, AreSpelled}
+use Rattle.cvr_collect.specs.Groups.{RisesById, AreGrouped}
+use Rattle.cvr_collect.specs.NameRuns.{counted_runs, of_several, most_of}
+
+-- ---- what is put in
+
+-- lists in order with one set tell the same facts
+abbrev pub SameListsLaw : Type 0
+SameListsLaw = (xs ys : List AnyFact) → IsStrictlySortedBy any_cmp xs → IsStrictlySortedBy any_cmp ys → set_of xs ≡ set_of ys → map fact_of xs ≡ map fact_of ys
+
+-- a list grows by the facts that were not in it
+abbrev pub PutGrowthLaw : Type 0
+PutGrowthLaw = (old more new : List AnyFact) → IsStrictlySortedBy any_cmp old → IsPut old more new → (length old ≤ length new) × (length new - length old ≡ growth (set_of old) (set_of more))
+
+-- what is spelled stays so
+abbrev pub SpelledPutLaw : Type 0
+SpelledPutLaw = (contests : List Contest) (old more new : List AnyFact) → IsPut old more new → ((f : AnyFact) → Contains old f → IsSpelled contests f)
+    → ((f : AnyFact) → Contains more f → IsSpelled contests f) → (f : AnyFact) → Contains new f → IsSpelled contests f
+
+-- the devices of a definition are what an office starts with
+abbrev pub StartSetLaw : Type 0
+StartSetLaw = (frame : Frame) (none more new : List AnyFact) → none ≡ [] → map fact_of more ≡ map (λ e. Device e.0 e.1) frame.devices → IsPut none more new → set_of new ≡ starting frame
+
+abbrev pub PlainStartLaw : Type 0
+PlainStartLaw = (frame : Frame) (none more new : List AnyFact) → none ≡ [] → map fact_of more ≡ map (λ e. Device e.0 e.1) frame.devices → IsPut none more new → IsFrame frame → IsPlain frame new
+
+-- what is joined is as it should be where both were
+abbrev pub PlainJoinLaw : Type 0
+PlainJoinLaw = (frame other : Frame) (old theirs new : List AnyFact) → IsSame frame other → IsPlain frame old → IsPlain other theirs → IsPut old theirs new → IsPlain frame new
+
+-- ---- the facts of a file
+
+-- those of all kinds in one list are those that the list of each kind tells
+abbrev pub AllOfLaw : Type 0
+AllOfLaw = (list : FactList) → map fact_of (all_of list) ≡ facts_in list
+
+abbrev pub AllSpelledLaw : Type 0
+AllSpelledLaw = (contests : List Contest) (list : FactList) → stands.AreSpelled contests list → (f : AnyFact) → Contains (all_of list) f → IsSpelled contests f
+
+-- what a list tells of each file of an accepted report, it tells of this one
+abbrev pub OfFileLaw : Type 0
+OfFileLaw = (frame : Frame) (bytes : List ℕ) (report : Report) (list : FactList) → Valid frame bytes → report ≡ report_in frame.contests bytes
+    → ((bytes : List ℕ) → IsReportOf frame bytes report → from_list {R = fact_cmp} (facts_in list) ≡ facts bytes)
+    → ((bytes : List ℕ) → IsReportOf frame bytes report → stands.AreSpelled frame.contests list) → IsTheFiles frame bytes list
+
+-- ---- the run of a record
+
+-- its last header is the record's
+abbrev pub LastHeaderLaw : Type 0
+LastHeaderLaw = (facts : List AnyFact) (key : RecordName) → IsStrictlySortedBy any_cmp facts → ((h : HeaderFact) → Contains facts (any.Header h) → IsSpelledHeader h)
+    → (o : Option HeaderFact) → o ≡ last_or None (headers (run key facts)) → IsHeader (set_of facts) key o
+
+-- its greatest snapshot by the order of choosing is the record's current one
+abbrev pub GreatestSnapshotLaw : Type 0
+GreatestSnapshotLaw = (facts : List AnyFact) (key : RecordName) (contests : List Contest) → AreSpelled contests facts
+    → (o : Option SnapshotFact) → IsChosen (snapshots (run key facts)) o → IsCurrent contests (set_of facts) key o
+
+-- its snapshots stand by id
+abbrev pub IdsRiseLaw : Type 0
+IdsRiseLaw = (facts : List AnyFact) (key : RecordName) → IsStrictlySortedBy any_cmp facts → RisesById (run key facts)
+
+-- a record is listed exactly where it has a run
+abbrev pub NoRunLaw : Type 0
+NoRunLaw = (facts : List AnyFact) (key : RecordName) → run key facts ≡ [] → ¬ Contains (records (set_of facts)) key
+
+-- its headers, the last first, and its snapshots by id are all facts of the record
+abbrev pub WholeRunLaw : Type 0
+WholeRunLaw = (facts : List AnyFact) (key : RecordName) → IsStrictlySortedBy any_cmp facts → (contests : List Contest) → AreSpelled contests facts
+    → (found : RecordFacts) → map (λ h. h.now) found.headers.items ≡ reverse (headers (run key facts)) → AreGrouped (run key facts) found.ids.items → AreFactsOf contests (set_of facts) key found
+
+-- ---- names with several bodies
+
+-- a fact has one name
+abbrev pub NamedLaw : Type 0
+NamedLaw = (n : ConflictName) (f : Fact) → is_named n f ≡ true → n ≡ name_of f
+
+-- the conflicts are the runs of two facts or more, and the greatest count is that of the longest run
+abbrev pub ConflictRunsLaw : Type 0
+ConflictRunsLaw = (xs : List AnyFact) → IsStrictlySortedBy any_cmp xs → conflicts (set_of xs) ≡ of_several (counted_runs xs)
+
+abbrev pub GreatestRunLaw : Type 0
+GreatestRunLaw = (xs : List AnyFact) → IsStrictlySortedBy any_cmp xs → greatest_count (set_of xs) ≡ most_of (counted_runs xs)

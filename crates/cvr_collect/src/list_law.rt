@@ -1,0 +1,60 @@
+//! Laws of lists of facts in order, which offices keep.
+ghost use Rattle.cvr_collect.specs.ListLaws.{SameListsLaw, PutGrowthLaw, SpelledPutLaw, StartSetLaw, PlainStartLaw, PlainJoinLaw, AllOfLaw, AllSpelledLaw, OfFileLaw};
+ghost use Rattle.cvr_collect.specs.ListLaws.{LastHeaderLaw, GreatestSnapshotLaw, IdsRiseLaw, NoRunLaw, WholeRunLaw, NamedLaw, ConflictRunsLaw, GreatestRunLaw};
+ghost use Rattle.cvr_collect.specs.SumLaws.{CurrentSumsLaw, SnapshotSumsLaw, SumsAtLaw, RowMoreLaw, AddedLaw, NoHeaderLaw, NoCurrentLaw};
+
+/// Lists with one set tell the same facts. A list grows by the facts that were not in it, and what
+/// is spelled stays so.
+pub fn putting()
+    ensures same { SameListsLaw }
+    ensures growth { PutGrowthLaw }
+    ensures spelled { SpelledPutLaw }
+{}
+
+/// The devices of a definition are what an office starts with. Where two offices' facts are as they
+/// should be, those joined are.
+pub fn plain_lists()
+    ensures set { StartSetLaw }
+    ensures start { PlainStartLaw }
+    ensures join { PlainJoinLaw }
+{}
+
+/// The facts of all kinds in one list are those of a file, each spelled.
+pub fn files()
+    ensures all { AllOfLaw }
+    ensures spelled { AllSpelledLaw }
+    ensures file { OfFileLaw }
+{}
+
+/// The run of a record has its header last of its headers, its current snapshot as the greatest of
+/// its snapshots, and all facts of it. What has no run is no record.
+pub fn runs()
+    ensures header { LastHeaderLaw }
+    ensures current { GreatestSnapshotLaw }
+    ensures ids { IdsRiseLaw }
+    ensures none { NoRunLaw }
+    ensures whole { WholeRunLaw }
+{}
+
+/// A fact has one name. The conflicts are the runs of two facts or more under one name.
+pub fn names()
+    ensures named { NamedLaw }
+    ensures conflicts { ConflictRunsLaw }
+    ensures greatest { GreatestRunLaw }
+{}
+
+/// The sums of each snapshot are of contests of the definition, once each.
+pub fn sums()
+    ensures currents { CurrentSumsLaw }
+    ensures snapshots { SnapshotSumsLaw }
+    ensures at { SumsAtLaw }
+{}
+
+/// A row with one record more is the row with what that record adds: the sums of its current
+/// snapshot, where it has a header.
+pub fn added()
+    ensures row { RowMoreLaw }
+    ensures sums { AddedLaw }
+    ensures no_header { NoHeaderLaw }
+    ensures no_current { NoCurrentLaw }
+{}
