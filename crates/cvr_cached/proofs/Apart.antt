@@ -20,14 +20,12 @@ use Rattle.cvr_collect.specs.Names.{name_of, is_named, record_of, conflicts, mos
 use Rattle.cvr_collect.specs.AnyNames.{any_name, has_name}
 use Rattle.cvr_collect.specs.Place.{fact_of, any_cmp}
 use Rattle.cvr_collect.specs.Plain.{set_of}
-use Rattle.cvr_collect.proofs.Laws.{name_total}
-use Rattle.cvr_collect.proofs.NameOrder.{name_is}
-use Rattle.cvr_collect.proofs.NameRuns.{runs_from, counted_runs}
-use Rattle.cvr_collect.proofs.ConflictLists.{of_several, most_of, conflicts-is, greatest_count-is}
+use Rattle.cvr_collect.proofs.Laws.{name_total, name_is, conflicts-is, greatest_count-is}
 use Rattle.cvr_collect.proofs.Lemmas.{most-cons}
 use Rattle.cvr_cached.specs.Contents.{Entries, listed}
 use Rattle.cvr_cached.specs.Held.{AreOwn}
 use Rattle.cvr_cached.proofs.Listed.{each_of, own_each, found_own, listed_rises}
+use Rattle.cvr_collect.specs.NameRuns.{runs_from, counted_runs, of_several, most_of}
 
 -- ---- a name is of one record
 

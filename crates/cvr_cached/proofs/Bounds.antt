@@ -16,7 +16,7 @@ use Rattle.cvr_collect.specs.declared.any_fact.AnyFact.{AnyFact}
 use Rattle.cvr_collect.specs.Place.{fact_of}
 use Rattle.cvr_collect.specs.Plain.{set_of, IsPlain}
 use Rattle.cvr_collect.specs.Tallied.{rows, total_limit, IsBelow}
-use Rattle.cvr_collect.proofs.CurrentSums.{currents_are_sums}
+use Rattle.cvr_collect.proofs.Laws.{currents_are_sums}
 use Rattle.cvr_cached.specs.Contents.{Entries, listed, pairs_of}
 use Rattle.cvr_cached.specs.Cells.{Column, Ballots, Overvotes, Undervotes, WriteIns, Pending, Unassigned, Vote, shares, total}
 use Rattle.cvr_cached.specs.Held.{IsCached, IsSummed}

@@ -30,8 +30,8 @@ use Rattle.cvr_collect.specs.Keeps.{Keeps}
 use Rattle.cvr_collect.specs.Place.{fact_of}
 use Rattle.cvr_collect.specs.Plain.{IsSpelled}
 use Rattle.cvr_collect.specs.Runs.{as_snapshot, snapshots}
-use Rattle.cvr_collect.proofs.CurrentSums.{facts_are_sums}
 use Rattle.cvr_collect.proofs.Lemmas.{found}
+use Rattle.cvr_collect.proofs.Laws.{facts_are_sums}
 use Rattle.cvr_cached.specs.declared.change.Keys.{Keys}
 use Rattle.cvr_cached.specs.Contents.{Entries, facts_at, header_in, current_in, keys_in, pairs_of}
 use Rattle.cvr_cached.specs.Cells.{Column, Ballots, Overvotes, Undervotes, WriteIns, Pending, Unassigned, Vote, worth, cell_limit, shares, total, AreFit}

@@ -18,8 +18,8 @@ use Rattle.cvr_collect.specs.declared.any_fact.AnyFact.{AnyFact}
 use Rattle.cvr_collect.specs.Names.{record_of, records}
 use Rattle.cvr_collect.specs.Place.{fact_of, place_cmp, place_total, place_exact, any_cmp}
 use Rattle.cvr_collect.specs.Plain.{set_of}
-use Rattle.cvr_collect.proofs.SameFacts.{same_facts}
 use Rattle.cvr_collect.proofs.Lemmas.{pointwise-on}
+use Rattle.cvr_collect.proofs.Laws.{same_facts}
 use Rattle.cvr_cached.specs.Contents.{Entries, listed, facts_at}
 use Rattle.cvr_cached.specs.Held.{AreOwn}
 use Rattle.cvr_cached.proofs.Answering.{records_are}

@@ -31,16 +31,14 @@ use Rattle.cvr_collect.specs.Readers.{growth}
 use Rattle.cvr_collect.specs.Runs.{is_of, run}
 use Rattle.cvr_collect.specs.Tallied.{row, rows}
 use Rattle.cvr_collect.proofs.Lemmas.{from_filter, in_filter, in_union}
-use Rattle.cvr_collect.proofs.CurrentSums.{currents_are_sums}
-use Rattle.cvr_collect.proofs.PlainLists.{len-set_of, spelled_put}
-use Rattle.cvr_collect.proofs.Laws.{rows_law, ballots_law}
+use Rattle.cvr_collect.proofs.Laws.{rows_law, ballots_law, currents_are_sums, spelled_put}
 use Rattle.cvr_cached.specs.declared.change.Keys.{Keys}
 use Rattle.cvr_cached.specs.Contents.{Entries, facts_at, standing, listed}
 use Rattle.cvr_cached.specs.Cells.{Column, total, Agrees}
 use Rattle.cvr_cached.specs.Held.{AreOwn, IsHeld, IsRoomy, IsTold, IsSummed}
 use Rattle.cvr_cached.specs.Plans.{IsPlan, laid, all_moves}
 use Rattle.cvr_cached.proofs.After.{own_after, put_after}
-use Rattle.cvr_cached.proofs.Listed.{at_name, found_own, sorted_nil, own_each, run_listed}
+use Rattle.cvr_cached.proofs.Listed.{len-set_of, at_name, found_own, sorted_nil, own_each, run_listed}
 use Rattle.cvr_cached.proofs.Passing.{of_name}
 use Rattle.cvr_cached.proofs.RowLink.{rows_agree, agrees_rows}
 use Rattle.cvr_cached.proofs.Rooms.{summed, roomy, moves_few}
@@ -148,8 +146,8 @@ module _ (contests : List Contest) (d : List AnyFact) (es : Entries) (m : Rows) 
     -- as many facts more as the set has
     pub growth_after : (new : ℕ) → count' ≡ length d' + sum_by length (values_of fs) → count + new ≡ count' → new ≡ growth (set_of (listed d es)) (set_of more)
     growth_after new counted more_is =
-        let old = held.counted ∙ sym (len-set_of told.frame (listed d es) told.before) in
-        let now = (counted ∙ sym (listed_long d' fs)) ∙ (sym (len-set_of told.frame (listed d' fs) plain_after) ∙ ap len put.set) in
+        let old = held.counted ∙ sym (len-set_of (listed d es) told.before.rises) in
+        let now = (counted ∙ sym (listed_long d' fs)) ∙ (sym (len-set_of (listed d' fs) plain_after.rises) ∙ ap len put.set) in
         omega (arith, old, now, more_is)
 
 -- ---- facts told apart by record

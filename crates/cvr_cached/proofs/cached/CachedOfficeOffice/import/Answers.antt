@@ -3,13 +3,14 @@ use Rattle.std.specs.FinSet.{union}
 use Rattle.cdf_form.specs.Places.{Contest}
 use Rattle.cvr_collect.specs.Readers.{growth}
 use Rattle.cvr_collect.specs.Plain.{set_of}
-use Rattle.cvr_collect.proofs.PlainLists.{of_file, none_rise}
+use Rattle.cvr_collect.proofs.Laws.{of_file}
 use Rattle.cvr_cached.specs.Contents.{listed}
 use Rattle.cvr_cached.proofs.Importing.{theirs_none, more_named, set_is, import_told, import_plain}
+use Rattle.cvr_cached.proofs.Listed.{rises_none}
 use Rattle.cvr_cached.proofs.cached.CachedOfficeOffice.import.Goals as goal
 
 pub put_in-requires : goal.put_in-requires
-put_in-requires c = none_rise c.new-more.result.items c.new-more.ensures.items
+put_in-requires c = rises_none c.new-more.result.items c.new-more.ensures.items
 
 pub take_in-requires-clause-theirs : goal.take_in-requires-clause-theirs
 take_in-requires-clause-theirs c =

@@ -1,11 +1,12 @@
 use Rattle.std.proofs.Common.{◌∙◌, ap, sym, arith}
 use Rattle.cvr_collect.specs.Plain.{set_of}
-use Rattle.cvr_collect.proofs.PlainLists.{none_rise, start_is, plain_start}
+use Rattle.cvr_collect.proofs.Laws.{start_is, plain_start}
 use Rattle.cvr_cached.proofs.Begins.{alone, cached_start}
+use Rattle.cvr_cached.proofs.Listed.{rises_none}
 use Rattle.cvr_cached.proofs.cached.CachedOfficeOffice.new.Goals as goal
 
 pub put_in-requires : goal.put_in-requires
-put_in-requires c = none_rise c.new-devices.result.items c.new-devices.ensures.items
+put_in-requires c = rises_none c.new-devices.result.items c.new-devices.ensures.items
 
 pub invariant_of-result : goal.invariant_of-result
 invariant_of-result c =
