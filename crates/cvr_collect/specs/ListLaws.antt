@@ -5,7 +5,7 @@ use Rattle.std.specs.List.Sorted.{IsStrictlySortedBy}
 use Rattle.std.specs.FinSet.{from_list}
 use Rattle.cdf_types.specs.declared.report.Report.{Report}
 use Rattle.cdf_form.specs.Places.{Contest}
-use Rattle.cdf_check.specs.Frame.{Frame, IsSame}
+use Rattle.cdf_check.specs.Frame.{Frame}
 use Rattle.cdf_check.specs.Sound.{IsFrame}
 use Rattle.cdf_check.specs.Acceptance.{Valid, report_in}
 use Rattle.cvr_facts.specs.declared.name.RecordName.{RecordName}
@@ -51,10 +51,6 @@ StartSetLaw = (frame : Frame) (none more new : List AnyFact) → none ≡ [] →
 
 abbrev pub PlainStartLaw : Type 0
 PlainStartLaw = (frame : Frame) (none more new : List AnyFact) → none ≡ [] → map fact_of more ≡ map (λ e. Device e.0 e.1) frame.devices → IsPut none more new → IsFrame frame → IsPlain frame new
-
--- what is joined is as it should be where both were
-abbrev pub PlainJoinLaw : Type 0
-PlainJoinLaw = (frame other : Frame) (old theirs new : List AnyFact) → IsSame frame other → IsPlain frame old → IsPlain other theirs → IsPut old theirs new → IsPlain frame new
 
 -- ---- the facts of a file
 

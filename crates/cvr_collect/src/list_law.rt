@@ -1,5 +1,5 @@
 //! Laws of lists of facts in order, which offices keep.
-ghost use Rattle.cvr_collect.specs.ListLaws.{SameListsLaw, PutGrowthLaw, SpelledPutLaw, StartSetLaw, PlainStartLaw, PlainJoinLaw, AllOfLaw, AllSpelledLaw, OfFileLaw};
+ghost use Rattle.cvr_collect.specs.ListLaws.{SameListsLaw, PutGrowthLaw, SpelledPutLaw, StartSetLaw, PlainStartLaw, AllOfLaw, AllSpelledLaw, OfFileLaw};
 ghost use Rattle.cvr_collect.specs.ListLaws.{LastHeaderLaw, GreatestSnapshotLaw, IdsRiseLaw, NoRunLaw, WholeRunLaw, NamedLaw, ConflictRunsLaw, GreatestRunLaw};
 ghost use Rattle.cvr_collect.specs.SumLaws.{CurrentSumsLaw, SnapshotSumsLaw, SumsAtLaw, RowMoreLaw, AddedLaw, NoHeaderLaw, NoCurrentLaw};
 
@@ -11,12 +11,10 @@ pub fn putting()
     ensures spelled { SpelledPutLaw }
 {}
 
-/// The devices of a definition are what an office starts with. Where two offices' facts are as they
-/// should be, those joined are.
-pub fn plain_lists()
+/// The devices of a definition are what an office starts with.
+pub fn starting()
     ensures set { StartSetLaw }
     ensures start { PlainStartLaw }
-    ensures join { PlainJoinLaw }
 {}
 
 /// The facts of all kinds in one list are those of a file, each spelled.

@@ -1,0 +1,8 @@
+use Rattle.cvr_collect.proofs.PlainLists.{start_is, plain_start}
+use Rattle.cvr_collect.proofs.list_law.starting.Goals as goal
+
+pub returns : goal.returns
+returns c = record {
+  set = start_is;
+  start = plain_start;
+}
