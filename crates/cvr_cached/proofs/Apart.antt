@@ -1,13 +1,13 @@
 -- Facts of different records share no name, so conflicts are told record by record.
-use Rattle.std.proofs.Common.{◌≡◌, ℕ, suc, ◌+◌, Bool, true, false, cond, List, [], ◌∷◌, ◌++◌, length, map, Contains, inl, inr, Option, Some, None, Less, Equal, refl, sym, ap, ◌∙◌, subst, arith, append_assoc, append-nil}
+use Rattle.std.proofs.Common.{◌≡◌, ℕ, suc, true, false, cond, List, [], ◌∷◌, ◌++◌, map, Contains, Option, Some, None, Less, Equal, refl, sym, ap, ◌∙◌, arith}
 use Rattle.std.specs.Prelude.{nat_le, max}
-use Rattle.std.specs.List.{filter, flat_map}
+use Rattle.std.specs.List.{flat_map}
 use Rattle.std.specs.List.Sorted.{IsStrictlySortedBy}
 use Rattle.std.specs.Map.{keys_of}
 use Rattle.std.specs.Cmp.{tied_itself}
 use Rattle.std.proofs.lemmas.Bool.{false_from_ne_true}
 use Rattle.std.proofs.lemmas.List.{map-append}
-use Rattle.std.proofs.lemmas.List.Elements.{filter-append, Contains-append_left, Contains-append_right}
+use Rattle.std.proofs.lemmas.List.Elements.{filter-append}
 use Rattle.std.proofs.lemmas.Map.Keys.{sorted_head, sorted_tail}
 use Rattle.cvr_facts.specs.declared.name.RecordName.{RecordName}
 use Rattle.cvr_facts.specs.Facts.{Fact, Device, Header, Snapshot, name_cmp}
@@ -16,7 +16,7 @@ use Rattle.cvr_collect.specs.declared.any_fact.AnyFact.{AnyFact}
 use Rattle.cvr_collect.specs.declared.conflict.Conflict.{Conflict}
 use Rattle.cvr_collect.specs.declared.conflict.ConflictName.{ConflictName}
 use Rattle.cvr_collect.specs.declared.conflict.ConflictName.TheVariants as name
-use Rattle.cvr_collect.specs.Names.{name_of, is_named, record_of, conflicts, most, greatest_count}
+use Rattle.cvr_collect.specs.Names.{name_of, record_of, conflicts, most, greatest_count}
 use Rattle.cvr_collect.specs.AnyNames.{any_name, has_name}
 use Rattle.cvr_collect.specs.Place.{fact_of, any_cmp}
 use Rattle.cvr_collect.specs.Plain.{set_of}

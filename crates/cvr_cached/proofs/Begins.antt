@@ -1,24 +1,22 @@
 -- What an office keeps that holds devices alone.
-use Rattle.std.proofs.Common.{◌≡◌, ◌<◌, ◌^◌, ℕ, List, [], ◌∷◌, ◌++◌, length, map, Contains, inl, inr, Option, Some, None, refl, sym, ap, ◌∙◌, subst, append-nil}
+use Rattle.std.proofs.Common.{◌≡◌, ◌<◌, ◌^◌, ℕ, List, [], length, map, Contains, inl, inr, None, sym, ap, ◌∙◌, subst, append-nil}
 use Rattle.std.specs.FinMap.{empty, same_map, get-empty}
 use Rattle.std.specs.Map.{keys_of}
 use Rattle.cdf_form.specs.Places.{Contest}
 use Rattle.cdf_check.specs.Named.{Entry}
 use Rattle.cdf_check.specs.Frame.{Frame}
-use Rattle.cvr_facts.specs.declared.name.RecordName.{RecordName}
-use Rattle.cvr_facts.specs.Facts.{Fact, Device, name_cmp}
+use Rattle.cvr_facts.specs.Facts.{Device, name_cmp}
 use Rattle.cvr_facts.proofs.Lemmas.{none_listed, in_map, from_map}
-use Rattle.cvr_tally.specs.declared.key.RowKey.{RowKey}
 use Rattle.cvr_tally.specs.Rows.{Rows}
 use Rattle.cvr_tally.specs.Keys.{key_cmp, keys_total, keys_exact}
 use Rattle.cvr_collect.specs.declared.any_fact.AnyFact.{AnyFact}
-use Rattle.cvr_collect.specs.Names.{record_of, records}
-use Rattle.cvr_collect.specs.Place.{fact_of, any_cmp}
+use Rattle.cvr_collect.specs.Names.{record_of}
+use Rattle.cvr_collect.specs.Place.{fact_of}
 use Rattle.cvr_collect.specs.Plain.{set_of, IsPlain, IsPut}
-use Rattle.cvr_collect.specs.Tallied.{row, rows, row_over}
+use Rattle.cvr_collect.specs.Tallied.{rows, row_over}
 use Rattle.cvr_collect.proofs.Laws.{rows_law}
 use Rattle.cvr_cached.specs.Contents.{Entries, listed}
-use Rattle.cvr_cached.specs.Held.{AreOwn, IsHeld, IsCached}
+use Rattle.cvr_cached.specs.Held.{AreOwn, IsCached}
 use Rattle.cvr_cached.proofs.Listed.{sorted_nil}
 use Rattle.cvr_cached.proofs.Answering.{records_are}
 

@@ -1,7 +1,6 @@
 -- Each number of the running totals is below 2^118.
-use Rattle.std.proofs.Common.{◌≡◌, ℕ, ◌+◌, ◌*◌, ◌^◌, ◌<◌, ◌≤◌, List, length, Contains, map, Option, Some, None, IfSome, refl, sym, ap, ◌∙◌, arith}
-use Rattle.std.specs.List.{sum_by, flat_map}
-use Rattle.std.specs.Map.{values_of}
+use Rattle.std.proofs.Common.{◌≡◌, ℕ, ◌*◌, ◌^◌, ◌<◌, ◌≤◌, List, length, Contains, map, Option, Some, None, IfSome, ap, ◌∙◌, arith}
+use Rattle.std.specs.List.{flat_map}
 use Rattle.std.specs.FinMap.{get}
 use Rattle.std.proofs.lemmas.List.Elements.{Contains-append_right}
 use Rattle.cdf_form.specs.Places.{Contest}
@@ -14,7 +13,7 @@ use Rattle.cvr_tally.specs.declared.row.Row.{Row}
 use Rattle.cvr_tally.specs.Rows.{Rows}
 use Rattle.cvr_collect.specs.declared.any_fact.AnyFact.{AnyFact}
 use Rattle.cvr_collect.specs.Place.{fact_of}
-use Rattle.cvr_collect.specs.Plain.{set_of, IsPlain}
+use Rattle.cvr_collect.specs.Plain.{set_of}
 use Rattle.cvr_collect.specs.Tallied.{rows, total_limit, IsBelow}
 use Rattle.cvr_collect.proofs.Laws.{currents_are_sums}
 use Rattle.cvr_cached.specs.Contents.{Entries, listed, pairs_of}

@@ -1,12 +1,12 @@
 -- The sums of contents go to rows of the definition, and no column gets too large.
-use Rattle.std.proofs.Common.{◌≡◌, ℕ, zero, suc, ◌+◌, ◌*◌, ◌^◌, ◌<◌, ◌≤◌, Bool, true, false, List, [], ◌∷◌, map, length, get_or, cond, ◌||◌, ◌==◌, le_trans, le_of_eq, mul_comm, mul-le-mul_right, Contains, inl, inr, Option, Some, None, refl, sym, ap, ◌∙◌, subst, arith}
+use Rattle.std.proofs.Common.{◌≡◌, ℕ, ◌+◌, ◌*◌, ◌^◌, ◌<◌, ◌≤◌, true, false, List, [], ◌∷◌, map, length, get_or, ◌||◌, ◌==◌, le_trans, le_of_eq, mul_comm, mul-le-mul_right, Contains, inl, inr, Option, Some, None, refl, sym, ap, ◌∙◌, subst, arith}
 use Rattle.std.proofs.lemmas.List.{get_or_past, length-map}
 use Rattle.std.proofs.lemmas.Map.Steps.{length-le_from_distinct_below}
 use Rattle.std.specs.Prelude.{◌⊎◌}
 use Rattle.std.specs.List.{sum_by, list_any}
-use Rattle.std.specs.Map.{keys_of, values_of}
+use Rattle.std.specs.Map.{values_of}
 use Rattle.std.specs.Option.{option_map_or}
-use Rattle.std.specs.FinSet.{contains, union}
+use Rattle.std.specs.FinSet.{contains}
 use Rattle.std.proofs.lemmas.Bool.{cases_lt, eqb-true}
 use Rattle.std.proofs.lemmas.List.Elements.{Contains-get_or}
 use Rattle.std.proofs.lemmas.List.Sums.{sum_by-cons}
@@ -17,7 +17,6 @@ use Rattle.cvr_facts.specs.declared.header.HeaderFact.{HeaderFact}
 use Rattle.cvr_facts.specs.declared.snapshot.SnapshotFact.{SnapshotFact}
 use Rattle.cvr_facts.specs.declared.sums.VoteSums.{VoteSums}
 use Rattle.cvr_facts.specs.Facts.{Facts}
-use Rattle.cvr_facts.specs.Choosing.{fact_choice}
 use Rattle.cvr_facts.specs.Sums.{sum_limit}
 use Rattle.cvr_facts.proofs.Laws.{fact_total}
 use Rattle.cvr_facts.proofs.Lemmas.{greatest_is, at_head, at_tail, head_or_tail, none_listed, from_map, from-filter_map}
@@ -39,7 +38,7 @@ use Rattle.cvr_cached.specs.Held.{IsRoomy, IsSummed}
 use Rattle.cvr_cached.specs.Plans.{all_moves, AreChanges, IsPlan}
 use Rattle.cvr_cached.proofs.Listed.{at_name, found_listed}
 use Rattle.cvr_cached.proofs.Pairs.{pairs_are}
-use Rattle.cvr_cached.proofs.RowLink.{gives, sum_pairs, share_found}
+use Rattle.cvr_cached.proofs.RowLink.{sum_pairs, share_found}
 
 -- ---- a spelled fact of a set that is kept
 

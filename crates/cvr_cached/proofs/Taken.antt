@@ -1,5 +1,5 @@
 -- What is known before facts are taken in, and what an office keeps after it.
-use Rattle.std.proofs.Common.{◌≡◌, ℕ, zero, suc, ◌+◌, ◌-◌, ◌^◌, ◌<◌, ◌≤◌, ◌==◌, Bool, true, false, cond, List, [], ◌∷◌, ◌++◌, length, map, Contains, inl, inr, Option, Some, None, IfSome, refl, sym, ap, ◌∙◌, subst, arith, length-append, ◌*◌, is_ok, mul-le-mul_left}
+use Rattle.std.proofs.Common.{◌≡◌, ℕ, ◌+◌, ◌^◌, ◌<◌, ◌≤◌, ◌==◌, true, false, cond, List, [], ◌∷◌, ◌++◌, length, map, Contains, inl, inr, Option, Some, None, IfSome, refl, sym, ap, ◌∙◌, subst, arith, length-append, ◌*◌, is_ok, mul-le-mul_left}
 use Rattle.std.specs.Prelude.{◌⊎◌, ◌↔◌, OnOk, OnErr, IfOk}
 use Rattle.std.specs.declared.result.Result.{Result}
 use Rattle.std.specs.declared.result.Result.TheVariants.{Ok, Err}
@@ -10,17 +10,16 @@ use Rattle.std.specs.Option.{option_map_or}
 use Rattle.std.specs.FinMap.{get}
 use Rattle.std.specs.FinSet.{union, len}
 use Rattle.std.specs.Ordering.{is_eq}
-use Rattle.std.proofs.lemmas.Bool.{false≢true, eqb-true}
+use Rattle.std.proofs.lemmas.Bool.{eqb-true}
 use Rattle.std.proofs.lemmas.List.Elements.{Contains-append_left, Contains-append_right, Contains-append_cases}
 use Rattle.std.proofs.lemmas.List.Sums.{sum_by-cons}
 use Rattle.cdf_form.specs.Places.{Contest, selections_at}
-use Rattle.cdf_check.specs.Frame.{Frame}
 use Rattle.cvr_facts.specs.declared.name.RecordName.{RecordName}
 use Rattle.cvr_facts.specs.Facts.{name_cmp, fact_total, fact_exact}
-use Rattle.cvr_facts.proofs.Lemmas.{at_head, at_tail, none_listed, in_map, in_set, in_flat, from_flat}
+use Rattle.cvr_facts.proofs.Lemmas.{in_map, in_set, in_flat, from_flat}
 use Rattle.cvr_tally.specs.declared.key.RowKey.{RowKey}
 use Rattle.cvr_tally.specs.declared.row.Row.{Row}
-use Rattle.cvr_tally.specs.Rows.{Rows, row_closed, TotalsValue, IsTotals}
+use Rattle.cvr_tally.specs.Rows.{Rows, row_closed, IsTotals}
 use Rattle.cvr_collect.specs.declared.any_fact.AnyFact.{AnyFact}
 use Rattle.cvr_collect.specs.Adding.{CurrentsAreSums}
 use Rattle.cvr_collect.specs.Keeps.{Keeps}
@@ -29,15 +28,14 @@ use Rattle.cvr_collect.specs.Place.{fact_of, any_cmp}
 use Rattle.cvr_collect.specs.Plain.{set_of, IsPlain, IsPut}
 use Rattle.cvr_collect.specs.Readers.{growth}
 use Rattle.cvr_collect.specs.Runs.{is_of, run}
-use Rattle.cvr_collect.specs.Tallied.{row, rows}
+use Rattle.cvr_collect.specs.Tallied.{rows}
 use Rattle.cvr_collect.proofs.Lemmas.{from_filter, in_filter, in_union}
 use Rattle.cvr_collect.proofs.Laws.{rows_law, ballots_law, currents_are_sums, spelled_put}
 use Rattle.cvr_cached.specs.declared.change.Keys.{Keys}
 use Rattle.cvr_cached.specs.Contents.{Entries, facts_at, standing, listed}
-use Rattle.cvr_cached.specs.Cells.{Column, total, Agrees}
+use Rattle.cvr_cached.specs.Cells.{total, Agrees}
 use Rattle.cvr_cached.specs.Held.{AreOwn, IsHeld, IsRoomy, IsTold, IsSummed}
-use Rattle.cvr_cached.specs.Plans.{IsPlan, laid, all_moves}
-use Rattle.cvr_cached.proofs.After.{own_after, put_after}
+use Rattle.cvr_cached.specs.Plans.{IsPlan, all_moves}
 use Rattle.cvr_cached.proofs.Listed.{len-set_of, at_name, found_own, sorted_nil, own_each, run_listed}
 use Rattle.cvr_cached.proofs.Passing.{of_name}
 use Rattle.cvr_cached.proofs.RowLink.{rows_agree, agrees_rows}

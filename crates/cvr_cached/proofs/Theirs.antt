@@ -5,8 +5,7 @@ use Rattle.std.specs.List.{AllByRecursion}
 use Rattle.std.specs.List.Sorted.{IsStrictlySortedBy}
 use Rattle.std.specs.Map.{keys_of}
 use Rattle.std.specs.BTreeMap.{is_at}
-use Rattle.std.specs.Ordering.{is_eq, ordering_reverse}
-use Rattle.std.specs.Cmp.{tied_itself}
+use Rattle.std.specs.Ordering.{ordering_reverse}
 use Rattle.std.proofs.lemmas.Map.Entries.{lookup_head, lookup_tail}
 use Rattle.std.proofs.lemmas.Map.Keys.{sorted_head, sorted_tail}
 use Rattle.cvr_facts.specs.declared.name.RecordName.{RecordName}
@@ -17,9 +16,9 @@ use Rattle.cvr_collect.specs.Plain.{IsPut}
 use Rattle.cvr_collect.proofs.Laws.{name_exact, name_total}
 use Rattle.cvr_cached.specs.declared.change.Keys.{Keys}
 use Rattle.cvr_cached.specs.Contents.{Entries, facts_at}
-use Rattle.cvr_cached.specs.Plans.{IsPassed, IsPlanned, IsPlan, IsStep}
+use Rattle.cvr_cached.specs.Plans.{IsPassed, IsPlanned, IsStep}
 use Rattle.cvr_cached.proofs.Listed.{at_name, each_of, all_of_each, less_other, turned}
-use Rattle.cvr_cached.proofs.Passing.{planned_none, planned_step, all_planned}
+use Rattle.cvr_cached.proofs.Passing.{planned_none, planned_step}
 use Rattle.cvr_cached.proofs.Searched.{put_nothing}
 use Rattle.cvr_cached.proofs.KeyTests.{own_name}
 

@@ -10,7 +10,7 @@ use Rattle.std.proofs.Common.{refl}
 use Rattle.cdf_form.specs.Places.{Contest}
 use Rattle.cdf_check.specs.Frame.{Frame}
 use Rattle.cvr_facts.specs.declared.name.RecordName.{RecordName}
-use Rattle.cvr_facts.specs.Facts.{name_cmp, Facts}
+use Rattle.cvr_facts.specs.Facts.{name_cmp}
 use Rattle.cvr_tally.specs.declared.key.RowKey.{RowKey}
 use Rattle.cvr_tally.specs.Rows.{Rows}
 use Rattle.cvr_collect.specs.declared.any_fact.AnyFact.{AnyFact}

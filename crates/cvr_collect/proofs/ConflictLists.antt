@@ -1,6 +1,6 @@
 -- The conflicts of the set that a list in strict order makes.
 use Rattle.std.proofs.Common.{◌≡◌, ℕ, List, [], ◌∷◌, length, map, Contains, inl, inr, refl, sym, ap, ◌∙◌, subst, Less, Ordering}
-use Rattle.std.specs.Prelude.{Bool, true, nat_le}
+use Rattle.std.specs.Prelude.{Bool, true}
 use Rattle.std.specs.List.{AllByRecursion, filter}
 use Rattle.std.specs.List.Sorted.{IsStrictlySortedBy}
 use Rattle.std.specs.Cmp.{IsTotalOrder, both_ways}

@@ -1,6 +1,6 @@
 -- In a list in strict order the runs are its names, each with the number of its facts.
 use Rattle.std.proofs.Common.{◌≡◌, ℕ, suc, ◌+◌, ◌≤◌, List, [], ◌∷◌, length, map, drop, cond, Contains, inl, inr, refl, sym, ap, ◌∙◌, subst, arith, Less, true≢false}
-use Rattle.std.specs.Prelude.{◌⊎◌, Bool, true, false, if◌then◌else◌}
+use Rattle.std.specs.Prelude.{◌⊎◌, Bool, true, false}
 use Rattle.std.specs.List.{AllByRecursion, filter, prefix_len}
 use Rattle.std.specs.List.Sorted.{IsStrictlySortedBy}
 use Rattle.std.proofs.lemmas.Bool.{cond_both, false_from_ne_true}

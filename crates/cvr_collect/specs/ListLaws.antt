@@ -1,5 +1,5 @@
 -- Laws of lists of facts in order, which offices keep: what is put in, what a record's run tells, and its conflicts. (This project's own.)
-use Rattle.std.specs.Prelude.{◌≡◌, ◌≤◌, ◌-◌, ◌==◌, ℕ, List, [], map, length, reverse, true, Option, None}
+use Rattle.std.specs.Prelude.{◌≡◌, ◌≤◌, ◌-◌, ℕ, List, [], map, length, reverse, true, Option, None}
 use Rattle.std.specs.List.{Contains, last_or}
 use Rattle.std.specs.List.Sorted.{IsStrictlySortedBy}
 use Rattle.std.specs.FinSet.{from_list}

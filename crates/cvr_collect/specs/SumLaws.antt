@@ -1,5 +1,5 @@
 -- Laws of the sums of an office's facts, and of what a record adds to a row. (This project's own.)
-use Rattle.std.specs.Prelude.{◌≡◌, ℕ, List, [], ◌∷◌, ◌++◌, true, Option, Some, None}
+use Rattle.std.specs.Prelude.{◌≡◌, ℕ, List, [], ◌∷◌, ◌++◌, true, Some, None}
 use Rattle.std.specs.FinSet.{contains}
 use Rattle.cdf_form.specs.Places.{Contest}
 use Rattle.cdf_check.specs.Frame.{Frame}

@@ -1,4 +1,4 @@
-use Rattle.std.proofs.Common.{length, ◌*◌, ◌≡◌, ◌++◌, ℕ, List, sym, ap, ◌∙◌, arith}
+use Rattle.std.proofs.Common.{length, ◌*◌}
 use Rattle.std.specs.BTreeMap.{get}
 use Rattle.std.proofs.lemmas.Map.Lookups.{btree_map_from_get}
 use Rattle.cvr_facts.specs.Facts.{name_cmp}

@@ -1,7 +1,5 @@
-use Rattle.std.proofs.Common.{length, ◌*◌, ◌≡◌, ◌++◌, ℕ, List, sym, ap, ◌∙◌, arith}
-use Rattle.std.specs.BTreeMap.{get}
+use Rattle.std.proofs.Common.{length, ◌*◌, ◌++◌}
 use Rattle.std.proofs.lemmas.Map.Lookups.{btree_map_from_get}
-use Rattle.cvr_facts.specs.Facts.{name_cmp}
 use Rattle.cvr_collect.specs.Runs.{run}
 use Rattle.cvr_collect.proofs.Laws.{name_exact, name_total}
 use Rattle.cvr_cached.specs.Contents.{listed}

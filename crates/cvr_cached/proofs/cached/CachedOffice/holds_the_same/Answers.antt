@@ -1,4 +1,4 @@
-use Rattle.std.proofs.Common.{true, false, sym, ◌∙◌}
+use Rattle.std.proofs.Common.{sym, ◌∙◌}
 use Rattle.std.proofs.lemmas.Bool.{false≢true}
 use Rattle.cvr_cached.proofs.SameContents.{same_all}
 use Rattle.cvr_cached.proofs.cached.CachedOffice.holds_the_same.Goals as goal

@@ -1,10 +1,5 @@
-use Rattle.std.proofs.Common.{◌≡◌, ◌∙◌, ◌++◌, subst}
+use Rattle.std.proofs.Common.{◌≡◌, subst}
 use Rattle.std.specs.Prelude.{IfOk}
-use Rattle.std.specs.List.{flat_map}
-use Rattle.std.specs.List.Sorted.{IsStrictlySortedBy}
-use Rattle.cvr_collect.specs.Names.{conflicts}
-use Rattle.cvr_collect.specs.Place.{any_cmp}
-use Rattle.cvr_collect.specs.Plain.{set_of}
 use Rattle.cvr_cached.proofs.Apart.{conflicts_apart}
 use Rattle.cvr_cached.proofs.cached.CachedOfficeOffice.conflicts.Goals as goal
 

@@ -1,4 +1,4 @@
-use Rattle.std.proofs.Common.{ap, ◌∙◌, ◌++◌, sym, subst, List, length, ◌≤◌, ◌+◌, ◌*◌}
+use Rattle.std.proofs.Common.{ap, ◌∙◌, subst, List, length, ◌≤◌, ◌+◌, ◌*◌}
 use Rattle.std.specs.FinSet.{union}
 use Rattle.cdf_form.specs.Places.{Contest}
 use Rattle.cvr_collect.specs.Readers.{growth}

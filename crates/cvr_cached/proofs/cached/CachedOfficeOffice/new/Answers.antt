@@ -1,4 +1,4 @@
-use Rattle.std.proofs.Common.{◌∙◌, ap, sym, arith}
+use Rattle.std.proofs.Common.{◌∙◌, ap, arith}
 use Rattle.cvr_collect.specs.Plain.{set_of}
 use Rattle.cvr_collect.proofs.Laws.{start_is, plain_start}
 use Rattle.cvr_cached.proofs.Begins.{alone, cached_start}
