@@ -19,7 +19,8 @@ use crate::refusals::Refusals;
 use crate::status::Status;
 use cdf_check::Definition;
 use cdf_types::{Body, Memory, Sink};
-use cvr_collect::{Office, PlainOffice};
+use cvr_cached::CachedOffice;
+use cvr_collect::Office;
 use cvr_words::{Request, Task};
 use std::alloc::Global;
 
@@ -210,7 +211,7 @@ pub fn run<W: Sink, L: Sink>(
             refusals.note_file(alloc, log, request.def.as_str(), fault);
             refusals.status()
         }
-        Ok(definition) => run_task::<PlainOffice, W, L>(
+        Ok(definition) => run_task::<CachedOffice, W, L>(
             alloc, definition, request, files, out, log,
         ),
     }
