@@ -68,10 +68,11 @@ impl Totals {
     pub fn copy(&self, alloc: Global) -> Result<Totals, Memory>
         ensures { IfOk result (λ t. t ≡ record { contests = self.now.contests; rows = self.now.rows; moves = 0 }) }
     {
+        let moves = Moves::new();
         Ok(Totals {
             contests: copy_ids(alloc, &self.contests)?,
             rows: copy_rows(alloc, &self.rows)?,
-            moves: Moves::new(),
+            moves,
         })
     }
 
