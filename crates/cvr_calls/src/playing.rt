@@ -13,11 +13,7 @@ static EVENTS: [Event; 3] = [
 
 // Imports into an office the files of which the import was accepted, and answers how many were refused
 // for want of memory. None where an outcome isn't what that import tells.
-fn refused_of<O: Office>(
-    wanted: &mut O,
-    files: &[Vec<u8>],
-    outcomes: &[Outcome],
-) -> Option<usize> {
+fn refused_of<O: Office>(wanted: &mut O, files: &[Vec<u8>], outcomes: &[Outcome]) -> Option<usize> {
     let mut refused = 0usize;
     for (outcome, file) in outcomes.iter().zip(files) {
         match outcome {

@@ -39,12 +39,7 @@ impl Telling {
     }
 
     // The text over the office of a kind.
-    fn text_by(
-        &self,
-        alloc: Global,
-        kind: Kind,
-        records: &Records<'_>,
-    ) -> Result<String, Memory> {
+    fn text_by(&self, alloc: Global, kind: Kind, records: &Records<'_>) -> Result<String, Memory> {
         match kind {
             Kind::Plain => self.text(alloc, records.office, records),
             Kind::Cached => self.text(alloc, records.cached, records),

@@ -34,11 +34,7 @@ fn has_moved<O: Office>(office: &O, key: &RecordName) -> bool {
 }
 
 // Whether the facts of a record are those of the move.
-fn are_both_kept<O: Office>(
-    rt: &(impl Abort + AllocGlobal),
-    office: &O,
-    key: &RecordName,
-) -> bool {
+fn are_both_kept<O: Office>(rt: &(impl Abort + AllocGlobal), office: &O, key: &RecordName) -> bool {
     match office.record_facts(rt.alloc(), key).expect(rt, "no memory") {
         Some(facts) => are_of_the_move(&facts),
         None => false,

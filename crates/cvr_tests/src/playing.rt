@@ -184,11 +184,7 @@ fn first_same<O: Office>(offices: &[O], office: &O) -> usize {
 }
 
 // What is told of offices after these outcomes.
-fn told<O: Office>(
-    rt: &(impl Abort + AllocGlobal),
-    offices: &[O],
-    outcomes: &[Outcome],
-) -> String {
+fn told<O: Office>(rt: &(impl Abort + AllocGlobal), offices: &[O], outcomes: &[Outcome]) -> String {
     let mut text = String::new(rt.alloc());
     for outcome in outcomes {
         tell_outcome(rt, &mut text, outcome);
@@ -224,11 +220,7 @@ fn outcomes_of<O: Office>(
 }
 
 // Plays a drill among new offices, and ends the test where another thing is told of it.
-fn check_among<O: Office + Drop>(
-    rt: &(impl Abort + AllocGlobal),
-    offices: Vec<O>,
-    drill: &Drill,
-) {
+fn check_among<O: Office + Drop>(rt: &(impl Abort + AllocGlobal), offices: Vec<O>, drill: &Drill) {
     let told = played(rt, offices, drill);
     assert!(rt; told.as_str() == drill.told, "{told}");
 }
