@@ -1,0 +1,147 @@
+#!/usr/bin/env python3
+"""running.py [--cvr PATH] [--rounds 3] [--keep NAME] [small] [large] [single]
+
+Measures what running totals cost: `cvr tally`, and `cvr check` beside it, over invented files that it lays in a folder of
+its own. `small`: many files of five records beside one file of all of them; `large`: 20,000 to 200,000 records in files
+of 4,000; `single`: one record with a snapshot in each of many files. With no word all three. Told are processor seconds,
+the least of the rounds, and the greatest resident memory. README.md says what the figures mean. With --keep they are
+appended to runs/DATE-NAME.md. The status is 1 where a command fails, or tells another number of ballots than was laid."""
+import argparse
+import json
+import os
+import shutil
+import subprocess
+import sys
+import tempfile
+
+from bench import TOP, Failed, Report, commit, keep, machine
+
+PER = 4000      # the records of a file of `large`
+
+
+def objects(kind, *ids):
+    return [{'@id': it, '@type': 'CVR.' + kind} for it in ids]
+
+
+def report(records):
+    """The text of a report with these records: two contests, two units, three devices."""
+    mayor = objects('CandidateSelection', 'ann', 'bob', 'wi')
+    contests = [{'@id': 'mayor', '@type': 'CVR.CandidateContest', 'ContestSelection': mayor},
+                {'@id': 'question', '@type': 'CVR.BallotMeasureContest',
+                 'ContestSelection': objects('BallotMeasureSelection', 'yes', 'no')}]
+    whole = {'@type': 'CVR.CastVoteRecordReport', 'CVR': records,
+             'Election': [{'@id': 'e', '@type': 'CVR.Election', 'Contest': contests, 'ElectionScopeId': 'p1'}],
+             'GeneratedDate': '2024-11-06T08:00:00Z', 'GpUnit': objects('GpUnit', 'p1', 'p2'),
+             'ReportGeneratingDeviceIds': ['desk'], 'ReportType': ['aggregated'],
+             'ReportingDevice': objects('ReportingDevice', 'desk', 's1', 's2'), 'Version': '1.0.0'}
+    return json.dumps({name: it for name, it in whole.items() if it != []}, separators=(',', ':'))
+
+
+def record(number, snapshot='a'):
+    """A record of one contest; votes and units take turns."""
+    position = {'@type': 'CVR.SelectionPosition', 'HasIndication': 'yes', 'NumberVotes': 1}
+    selection = {'@type': 'CVR.CVRContestSelection', 'ContestSelectionId': 'ann' if number % 3 else 'bob',
+                 'SelectionPosition': [position]}
+    contest = {'@type': 'CVR.CVRContest', 'CVRContestSelection': [selection], 'ContestId': 'mayor'}
+    return {'@type': 'CVR.CVR', 'BallotStyleUnitId': 'p1' if number % 2 else 'p2',
+            'CVRSnapshot': [{'@id': snapshot, '@type': 'CVR.CVRSnapshot', 'CVRContest': [contest], 'Type': 'original'}],
+            'CreatingDeviceId': 's1', 'CurrentSnapshotId': snapshot, 'ElectionId': 'e', 'UniqueId': 'u%07d' % number}
+
+
+class Files:
+    """Files in a folder, and how long they are."""
+
+    def __init__(self, folder, lists):
+        shutil.rmtree(folder, ignore_errors=True)
+        os.makedirs(folder)
+        self.folder, self.bytes, self.names = folder, 0, []
+        self.write('definition', report([]))
+        for number, records in enumerate(lists):
+            text = report(records)
+            self.bytes += len(text)
+            self.names.append(self.write('f%06d' % number, text))
+
+    def write(self, stem, text):
+        with open(os.path.join(self.folder, stem + '.json'), 'w', encoding='utf-8') as it:
+            it.write(text)
+        return stem + '.json'
+
+
+def parts(amount, per):
+    return ([record(it) for it in range(first, min(first + per, amount))] for first in range(0, amount, per))
+
+
+class Measuring:
+    """The program, how often each command is run, and what is told."""
+
+    def __init__(self, cvr, rounds, folder, report):
+        self.cvr, self.rounds, self.folder, self.report = cvr, rounds, folder, report
+
+    def files(self, name, lists):
+        return Files(os.path.join(self.folder, name), lists)
+
+    def once(self, command, files, ballots):
+        """(processor seconds, MiB) of one run; a tally has to have so many ballots."""
+        with tempfile.TemporaryFile() as out:
+            words = [self.cvr, command, 'definition.json'] + files.names
+            child = subprocess.Popen(words, cwd=files.folder, stdin=subprocess.DEVNULL, stdout=out)
+            _, status, usage = os.wait4(child.pid, 0)
+            child.returncode = status
+            out.seek(0)
+            told = [line.split() for line in out.read().decode().splitlines()]
+        found = sum(int(words[3]) for words in told) if command == 'tally' else ballots
+        if status or found != ballots:
+            raise Failed('%s: wait status %d, %d ballots and not %d' % (command, status, found, ballots))
+        return usage.ru_utime + usage.ru_stime, usage.ru_maxrss / 1024
+
+    def least(self, command, files, ballots):
+        runs = [self.once(command, files, ballots) for _ in range(self.rounds)]
+        return min(run[0] for run in runs), max(run[1] for run in runs)
+
+    def small(self):
+        self.report.say('   files  tally s  check s   one: s  check s   ratio  less check    MiB')
+        for count in (2000, 4000, 8000, 10000):
+            one, many = self.files('one', parts(5 * count, 5 * count)), self.files('many', parts(5 * count, 5))
+            (a, memory), (b, _) = self.least('tally', many, 5 * count), self.least('check', many, 0)
+            (c, _), (d, _) = self.least('tally', one, 5 * count), self.least('check', one, 0)
+            self.report.say('%8d %8.2f %8.2f %8.2f %8.2f %7.2f %11.2f %6.0f' % (count, a, b, c, d, a / c, (a - b) / (c - d), memory))
+
+    def large(self):
+        self.report.say(' records  tally s  microseconds a record    MiB  bytes of memory a byte')
+        for amount in (20000, 100000, 200000):
+            files = self.files('large', parts(amount, PER))
+            seconds, memory = self.least('tally', files, amount)
+            self.report.say('%8d %8.2f %22.2f %6.0f %23.2f' % (amount, seconds, 1e6 * seconds / amount, memory, memory * 2 ** 20 / files.bytes))
+
+    def single(self):
+        self.report.say('snapshots of one record, in as many files  tally s  check s    MiB')
+        for count in (500, 1000, 2000, 4000):
+            files = self.files('single', ([record(0, 'a%06d' % it)] for it in range(count)))
+            (a, memory), (b, _) = self.least('tally', files, 1), self.least('check', files, 0)
+            self.report.say('%41d %8.2f %8.2f %6.0f' % (count, a, b, memory))
+
+
+def main():
+    words = argparse.ArgumentParser(description=__doc__, formatter_class=argparse.RawDescriptionHelpFormatter)
+    words.add_argument('what', nargs='*', metavar='small|large|single')
+    words.add_argument('--cvr', default=os.path.join(TOP, 'crates', 'cvr', 'out', 'cvr'))
+    words.add_argument('--rounds', type=int, default=3)
+    words.add_argument('--keep', metavar='NAME')
+    said = words.parse_args()
+    if set(said.what) - {'small', 'large', 'single'}:
+        words.error('small, large or single')
+    told = Report()
+    told.say('%s, commit %s' % (machine(), commit()))
+    with tempfile.TemporaryDirectory() as folder:
+        measuring = Measuring(os.path.abspath(said.cvr), said.rounds, folder, told)
+        for what in said.what or ['small', 'large', 'single']:
+            getattr(measuring, what)()
+    if said.keep:
+        keep(told, said.keep)
+
+
+if __name__ == '__main__':
+    try:
+        main()
+    except Failed as why:
+        sys.exit('running: %s' % why)
