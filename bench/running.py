@@ -8,6 +8,7 @@ the least of the rounds, and the greatest resident memory. README.md says what t
 appended to runs/DATE-NAME.md. The status is 1 where a command fails, or tells another number of ballots than was laid."""
 import argparse
 import json
+import multiprocessing
 import os
 import shutil
 import subprocess
@@ -15,8 +16,10 @@ import sys
 import tempfile
 
 from bench import TOP, Failed, Report, commit, keep, machine
+from gen import write
 
 PER = 4000      # the records of a file of `large`
+DEFINITION = 'definition.json'
 
 
 def objects(kind, *ids):
@@ -52,19 +55,23 @@ class Files:
     """Files in a folder, and how long they are."""
 
     def __init__(self, folder, lists):
-        shutil.rmtree(folder, ignore_errors=True)
-        os.makedirs(folder)
-        self.folder, self.bytes, self.names = folder, 0, []
-        self.write('definition', report([]))
-        for number, records in enumerate(lists):
-            text = report(records)
-            self.bytes += len(text)
-            self.names.append(self.write('f%06d' % number, text))
+        # Laid by a process of its own: what this one holds would count as memory of each command that it starts.
+        child = multiprocessing.get_context('fork').Process(target=lay, args=(folder, lists))
+        child.start()
+        child.join()
+        if child.exitcode:
+            raise Failed('the files could not be laid')
+        self.folder, self.names = folder, sorted(it for it in os.listdir(folder) if it != DEFINITION)
+        self.bytes = sum(os.path.getsize(os.path.join(folder, it)) for it in self.names)
 
-    def write(self, stem, text):
-        with open(os.path.join(self.folder, stem + '.json'), 'w', encoding='utf-8') as it:
-            it.write(text)
-        return stem + '.json'
+
+def lay(folder, lists):
+    """Writes a definition, and a file of each list of records."""
+    shutil.rmtree(folder, ignore_errors=True)
+    os.makedirs(folder)
+    write(folder, DEFINITION, report([]))
+    for number, records in enumerate(lists):
+        write(folder, 'f%06d.json' % number, report(records))
 
 
 def parts(amount, per):
@@ -83,7 +90,7 @@ class Measuring:
     def once(self, command, files, ballots):
         """(processor seconds, MiB) of one run; a tally has to have so many ballots."""
         with tempfile.TemporaryFile() as out:
-            words = [self.cvr, command, 'definition.json'] + files.names
+            words = [self.cvr, command, DEFINITION] + files.names
             child = subprocess.Popen(words, cwd=files.folder, stdin=subprocess.DEVNULL, stdout=out)
             _, status, usage = os.wait4(child.pid, 0)
             child.returncode = status
