@@ -1,10 +1,13 @@
 //! The program: it hands the words to the library, with the files and the devices of the system.
 #![tactic(auto)]
 
+mod progress;
+
 ghost use Rattle.cvr_cli.specs.Opening.{Unknown};
 
 use cvr_cli::{FileFault, Open, OverRead, OverWrite, Status, work};
-use std::io::ErrorKind;
+use progress::{Cleared, Counted, Progress};
+use std::io::{ErrorKind, IsTerminal};
 use std::process::ExitCode;
 use std::rt::{Env, Files};
 use std::{env, fs};
@@ -13,16 +16,17 @@ use std::{env, fs};
 #[derive(Drop)]
 struct System<'a, R> {
     rt: &'a R,
+    progress: &'a Progress<'a, R>,
 }
 
-impl<R: Files> Open for System<'_, R> {
-    type File = OverRead<R::File>;
+impl<'a, R: Files + Eprint> Open for System<'a, R> {
+    type File = OverRead<Counted<'a, R::File, R>>;
 
     ghost file_at = { λ _ _. Unknown };
 
-    fn open(&self, path: &str) -> Result<OverRead<R::File>, FileFault> {
+    fn open(&self, path: &str) -> Result<OverRead<Counted<'a, R::File, R>>, FileFault> {
         match fs::open(self.rt, path) {
-            Ok(file) => Ok(OverRead::new(file)),
+            Ok(file) => Ok(OverRead::new(Counted::new(file, self.progress))),
             Err(e) if e.kind() == ErrorKind::OutOfMemory => Err(FileFault::Memory),
             Err(_) => Err(FileFault::Device),
         }
@@ -52,15 +56,16 @@ fn tell_no_words<R: Eprint>(rt: &R, status: Status) {
 fn work_on_words(rt: &HostRuntime) -> Status {
     match words_of(rt) {
         Ok(words) => {
-            let mut out = OverWrite::new(rt.stdout());
-            let mut log = OverWrite::new(rt.stderr());
-            work(
-                rt.alloc(),
-                &System { rt },
-                words.as_slice(),
-                &mut out,
-                &mut log,
-            )
+            let progress = Progress::new(rt, rt.stderr().is_terminal());
+            let mut out = OverWrite::new(Cleared::new(rt.stdout(), &progress));
+            let mut log = OverWrite::new(Cleared::new(rt.stderr(), &progress));
+            let system = System {
+                rt,
+                progress: &progress,
+            };
+            let status = work(rt.alloc(), &system, words.as_slice(), &mut out, &mut log);
+            progress.clear();
+            status
         }
         Err(status) => {
             tell_no_words(rt, status);
