@@ -1,0 +1,228 @@
+#!/usr/bin/env python3
+"""terminal.py --cvr PATH
+
+What a run shows on a terminal, beside what it prints. Where standard error is a terminal, a line `read N files` stands on it
+from the second file on, is written over by the next one, and is taken away before anything else is written and at the end. So
+the screen ends with the log alone, and with output and log where both go to it. Where standard error is none, it takes the
+log and not a byte more, also beside an output that is a terminal.
+
+- Runs over files that are accepted, refused or missing, of each command, and of help and refused words, on a terminal
+  each, on one terminal for both, and on pipes.
+- A file that is read slowly, by a pipe of the file system: the line stands while the run waits for it.
+- The terminal fails at each call of the line, one byte a call (devices.c): output, log and status are as ever.
+
+The texts are those of tests/rows/printed.py. The judge of a screen is tried first, on right and on wrong ones. The last line
+is `terminal: N right, M wrong`; the status is 0 only where M is 0 and N is not."""
+import argparse
+import os
+import pty
+import subprocess
+import sys
+import tempfile
+import threading
+import tty
+
+sys.dont_write_bytecode = True
+HERE = os.path.dirname(os.path.abspath(__file__))
+sys.path.insert(0, HERE)
+import damage  # noqa: E402 (it stands here)
+
+SECONDS = 60
+ENDS = ('terminal', 'pipe')
+
+
+# ---- the judge
+
+def line(files):
+    """What the line says, or nothing where it doesn't stand."""
+    return 'read %d files' % files if files > 1 else ''
+
+
+def screen(text):
+    """The rows that a terminal shows, and what stood on the row of the cursor at each carriage return."""
+    found, row, column, before = [], '', 0, []
+    for sign in text:
+        if sign == '\r':
+            before.append(row.rstrip())
+            column = 0
+        elif sign == '\n':
+            found.append(row.rstrip())
+            row, column = '', 0
+        else:
+            row, column = row[:column] + sign + row[column + 1:], column + 1
+    return found + [row.rstrip()], before
+
+
+def wrong_of(text, files, told):
+    """What is wrong with what a terminal took, where so many files were read and this was told on it, or nothing."""
+    shown, before = screen(text)
+    lines = [line(number) for number in range(2, files + 1)]
+    if shown != screen(told)[0]:
+        return 'the screen shows %r, and was told %r' % (shown, told)
+    if [one for one in before if one] != lines:
+        return 'the line said %r, expected %r' % (before, lines)
+    if lines and (before[0] or before[-1]):
+        return 'the line was not taken away: %r' % before
+    return '' if '\r' in text or text == told else 'no line, and other bytes than those told: %r' % text
+
+
+def judged():
+    """Yields what is wrong with the judge, or nothing."""
+    told = 'a: E2\nb: E1\n'
+    first, second, gone = '\rread 2 files', '\rread 3 files', '\r%s\r' % (' ' * 20)
+    right = [(told, 1), (told, 0), (first + gone + told, 2), (first + second + gone + told, 3)]
+    wrong = [(told, 2), (' ' + told, 1), (told + ' ', 1), ('', 0)]
+    wrong += [(first + told, 2), (first + '\n' + told, 2), (first + gone, 2), (first + gone + '\n' + told, 2), (first + gone + told[6:], 2)]
+    wrong += [(first + gone + told, 1), (first + gone + told, 3), (second + gone + told, 3), (first + second + gone + told, 2)]
+    wrong += [(first + second + gone[:9] + '\r' + told, 3), (told[:6] + first + gone + told[6:], 3), (first + gone + told + first, 2), (first + first + gone + told, 2)]
+    for text, files in right:
+        yield wrong_of(text, files, told) and 'judge: %r is right' % text
+    for text, files in wrong:
+        yield '' if wrong_of(text, files, told) else 'judge: %r is wrong' % text
+
+
+# ---- runs
+
+class End:
+    """A terminal or a pipe that a run writes to, and what it took."""
+
+    def __init__(self, kind):
+        self.got, self.stood = b'', threading.Condition()
+        self.ours, self.theirs = pty.openpty() if kind == 'terminal' else os.pipe()
+        if kind == 'terminal':
+            tty.setraw(self.theirs)     # or it would make two signs of a line feed
+        self.reading = threading.Thread(target=self.read, daemon=True)
+        self.reading.start()
+
+    def read(self):
+        data = b' '
+        while data:
+            try:
+                data = os.read(self.ours, 4096)
+            except OSError:             # so a terminal ends
+                data = b''
+            with self.stood:
+                self.got += data
+                self.stood.notify_all()
+
+    def waits_for(self, text):
+        """Whether this text comes."""
+        with self.stood:
+            return self.stood.wait_for(lambda: text in self.got, SECONDS)
+
+    def all(self):
+        """All that it took, once the run has ended."""
+        self.reading.join(SECONDS)
+        os.close(self.ours)
+        return self.got.decode('utf-8')
+
+
+class Run:
+    """A run of the program whose output and log are ends; one for both where they are the same."""
+
+    def __init__(self, program, words, out, log, device=None):
+        env = dict(os.environ, LD_PRELOAD=program.path('devices.so'), DEVICE=device) if device else None
+        self.out, self.log = out, log
+        self.process = subprocess.Popen([program.cvr] + words, cwd=program.folder, env=env, stdin=subprocess.DEVNULL,
+                                        stdout=out.theirs, stderr=log.theirs)
+        for end in {out, log}:
+            os.close(end.theirs)
+
+    def left(self):
+        """What the ends took, and the status."""
+        try:
+            status = self.process.wait(SECONDS)
+        except subprocess.TimeoutExpired:
+            self.process.kill()
+            status = 'no end, %r' % self.process.wait()
+        log = self.log.all()
+        return log if self.out is self.log else self.out.all(), log, status
+
+
+def differs(got, wanted):
+    return '' if got == wanted else 'status %r, expected %r' % (got, wanted) if isinstance(wanted, int) else 'took %r, expected %r' % (got, wanted)
+
+
+def wrongs(program, asked, files):
+    """Yields what is wrong with a run that reads so many files beside the definition, or nothing: for each kind of its ends."""
+    told, log = asked.out.decode('utf-8'), asked.log.decode('utf-8')
+    for out_kind in ENDS:
+        for log_kind in ENDS:
+            left = Run(program, asked.words, End(out_kind), End(log_kind)).left()
+            is_wrong = wrong_of(left[1], files, log) if log_kind == 'terminal' else differs(left[1], log)
+            yield differs(left[0], told) or is_wrong or differs(left[2], asked.status)
+    both = {}
+    for kind in ENDS:
+        end = End(kind)
+        both[kind], _, status = Run(program, asked.words, end, end).left()
+        yield differs(status, asked.status)
+    yield differs(len(both['pipe']), len(told + log)) or wrong_of(both['terminal'], files, both['pipe'])
+
+
+def slow(program, names):
+    """What is wrong with a run over files, the last of which comes slowly, or nothing."""
+    asked = damage.case('currents', damage.held(*names))
+    path = program.path('slow')
+    os.mkfifo(path)
+    run = Run(program, asked.words[:-1] + ['slow'], End('pipe'), End('terminal'))
+    stands = run.log.waits_for(line(len(names) - 1).encode('ascii'))
+    with open(path, 'wb') as file:
+        file.write(damage.rows.VECTORS[names[-1]])
+    out, log, status = run.left()
+    return ('' if stands else 'the line does not stand while the run waits') or differs(out, asked.out.decode('utf-8')) \
+        or wrong_of(log, len(names), asked.log.decode('utf-8')) or differs(status, asked.status)
+
+
+def failing(program, asked):
+    """Yields what is wrong with a run whose terminal fails at a call of the line or of taking it away, or nothing. The log is whole
+    in each, and stands alone but where the line could not be taken away."""
+    log = asked.log.decode('utf-8')
+    took = Run(program, asked.words, End('pipe'), End('terminal')).left()[1]
+    last = took.rfind('\r')
+    yield '' if last > 0 else 'no line'
+    for call in range(1, last + 2):
+        out, got, status = Run(program, asked.words, End('pipe'), End('terminal'), '2 %d fails' % call).left()
+        is_whole = got.endswith(log) and (screen(got)[0] == screen(log)[0] or call > took.rfind('\r', 0, last))
+        yield differs(out, asked.out.decode('utf-8')) or differs(status, asked.status) or ('' if is_whole else 'call %d: took %r' % (call, got))
+
+
+def asked_runs(program):
+    """Runs, each with the number of files that it reads beside the definition."""
+    held = damage.held('f2.json', 'f6.json', 'f8.json')
+    for task in damage.TASKS + ('check',):
+        for files in [], held[:1], held, held * 4:
+            yield damage.case(task, files), len(files)
+        yield damage.case(task, held[:1] + [('half', 'E2')] + held[1:]), 4
+    drill = damage.drill(damage.DRILL)
+    yield drill, len(damage.printed.paths(drill.words)) - 1
+    missing = damage.Case(['tally', 'def.json', 'f2.json', 'f6.json', 'f8.json', 'none', 'f2.json'], None, b'', b'none: K1\n', 3)
+    yield missing, 3
+    yield missing._replace(words=['tally', 'none', 'f2.json']), 0
+    for name in 'help-drill', 'no-command-taly-alone', 'no-step-x':
+        yield damage.stated(name), 0
+
+
+def main():
+    words = argparse.ArgumentParser()
+    words.add_argument('--cvr', required=True, help='the program to try')
+    cvr = os.path.abspath(words.parse_args().cvr)
+    found = [('', one) for one in judged()]
+    if not any(one for _, one in found):
+        with tempfile.TemporaryDirectory() as folder:
+            program = damage.Program(cvr, folder)
+            program.put('half', damage.rows.VECTORS['f2.json'][:100])
+            program.put('bad', damage.BAD)
+            for asked, files in asked_runs(program):
+                found += [(' '.join(asked.words), one) for one in wrongs(program, asked, files)]
+            found.append(('a slow file', slow(program, ['f2.json', 'f6.json', 'f8.json'])))
+            refused = damage.case('currents', damage.held('f2.json', 'f6.json') + [('half', 'E2')])
+            found += [('a terminal that fails', one) for one in failing(program, refused)]
+    wrong = [': '.join(filter(None, one)) for one in found if one[1]]
+    for one in wrong[:50]:
+        print('WRONG: %s' % one)
+    print('terminal: %d right, %d wrong' % (len(found) - len(wrong), len(wrong)))
+    sys.exit(0 if found and not wrong else 1)
+
+
+if __name__ == '__main__':
+    main()
