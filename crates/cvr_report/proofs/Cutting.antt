@@ -9,8 +9,7 @@ use Rattle.serde_json.specs.Data.{Data, Members, no_members, member}
 use Rattle.serde_json.specs.Written.{compact_text, members_text}
 use Rattle.cdf_form.specs.Proper.{MembersAreWell}
 use Rattle.cvr_report.specs.Record.{front, back, some, IsCut}
-use Rattle.cvr_report.specs.Scan.{after, is_before, IsPlain, start_of}
-use Rattle.cvr_report.specs.declared.scan.Mode.TheVariants.{InString}
+use Rattle.cvr_report.specs.Scan.{InString, after, is_before, IsPlain, start_of}
 use Rattle.cvr_report.proofs.Names.{is_before-escape}
 use Rattle.cvr_report.proofs.Scanning.{member_pass}
 

@@ -8,8 +8,7 @@ use Rattle.json.proofs.Printed.Strings.{escape_byte_plain}
 use Rattle.serde_json.specs.Data.{Num, unsigned, negative, float, Data, null, boolean, number, string, array, object, Items, no_items, item, Members, no_members, member}
 use Rattle.serde_json.specs.Written.{number_text, compact_text, items_text, members_text, comma_if}
 use Rattle.cdf_form.specs.Proper.{NumFits, IsWell, ItemsAreWell, MembersAreWell}
-use Rattle.cvr_report.specs.Scan.{after, stops, next_mode, next_depth}
-use Rattle.cvr_report.specs.declared.scan.Mode.TheVariants.{Between, InString}
+use Rattle.cvr_report.specs.Scan.{Between, InString, after, stops, next_mode, next_depth}
 
 -- ---- strings
 

@@ -1,5 +1,6 @@
 pub mod Record
 pub mod Scan
+pub mod Unescaped
 pub mod Writes
 pub mod Page
 pub mod Shows

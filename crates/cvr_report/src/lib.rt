@@ -3,6 +3,7 @@
 
 mod fault;
 mod heading;
+mod ids;
 pub mod law;
 mod record;
 mod scan;

@@ -13,11 +13,11 @@ ghost use Rattle.cvr_report.specs.Page.{shown_record};
 ghost use Rattle.cvr_report.specs.Volume.{record_data};
 ghost use Rattle.cvr_report.specs.Found.{HaveSnapshots, CanShow, shown_bodies};
 
+use crate::ids::push_id;
 use crate::scan::cut;
 use crate::shown::{shown_current, shown_header, shown_snapshot};
 use cdf_types::{Body, Memory};
 use cvr_collect::{IdFacts, RecordFacts};
-use cvr_facts::text::push_quoted;
 use std::alloc::Global;
 
 // Adds a text, with a comma before it unless it is the first.
@@ -83,7 +83,7 @@ fn push_record(
     out.extend_from_slice(b"]")?;
     out.extend_from_slice(middle)?;
     out.extend_from_slice(b",\"CurrentSnapshotId\":")?;
-    push_quoted(alloc, out, current)?;
+    push_id(alloc, out, current)?;
     out.extend_from_slice(end)?;
     Ok(())
 }

@@ -1,84 +1,83 @@
 // A pass over compact text.
-ghost use Rattle.std.specs.Prelude.{◌≡◌, ◌+◌, ◌<◌, ◌≤◌, ℕ, length, drop};
-ghost use Rattle.cvr_report.specs.Scan.{next_mode, next_depth, stops, after, is_before, before_escaped, start_of, IsPlain};
+ghost use Rattle.std.specs.Prelude.{◌≡◌, ◌≢◌, ◌+◌, ◌<◌, ◌≤◌, ℕ, length, drop, slice_index};
+ghost use Rattle.cvr_report.specs.Scan.{Between, InString, next_depth, stops, after, is_before, before_escaped, start_of, IsPlain};
 ghost use Rattle.cvr_report.specs.Record.{IsCut};
 
-// Where in a text a byte stands: between strings, in one, or behind a backslash in one.
-#[derive(Clone, Copy)]
-pub(crate) enum Mode {
-    Between,
-    InString,
-    Escaped,
-}
-
-fn mode_after(mode: Mode, byte: u8) -> Mode
-    ensures { result ≡ next_mode mode byte }
-{
-    match mode {
-        Mode::Between => if byte == b'"' {
-            Mode::InString
-        } else {
-            Mode::Between
-        },
-        Mode::InString => {
-            if byte == b'"' {
-                Mode::Between
-            } else if byte == b'\\' {
-                Mode::Escaped
-            } else {
-                Mode::InString
-            }
-        }
-        Mode::Escaped => Mode::InString,
-    }
-}
-
-fn depth_after(mode: Mode, depth: usize, byte: u8) -> usize
+// The depth of brackets behind a byte that stands between strings.
+fn depth_after(depth: usize, byte: u8) -> usize
     requires { depth + 1 < 18446744073709551616 }
-    ensures value { result ≡ next_depth mode depth byte }
+    ensures value { result ≡ next_depth Between depth byte }
     ensures within { result ≤ depth + 1 }
 {
-    match mode {
-        Mode::Between => {
-            if byte == b'[' || byte == b'{' {
-                depth + 1
-            } else if byte == b']' || byte == b'}' {
-                depth.saturating_sub(1)
-            } else {
-                depth
-            }
-        }
-        _ => depth,
+    if byte == b'[' || byte == b'{' {
+        depth + 1
+    } else if byte == b']' || byte == b'}' {
+        depth.saturating_sub(1)
+    } else {
+        depth
     }
 }
 
-fn stops_at(mode: Mode, depth: usize, byte: u8) -> bool
-    ensures { result ≡ stops mode depth byte }
+// Whether a byte that stands between strings ends a member.
+fn stops_at(depth: usize, byte: u8) -> bool
+    ensures { result ≡ stops Between depth byte }
 {
-    match mode {
-        Mode::Between => depth == 0 && (byte == b',' || byte == b'}'),
-        _ => false,
+    depth == 0 && (byte == b',' || byte == b'}')
+}
+
+// The place behind what stands at `at` within a string: one byte, or a backslash and the byte that
+// it escapes.
+fn byte_end(text: &[u8], at: usize) -> usize
+    requires inside { at < length text.now }
+    requires open { slice_index text.now at ≢ 34 }
+    ensures rest { (depth : ℕ) → after InString depth (drop at text.now) ≡ after InString depth (drop result text.now) }
+    ensures above { at < result }
+    ensures within { result ≤ length text.now }
+{
+    if text[at] == b'\\' {
+        (at + 2).min(text.len())
+    } else {
+        at + 1
     }
 }
 
-// The place where the member ends that goes on at `from`, within the name.
-fn member_end(text: &[u8], from: usize) -> usize
+// The place behind the string that goes on at `from`.
+fn string_end(text: &[u8], from: usize) -> usize
     requires { from ≤ length text.now }
-    ensures rest { drop result text.now ≡ after Mode.InString 0 (drop from text.now) }
+    ensures rest { (depth : ℕ) → after InString depth (drop from text.now) ≡ after Between depth (drop result text.now) }
     ensures above { from ≤ result }
     ensures within { result ≤ length text.now }
 {
     let mut at = from;
-    let mut mode = Mode::InString;
+    'bytes: while at < text.len() {
+        if text[at] == b'"' {
+            return at + 1;
+        }
+        at = byte_end(text, at);
+    }
+    at
+}
+
+// The place where the member ends that goes on at `from`, within the name. A string is passed whole.
+fn member_end(text: &[u8], from: usize) -> usize
+    requires { from ≤ length text.now }
+    ensures rest { drop result text.now ≡ after InString 0 (drop from text.now) }
+    ensures above { from ≤ result }
+    ensures within { result ≤ length text.now }
+{
+    let mut at = string_end(text, from);
     let mut depth = 0;
     'bytes: while at < text.len() {
         let byte = text[at];
-        if stops_at(mode, depth, byte) {
+        if stops_at(depth, byte) {
             return at;
         }
-        depth = depth_after(mode, depth, byte);
-        mode = mode_after(mode, byte);
-        at += 1;
+        if byte == b'"' {
+            at = string_end(text, at + 1);
+        } else {
+            depth = depth_after(depth, byte);
+            at += 1;
+        }
     }
     at
 }

@@ -21,7 +21,7 @@ returns c ms ds well hh text shown =
     let all : c.extend_from_slice-6.new.self.items
     ≡ (((((((o ++ c.split_at.result.0.now) ++ snapshots_lead) ++ joined false (shown_bodies c.args.i c.args.ids.now)) ++ 93 ∷ []) ++ c.split_at-2.result.0.now) ++ lead) ++ quoted id) ++ c.split_at-2.result.1.now =
     c.in_ok-extend_from_slice-6.ensures.items
-    ∙ ap (λ s. s ++ c.split_at-2.result.1.now) (c.in_ok-push_quoted.ensures.ok
+    ∙ ap (λ s. s ++ c.split_at-2.result.1.now) (c.in_ok-push_id.ensures
     ∙ ap (λ s. s ++ quoted id) (c.in_ok-extend_from_slice-5.ensures.items
     ∙ ap (λ s. s ++ lead) (c.in_ok-extend_from_slice-4.ensures.items
     ∙ ap (λ s. s ++ c.split_at-2.result.0.now) (c.in_ok-extend_from_slice-3.ensures.items

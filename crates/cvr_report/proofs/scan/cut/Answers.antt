@@ -1,6 +1,5 @@
 use Rattle.std.proofs.Common.{rules, ◌≡◌, drop, false, true, sym, ap, ◌∙◌, arith}
-use Rattle.cvr_report.specs.Scan.{is_before, after}
-use Rattle.cvr_report.specs.declared.scan.Mode.TheVariants.{InString}
+use Rattle.cvr_report.specs.Scan.{InString, is_before, after}
 use Rattle.cvr_report.proofs.Cutting.{goes_on, cut_at_end, cut_past, cut_at_name, no_text}
 use Rattle.cvr_report.proofs.scan.cut.Goals as goal
 
