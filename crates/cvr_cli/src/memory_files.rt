@@ -1,5 +1,7 @@
-ghost use Rattle.std.specs.Prelude.{◌≡◌, MatchOption};
-ghost use Rattle.cvr_cli.specs.Opening.{Absent, Has};
+ghost use Rattle.std.specs.Prelude.{◌≡◌, true, false, Some, Err, IsOk, IfOk, IfErr, MatchOption};
+ghost use Rattle.cvr_cli.specs.declared.file.FileFault.TheVariants.{Device};
+ghost use Rattle.cvr_cli.specs.File.{is_device};
+ghost use Rattle.cvr_cli.specs.Opening.{Absent, Has, has_file, IsOpened};
 ghost use Rattle.cvr_cli.specs.MemoryFiles.{found_at};
 
 use crate::file::FileFault;
@@ -48,7 +50,13 @@ impl<'a> Open for MemoryFiles<'a> {
     ///
     /// # Errors
     /// `Device` exactly where there is none.
-    fn open(&self, path: &str) -> Result<MemorySource<'a>, FileFault> {
+    fn open(&self, path: &str) -> Result<MemorySource<'a>, FileFault>
+        ensures working { IfOk result (λ file. file.has_failed ≡ false) }
+        ensures bytes { IfOk result (λ file. IsOpened (found_at self.now.files.now path.now) (Some file.rest)) }
+        ensures device { IfErr result (λ e. is_device e ≡ true → has_file (found_at self.now.files.now path.now) ≡ false) }
+        ensures opened { has_file (found_at self.now.files.now path.now) ≡ true → IsOk result }
+        ensures fault { has_file (found_at self.now.files.now path.now) ≡ false → result ≡ Err Device }
+    {
         match find(self.files, path) {
             Some(file) => Ok(MemorySource::new(file.bytes, PIECE, file.fail_at)),
             None => Err(FileFault::Device),
