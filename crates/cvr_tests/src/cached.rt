@@ -19,6 +19,11 @@ fn kept_text(rt: &(impl Abort + AllocGlobal), office: &CachedOffice) -> String {
     tally_text(rt.alloc(), office.kept()).expect(rt, "no memory")
 }
 
+// Ends the test where the texts differ.
+fn check_equal(rt: &impl Abort, one: &str, other: &str) {
+    assert!(rt; one == other, "{one}{other}");
+}
+
 // ---- rows after each file
 
 // A file, how many facts are held once it has come, and the rows then.
@@ -68,11 +73,8 @@ const STEPS: [Step; 7] = [
 
 // Ends the test where other facts or rows are held.
 fn check(rt: &(impl Abort + AllocGlobal), office: &CachedOffice, facts: usize, rows: &str) {
-    let text = kept_text(rt, office);
-    assert!(rt;
-        office.fact_count() == facts && text.as_str() == rows,
-        "{text}"
-    );
+    assert_eq!(rt; office.fact_count(), facts);
+    check_equal(rt, &kept_text(rt, office), rows);
 }
 
 #[test]
@@ -208,20 +210,43 @@ impl Numbers {
         self.state >> 33
     }
 
+    // A number below the bound.
+    fn below(&mut self, bound: u64) -> usize {
+        match self.next().checked_rem(bound) {
+            Some(rest) => rest as usize,
+            None => 0,
+        }
+    }
+
     // An event among three offices and fourteen files, or one with an office or a file too many.
     fn event(&mut self) -> Event {
-        let (kind, one, other) = (self.next() % 3, self.next() % 4, self.next() % 15);
-        match kind {
+        match self.below(3) {
             0 => Event::Exchange {
-                from: one as usize,
-                to: (other % 4) as usize,
+                from: self.below(4),
+                to: self.below(4),
             },
             _ => Event::Import {
-                office: one as usize,
-                file: other as usize,
+                office: self.below(4),
+                file: self.below(15),
             },
         }
     }
+}
+
+// Plays one event in offices of both kinds, ends the test where they tell or answer otherwise, or where what is kept
+// isn't what is computed anew, and tells what became of it.
+fn outcome_of_both(
+    rt: &(impl Abort + AllocGlobal),
+    cached: &mut [CachedOffice],
+    plain: &mut [PlainOffice],
+    files: &[Vec<u8>],
+    event: Event,
+) -> String {
+    let told = outcome_of(rt, cached, files, event);
+    check_equal(rt, &told, &outcome_of(rt, plain, files, event));
+    check_equal(rt, &answers(rt, cached), &answers(rt, plain));
+    assert!(rt; are_kept(rt, cached));
+    told
 }
 
 // Whether these texts are among what was told.
@@ -234,25 +259,23 @@ fn all_told(told: &str, wanted: &[&str]) -> bool {
     true
 }
 
-#[test]
-fn a_drill_goes_the_same_way_in_plain_offices(rt: HostRuntime) {
-    let files = bytes_of(&rt, &FILES);
-    let mut cached: Vec<CachedOffice> = new_offices(&rt, &DEFINITIONS);
-    let mut plain: Vec<PlainOffice> = new_offices(&rt, &DEFINITIONS);
+// What became of 120 events, in offices of both kinds side by side.
+fn drilled(rt: &(impl Abort + AllocGlobal)) -> String {
+    let files = bytes_of(rt, &FILES);
+    let mut cached: Vec<CachedOffice> = new_offices(rt, &DEFINITIONS);
+    let mut plain: Vec<PlainOffice> = new_offices(rt, &DEFINITIONS);
     let mut numbers = Numbers { state: 20261123 };
     let mut told = String::new(rt.alloc());
     for _ in 0..120 {
-        let event = numbers.event();
-        let one = outcome_of(&rt, &mut cached, &files, event);
-        let other = outcome_of(&rt, &mut plain, &files, event);
-        assert!(rt; one.as_str() == other.as_str(), "{one}{other}");
-        let (here, there) = (answers(&rt, &cached), answers(&rt, &plain));
-        assert!(rt;
-            here.as_str() == there.as_str() && are_kept(&rt, &cached),
-            "{here}{there}"
-        );
-        told.push_str(one.as_str()).expect(&rt, "no memory");
+        let one = outcome_of_both(rt, &mut cached, &mut plain, &files, numbers.event());
+        told.push_str(one.as_str()).expect(rt, "no memory");
     }
+    told
+}
+
+#[test]
+fn a_drill_goes_the_same_way_in_plain_offices(rt: HostRuntime) {
+    let told = drilled(&rt);
     assert!(rt;
         all_told(
             told.as_str(),

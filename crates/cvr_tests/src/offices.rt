@@ -42,20 +42,21 @@ fn are_both_kept<O: Office>(rt: &(impl Abort + AllocGlobal), office: &O, key: &R
 }
 
 // Whether the record has moved in an office, and both its headers are kept.
-fn is_moved<O: Office>(rt: &(impl Abort + AllocGlobal), office: &O) -> bool {
+fn is_moved<O: Office + Drop>(rt: &(impl Abort + AllocGlobal)) -> bool {
+    let office: O = office_of(rt, &[SCAN, MOVED]);
     let key = name(rt, "u1");
-    has_moved(office, &key) && are_both_kept(rt, office, &key)
+    has_moved(&office, &key) && are_both_kept(rt, &office, &key)
 }
 
 #[test]
 fn a_record_that_moves_keeps_both_headers(rt: HostRuntime) {
-    let plain: PlainOffice = office_of(&rt, &[SCAN, MOVED]);
-    let cached: CachedOffice = office_of(&rt, &[SCAN, MOVED]);
-    assert!(rt; is_moved(&rt, &plain) && is_moved(&rt, &cached));
+    assert!(rt; is_moved::<PlainOffice>(&rt));
+    assert!(rt; is_moved::<CachedOffice>(&rt));
 }
 
 // Whether records come in order of their names, each once.
-fn come_in_order<O: Office>(rt: &(impl Abort + AllocGlobal), office: &O) -> bool {
+fn come_in_order<O: Office + Drop>(rt: &(impl Abort + AllocGlobal)) -> bool {
+    let office: O = office_of(rt, &[OTHER_RECORD, SCAN]);
     let (one, other) = (name(rt, "u1"), name(rt, "u2"));
     office.next_record(None) == Some(&one)
         && office.next_record(Some(&one)) == Some(&other)
@@ -64,9 +65,8 @@ fn come_in_order<O: Office>(rt: &(impl Abort + AllocGlobal), office: &O) -> bool
 
 #[test]
 fn records_come_in_order_of_their_names(rt: HostRuntime) {
-    let plain: PlainOffice = office_of(&rt, &[OTHER_RECORD, SCAN]);
-    let cached: CachedOffice = office_of(&rt, &[OTHER_RECORD, SCAN]);
-    assert!(rt; come_in_order(&rt, &plain) && come_in_order(&rt, &cached));
+    assert!(rt; come_in_order::<PlainOffice>(&rt));
+    assert!(rt; come_in_order::<CachedOffice>(&rt));
 }
 
 // Whether body number k of the third scanner is this one.
@@ -83,18 +83,18 @@ const THIRD: &str = r#"{"@id":"s3","@type":"CVR.ReportingDevice"}"#;
 const THIRD_WITH_MODEL: &str = r#"{"@id":"s3","@type":"CVR.ReportingDevice","Model":"x"}"#;
 
 // Whether an office has both, the greatest first.
-fn has_both_bodies<O: Office>(office: &O) -> bool {
+fn has_both_bodies<O: Office + Drop>(rt: &(impl Abort + AllocGlobal)) -> bool {
+    let office: O = office_of(rt, &[WITH_MODEL_OF_THIRD, WITH_THIRD]);
     office.next_device(Some("s2")) == Some("s3")
         && office.device_count("s3") == 2
-        && is_body_of_third(office, 1, THIRD)
-        && is_body_of_third(office, 2, THIRD_WITH_MODEL)
+        && is_body_of_third(&office, 1, THIRD)
+        && is_body_of_third(&office, 2, THIRD_WITH_MODEL)
 }
 
 #[test]
 fn bodies_of_a_device_come_greatest_first(rt: HostRuntime) {
-    let plain: PlainOffice = office_of(&rt, &[WITH_MODEL_OF_THIRD, WITH_THIRD]);
-    let cached: CachedOffice = office_of(&rt, &[WITH_MODEL_OF_THIRD, WITH_THIRD]);
-    assert!(rt; has_both_bodies(&plain) && has_both_bodies(&cached));
+    assert!(rt; has_both_bodies::<PlainOffice>(&rt));
+    assert!(rt; has_both_bodies::<CachedOffice>(&rt));
 }
 
 // Both rows of the mayor once all has come: one of each record, under the greatest header.
@@ -116,15 +116,25 @@ const FILES: [Changes; 7] = [
 fn has_rows<O: Office>(rt: &(impl Abort + AllocGlobal), office: &O) -> bool {
     let totals = office.totals(rt.alloc()).expect(rt, "no memory");
     let rows = tally_text(rt.alloc(), &totals).expect(rt, "no memory");
+    rows.as_str() == ROWS
+}
+
+// Whether this is the text of an office's tally.
+fn has_text<O: Office>(rt: &(impl Abort + AllocGlobal), office: &O) -> bool {
     let text = office.tally_text(rt.alloc()).expect(rt, "no memory");
-    rows.as_str() == ROWS && text.as_str() == ROWS
+    text.as_str() == ROWS
+}
+
+// Whether an office that took the files has these rows, and this text of its tally.
+fn has_totals<O: Office + Drop>(rt: &(impl Abort + AllocGlobal)) -> bool {
+    let office: O = office_of(rt, &FILES);
+    has_rows(rt, &office) && has_text(rt, &office)
 }
 
 #[test]
 fn totals_are_those_of_current_snapshots(rt: HostRuntime) {
-    let plain: PlainOffice = office_of(&rt, &FILES);
-    let cached: CachedOffice = office_of(&rt, &FILES);
-    assert!(rt; has_rows(&rt, &plain) && has_rows(&rt, &cached));
+    assert!(rt; has_totals::<PlainOffice>(&rt));
+    assert!(rt; has_totals::<CachedOffice>(&rt));
 }
 
 // The key of the mayor's row in a unit, of no batch.
@@ -150,13 +160,13 @@ fn last_in<O: Office>(
 }
 
 // Whether an office has the row of the one unit, and none of the other.
-fn has_one_row<O: Office>(rt: &(impl Abort + AllocGlobal), office: &O) -> bool {
-    last_in(rt, office, "p2") == Some((1, 1)) && last_in(rt, office, "p1").is_none()
+fn has_one_row<O: Office + Drop>(rt: &(impl Abort + AllocGlobal)) -> bool {
+    let office: O = office_of(rt, &FILES);
+    last_in(rt, &office, "p2") == Some((1, 1)) && last_in(rt, &office, "p1").is_none()
 }
 
 #[test]
 fn a_row_is_found_by_its_key(rt: HostRuntime) {
-    let plain: PlainOffice = office_of(&rt, &FILES);
-    let cached: CachedOffice = office_of(&rt, &FILES);
-    assert!(rt; has_one_row(&rt, &plain) && has_one_row(&rt, &cached));
+    assert!(rt; has_one_row::<PlainOffice>(&rt));
+    assert!(rt; has_one_row::<CachedOffice>(&rt));
 }

@@ -198,13 +198,10 @@ fn told<O: Office>(rt: &(impl Abort + AllocGlobal), offices: &[O], outcomes: &[O
     text
 }
 
-// What is told of a drill among these new offices.
-fn played<O: Office + Drop>(
-    rt: &(impl Abort + AllocGlobal),
-    mut offices: Vec<O>,
-    drill: &Drill,
-) -> String {
+// What is told of a drill among new offices of a kind.
+fn played<O: Office + Drop>(rt: &(impl Abort + AllocGlobal), drill: &Drill) -> String {
     let files = bytes_of(rt, drill.files);
+    let mut offices: Vec<O> = new_offices(rt, drill.offices);
     let outcomes = outcomes_of(rt, &mut offices, &files, drill.events);
     told(rt, &offices, &outcomes)
 }
@@ -219,18 +216,16 @@ fn outcomes_of<O: Office>(
     play(rt.alloc(), offices, files, events).expect(rt, "no memory")
 }
 
-// Plays a drill among new offices, and ends the test where another thing is told of it.
-fn check_among<O: Office + Drop>(rt: &(impl Abort + AllocGlobal), offices: Vec<O>, drill: &Drill) {
-    let told = played(rt, offices, drill);
+// Plays a drill among new offices of a kind, and ends the test where another thing is told of it.
+fn check_among<O: Office + Drop>(rt: &(impl Abort + AllocGlobal), drill: &Drill) {
+    let told = played::<O>(rt, drill);
     assert!(rt; told.as_str() == drill.told, "{told}");
 }
 
 // Plays a drill among offices of each kind.
 fn check(rt: &(impl Abort + AllocGlobal), drill: &Drill) {
-    let plain: Vec<PlainOffice> = new_offices(rt, drill.offices);
-    check_among(rt, plain, drill);
-    let cached: Vec<CachedOffice> = new_offices(rt, drill.offices);
-    check_among(rt, cached, drill);
+    check_among::<PlainOffice>(rt, drill);
+    check_among::<CachedOffice>(rt, drill);
 }
 
 #[test]

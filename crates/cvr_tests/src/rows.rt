@@ -28,8 +28,9 @@ fn is_copied(rt: &(impl Abort + AllocGlobal), row: &Row) -> bool {
     is_numbered(&row.copy(rt.alloc()).expect(rt, "no memory"))
 }
 
-// Whether an office has the row of the unit with these numbers, in a copy too.
-fn has_numbered<O: Office>(rt: &(impl Abort + AllocGlobal), office: &O) -> bool {
+// Whether an office that took the scan has the row of the unit with these numbers, in a copy too.
+fn has_numbered<O: Office + Drop>(rt: &(impl Abort + AllocGlobal)) -> bool {
+    let office: O = office_of(rt, &[NUMBERED]);
     let key = RowKey {
         contest: 0,
         unit: Some(body(rt, "p1")),
@@ -43,7 +44,6 @@ fn has_numbered<O: Office>(rt: &(impl Abort + AllocGlobal), office: &O) -> bool 
 
 #[test]
 fn a_row_is_told_and_copied_in_each_column(rt: HostRuntime) {
-    let plain: PlainOffice = office_of(&rt, &[NUMBERED]);
-    let cached: CachedOffice = office_of(&rt, &[NUMBERED]);
-    assert!(rt; has_numbered(&rt, &plain) && has_numbered(&rt, &cached));
+    assert!(rt; has_numbered::<PlainOffice>(&rt));
+    assert!(rt; has_numbered::<CachedOffice>(&rt));
 }
