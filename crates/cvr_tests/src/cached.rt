@@ -7,13 +7,6 @@ use cvr_collect::{Event, Office, PlainOffice, play};
 use cvr_tally::tally_text;
 use std::process::Abort;
 
-// Has an office take a file, and answers how many facts were new.
-fn take(rt: &(impl Abort + AllocGlobal), office: &mut CachedOffice, changes: Changes) -> usize {
-    let text = file(rt, changes);
-    let receipt = office.import(text.as_bytes());
-    receipt.expect(rt, "a file is refused").new_facts
-}
-
 // The text of the running totals.
 fn kept_text(rt: &(impl Abort + AllocGlobal), office: &CachedOffice) -> String {
     tally_text(rt.alloc(), office.kept()).expect(rt, "no memory")
@@ -77,12 +70,17 @@ fn check(rt: &(impl Abort + AllocGlobal), office: &CachedOffice, facts: usize, r
     check_equal(rt, &kept_text(rt, office), rows);
 }
 
+// Has an office take a step's file, and ends the test where it then holds other facts or rows.
+fn follow(rt: &(impl Abort + AllocGlobal), office: &mut CachedOffice, step: &Step) {
+    take(rt, office, step.file);
+    check(rt, office, step.facts, step.rows);
+}
+
 #[test]
 fn totals_follow_each_file(rt: HostRuntime) {
     let mut office: CachedOffice = new_office(&rt, &[]);
     for step in &STEPS {
-        let _ = take(&rt, &mut office, step.file);
-        check(&rt, &office, step.facts, step.rows);
+        follow(&rt, &mut office, step);
     }
 }
 
@@ -91,9 +89,7 @@ const FOR_BOB: &str = "\"mayor\" \"p1\" null 1 0 0 0 0 0 \"ann\" 0 \"bob\" 1 \"w
 
 #[test]
 fn a_row_that_its_last_record_leaves_goes_away(rt: HostRuntime) {
-    let mut office: CachedOffice = new_office(&rt, &[]);
-    let _ = take(&rt, &mut office, EVERY_KIND);
-    let _ = take(&rt, &mut office, ADJUDICATED);
+    let office: CachedOffice = office_of(&rt, &[EVERY_KIND, ADJUDICATED]);
     check(&rt, &office, 6, FOR_BOB);
 }
 
@@ -101,19 +97,19 @@ fn a_row_that_its_last_record_leaves_goes_away(rt: HostRuntime) {
 const FOR_BOTH: &str =
     "\"mayor\" \"p1\" null 1 0 0 0 0 0 \"ann\" 0 \"bob\" 1 \"wi\" 0\n\"mayor\" \"p1\" \"b1\" 1 0 0 0 0 0 \"ann\" 1 \"bob\" 0 \"wi\" 0\n";
 
-// Has an office join another, and answers how many facts were new.
-fn join(rt: &(impl Abort + AllocGlobal), office: &mut CachedOffice, other: &CachedOffice) -> usize {
-    office.join(other).expect(rt, "the join is refused")
+// Has an office join another, which brings three new facts.
+fn join(rt: &(impl Abort + AllocGlobal), office: &mut CachedOffice, other: &CachedOffice) {
+    assert_eq!(rt; office.join(other).expect(rt, "the join is refused"), 3);
 }
 
 #[test]
 fn totals_follow_a_join(rt: HostRuntime) {
-    let mut office: CachedOffice = new_office(&rt, &[]);
-    let mut other: CachedOffice = new_office(&rt, &[]);
-    let _ = take(&rt, &mut office, SCAN);
-    let _ = take(&rt, &mut other, ADJUDICATED);
-    let _ = take(&rt, &mut other, OTHER_RECORD);
-    assert_eq!(rt; join(&rt, &mut office, &other), 3);
+    let mut office: CachedOffice = office_of(&rt, &[SCAN]);
+    join(
+        &rt,
+        &mut office,
+        &office_of(&rt, &[ADJUDICATED, OTHER_RECORD]),
+    );
     check(&rt, &office, 8, FOR_BOTH);
 }
 

@@ -150,8 +150,8 @@ pub fn office_of<O: Office>(rt: &(impl Abort + AllocGlobal), files: &[Changes]) 
     office
 }
 
-// Has an office take a file. A function of its own, so that no other proof has to carry all that is said of `import`.
-fn take<O: Office>(rt: &(impl Abort + AllocGlobal), office: &mut O, changes: Changes) {
+/// Has an office take a file. A function of its own, so that no other proof has to carry all that is said of `import`.
+pub fn take<O: Office>(rt: &(impl Abort + AllocGlobal), office: &mut O, changes: Changes) {
     let text = file(rt, changes);
     let _ = office
         .import(text.as_bytes())
