@@ -1,0 +1,5 @@
+pub mod Numbers
+pub mod Scalars
+pub mod Next
+pub mod Taking
+pub mod Looking

@@ -1,0 +1,12 @@
+//! Values of a JSON text (RFC 8259) taken one at a time from its tokens, as serde_json reads them: a
+//! text's object with the items of one array handed on one by one.
+#![tactic(auto)]
+
+mod apart;
+pub mod law;
+mod scalar;
+mod stop;
+mod value;
+
+pub use apart::{Take, read_text_apart};
+pub use stop::Stop;

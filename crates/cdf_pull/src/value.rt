@@ -1,0 +1,66 @@
+ghost use Rattle.std.specs.Prelude.{◌≡◌, ◌<◌, ◌∷◌, length, Some, IfOk, OnOk};
+ghost use Rattle.json.specs.Token as spec;
+ghost use Rattle.serde_json.specs.View.{view};
+ghost use Rattle.cdf_pull.specs.Next.{next_value};
+
+use crate::scalar::scalar;
+use crate::stop::Stop;
+use json::{Reader, Token};
+use serde_json::{Map, Value};
+use std::alloc::Global;
+
+/// The next value of a text, as serde_json reads it: of members of one name the last, numbers of
+/// digits alone for at most 64 bits, arrays and objects nested no deeper than `depth`.
+///
+/// # Errors
+/// `Unread` where no such value comes next; `Memory` where a growth was refused. Where the reader
+/// stands then isn't told.
+#[cycle(value)]
+pub fn read(alloc: Global, reader: &mut Reader<'_>, depth: usize) -> Result<Value, Stop>
+    ensures value { IfOk result (λ v. next_value depth reader.old ≡ Some (view v, reader.new)) }
+    ensures shorter { OnOk result (length reader.new < length reader.old) }
+{
+    let token = reader.next().ok_or(Stop::Unread)?;
+    match token {
+        Token::BeginArray => read_array(alloc, reader, depth),
+        Token::BeginObject => read_object(alloc, reader, depth),
+        _ => scalar(alloc, token),
+    }
+}
+
+// The array whose first bracket was read.
+#[cycle(value)]
+fn read_array(alloc: Global, reader: &mut Reader<'_>, depth: usize) -> Result<Value, Stop>
+    ensures value { IfOk result (λ v. next_value depth (spec.Token.begin_array ∷ reader.old)
+        ≡ Some (view v, reader.new)) }
+    ensures shorter { OnOk result (length reader.new < length reader.old) }
+{
+    if depth == 0 {
+        return Err(Stop::Unread);
+    }
+    let mut items = Vec::new(alloc);
+    'items: while !reader.take_end_array() {
+        let item = read(alloc, reader, depth - 1)?;
+        items.push(item)?;
+    }
+    Ok(Value::Array(items))
+}
+
+// The object whose first brace was read.
+#[cycle(value)]
+fn read_object(alloc: Global, reader: &mut Reader<'_>, depth: usize) -> Result<Value, Stop>
+    ensures value { IfOk result (λ v. next_value depth (spec.Token.begin_object ∷ reader.old)
+        ≡ Some (view v, reader.new)) }
+    ensures shorter { OnOk result (length reader.new < length reader.old) }
+{
+    if depth == 0 {
+        return Err(Stop::Unread);
+    }
+    let mut found = Map::new(alloc);
+    'members: while let Some(key) = reader.next_key()? {
+        let name = String::from_str(alloc, key)?;
+        let member = read(alloc, reader, depth - 1)?;
+        drop(found.insert(name, member)?);
+    }
+    Ok(Value::Object(found))
+}
