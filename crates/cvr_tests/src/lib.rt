@@ -19,6 +19,8 @@ mod opening;
 #[cfg(test)]
 mod playing;
 #[cfg(test)]
+mod pulling;
+#[cfg(test)]
 mod rows;
 #[cfg(test)]
 mod runs;
