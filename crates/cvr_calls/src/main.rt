@@ -10,6 +10,7 @@ mod lines;
 mod logs;
 mod offices;
 mod playing;
+mod pulling;
 mod readings;
 mod records;
 mod running;

@@ -1,5 +1,6 @@
 use crate::changes::joined_of;
 use crate::files::facts_in;
+use crate::pulling::is_read_apart;
 use crate::records::Records;
 use crate::running::read_whole;
 use crate::same::{
@@ -101,6 +102,7 @@ fn is_definition_copied(alloc: Global, definition: &Definition) -> Result<bool, 
 /// What is made of a file.
 pub enum Filing {
     ReadFile,
+    Apart,
     Definition,
     Facts,
 }
@@ -109,6 +111,7 @@ impl Reading for Filing {
     fn is_right(&self, alloc: Global, records: &Records<'_>) -> Result<bool, ReadFault> {
         match self {
             Filing::ReadFile => is_file_read(alloc, records.bytes),
+            Filing::Apart => is_read_apart(alloc, records.bytes),
             Filing::Definition => is_definition_read(alloc, records),
             Filing::Facts => are_facts_made(alloc, records),
         }

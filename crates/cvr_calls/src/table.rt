@@ -29,8 +29,9 @@ static COPIES: [(&str, Copying); 11] = [
     ("Definition::copy", Copying::Definition),
 ];
 
-static FILINGS: [(&str, Filing); 3] = [
+static FILINGS: [(&str, Filing); 4] = [
     ("read_file", Filing::ReadFile),
+    ("read_text_apart", Filing::Apart),
     ("Definition::read", Filing::Definition),
     ("check_report, facts_of", Filing::Facts),
 ];
