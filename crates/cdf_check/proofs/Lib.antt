@@ -22,3 +22,4 @@ pub mod Spelling
 pub mod Utf8
 pub mod Laws
 pub mod Lemmas
+pub mod Apart

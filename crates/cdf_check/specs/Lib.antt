@@ -8,6 +8,7 @@ pub mod Agreement
 pub mod Sound
 pub mod Same
 pub mod Acceptance
+pub mod Apart
 pub mod Bodies
 pub mod Wider
 pub mod Depths

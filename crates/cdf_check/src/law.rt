@@ -1,5 +1,6 @@
 ghost use Rattle.cdf_check.specs.Laws.{ReferencesLaw, AgreementLaw, SoundLaw, SoundFileLaw, ValidFileLaw, OneElectionLaw, SameElectionLaw, ListsLaw, PlacesLaw};
 ghost use Rattle.cdf_check.specs.Depths.{ReportRowLaw, HasIdLaw};
+ghost use Rattle.cdf_check.specs.Apart.{RecordsLaw, AgreesApartLaw, TypedApartLaw};
 ghost use Rattle.cdf_check.specs.Same.{SameTextsLaw, SameDefinitionsLaw, OneDefinitionLaw};
 
 /// A list of faults is empty exactly where what the faults tell of holds: of references, of
@@ -45,4 +46,13 @@ pub fn same_definitions()
     ensures texts { SameTextsLaw }
     ensures equal { SameDefinitionsLaw }
     ensures one { OneDefinitionLaw }
+{}
+
+/// A report may be told by its records and by what is left beside them: it is a report where what
+/// is left is one and each record is one of it, it agrees with a definition where what is left does,
+/// and its typed report is made of both.
+pub fn records_apart()
+    ensures report { RecordsLaw }
+    ensures agrees { AgreesApartLaw }
+    ensures typed { TypedApartLaw }
 {}

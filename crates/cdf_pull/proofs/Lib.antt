@@ -3,3 +3,4 @@ pub mod Scalars
 pub mod Next
 pub mod Taking
 pub mod Looking
+pub mod Laws
