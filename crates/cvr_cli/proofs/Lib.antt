@@ -22,3 +22,4 @@ pub mod Opened
 pub mod Known
 pub mod Unasked
 pub mod GivenTexts
+pub mod GivenOffices

@@ -6,6 +6,7 @@ use Rattle.cvr_facts.specs.Facts.{Fact, Device, Header, Snapshot}
 use Rattle.cvr_tally.specs.Examples.{ballot_box, dot}
 use Rattle.cvr_collect.specs.Examples.{contests, position, selection, choice, contest, snapshot}
 use Rattle.cvr_words.specs.declared.request.Task.TheVariants.{Currents, Conflicts, Tally}
+use Rattle.cvr_cli.specs.Drill.{office_lines}
 use Rattle.cvr_cli.specs.Outcome.{facts_text}
 
 -- a definition of three contests: for mayor Ann and Bob, the second with the dot, the third with no selection
@@ -159,3 +160,45 @@ one_body_each =
 
 abbrev pub NoConflict : Type 0
 NoConflict = facts_text election Conflicts (from_list one_body_each) ≡ codes "volumes 1\n"
+
+-- ---- a drill
+
+-- headers of these uniques, and bodies under one id of a record that may be among them
+abbrev pub heads_and_bodies : List ℕ → List ℕ → List Fact
+heads_and_bodies uniques bodies =
+    each (λ unique. Header (codes "s1") unique (codes "1")) uniques ++ each (Snapshot (codes "s1") (codes "a") (codes "m")) bodies
+
+-- a device, and a snapshot of a record without a header
+abbrev pub second_device : Fact
+second_device = Device (codes "s2") (codes "1")
+
+abbrev pub without_header : Fact
+without_header = Snapshot (codes "s2") (codes "a") (codes "m") (codes "1")
+
+-- the facts of ten offices, the same ones in any order and some twice: of the first, the third and the eighth; of the second and the seventh, with another body; of the sixth and the ninth, which hold none. The fourth lacks a header of the first, the fifth has two facts more than the second
+abbrev pub ten_offices : List (List Fact)
+ten_offices =
+    heads_and_bodies (codes "lkjihgfedcba") (codes "987654321") ∷
+    heads_and_bodies (codes "lkjihgfedcba") (codes "087654321") ∷
+    heads_and_bodies (codes "abcdefghijklaf") (codes "1234567899") ∷
+    heads_and_bodies (codes "kjihgfedcba") (codes "987654321") ∷
+    (second_device ∷ without_header ∷ heads_and_bodies (codes "lkjihgfedcba") (codes "087654321")) ∷
+    [] ∷
+    heads_and_bodies (codes "abcdefghijkl") (codes "123456780") ∷
+    heads_and_bodies (codes "fedcbalkjihg") (codes "543219876") ∷
+    [] ∷
+    (second_device ∷ []) ∷ []
+
+abbrev pub LinesOfTen : Type 0
+LinesOfTen =
+    office_lines (map from_list ten_offices)
+    ≡ codes "office 1 records 12 facts 21 same 1\n" ++
+    codes "office 2 records 12 facts 21 same 2\n" ++
+    codes "office 3 records 12 facts 21 same 1\n" ++
+    codes "office 4 records 11 facts 20 same 4\n" ++
+    codes "office 5 records 13 facts 23 same 5\n" ++
+    codes "office 6 records 0 facts 0 same 6\n" ++
+    codes "office 7 records 12 facts 21 same 2\n" ++
+    codes "office 8 records 12 facts 21 same 1\n" ++
+    codes "office 9 records 0 facts 0 same 6\n" ++
+    codes "office 10 records 0 facts 1 same 10\n"

@@ -5,7 +5,8 @@ use Rattle.jiff.proofs.OnLiterals.{jiff_on_literals}
 use Rattle.cvr_collect.specs.Examples.{contests}
 use Rattle.cvr_collect.proofs.Lemmas.{conflicts-given, tally-given}
 use Rattle.cvr_cli.specs.Currents.{conflict_text}
-use Rattle.cvr_cli.specs.Examples.{of_five, several_bodies, one_body_each}
+use Rattle.cvr_cli.specs.Examples.{of_five, several_bodies, one_body_each, ten_offices}
+use Rattle.cvr_cli.proofs.GivenOffices.{offices-given}
 use Rattle.cvr_cli.proofs.GivenTexts.{currents-given}
 use Rattle.cvr_cli.proofs.examples.worked_examples.Goals as goal
 
@@ -16,4 +17,5 @@ returns c = record {
   tally = tally-given contests of_five ∙ refl;
   conflicts = ap conflict_text (conflicts-given several_bodies) ∙ refl;
   no_conflict = ap conflict_text (conflicts-given one_body_each) ∙ refl;
+  drill = offices-given ten_offices ∙ refl;
 }
