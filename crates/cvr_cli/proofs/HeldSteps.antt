@@ -40,7 +40,7 @@ accepted_same definition file none =
     ]
 
 -- a file that is imported is there, and accepted
-accepted_of : (a b : Bool) (first : Option ReadFault) → (if a then certain NoOffice else (if b then certain NoFile else file_due first)).cause ≡ None → first ≡ None
+pub accepted_of : (a b : Bool) (first : Option ReadFault) → (if a then certain NoOffice else (if b then certain NoFile else file_due first)).cause ≡ None → first ≡ None
 accepted_of true b first is = absurd (cc)
 accepted_of false true first is = absurd (cc)
 accepted_of false false None is = refl

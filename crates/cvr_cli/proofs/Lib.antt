@@ -23,3 +23,4 @@ pub mod Known
 pub mod Unasked
 pub mod GivenTexts
 pub mod GivenOffices
+pub mod Drilled

@@ -28,13 +28,13 @@ content-accepted starts files past file n = over_insert origin_total origin_exac
 
 module _ (definition : Frame) (files : List (List ℕ)) (q : Fact) where
   -- it is one of an accepted file among the first n
-  record IsBrought (n : ℕ) : Type 0 where
+  pub record IsBrought (n : ℕ) : Type 0 where
     pub place : ℕ
     pub below : place < n
     pub accepted : first_refusal definition (get_or files place []) ≡ None
     pub there : contains (facts (get_or files place [])) q ≡ true
 
-  abbrev Has : ℕ → Type 0
+  abbrev pub Has : ℕ → Type 0
   Has n = (contains (starting definition) q ≡ true) ⊎ IsBrought n
 
   later : (n : ℕ) → Has n → Has (suc n)
@@ -124,13 +124,13 @@ module _ (definition : Frame) (files : List (List ℕ)) (q : Fact) where
       contains-union fact_total (starting definition) (union_over (accepted_facts definition) files) q
       ∙ ap (λ b. contains (starting definition) q || b) (contains-union_over (accepted_facts definition) files q)
 
-  held_from : Has definition files q (length files) → contains (held definition files) q ≡ true
+  pub held_from : Has definition files q (length files) → contains (held definition files) q ≡ true
   held_from (inl at_first) = in_held ∙ or_left _ _ at_first
   held_from (inr from) =
       in_held
       ∙ or_right (contains (starting definition) q) _ (list_any_at gives files from.place [] from.below (in_accepted (first_refusal definition (get_or files from.place [])) _ q from.accepted from.there))
 
-  from_union : contains (held definition files) q ≡ true → Has definition files q (length files)
+  pub from_union : contains (held definition files) q ≡ true → Has definition files q (length files)
   from_union h =
       elim (or_cases _ _ (sym in_held ∙ h)) [
         | inl at_first ↦ inl at_first

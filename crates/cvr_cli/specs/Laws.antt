@@ -1,7 +1,7 @@
--- What is held of files is what an office holds after their imports; neither their order nor a file that comes again changes it. (This project's own.)
-use Rattle.std.specs.Prelude.{◌≡◌, ◌≢◌, ◌↔◌, ◌<◌, ◌≤◌, ◌+◌, ◌-◌, ℕ, zero, suc, length, get_or, List, [], ◌∷◌, ◌++◌, replicate, codes, decimal, Some, None}
+-- What is held of files is what an office holds after their imports, in a drill too; neither their order nor a file that comes again changes it. (This project's own.)
+use Rattle.std.specs.Prelude.{◌≡◌, ◌≢◌, ◌↔◌, ◌⊎◌, ◌<◌, ◌≤◌, ◌+◌, ◌-◌, ℕ, zero, suc, length, get_or, map, List, [], ◌∷◌, ◌++◌, replicate, codes, decimal, Some, None}
 use Rattle.std.specs.List.{Contains, flat_map}
-use Rattle.std.specs.FinSet.{empty}
+use Rattle.std.specs.FinSet.{empty, union, len}
 use Rattle.cdf_check.specs.Frame.{Frame}
 use Rattle.cdf_check.specs.Acceptance.{first_refusal}
 use Rattle.cvr_facts.specs.Facts.{Facts}
@@ -12,14 +12,17 @@ use Rattle.cvr_collect.specs.Keeps.{starting}
 use Rattle.cvr_collect.specs.Readers.{growth}
 use Rattle.cvr_collect.specs.Reach.{History, content}
 use Rattle.cvr_collect.specs.Outcomes.{due, AreOutcomes}
-use Rattle.cvr_collect.specs.Names.{conflicts}
+use Rattle.cvr_collect.specs.Names.{records, conflicts}
 use Rattle.cvr_collect.specs.Tallied.{tally}
 use Rattle.cvr_report.specs.Page.{volumes}
 use Rattle.cvr_report.specs.Volume.{volume}
+use Rattle.cvr_words.specs.declared.request.Act.{Act}
+use Rattle.cvr_words.specs.declared.request.Act.TheVariants as act
+use Rattle.cvr_words.specs.declared.request.Step.{Step}
 use Rattle.cvr_cli.specs.declared.merge.MergeFault.{MergeFault}
 use Rattle.cvr_cli.specs.declared.merge.MergeFault.TheVariants.{NoVolume}
 use Rattle.cvr_cli.specs.Currents.{currents, conflict_line, conflict_text}
-use Rattle.cvr_cli.specs.Drill.{new_offices, past_of, least_same}
+use Rattle.cvr_cli.specs.Drill.{new_offices, past_of, drilled, least_same, drill_text}
 use Rattle.cvr_cli.specs.Merge.{merge_fault, merge_text}
 use Rattle.cvr_cli.specs.Outcome.{held}
 
@@ -99,3 +102,51 @@ pub record IsLeast (all : List Facts) (o : ℕ) : Type 0 where
 
 abbrev pub LeastSameLaw : Type 0
 LeastSameLaw = (all : List Facts) (o : ℕ) → o < length all → IsLeast all o
+
+-- ---- a drill and the other commands
+
+-- what the steps do, in order
+abbrev pub acts : List Step → List Act
+acts steps = map (λ step. step.act) steps
+
+-- what the office at place o, whose number is one more, holds after the steps
+abbrev pub held_by : Frame → ℕ → List (List ℕ) → List Step → ℕ → Facts
+held_by definition n files steps o = get_or (drilled definition n files steps) o empty
+
+-- an office that imports each file, in any order and among any other steps, holds what the other commands hold of the files
+abbrev pub AllImportedLaw : Type 0
+AllImportedLaw = (definition : Frame) (n : ℕ) (files : List (List ℕ)) (steps : List Step) (o : ℕ) → o < n
+    → ((f : ℕ) → f < length files → Contains (acts steps) (act.Import (suc o) f)) → held_by definition n files steps o ≡ held definition files
+
+-- after one exchange more, from p to o, the office o holds what both held, and each other what it held
+abbrev pub ExchangeLaw : Type 0
+ExchangeLaw = (definition : Frame) (n : ℕ) (files : List (List ℕ)) (steps more : List Step) (p o : ℕ) → p < n → o < n
+    → acts more ≡ acts steps ++ act.Exchange (suc p) (suc o) ∷ []
+    → (held_by definition n files more o ≡ union (held_by definition n files steps o) (held_by definition n files steps p))
+    × ((k : ℕ) → k < n → k ≢ o → held_by definition n files more k ≡ held_by definition n files steps k)
+
+-- each file is imported by one of these two offices
+abbrev pub ImportEach : List (List ℕ) → List Act → ℕ → ℕ → Type 0
+ImportEach files first p o = (f : ℕ) → f < length files → Contains first (act.Import (suc p) f) ⊎ Contains first (act.Import (suc o) f)
+
+-- two offices that between them import each file, and at last exchange both ways, hold what the other commands hold of the files
+abbrev pub BothWaysLaw : Type 0
+BothWaysLaw = (definition : Frame) (n : ℕ) (files : List (List ℕ)) (steps : List Step) (first : List Act) (p o : ℕ) → p < n → o < n
+    → acts steps ≡ first ++ act.Exchange (suc p) (suc o) ∷ act.Exchange (suc o) (suc p) ∷ [] → ImportEach files first p o
+    → (held_by definition n files steps p ≡ held definition files) × (held_by definition n files steps o ≡ held definition files)
+
+-- the line of an office that holds what the first holds
+abbrev pub same_line : ℕ → Facts → List ℕ
+same_line number facts =
+    codes "office " ++ (decimal number ++ (codes " records " ++ (decimal (length (records facts)) ++ (codes " facts " ++ (decimal (len facts) ++ codes " same 1\n")))))
+
+-- so a drill of one office that imports each file prints how many records and facts the other commands hold
+abbrev pub OneLineLaw : Type 0
+OneLineLaw = (definition : Frame) (files : List (List ℕ)) (steps : List Step) → ((f : ℕ) → f < length files → Contains (acts steps) (act.Import 1 f))
+    → drill_text definition 1 files steps ≡ same_line 1 (held definition files)
+
+-- and one of two that exchange both ways prints it of both, and that they are the same
+abbrev pub TwoLinesLaw : Type 0
+TwoLinesLaw = (definition : Frame) (files : List (List ℕ)) (steps : List Step) (first : List Act)
+    → acts steps ≡ first ++ act.Exchange 1 2 ∷ act.Exchange 2 1 ∷ [] → ImportEach files first 0 1
+    → drill_text definition 2 files steps ≡ same_line 1 (held definition files) ++ same_line 2 (held definition files)
