@@ -24,3 +24,4 @@ pub mod Unasked
 pub mod GivenTexts
 pub mod GivenOffices
 pub mod Drilled
+pub mod GivenDrills

@@ -31,7 +31,7 @@ told_of_three what def path path2 path3 file file2 file3 fault fault2 fault3 tex
 -- ---- a drill over three files
 
 -- what is due to an event, by the first fault of each file
-abbrev due_by : (ℕ → Option ReadFault) → ℕ → Event → Due
+abbrev pub due_by : (ℕ → Option ReadFault) → ℕ → Event → Due
 due_by first n (event.Import o f) = if nat_le n o then certain NoOffice else (if nat_le 3 f then certain NoFile else file_due (first f))
 due_by first n (event.Exchange p o) = if nat_le n p || nat_le n o then certain NoOffice else (if p == o then no_due else exchange_due)
 
@@ -41,7 +41,7 @@ dues_by first n steps = map (λ step. due_by first n (event_of n step.act)) step
 abbrev pub first_of : Option ReadFault → Option ReadFault → Option ReadFault → ℕ → Option ReadFault
 first_of fault fault2 fault3 f = get_or (fault ∷ fault2 ∷ fault3 ∷ []) f None
 
-due_is : (definition : Frame) (n : ℕ) (file file2 file3 : List ℕ) (fault fault2 fault3 : Option ReadFault)
+pub due_is : (definition : Frame) (n : ℕ) (file file2 file3 : List ℕ) (fault fault2 fault3 : Option ReadFault)
     → first_refusal definition file ≡ fault → first_refusal definition file2 ≡ fault2 → first_refusal definition file3 ≡ fault3
     → (e : Event) → event_due definition n (file ∷ file2 ∷ file3 ∷ []) e ≡ due_by (first_of fault fault2 fault3) n e
 due_is definition n file file2 file3 fault fault2 fault3 is is2 is3 (event.Import o zero) = ap (λ f. if nat_le n o then certain NoOffice else file_due f) is

@@ -1,9 +1,10 @@
--- Worked examples: what a run tells of refused files. (This project's own.)
+-- Worked examples: what a run tells of refused files, and what a drill prints. (This project's own.)
 use Rattle.std.specs.Prelude.{◌≡◌, ℕ, List, [], ◌∷◌, ◌++◌, codes}
 use Rattle.cdf_check.specs.Rows as file
 use Rattle.cvr_words.specs.declared.request.Task.TheVariants.{Currents, Drill}
 use Rattle.cvr_words.specs.declared.request.Act.TheVariants.{Import, Exchange}
 use Rattle.cvr_words.specs.declared.request.Step.{Step}
+use Rattle.cvr_cli.specs.Outcome.{run_text}
 use Rattle.cvr_cli.specs.Told.{run_lines}
 
 -- a cast vote record without UniqueId, one that is accepted, and one with a selection of another contest
@@ -42,3 +43,15 @@ FiveStepsRefused =
     run_lines (Drill 3 seven_steps) (codes "def.json") file.definition_file three_paths three_files
     ≡ codes "2=a.json: E3 /CVR/0/UniqueId 2\n" ++ codes "1>4: N1\n" ++ codes "0=b.json: N1\n"
     ++ codes "3=c.json: E4 /CVR/0/CVRSnapshot/0/CVRContest/0/CVRContestSelection/0/ContestSelectionId\n" ++ codes "3>0: N1\n"
+
+-- one of its files is accepted: office 2 takes it in, and office 3 takes it from office 2
+abbrev pub five_steps : List Step
+five_steps =
+    record { text = codes "1=a.json"; act = Import 1 0 } ∷ record { text = codes "2=b.json"; act = Import 2 1 } ∷
+    record { text = codes "2>3"; act = Exchange 2 3 } ∷ record { text = codes "1>2"; act = Exchange 1 2 } ∷ record { text = codes "1=c.json"; act = Import 1 2 } ∷ []
+
+-- each holds the three devices of the definition; those two a header and a snapshot besides
+abbrev pub LinesOfThree : Type 0
+LinesOfThree =
+    run_text (Drill 3 five_steps) file.definition_file three_paths three_files
+    ≡ codes "office 1 records 0 facts 3 same 1\n" ++ codes "office 2 records 1 facts 5 same 2\n" ++ codes "office 3 records 1 facts 5 same 2\n"
