@@ -24,4 +24,5 @@ pub mod Unasked
 pub mod GivenTexts
 pub mod GivenOffices
 pub mod Drilled
+pub mod DrillLaws
 pub mod GivenDrills

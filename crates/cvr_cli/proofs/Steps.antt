@@ -27,7 +27,7 @@ use Rattle.cvr_collect.specs.Reach.{History, history, content}
 use Rattle.cvr_collect.specs.Outcomes.{no_frame, due, IsImportOutcome, IsExchangeOutcome, IsOutcome, AreOutcomes}
 use Rattle.cvr_collect.proofs.Lemmas.{at_eq, is_eq, map-reverse}
 use Rattle.cvr_words.specs.declared.request.Step.{Step}
-use Rattle.cvr_cli.specs.Drill.{event_of, events_of, certain, exchange_due, event_due, step_due, step_dues, drill_refused, brings, outcome_by, new_offices, past_of, drilled}
+use Rattle.cvr_cli.specs.Drill.{events_of, certain, exchange_due, event_due, step_due, step_dues, drill_refused, brings, outcome_by, new_offices, past_of, drilled}
 use Rattle.cvr_cli.specs.Refusals.{Due, no_due, file_due, IsDue, AreDue, cause_in, is_refusal, is_want, wants_memory}
 
 -- ---- one outcome
@@ -209,18 +209,14 @@ dues_of_events : (definition : Frame) (n : ℕ) (files : List (List ℕ)) (steps
 dues_of_events definition n files [] = refl
 dues_of_events definition n files (step ∷ steps) = ap (λ ds. step_due definition n files step ∷ ds) (dues_of_events definition n files steps)
 
--- the steps of a drill had these outcomes
-module _ (definition : Frame) (n : ℕ) (files : List (List ℕ)) (steps : List Step) (rs : List Outcome)
-    (count : length rs ≡ length (events_of n steps))
-    (out : AreOutcomes (new_offices definition n) (replicate n definition) files (history (events_of n steps) rs)) where
-  abbrev es : List Event
-  es = events_of n steps
-
+-- the events had these outcomes
+module _ (definition : Frame) (n : ℕ) (files : List (List ℕ)) (es : List Event) (rs : List Outcome) (count : length rs ≡ length es)
+    (out : AreOutcomes (new_offices definition n) (replicate n definition) files (history es rs)) where
   abbrev zs : List (Event × Outcome)
   zs = zip es rs
 
-  at_step : (k : ℕ) → k < length rs → IsDue (event_due definition n files (get_or es k (Exchange 0 0))) (cause_in (get_or rs k (Accepted 0)))
-  at_step k lt =
+  at_event : (k : ℕ) → k < length rs → IsDue (event_due definition n files (get_or es k (Exchange 0 0))) (cause_in (get_or rs k (Accepted 0)))
+  at_event k lt =
       let many : length zs ≡ length rs = zip_length es rs (sym count) in
       let j = length zs - 1 - k in
       let back : j < length zs = omega (arith, many, lt) in
@@ -230,32 +226,45 @@ module _ (definition : Frame) (n : ℕ) (files : List (List ℕ)) (steps : List 
       subst (DueIn definition n files) is
       (All-get_or (DueIn definition n files) (reverse zs) j d (omega (arith, back, length-reverse zs)) (All-from_recursion (DueIn definition n files) (reverse zs) (all_due definition n files (history es rs) out)))
 
-  pub steps_due : AreDue (step_dues definition n files steps) rs
-  steps_due = record {
-    count = length-map steps (step_due definition n files) ∙ (sym (length-map steps (λ (step : Step). event_of n step.act)) ∙ sym count);
-    each = λ k lt.
-        subst (λ d. IsDue d (cause_in (get_or rs k (Accepted 0))))
-        (sym (get_or-map (event_due definition n files) es k (Exchange 0 0) no_due (omega (arith, lt, count))) ∙ ap (λ ds. get_or ds k no_due) (dues_of_events definition n files steps))
-        (at_step k lt);
+  pub events_due : AreDue (map (event_due definition n files) es) rs
+  events_due = record {
+    count = length-map es (event_due definition n files) ∙ sym count;
+    each = λ k lt. subst (λ d. IsDue d (cause_in (get_or rs k (Accepted 0)))) (sym (get_or-map (event_due definition n files) es k (Exchange 0 0) no_due (omega (arith, lt, count)))) (at_event k lt);
   }
 
   -- ---- where none lacked memory
 
   module _ (working : list_any is_want rs ≡ false) where
-    pub drill_refused_is : list_any is_refusal rs ≡ drill_refused definition n files steps
-    drill_refused_is = refused_as_due (step_dues definition n files steps) rs steps_due.count steps_due.each working
+    pub events_refused : list_any is_refusal rs ≡ list_any (λ d. is_some d.cause) (map (event_due definition n files) es)
+    events_refused = refused_as_due (map (event_due definition n files) es) rs events_due.count events_due.each working
 
-    past_is : history es rs ≡ past_of definition n files (reverse es)
+    pub past_is : history es rs ≡ past_of definition n files (reverse es)
     past_is =
         exact_past definition n files (history es rs) out (wants_in es rs (sym count) working)
         ∙ ap (past_of definition n files) (firsts_in es rs (sym count))
 
-    pub drilled_is : (held : List Facts) → length held ≡ n → ((o : ℕ) → o < n → get_or held o empty ≡ content (new_offices definition n) files (history es rs) o)
+-- the steps of a drill had these outcomes
+module _ (definition : Frame) (n : ℕ) (files : List (List ℕ)) (steps : List Step) (rs : List Outcome)
+    (count : length rs ≡ length (events_of n steps))
+    (out : AreOutcomes (new_offices definition n) (replicate n definition) files (history (events_of n steps) rs)) where
+  abbrev all : List Event
+  all = events_of n steps
+
+  pub steps_due : AreDue (step_dues definition n files steps) rs
+  steps_due = subst (λ ds. AreDue ds rs) (dues_of_events definition n files steps) (events_due definition n files all rs count out)
+
+  -- ---- where none lacked memory
+
+  module _ (working : list_any is_want rs ≡ false) where
+    pub drill_refused_is : list_any is_refusal rs ≡ drill_refused definition n files steps
+    drill_refused_is = events_refused definition n files all rs count out working ∙ ap (list_any (λ d. is_some d.cause)) (dues_of_events definition n files steps)
+
+    pub drilled_is : (held : List Facts) → length held ≡ n → ((o : ℕ) → o < n → get_or held o empty ≡ content (new_offices definition n) files (history all rs) o)
         → held ≡ drilled definition n files steps
     drilled_is held many each =
-        let held_at = content (new_offices definition n) files (past_of definition n files (reverse es)) in
+        let held_at = content (new_offices definition n) files (past_of definition n files (reverse all)) in
         ext_get_or empty held (drilled definition n files steps) (many ∙ sym (length-map-range_with_len held_at 0 n))
         (λ k lt.
         each k (omega (arith, lt, many))
-        ∙ (ap (λ past. content (new_offices definition n) files past k) past_is
+        ∙ (ap (λ past. content (new_offices definition n) files past k) (past_is definition n files all rs count out working)
         ∙ sym (get_or-map-range_with_len held_at 0 n k k empty (omega (arith, lt, many)) (omega arith))))

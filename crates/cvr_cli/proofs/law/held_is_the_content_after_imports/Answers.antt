@@ -1,4 +1,4 @@
-use Rattle.cvr_cli.proofs.Members.{content_is_held}
+use Rattle.cvr_cli.proofs.Imports.{content_is_held}
 use Rattle.cvr_cli.proofs.law.held_is_the_content_after_imports.Goals as goal
 
 pub returns : goal.returns
