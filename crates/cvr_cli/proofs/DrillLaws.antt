@@ -4,23 +4,26 @@ use Rattle.std.specs.Prelude.{codes, decimal}
 use Rattle.std.specs.List.{position_or_len}
 use Rattle.std.specs.Fmt.{digits}
 use Rattle.std.specs.FinSet.{union, empty, len}
-use Rattle.std.proofs.lemmas.List.{map-append, reverse-append}
+use Rattle.std.proofs.lemmas.List.{map-append, reverse-append, get_or-replicate}
 use Rattle.std.proofs.lemmas.List.FromFn.{get_or-map-range_with_len}
 use Rattle.std.proofs.lemmas.List.Sorted.{Contains-permutation, IsPermutation-reverse}
 use Rattle.cdf_check.specs.Frame.{Frame}
-use Rattle.cvr_facts.specs.Facts.{Facts}
+use Rattle.cvr_facts.specs.Facts.{Facts, fact_total, fact_exact}
+use Rattle.cvr_facts.specs.Unions.{union_empty}
 use Rattle.cvr_facts.proofs.Lemmas.{in_map}
 use Rattle.cvr_collect.specs.declared.event.Event.{Event}
 use Rattle.cvr_collect.specs.declared.event.Event.TheVariants.{Import}
+use Rattle.cvr_collect.specs.Keeps.{starting}
 use Rattle.cvr_collect.specs.Names.{records}
+use Rattle.cvr_collect.proofs.Laws.{content-none}
 use Rattle.cvr_words.specs.declared.request.Act.{Act}
 use Rattle.cvr_words.specs.declared.request.Act.TheVariants as act
 use Rattle.cvr_words.specs.declared.request.Step.{Step}
-use Rattle.cvr_cli.specs.Drill.{event_of, events_of, drilled, are_same, least_same, office_line, office_lines}
-use Rattle.cvr_cli.specs.Laws.{acts, AllImportedLaw, ExchangeLaw, BothWaysLaw, OneLineLaw, TwoLinesLaw, same_line}
-use Rattle.cvr_cli.specs.Outcome.{held}
+use Rattle.cvr_cli.specs.Drill.{event_of, events_of, new_offices, drilled, are_same, least_same, office_line, office_lines}
+use Rattle.cvr_cli.specs.Laws.{acts, StartLaw, ImportLaw, ExchangeLaw, AllImportedLaw, BothWaysLaw, same_line, OneLineLaw, TwoLinesLaw}
+use Rattle.cvr_cli.specs.Outcome.{accepted_facts, held}
 use Rattle.cvr_cli.proofs.SameOffices.{same_itself}
-use Rattle.cvr_cli.proofs.Drilled.{held_at, taken, left, is_held, all_here, first_of_both, second_of_both}
+use Rattle.cvr_cli.proofs.Drilled.{held_at, taken_in, left_in, taken, left, is_held, all_here, first_of_both, second_of_both}
 
 -- ---- steps and events
 
@@ -49,11 +52,21 @@ module _ (definition : Frame) (n : ℕ) (files : List (List ℕ)) where
       → get_or (drilled definition n files steps) o empty ≡ held_at definition n files (newest n last ++ newest n first) o
   drilled_after steps first last o is lt = drilled_at steps (first ++ last) o is lt ∙ ap (λ es. held_at definition n files es o) (newest-append n first last)
 
-pub all_imported : AllImportedLaw
-all_imported definition n files steps o lt each =
-    drilled_at definition n files steps (acts steps) o refl lt
-    ∙ is_held definition n files (newest n (acts steps)) o
-    (all_here definition n files (newest n (acts steps)) o lt (λ f below. listed n (acts steps) (act.Import (suc o) f) (each f below)))
+pub at_start : StartLaw
+at_start definition n files steps o lt none =
+    drilled_at definition n files steps [] o none lt
+    ∙ (content-none (new_offices definition n) files o
+    ∙ (get_or-replicate n o (starting definition) empty lt
+    ∙ sym (union_empty fact_total fact_exact (starting definition))))
+
+pub one_import : ImportLaw
+one_import definition n files steps more o f lo lf is =
+    let es = newest n (acts steps) in
+    let last : List Act = act.Import (suc o) f ∷ [] in
+    let before : (k : ℕ) → k < n → get_or (drilled definition n files steps) k empty ≡ held_at definition n files es k = λ k lt. drilled_at definition n files steps (acts steps) k refl lt in
+    let takes = drilled_after definition n files more (acts steps) last o is lo
+    ∙ (taken_in definition n files o f es lo lf ∙ ap (λ s. union s (accepted_facts definition (get_or files f []))) (sym (before o lo))) in
+    (takes, λ k lt apart. drilled_after definition n files more (acts steps) last k is lt ∙ (left_in definition n files o f k es apart ∙ sym (before k lt)))
 
 pub one_exchange : ExchangeLaw
 one_exchange definition n files steps more p o lp lo is =
@@ -63,6 +76,12 @@ one_exchange definition n files steps more p o lp lo is =
     let takes = drilled_after definition n files more (acts steps) last o is lo
     ∙ (taken definition n files p o es lp lo ∙ (λ i. union (sym (before o lo) i) (sym (before p lp) i))) in
     (takes, λ k lt apart. drilled_after definition n files more (acts steps) last k is lt ∙ (left definition n files p o k es lp lo apart ∙ sym (before k lt)))
+
+pub imports_held : AllImportedLaw
+imports_held definition n files steps o lt each =
+    drilled_at definition n files steps (acts steps) o refl lt
+    ∙ is_held definition n files (newest n (acts steps)) o
+    (all_here definition n files (newest n (acts steps)) o lt (λ f below. listed n (acts steps) (act.Import (suc o) f) (each f below)))
 
 pub both_ways_held : BothWaysLaw
 both_ways_held definition n files steps first p o lp lo is each =
@@ -94,7 +113,7 @@ line_is s others o is =
 pub one_line : OneLineLaw
 one_line definition files steps each =
     let s = held definition files in
-    ap (λ t. office_lines (t ∷ [])) (all_imported definition 1 files steps 0 (omega arith) each)
+    ap (λ t. office_lines (t ∷ [])) (imports_held definition 1 files steps 0 (omega arith) each)
     ∙ (append-nil (office_line (s ∷ []) 0) ∙ line_is s [] 0 refl)
 
 pub two_lines : TwoLinesLaw

@@ -1,6 +1,6 @@
 -- What the offices of a drill hold after events: what each event brings to them, and where that is all that the other commands hold.
 use Rattle.std.proofs.Common.{◌≡◌, ◌≢◌, ℕ, zero, suc, ◌==◌, ◌<◌, List, [], ◌∷◌, length, get_or, Bool, true, false, cond, true≢false, ◌||◌, ◌⊎◌, inl, inr, Option, Some, None, Contains, refl, sym, ap, ◌∙◌, subst}
-use Rattle.std.specs.Prelude.{nat_le, replicate, if◌then◌else◌}
+use Rattle.std.specs.Prelude.{nat_le, replicate, is_some, if◌then◌else◌}
 use Rattle.std.specs.FinSet.{contains, union, insert, empty, items, same_set, contains-union, contains-empty}
 use Rattle.std.specs.Cmp.{both_ways}
 use Rattle.std.proofs.lemmas.Bool.{cases_lt, lt-leb, le-leb, or_from, false≢true}
@@ -21,7 +21,7 @@ use Rattle.cvr_collect.specs.Reach.{History, File, reached, brought, union_over,
 use Rattle.cvr_collect.proofs.Lemmas.{over_insert, over_union, or_cases, or_left, or_right, at_eq, is_eq, origin_total, origin_exact}
 use Rattle.cvr_collect.proofs.Laws.{content-none}
 use Rattle.cvr_cli.specs.Drill.{certain, exchange_due, event_due, brings, outcome_by, new_offices, past_of}
-use Rattle.cvr_cli.specs.Outcome.{held}
+use Rattle.cvr_cli.specs.Outcome.{accepted_facts, held}
 use Rattle.cvr_cli.specs.Refusals.{no_due, file_due}
 use Rattle.cvr_cli.proofs.Members.{Has, held_from, from_union}
 
@@ -129,6 +129,27 @@ module _ (definition : Frame) (n : ℕ) (files : List (List ℕ)) where
       has_more (Import o f) es o q
       ∙ or_right (contains (held_at es o) q) _
       (ap (λ cause. contains (gained cause (Import o f) (held_at es) o) q) none ∙ (ap (λ b. contains (cond b (facts (get_or files f [])) empty) q) (is_eq o o refl) ∙ h))
+
+  -- one that imports a file holds its facts besides, where it is accepted
+  gained_here : (first : Option ReadFault) (o f : ℕ) (before : ℕ → Facts) → gained (file_due first).cause (Import o f) before o ≡ (if is_some first then empty else facts (get_or files f []))
+  gained_here None o f before = ap (λ b. cond b (facts (get_or files f [])) empty) (is_eq o o refl)
+  gained_here (Some fault) o f before = refl
+
+  pub taken_in : (o f : ℕ) (es : List Event) → o < n → f < length files → held_at (Import o f ∷ es) o ≡ union (held_at es o) (accepted_facts definition (get_or files f []))
+  taken_in o f es lo lf =
+      held_more (Import o f) es o
+      ∙ (ap (λ d. union (held_at es o) (gained d.cause (Import o f) (held_at es) o)) (import_due o f lo lf)
+      ∙ ap (union (held_at es o)) (gained_here (first_refusal definition (get_or files f [])) o f (held_at es)))
+
+  gained_elsewhere : (cause : Option Cause) (o f k : ℕ) (before : ℕ → Facts) → k ≢ o → gained cause (Import o f) before k ≡ empty
+  gained_elsewhere None o f k before apart = ap (λ b. cond b (facts (get_or files f [])) empty) (not_eq k o apart (k == o) refl)
+  gained_elsewhere (Some cause) o f k before apart = refl
+
+  pub left_in : (o f k : ℕ) (es : List Event) → k ≢ o → held_at (Import o f ∷ es) k ≡ held_at es k
+  left_in o f k es apart =
+      held_more (Import o f) es k
+      ∙ (ap (union (held_at es k)) (gained_elsewhere (event_due definition n files (Import o f)).cause o f k (held_at es) apart)
+      ∙ union_empty fact_total fact_exact (held_at es k))
 
   -- the office that takes holds what both held
   pub taken : (p o : ℕ) (es : List Event) → p < n → o < n → held_at (Exchange p o ∷ es) o ≡ union (held_at es o) (held_at es p)

@@ -24,7 +24,7 @@ use Rattle.cvr_cli.specs.declared.merge.MergeFault.TheVariants.{NoVolume}
 use Rattle.cvr_cli.specs.Currents.{currents, conflict_line, conflict_text}
 use Rattle.cvr_cli.specs.Drill.{new_offices, past_of, drilled, least_same, drill_text}
 use Rattle.cvr_cli.specs.Merge.{merge_fault, merge_text}
-use Rattle.cvr_cli.specs.Outcome.{held}
+use Rattle.cvr_cli.specs.Outcome.{accepted_facts, held}
 
 -- the imports of the first n files into one new office, each with the outcome that is due, the newest first
 abbrev pub imports : Frame → List (List ℕ) → ℕ → History
@@ -113,10 +113,16 @@ acts steps = map (λ step. step.act) steps
 abbrev pub held_by : Frame → ℕ → List (List ℕ) → List Step → ℕ → Facts
 held_by definition n files steps o = get_or (drilled definition n files steps) o empty
 
--- an office that imports each file, in any order and among any other steps, holds what the other commands hold of the files
-abbrev pub AllImportedLaw : Type 0
-AllImportedLaw = (definition : Frame) (n : ℕ) (files : List (List ℕ)) (steps : List Step) (o : ℕ) → o < n
-    → ((f : ℕ) → f < length files → Contains (acts steps) (act.Import (suc o) f)) → held_by definition n files steps o ≡ held definition files
+-- before the first step each office holds what the other commands hold of no files
+abbrev pub StartLaw : Type 0
+StartLaw = (definition : Frame) (n : ℕ) (files : List (List ℕ)) (steps : List Step) (o : ℕ) → o < n → acts steps ≡ [] → held_by definition n files steps o ≡ held definition []
+
+-- after one import more, the office o holds the facts of the file besides, if that is accepted, and each other what it held
+abbrev pub ImportLaw : Type 0
+ImportLaw = (definition : Frame) (n : ℕ) (files : List (List ℕ)) (steps more : List Step) (o f : ℕ) → o < n → f < length files
+    → acts more ≡ acts steps ++ act.Import (suc o) f ∷ []
+    → (held_by definition n files more o ≡ union (held_by definition n files steps o) (accepted_facts definition (get_or files f [])))
+    × ((k : ℕ) → k < n → k ≢ o → held_by definition n files more k ≡ held_by definition n files steps k)
 
 -- after one exchange more, from p to o, the office o holds what both held, and each other what it held
 abbrev pub ExchangeLaw : Type 0
@@ -124,6 +130,11 @@ ExchangeLaw = (definition : Frame) (n : ℕ) (files : List (List ℕ)) (steps mo
     → acts more ≡ acts steps ++ act.Exchange (suc p) (suc o) ∷ []
     → (held_by definition n files more o ≡ union (held_by definition n files steps o) (held_by definition n files steps p))
     × ((k : ℕ) → k < n → k ≢ o → held_by definition n files more k ≡ held_by definition n files steps k)
+
+-- an office that imports each file, in any order and among any other steps, holds what the other commands hold of the files
+abbrev pub AllImportedLaw : Type 0
+AllImportedLaw = (definition : Frame) (n : ℕ) (files : List (List ℕ)) (steps : List Step) (o : ℕ) → o < n
+    → ((f : ℕ) → f < length files → Contains (acts steps) (act.Import (suc o) f)) → held_by definition n files steps o ≡ held definition files
 
 -- each file is imported by one of these two offices
 abbrev pub ImportEach : List (List ℕ) → List Act → ℕ → ℕ → Type 0

@@ -2,7 +2,7 @@ ghost use Rattle.std.specs.Prelude.{◌≡◌, ◌+◌};
 ghost use Rattle.cdf_form.specs.Reading.{max_file};
 ghost use Rattle.cvr_cli.specs.File.{held_bytes};
 ghost use Rattle.cvr_cli.specs.HeldBytes.{HeldTextLaw, HeldLinesLaw, HeldFaultLaw, HeldRefusedLaw};
-ghost use Rattle.cvr_cli.specs.Laws.{HeldLaw, SameFactsLaw, SameCurrentsLaw, SameConflictsLaw, SameTallyLaw, SameMergeFaultLaw, SameVolumeLaw, NoFaultLaw, NoTextLaw, ToldNumberLaw, LastNumberLaw, DueLaw, LeastSameLaw, AllImportedLaw, ExchangeLaw, BothWaysLaw, OneLineLaw, TwoLinesLaw};
+ghost use Rattle.cvr_cli.specs.Laws.{HeldLaw, SameFactsLaw, SameCurrentsLaw, SameConflictsLaw, SameTallyLaw, SameMergeFaultLaw, SameVolumeLaw, NoFaultLaw, NoTextLaw, ToldNumberLaw, LastNumberLaw, DueLaw, LeastSameLaw, StartLaw, ImportLaw, ExchangeLaw, AllImportedLaw, BothWaysLaw, OneLineLaw, TwoLinesLaw};
 
 /// What a run holds, the devices of the definition and the facts of the accepted files, is the content
 /// of one new office after the import of each file.
@@ -58,12 +58,15 @@ pub fn the_least_office_that_is_the_same_is_told()
     ensures { LeastSameLaw }
 {}
 
-/// After an exchange the office that takes holds what both held. An office of a drill that imports each
-/// file, in any order and among any other steps, holds what the other commands hold of the files; so do
-/// two that between them import each, and at last exchange both ways. The text tells that.
+/// An import adds to an office of a drill what the other commands hold of the file; after an exchange the
+/// office that takes holds what both held. So one that imports each file, in any order and among any
+/// other steps, holds what they hold of all files; and so do two that between them import each, and at
+/// last exchange both ways. The text tells that.
 pub fn offices_of_a_drill_hold_what_a_run_holds()
-    ensures imports { AllImportedLaw }
+    ensures start { StartLaw }
+    ensures import { ImportLaw }
     ensures exchange { ExchangeLaw }
+    ensures all_imported { AllImportedLaw }
     ensures both_ways { BothWaysLaw }
     ensures one_line { OneLineLaw }
     ensures two_lines { TwoLinesLaw }
