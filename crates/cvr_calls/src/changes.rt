@@ -58,11 +58,12 @@ struct JoiningBodies {
 impl JoiningBodies {
     // Before the join, or after it.
     fn new(alloc: Global, is_done: bool) -> Result<JoiningBodies, Ended> {
-        let set = if is_done {
-            set_of(alloc, &["a", "b", "c", "d"])?
+        let members: &[&str] = if is_done {
+            &["a", "b", "c", "d"]
         } else {
-            set_of(alloc, &["b", "d"])?
+            &["b", "d"]
         };
+        let set = set_of(alloc, members)?;
         let other = set_of(alloc, &["a", "b", "c"])?;
         Ok(JoiningBodies { set, other })
     }
@@ -120,11 +121,11 @@ impl OpeningRow {
     // Before the row is opened, or after.
     fn new(rt: &HostRuntime, is_done: bool) -> Result<OpeningRow, Ended> {
         let office: PlainOffice = office_of(rt, &[SCAN, ADJUDICATED, BATCHED])?;
-        Ok(OpeningRow::over(rt.alloc(), &office, is_done)?)
+        OpeningRow::over(rt.alloc(), &office, is_done)
     }
 
     // Over the totals of an office.
-    fn over(alloc: Global, office: &PlainOffice, is_done: bool) -> Result<OpeningRow, Memory> {
+    fn over(alloc: Global, office: &PlainOffice, is_done: bool) -> Result<OpeningRow, Ended> {
         let key = new_key(alloc)?;
         let contests = office.definition().contest_count();
         let mut totals = office.totals(alloc)?;

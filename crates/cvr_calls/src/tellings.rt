@@ -45,6 +45,18 @@ impl Telling {
             Kind::Cached => self.text(alloc, records.cached, records),
         }
     }
+
+    // Whether it is this one.
+    fn is_by(
+        &self,
+        alloc: Global,
+        kind: Kind,
+        records: &Records<'_>,
+        wanted: &str,
+    ) -> Result<bool, Memory> {
+        let text = self.text_by(alloc, kind, records)?;
+        Ok(text.as_str() == wanted)
+    }
 }
 
 /// The row of a header's unit and batch in the first contest, if the office has it.
@@ -109,8 +121,8 @@ struct Repeating<'a> {
 
 impl Reading for Repeating<'_> {
     fn is_right(&self, alloc: Global, records: &Records<'_>) -> Result<bool, ReadFault> {
-        let text = self.telling.text_by(alloc, self.kind, records)?;
-        Ok(text.as_str() == self.wanted.as_str())
+        let is_told = self.telling.is_by(alloc, self.kind, records, &self.wanted)?;
+        Ok(is_told)
     }
 }
 

@@ -20,6 +20,14 @@ struct Written {
     out: MemorySink,
 }
 
+impl Written {
+    // Whether it stopped as want of memory may: after a front of the whole, and where the output failed,
+    // whose own growth may be what was refused, it is told as that.
+    fn is_cut_short(&self, fault: WriteFault, whole: &[u8]) -> bool {
+        whole.starts_with(self.out.taken()) && self.out.failed() == (fault == WriteFault::Device)
+    }
+}
+
 // Writes volume `i` of an office, if it has it and the device of the heading.
 fn write_over(alloc: Global, office: &PlainOffice, heading: &Heading, i: usize) -> Option<Written> {
     if i == 0 || i > volumes(office) || !office.definition().device(heading.device()) {
@@ -39,22 +47,16 @@ struct Rewriting<'a> {
 }
 
 impl Reading for Rewriting<'_> {
-    // Want of memory is right where a front was taken, and where it is the output's own growth that
-    // was refused is told as the output's failure.
     fn is_right(&self, alloc: Global, records: &Records<'_>) -> Result<bool, ReadFault> {
         let Some(written) = write_over(alloc, records.office, self.heading, self.i) else {
             return Ok(false);
         };
-        let (taken, whole) = (written.out.taken(), self.before.taken());
         match written.answer {
-            Ok(()) => Ok(taken == whole),
-            Err(fault) => if whole.starts_with(taken)
-                && written.out.failed() == (fault == WriteFault::Device)
-            {
-                Err(ReadFault::Memory)
-            } else {
-                Ok(false)
-            },
+            Ok(()) => Ok(written.out.taken() == self.before.taken()),
+            Err(fault) if written.is_cut_short(fault, self.before.taken()) => Err(
+                ReadFault::Memory,
+            ),
+            Err(_) => Ok(false),
         }
     }
 }
