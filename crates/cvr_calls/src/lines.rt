@@ -29,6 +29,13 @@ struct Reread {
     before: Result<Request, LineFault>,
 }
 
+impl Reread {
+    fn new(alloc: Global, words: Vec<String>) -> Reread {
+        let before = read_line(alloc, words.as_slice());
+        Reread { words, before }
+    }
+}
+
 impl Reading for Reread {
     fn is_right(&self, alloc: Global, _records: &Records<'_>) -> Result<bool, ReadFault> {
         match (read_line(alloc, self.words.as_slice()), &self.before) {
@@ -48,6 +55,5 @@ pub fn try_line(
     words: &[&str],
 ) -> Result<(), Ended> {
     let words = texts_of(rt.alloc(), words)?;
-    let before = read_line(rt.alloc(), words.as_slice());
-    try_reading(rt, name, records, &Reread { words, before })
+    try_reading(rt, name, records, &Reread::new(rt.alloc(), words))
 }

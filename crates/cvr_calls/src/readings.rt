@@ -11,11 +11,11 @@ use crate::tellings::row_of;
 use crate::trying::Reading;
 use crate::writing::{DATE, DEVICE};
 use cdf_check::Definition;
-use cdf_types::{Memory, ReadFault};
+use cdf_types::{Body, Memory, ReadFault};
 use cvr_cached::CachedOffice;
 use cvr_collect::{Office, PlainOffice};
 use cvr_facts::text::{push_quoted, push_word, quoted};
-use cvr_facts::{BodySet, DeviceFact, HeaderFact, SnapshotFact, VoteSums};
+use cvr_facts::{BodySet, DeviceFact, HeaderFact, RecordName, SnapshotFact, VoteSums};
 use cvr_report::{HeadFault, Heading};
 use cvr_tally::{RowKey, tally_text};
 use std::alloc::Global;
@@ -37,22 +37,37 @@ pub enum Copying {
 
 impl Reading for Copying {
     fn is_right(&self, alloc: Global, records: &Records<'_>) -> Result<bool, ReadFault> {
-        let header = records.header;
-        let is_right = match self {
-            Copying::Body => header.body.copy()? == header.body,
-            Copying::Name => header.key.copy()? == header.key,
-            Copying::Device => is_device_copied(records.device)?,
-            Copying::Header => is_header_copied(header)?,
-            Copying::Snapshot => is_snapshot_copied(alloc, records.snapshot)?,
-            Copying::Sums => are_sums_copied(alloc, records.sums)?,
-            Copying::Key => is_key_copied(header)?,
-            Copying::KeyUnder => is_key_of(header)?,
-            Copying::Row => is_row_copied(alloc, records)?,
-            Copying::Totals => are_totals_copied(alloc, records.cached)?,
-            Copying::Definition => is_definition_copied(alloc, records.definition)?,
-        };
-        Ok(is_right)
+        let is_copied = self.is_copied(alloc, records)?;
+        Ok(is_copied)
     }
+}
+
+impl Copying {
+    // Whether the copy equals what it is made of.
+    fn is_copied(&self, alloc: Global, records: &Records<'_>) -> Result<bool, Memory> {
+        let header = records.header;
+        match self {
+            Copying::Body => is_body_copied(&header.body),
+            Copying::Name => is_name_copied(&header.key),
+            Copying::Device => is_device_copied(records.device),
+            Copying::Header => is_header_copied(header),
+            Copying::Snapshot => is_snapshot_copied(alloc, records.snapshot),
+            Copying::Sums => are_sums_copied(alloc, records.sums),
+            Copying::Key => is_key_copied(header),
+            Copying::KeyUnder => is_key_of(header),
+            Copying::Row => is_row_copied(alloc, records),
+            Copying::Totals => are_totals_copied(alloc, records.cached),
+            Copying::Definition => is_definition_copied(alloc, records.definition),
+        }
+    }
+}
+
+fn is_body_copied(body: &Body) -> Result<bool, Memory> {
+    Ok(body.copy()? == *body)
+}
+
+fn is_name_copied(name: &RecordName) -> Result<bool, Memory> {
+    Ok(name.copy()? == *name)
 }
 
 fn is_device_copied(device: &DeviceFact) -> Result<bool, Memory> {

@@ -32,12 +32,11 @@ pub fn are_same_sums(one: &VoteSums, other: &VoteSums) -> bool {
 
 // Whether lists of sums are equal.
 fn are_same_votes(ones: &[VoteSums], others: &[VoteSums]) -> bool {
-    for (one, other) in ones.iter().zip(others) {
-        if !are_same_sums(one, other) {
-            return false;
-        }
-    }
     ones.len() == others.len()
+        && ones
+            .iter()
+            .zip(others)
+            .all(|(one, other)| are_same_sums(one, other))
 }
 
 /// Whether snapshots are equal in every field.

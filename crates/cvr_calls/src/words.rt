@@ -84,9 +84,12 @@ fn is_same_task(one: &Task, other: &Task) -> bool {
 
 /// Whether two requests are the same.
 pub fn is_same_request(one: &Request, other: &Request) -> bool {
-    is_same_task(&one.task, &other.task)
-        && one.def == other.def
-        && one.paths.as_slice() == other.paths.as_slice()
+    is_same_task(&one.task, &other.task) && are_same_files(one, other)
+}
+
+// Whether they name the same definition and files.
+fn are_same_files(one: &Request, other: &Request) -> bool {
+    one.def == other.def && one.paths.as_slice() == other.paths.as_slice()
 }
 
 // Whether two faults are the same.
