@@ -38,9 +38,9 @@ struct Writing {
 }
 
 // Writes volume `i` to a sink that takes so many bytes a call and fails at a call, or never (0).
-fn write(
+fn write<O: Office>(
     rt: &(impl Abort + AllocGlobal),
-    office: &PlainOffice,
+    office: &O,
     i: usize,
     per_call: usize,
     fails: usize,
@@ -57,9 +57,9 @@ fn write(
 }
 
 // Whether volume `i` of an office is that of these records.
-fn is_written(
+fn is_written<O: Office>(
     rt: &(impl Abort + AllocGlobal),
-    office: &PlainOffice,
+    office: &O,
     i: usize,
     records: &str,
 ) -> bool {
@@ -67,32 +67,44 @@ fn is_written(
     ending.answer == Ok(()) && ending.out.taken() == text_of(rt, records).as_bytes()
 }
 
+// Whether an office that took files has one volume for each of these texts of records, in order.
+fn are_volumes<O: Office + Drop>(
+    rt: &(impl Abort + AllocGlobal),
+    files: &[Changes],
+    wanted: &[&str],
+) -> bool {
+    let office: O = office_of(rt, files);
+    if volumes(&office) != wanted.len() {
+        return false;
+    }
+    for (place, records) in wanted.iter().enumerate() {
+        if !is_written(rt, &office, place + 1, records) {
+            return false;
+        }
+    }
+    true
+}
+
 #[test]
 fn an_office_of_no_files_writes_no_records(rt: HostRuntime) {
-    let office: PlainOffice = office_of(&rt, &[]);
-    assert_eq!(rt; volumes(&office), 1);
-    assert!(rt; is_written(&rt, &office, 1, ""));
+    assert!(rt; are_volumes::<PlainOffice>(&rt, &[], &[""]));
 }
 
 #[test]
 fn a_record_is_written_with_its_snapshot(rt: HostRuntime) {
-    let office: PlainOffice = office_of(&rt, &[SCAN]);
-    assert_eq!(rt; volumes(&office), 1);
-    assert!(rt; is_written(&rt, &office, 1, SCANNED));
+    assert!(rt; are_volumes::<PlainOffice>(&rt, &[SCAN], &[SCANNED]));
 }
 
 #[test]
 fn two_bodies_under_one_id_make_two_volumes(rt: HostRuntime) {
-    let office: PlainOffice = office_of(&rt, &[SCAN, ADJUDICATED, FOR_WRITE_IN]);
-    assert_eq!(rt; volumes(&office), 2);
-    assert!(rt; is_written(&rt, &office, 1, FIRST));
-    assert!(rt; is_written(&rt, &office, 2, SECOND));
+    let files = [SCAN, ADJUDICATED, FOR_WRITE_IN];
+    assert!(rt; are_volumes::<PlainOffice>(&rt, &files, &[FIRST, SECOND]));
 }
 
 // Whether a sink of one byte a call that fails at a call has taken the bytes before it.
-fn is_cut_short(
+fn is_cut_short<O: Office>(
     rt: &(impl Abort + AllocGlobal),
-    office: &PlainOffice,
+    office: &O,
     fails: usize,
     before: &[u8],
 ) -> bool {
@@ -100,41 +112,63 @@ fn is_cut_short(
     ending.answer == Err(WriteFault::Device) && ending.out.taken() == before
 }
 
-#[test]
-fn a_sink_that_fails_has_taken_a_front(rt: HostRuntime) {
-    let office: PlainOffice = office_of(&rt, &[SCAN, ADJUDICATED, FOR_WRITE_IN]);
-    let text = text_of(&rt, FIRST);
+// Ends the test where a sink that fails at any call has not taken the bytes of the first volume before it.
+fn check_fronts<O: Office + Drop>(rt: &(impl Abort + AllocGlobal)) {
+    let office: O = office_of(rt, &[SCAN, ADJUDICATED, FOR_WRITE_IN]);
+    let text = text_of(rt, FIRST);
     let bytes = text.as_bytes();
     for taken in 0..bytes.len() {
         assert!(rt;
-            is_cut_short(&rt, &office, taken + 1, &bytes[..taken]),
+            is_cut_short(rt, &office, taken + 1, &bytes[..taken]),
             "{taken}"
         );
     }
 }
 
-// What is wrong with a heading.
-fn fault_of(
+#[test]
+fn a_sink_that_fails_has_taken_a_front(rt: HostRuntime) {
+    check_fronts::<PlainOffice>(&rt);
+}
+
+// What is wrong with a heading, where a device `s3` is known from a file, and not by the definition.
+fn fault_of<O: Office + Drop>(
     rt: &(impl Abort + AllocGlobal),
-    office: &PlainOffice,
     date: &str,
     device: &str,
 ) -> Option<HeadFault> {
-    Heading::new(rt.alloc(), office.definition(), date, device).err()
+    let office: O = office_of(rt, &[WITH_THIRD]);
+    match Heading::new(rt.alloc(), office.definition(), date, device) {
+        Ok(heading) => {
+            assert!(rt; heading.date() == date && heading.device() == device);
+            None
+        }
+        Err(fault) => Some(fault),
+    }
+}
+
+// Ends the test where another fault is told of a heading.
+fn check_fault(
+    rt: &(impl Abort + AllocGlobal),
+    date: &str,
+    device: &str,
+    fault: Option<HeadFault>,
+) {
+    assert!(rt;
+        fault_of::<PlainOffice>(rt, date, device) == fault,
+        "{date} {device}"
+    );
 }
 
 #[test]
 fn a_heading_has_a_moment_and_a_device_of_the_definition(rt: HostRuntime) {
-    let office: PlainOffice = office_of(&rt, &[WITH_THIRD]);
-    assert!(rt; fault_of(&rt, &office, "2024-11-06", "desk") == Some(HeadFault::NotMoment));
-    assert!(rt;
-        fault_of(&rt, &office, "2024-11-06T08:00:00Z[UTC]", "desk") == Some(HeadFault::NotMoment)
-    );
-    assert!(rt; fault_of(&rt, &office, "2024-11-06", "s9") == Some(HeadFault::NotMoment));
-    assert!(rt; fault_of(&rt, &office, DATE, "s3") == Some(HeadFault::NoDevice));
-    let heading = Heading::new(rt.alloc(), office.definition(), DATE, "s1").expect(
+    check_fault(&rt, "2024-11-06", "desk", Some(HeadFault::NotMoment));
+    check_fault(
         &rt,
-        "no heading",
+        "2024-11-06T08:00:00Z[UTC]",
+        "desk",
+        Some(HeadFault::NotMoment),
     );
-    assert!(rt; heading.date() == DATE && heading.device() == "s1");
+    check_fault(&rt, "2024-11-06", "s9", Some(HeadFault::NotMoment));
+    check_fault(&rt, DATE, "s3", Some(HeadFault::NoDevice));
+    check_fault(&rt, DATE, "s1", None);
 }
