@@ -4,12 +4,23 @@ use crate::playing::{new_offices, tell_outcome};
 use cvr_cached::CachedOffice;
 use cvr_cli::{conflicts_text, currents_text};
 use cvr_collect::{Event, Office, PlainOffice, play};
-use cvr_tally::tally_text;
+use cvr_tally::{Totals, tally_text};
 use std::process::Abort;
 
+// What has running totals. Tests of what has them, whatever it is, are proved in a fraction of the time.
+trait Keeping {
+    fn kept_totals(&self) -> &Totals;
+}
+
+impl Keeping for CachedOffice {
+    fn kept_totals(&self) -> &Totals {
+        self.kept()
+    }
+}
+
 // The text of the running totals.
-fn kept_text(rt: &(impl Abort + AllocGlobal), office: &CachedOffice) -> String {
-    tally_text(rt.alloc(), office.kept()).expect(rt, "no memory")
+fn kept_text<O: Keeping>(rt: &(impl Abort + AllocGlobal), office: &O) -> String {
+    tally_text(rt.alloc(), office.kept_totals()).expect(rt, "no memory")
 }
 
 // Ends the test where the texts differ.
@@ -65,23 +76,44 @@ const STEPS: [Step; 7] = [
 ];
 
 // Ends the test where other facts or rows are held.
-fn check(rt: &(impl Abort + AllocGlobal), office: &CachedOffice, facts: usize, rows: &str) {
+fn check<O: Office + Keeping>(
+    rt: &(impl Abort + AllocGlobal),
+    office: &O,
+    facts: usize,
+    rows: &str,
+) {
     assert_eq!(rt; office.fact_count(), facts);
     check_equal(rt, &kept_text(rt, office), rows);
 }
 
 // Has an office take a step's file, and ends the test where it then holds other facts or rows.
-fn follow(rt: &(impl Abort + AllocGlobal), office: &mut CachedOffice, step: &Step) {
+fn follow<O: Office + Keeping>(rt: &(impl Abort + AllocGlobal), office: &mut O, step: &Step) {
     take(rt, office, step.file);
     check(rt, office, step.facts, step.rows);
 }
 
+// Follows all steps, in a new office.
+fn follow_all<O: Office + Keeping + Drop>(rt: &(impl Abort + AllocGlobal)) {
+    let mut office: O = new_office(rt, &[]);
+    for step in &STEPS {
+        follow(rt, &mut office, step);
+    }
+}
+
 #[test]
 fn totals_follow_each_file(rt: HostRuntime) {
-    let mut office: CachedOffice = new_office(&rt, &[]);
-    for step in &STEPS {
-        follow(&rt, &mut office, step);
-    }
+    follow_all::<CachedOffice>(&rt);
+}
+
+// Ends the test where an office that took files holds other facts or rows.
+fn check_files<O: Office + Keeping + Drop>(
+    rt: &(impl Abort + AllocGlobal),
+    files: &[Changes],
+    facts: usize,
+    rows: &str,
+) {
+    let office: O = office_of(rt, files);
+    check(rt, &office, facts, rows);
 }
 
 // The row of the mayor once the record is adjudicated, and no other.
@@ -89,8 +121,7 @@ const FOR_BOB: &str = "\"mayor\" \"p1\" null 1 0 0 0 0 0 \"ann\" 0 \"bob\" 1 \"w
 
 #[test]
 fn a_row_that_its_last_record_leaves_goes_away(rt: HostRuntime) {
-    let office: CachedOffice = office_of(&rt, &[EVERY_KIND, ADJUDICATED]);
-    check(&rt, &office, 6, FOR_BOB);
+    check_files::<CachedOffice>(&rt, &[EVERY_KIND, ADJUDICATED], 6, FOR_BOB);
 }
 
 // That row, and that of the other record.
@@ -98,19 +129,21 @@ const FOR_BOTH: &str =
     "\"mayor\" \"p1\" null 1 0 0 0 0 0 \"ann\" 0 \"bob\" 1 \"wi\" 0\n\"mayor\" \"p1\" \"b1\" 1 0 0 0 0 0 \"ann\" 1 \"bob\" 0 \"wi\" 0\n";
 
 // Has an office join another, which brings three new facts.
-fn join(rt: &(impl Abort + AllocGlobal), office: &mut CachedOffice, other: &CachedOffice) {
-    assert_eq!(rt; office.join(other).expect(rt, "the join is refused"), 3);
+fn join<O: Office + Drop>(rt: &(impl Abort + AllocGlobal), office: &mut O) {
+    let other: O = office_of(rt, &[ADJUDICATED, OTHER_RECORD]);
+    assert_eq!(rt; office.join(&other).expect(rt, "the join is refused"), 3);
+}
+
+// Ends the test where an office that joined another holds other facts or rows than those of both.
+fn check_join<O: Office + Keeping + Drop>(rt: &(impl Abort + AllocGlobal)) {
+    let mut office: O = office_of(rt, &[SCAN]);
+    join(rt, &mut office);
+    check(rt, &office, 8, FOR_BOTH);
 }
 
 #[test]
 fn totals_follow_a_join(rt: HostRuntime) {
-    let mut office: CachedOffice = office_of(&rt, &[SCAN]);
-    join(
-        &rt,
-        &mut office,
-        &office_of(&rt, &[ADJUDICATED, OTHER_RECORD]),
-    );
-    check(&rt, &office, 8, FOR_BOTH);
+    check_join::<CachedOffice>(&rt);
 }
 
 // ---- beside a plain office
