@@ -63,6 +63,10 @@ impl BodySet {
 }
 
 impl Join for BodySet {
+    ghost Set = { set.FinSet text_cmp };
+
+    ghost held = { λ s. s };
+
     ghost joined = { set.union };
 
     ghost nothing = { set.empty };
