@@ -7,6 +7,8 @@ pub mod Places
 pub mod Pairs
 pub mod Passing
 pub mod Olds
+pub mod Wholes
+pub mod ListedSets
 pub mod After
 pub mod Answering
 pub mod Begins
@@ -22,6 +24,8 @@ pub mod VoteLists
 pub mod Opening
 pub mod Committing
 pub mod Importing
+pub mod Growing
+pub mod Joined
 pub mod Theirs
 pub mod Apart
 pub mod SameContents

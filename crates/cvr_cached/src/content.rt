@@ -1,16 +1,19 @@
-ghost use Rattle.std.specs.Prelude.{◌≡◌, ◌<◌, ◌+◌, IfOk, [], option_map, map, drop, length};
+ghost use Rattle.std.specs.Prelude.{◌≡◌, ◌<◌, ◌+◌, OnOk, OnErr, IfOk, [], option_map, map, drop, length};
+ghost use Rattle.std.specs.FinSet.{empty, len, union};
 ghost use Rattle.std.specs.List.Sorted.{IsStrictlySortedBy};
 ghost use Rattle.std.specs.Ordering.{eq_by_cmp};
 ghost use Rattle.std.specs.Cmp.{partial_equiv_from_equiv, eq_by_cmp_equiv};
 ghost use Rattle.std.specs.Cmp.Lexicographic.{pointwise, lists_equiv};
 ghost use Rattle.cvr_collect.specs.Place.{any_cmp, any_total};
-ghost use Rattle.cvr_collect.specs.Plain.{IsPut};
+ghost use Rattle.cvr_collect.specs.Plain.{set_of, IsPut};
+ghost use Rattle.cvr_facts.specs.Facts.{Facts, fact_total, fact_exact};
+ghost use Rattle.cvr_facts.specs.Unions.{union_laws};
 ghost use Rattle.cvr_cached.specs.Contents.{header_at, current_at, header_in, current_in, keys_in, sums_in};
 
 use cdf_types::Memory;
 use cvr_collect::any_fact::AnyFact;
 use cvr_collect::putting::{copies, put_copies};
-use cvr_facts::{HeaderFact, SnapshotFact, VoteSums, choice_cmp};
+use cvr_facts::{HeaderFact, Join, SnapshotFact, VoteSums, choice_cmp};
 use cvr_tally::RowKey;
 use std::alloc::Global;
 use std::marker::Model;
@@ -108,14 +111,53 @@ impl RecordContent {
         keys_under(alloc, header, self.votes())
     }
 
-    // A copy of these facts, with others put in.
-    pub(crate) fn joined(&self, alloc: Global, more: &[AnyFact]) -> Result<RecordContent, Memory>
-        ensures { IfOk result (λ c. IsPut self.now more.now c) }
+    // An equal content.
+    pub(crate) fn copy(&self, alloc: Global) -> Result<RecordContent, Memory>
+        ensures { IfOk result (λ c. c ≡ self.now) }
     {
-        let mut facts = copies(alloc, self.facts())?;
-        put_copies(&mut facts, more)?;
-        Ok(RecordContent::new(facts))
+        let facts = copies(alloc, &self.facts)?;
+        Ok(RecordContent {
+            facts,
+            header: self.header,
+            current: self.current,
+        })
     }
+
+    // Puts in copies of facts, and answers how many are new.
+    pub(crate) fn put_in(&mut self, more: &[AnyFact]) -> Result<usize, Memory>
+        ensures put { OnOk result (IsPut self.old more.now self.new) }
+        ensures new { IfOk result (λ n. len (set_of self.old) + n ≡ len (set_of self.new)) }
+        ensures unchanged { OnErr result (self.new ≡ self.old) }
+    {
+        let new_facts = put_copies(&mut self.facts, more)?;
+        self.header = header_place(&self.facts);
+        self.current = current_place(&self.facts);
+        Ok(new_facts)
+    }
+}
+
+// The set that a content holds is that of its facts. `put` tells besides which fields they have.
+impl Join for RecordContent {
+    ghost Set = { Facts };
+
+    ghost held = { set_of };
+
+    ghost joined = { union };
+
+    ghost nothing = { empty };
+
+    ghost size = { len };
+
+    fn join(&mut self, other: &Self) -> Result<usize, Memory>
+        ensures ok { OnOk result (set_of self.new ≡ union (set_of self.old) (set_of other.now)) }
+        ensures new { IfOk result (λ n. len (set_of self.old) + n ≡ len (set_of self.new)) }
+        ensures unchanged { OnErr result (self.new ≡ self.old) }
+        ensures put { OnOk result (IsPut self.old other.now self.new) }
+    {
+        self.put_in(other.facts())
+    }
+
+    ghost laws = { union_laws fact_total fact_exact };
 }
 
 // Contents are equal where their facts are, in order.

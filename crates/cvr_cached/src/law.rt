@@ -1,7 +1,15 @@
-//! Laws of offices of two kinds.
+//! Laws of parts that are joined, and of offices of two kinds.
 ghost use Rattle.cvr_cached.specs.Kinds.{KindsLaw};
+ghost use Rattle.cvr_cached.specs.Wholes.{WholesLaw};
 
 use cvr_collect::Office;
+use cvr_facts::Join;
+
+/// Parts stand under names of records. Where under each name stands the join of what two others have
+/// there, all parts together are the join of all of theirs. This follows from the laws of `Join` alone.
+pub fn wholes_are_joined<J: Join>()
+    ensures { WholesLaw J.held J.joined J.nothing }
+{}
 
 /// Offices of one kind and of another that held the same facts, place by place, and played the same
 /// events with the same outcomes, hold the same facts. So one that remembers answers as a plain one,

@@ -1,4 +1,4 @@
-ghost use Rattle.std.specs.Prelude.{◌≡◌, OnOk, IfOk, IsTrue, false};
+ghost use Rattle.std.specs.Prelude.{◌≡◌, ◌+◌, OnOk, IfOk, IsTrue, false, length};
 ghost use Rattle.std.specs.List.{Contains};
 ghost use Rattle.std.specs.FinSet.{contains};
 ghost use Rattle.cvr_collect.specs.declared.any_fact.AnyFact.{AnyFact};
@@ -10,7 +10,7 @@ ghost use Rattle.cvr_collect.specs.Place.{fact_of, any_cmp};
 ghost use Rattle.cvr_collect.specs.Plain.{set_of, IsPut};
 ghost use Rattle.cvr_collect.specs.Runs.{run};
 ghost use Rattle.cvr_cached.specs.Contents.{facts_at};
-ghost use Rattle.cvr_cached.specs.Plans.{IsPlan, IsStep};
+ghost use Rattle.cvr_cached.specs.Plans.{IsPlan, IsPushed, IsStep};
 
 use crate::change::{Keys, Plan};
 use crate::content::RecordContent;
@@ -18,7 +18,7 @@ use cdf_types::Memory;
 use cvr_collect::any_fact::AnyFact;
 use cvr_collect::names::next_record_in;
 use cvr_collect::one_record::run_of;
-use cvr_facts::RecordName;
+use cvr_facts::{Join, RecordName};
 use std::alloc::Global;
 use std::collections::BTreeMap;
 
@@ -60,12 +60,12 @@ pub(crate) fn plan_of_contents(
         new_facts: 0,
     };
     for (name, content) in theirs.iter() {
-        add_change(alloc, &mut plan, records, name, content.facts())?;
+        add_join(alloc, &mut plan, records, name, content)?;
     }
     Ok(plan)
 }
 
-// Adds what a record's facts change in its content, if they do.
+// Adds what facts change in a record's content, if they do.
 fn add_change(
     alloc: Global,
     plan: &mut Plan,
@@ -80,8 +80,43 @@ fn add_change(
     if has_all(old.facts(), group) {
         return Ok(());
     }
-    let content = old.joined(alloc, group)?;
-    let grown = content.facts().len() - old.facts().len();
+    let mut content = old.copy(alloc)?;
+    let grown = content.put_in(group)?;
+    push_change(alloc, plan, name, old, content, grown)
+}
+
+// Adds what another office's content of a record changes in its content, if it does.
+fn add_join(
+    alloc: Global,
+    plan: &mut Plan,
+    records: &BTreeMap<RecordName, RecordContent>,
+    name: &RecordName,
+    theirs: &RecordContent,
+) -> Result<(), Memory>
+    ensures { OnOk result (IsStep (facts_at (get name_cmp records.now name.now)) theirs.now name.now plan.old.contents.items plan.old.keys.items plan.old.new_facts plan.new.contents.items plan.new.keys.items plan.new.new_facts) }
+{
+    let none = RecordContent::empty(alloc);
+    let old = records.get(name).unwrap_or(&none);
+    if has_all(old.facts(), theirs.facts()) {
+        return Ok(());
+    }
+    let mut content = old.copy(alloc)?;
+    let grown = content.join(theirs)?;
+    push_change(alloc, plan, name, old, content, grown)
+}
+
+// Adds a record's new content to a plan, with the keys of the rows that it leaves and enters.
+fn push_change(
+    alloc: Global,
+    plan: &mut Plan,
+    name: &RecordName,
+    old: &RecordContent,
+    content: RecordContent,
+    grown: usize,
+) -> Result<(), Memory>
+    requires { length old.now + grown ≡ length content }
+    ensures { OnOk result (IsPushed old.now content name.now plan.old.contents.items plan.old.keys.items plan.old.new_facts plan.new.contents.items plan.new.keys.items plan.new.new_facts) }
+{
     let new_facts = match plan.new_facts.checked_add(grown) {
         Some(sum) => sum,
         None => return Err(Memory),

@@ -32,8 +32,7 @@ loop-name-preserved c =
     let was = subst (λ left. IsPlanned f (λ k. facts_at (get name_cmp c.args.theirs.now k)) (first_name left) c.loop-name.plan.contents.items c.loop-name.plan.keys.items c.loop-name.plan.new_facts) is c.loop-name.invariant.planned in
     record {
       planned = theirs_go_on f c.requires all e rest are c.loop-name.plan.contents.items c.loop-name.plan.keys.items c.loop-name.plan.new_facts was
-          c.add_change.new.plan.contents.items c.add_change.new.plan.keys.items c.add_change.new.plan.new_facts
-          (rw (← c.facts.ensures.is) c.in_ok-add_change.ensures);
+          c.add_join.new.plan.contents.items c.add_join.new.plan.keys.items c.add_join.new.plan.new_facts c.in_ok-add_join.ensures;
       left = rest_left f c.requires all e rest are;
     }
 

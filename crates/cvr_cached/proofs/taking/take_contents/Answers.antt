@@ -5,8 +5,8 @@ use Rattle.cvr_facts.specs.Facts.{name_cmp}
 use Rattle.cvr_collect.proofs.Laws.{name_exact, name_total}
 use Rattle.cvr_cached.specs.Contents.{listed, facts_at}
 use Rattle.cvr_cached.specs.Plans.{all_moves}
-use Rattle.cvr_cached.proofs.After.{own_after, put_after}
-use Rattle.cvr_cached.proofs.Taken.{agrees_before, counted_before, full_before, rise_before, room_before, held_after, held_still, growth_after, own_devices, own_runs, both_ok, both_err, told_ok, either_way, moves_before, moves_told, moves_up, moves_still}
+use Rattle.cvr_cached.proofs.Joined.{own_joined, put_joined}
+use Rattle.cvr_cached.proofs.Taken.{agrees_before, counted_before, full_before, rise_before, room_before, held_after, held_still, growth_after, own_runs, both_ok, both_err, told_ok, either_way, moves_before, moves_told, moves_up, moves_still}
 use Rattle.cvr_cached.proofs.taking.take_contents.Goals as goal
 
 pub plan_of_contents-requires : goal.plan_of_contents-requires
@@ -35,11 +35,9 @@ returns-clause-put c =
     let fs = c.settle-new_facts.new.records.entries in
     let theirs = c.args.their_devices.now in
     let ts = c.args.their_records.now.entries in
-    let more = listed theirs ts in
     let p = c.in_ok-plan.plan in
     both_ok c.settle-new_facts.result c.settle-new_facts.ensures.devices c.settle-new_facts.ensures.records (λ devices done.
-    put_after d d' es fs c.requires.held.own c.names_rise.ensures theirs more (λ k. facts_at (get name_cmp c.args.their_records.now k)) devices (own_devices theirs ts c.requires.theirs) (own_runs theirs ts c.requires.theirs)
-    p.contents.items p.keys.items p.new_facts c.in_ok-plan.ensures done)
+    put_joined d d' es fs c.requires.held.own c.names_rise.ensures theirs ts c.requires.theirs devices p.contents.items p.keys.items p.new_facts c.in_ok-plan.ensures done)
 
 pub returns-clause-new : goal.returns-clause-new
 returns-clause-new c =
@@ -54,10 +52,8 @@ returns-clause-new c =
     let t = c.settle-new_facts.new.totals in
     told_ok c.settle-new_facts.result c.settle-new_facts.ensures.devices c.settle-new_facts.ensures.records c.settle-new_facts.ensures.new (λ n devices done more_is.
     growth_after c.args.totals.now.contests d es c.args.totals.now.rows c.args.count.now more c.requires.held c.requires.told d' fs t.rows t.contests c.settle-new_facts.new.count t.moves
-    (put_after d d' es fs c.requires.held.own c.names_rise.ensures theirs more (λ k. facts_at (get name_cmp c.args.their_records.now k)) devices (own_devices theirs ts c.requires.theirs) (own_runs theirs ts c.requires.theirs)
-    p.contents.items p.keys.items p.new_facts c.in_ok-plan.ensures done)
-    (own_after d d' es fs c.requires.held.own c.names_rise.ensures theirs more (λ k. facts_at (get name_cmp c.args.their_records.now k)) devices (own_devices theirs ts c.requires.theirs) (own_runs theirs ts c.requires.theirs)
-    p.contents.items p.keys.items p.new_facts c.in_ok-plan.ensures done)
+    (put_joined d d' es fs c.requires.held.own c.names_rise.ensures theirs ts c.requires.theirs devices p.contents.items p.keys.items p.new_facts c.in_ok-plan.ensures done)
+    (own_joined d d' es fs c.requires.held.own c.names_rise.ensures theirs ts c.requires.theirs devices p.contents.items p.keys.items p.new_facts c.in_ok-plan.ensures done)
     n c.settle-new_facts.ensures.counted more_is)
 
 pub returns-clause-held : goal.returns-clause-held
@@ -75,10 +71,8 @@ returns-clause-held c =
     either_way c.settle-new_facts.result s.devices s.records s.err_devices s.err_records s.err_rows
     (λ devices done.
     held_after c.args.totals.now.contests d es c.args.totals.now.rows c.args.count.now more c.requires.held c.requires.told d' fs t.rows t.contests c.settle-new_facts.new.count t.moves
-    (put_after d d' es fs c.requires.held.own c.names_rise.ensures theirs more (λ k. facts_at (get name_cmp c.args.their_records.now k)) devices (own_devices theirs ts c.requires.theirs) (own_runs theirs ts c.requires.theirs)
-    p.contents.items p.keys.items p.new_facts c.in_ok-plan.ensures done)
-    (own_after d d' es fs c.requires.held.own c.names_rise.ensures theirs more (λ k. facts_at (get name_cmp c.args.their_records.now k)) devices (own_devices theirs ts c.requires.theirs) (own_runs theirs ts c.requires.theirs)
-    p.contents.items p.keys.items p.new_facts c.in_ok-plan.ensures done)
+    (put_joined d d' es fs c.requires.held.own c.names_rise.ensures theirs ts c.requires.theirs devices p.contents.items p.keys.items p.new_facts c.in_ok-plan.ensures done)
+    (own_joined d d' es fs c.requires.held.own c.names_rise.ensures theirs ts c.requires.theirs devices p.contents.items p.keys.items p.new_facts c.in_ok-plan.ensures done)
     s.agrees c.are_whole.ensures s.contests s.counted s.fits)
     (λ devices same rows.
     held_still c.args.totals.now.contests t.contests d d' es fs c.args.totals.now.rows t.rows c.args.count.now c.settle-new_facts.new.count c.requires.held s.contests devices
