@@ -1,5 +1,5 @@
 -- What an office keeps after another's contents were joined to its own.
-use Rattle.std.proofs.Common.{◌≡◌, ℕ, List, Option}
+use Rattle.std.proofs.Common.{◌≡◌, ℕ, List}
 use Rattle.std.specs.List.Sorted.{IsStrictlySortedBy}
 use Rattle.std.specs.Map.{keys_of}
 use Rattle.cvr_facts.specs.declared.name.RecordName.{RecordName}

@@ -136,7 +136,8 @@ impl RecordContent {
     }
 }
 
-// The set that a content holds is that of its facts. `put` tells besides which fields they have.
+// The set that a content holds is that of its facts. `put` tells besides that each of them, with its
+// fields, comes from one of the two.
 impl Join for RecordContent {
     ghost Set = { Facts };
 
