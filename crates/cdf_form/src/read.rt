@@ -1,15 +1,16 @@
-ghost use Rattle.std.specs.Prelude.{◌≡◌, None, Some, IfOk, IfErr, OnOk};
+ghost use Rattle.std.specs.Prelude.{◌≡◌, ◌↔◌, None, Some, IfOk, IfErr, OnOk, IsTrue};
 ghost use Rattle.serde_json.specs.View.{view};
 ghost use Rattle.cdf_types.specs.declared.fault.ReadFault.TheVariants.{NotJson};
 ghost use Rattle.cdf_form.specs.Form.{first};
 ghost use Rattle.cdf_form.specs.Found.{Tells};
+ghost use Rattle.cdf_form.specs.HasForm.{IsCvr};
 ghost use Rattle.cdf_form.specs.Reading.{IsMemory, document_faults, value_of};
 
 use crate::float::find_float;
 use crate::found::Stop;
 use crate::table::{Group, Key, Kind, Leaf};
 use crate::walk::walk;
-use cdf_types::ReadFault;
+use cdf_types::{Memory, ReadFault};
 use serde_json::{Category, Value};
 use std::alloc::Global;
 
@@ -53,5 +54,21 @@ pub fn document_fault<'a>(alloc: Global, value: &'a Value) -> Result<(), Stop<'a
             find_float(alloc, value)?;
             Err(Stop::Fault(found))
         }
+    }
+}
+
+/// Whether a value is a cast vote record by itself (class CVR): it has the form, and each number is
+/// whole.
+///
+/// # Errors
+/// `Memory` where a growth was refused.
+pub fn is_cvr(alloc: Global, value: &Value) -> Result<bool, Memory>
+    ensures { IfOk result (λ is. IsTrue is ↔ IsCvr (view value.now)) }
+{
+    let record = Kind::One(Leaf::Object(Group::Cvrs));
+    match walk(alloc, value, record, Key::Free) {
+        Ok(fraction) => Ok(!fraction),
+        Err(Stop::Memory) => Err(Memory),
+        Err(Stop::Fault(_)) => Ok(false),
     }
 }
