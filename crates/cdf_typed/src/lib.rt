@@ -5,4 +5,4 @@ mod listed;
 mod records;
 mod votes;
 
-pub use records::read_report;
+pub use records::{read_cvr, read_report};

@@ -124,7 +124,12 @@ fn header_text(alloc: Global, cvr: Value) -> Result<Body, Memory>
     Ok(Body::new(header(cvr).to_string(alloc)?))
 }
 
-fn read_cvr(alloc: Global, contests: &Contests, cvr: Value) -> Result<Cvr, Memory>
+/// The typed record of a value that has the form of a record (NIST SP 1500-103, class CVR), told as
+/// by `read_report`. The value is freed.
+///
+/// # Errors
+/// `Memory` where a growth was refused.
+pub fn read_cvr(alloc: Global, contests: &Contests, cvr: Value) -> Result<Cvr, Memory>
     requires { has_float (view cvr) ≡ false }
     ensures { IfOk result (λ c. c ≡ cvr_of contests.now (view cvr)) }
 {
