@@ -1,4 +1,6 @@
 -- What the ids that are kept of a report stand for.
+use Rattle.std.specs.Prelude.{List, []}
+use Rattle.cdf_form.specs.Places.{Contest}
 use Rattle.cdf_check.specs.References.{Scope}
 use Rattle.cdf_check.specs.declared.scope.Scope.{Scope as Held}
 
@@ -11,3 +13,7 @@ scope_view s = record {
   devices = s.devices;
   contests = s.contests;
 }
+
+-- a scope in which nothing but these contests can be named
+abbrev pub contests_alone : List Contest → Scope
+contests_alone contests = record { elections = []; units = []; parties = []; devices = []; contests = contests }

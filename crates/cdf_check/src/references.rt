@@ -4,12 +4,13 @@ ghost use Rattle.serde_json.specs.View.{view};
 ghost use Rattle.cdf_form.specs.Form.{class_in};
 ghost use Rattle.cdf_form.specs.Parts.{ids_at, id_of};
 ghost use Rattle.cdf_check.specs.Paths.{first, each, path_of};
-ghost use Rattle.cdf_check.specs.Scoped.{scope_view};
+ghost use Rattle.cdf_check.specs.Scoped.{scope_view, contests_alone};
 ghost use Rattle.cdf_check.specs.References.{in_selection_vote, in_votes, in_contest_vote, in_snapshot, in_cvr, in_selection, in_contest, in_candidate, in_election, in_report, one, missing};
 
 use crate::look::{Look, look_at_many, look_at_one, look_in_each};
 use crate::path::Path;
 use crate::scope::Scope;
+use cdf_form::contests::Contests;
 use cdf_form::found::Step;
 use cdf_form::ids::Ids;
 use cdf_form::leaf::find_class;
@@ -37,36 +38,36 @@ impl Look for InSelectionVote<'_> {
 }
 
 #[derive(Drop)]
-struct InContestVote<'a>(&'a Scope);
+struct InContestVote<'a>(&'a Contests);
 
 impl Look for InContestVote<'_> {
-    ghost missing = { λ s d. in_contest_vote (scope_view s.0.now) d };
+    ghost missing = { λ s d. in_contest_vote (contests_alone s.0.now) d };
 
     #[tactic(auto, using(crate::proofs::Items::first_or))]
     fn look(&self, alloc: Global, value: &Value) -> Result<Option<Path>, Memory> {
-        let scope = self.0;
-        match look_in_votes(alloc, scope, value)? {
+        let contests = self.0;
+        match look_in_votes(alloc, contests, value)? {
             None => {}
             Some(found) => return Ok(Some(found)),
         }
-        look_at_one(alloc, scope.contests.ids(), "ContestId", value)
+        look_at_one(alloc, contests.ids(), "ContestId", value)
     }
 }
 
 // The selections, where the contest that they stand in is one of the report's.
-fn look_in_votes(alloc: Global, scope: &Scope, value: &Value) -> Result<Option<Path>, Memory>
+fn look_in_votes(alloc: Global, contests: &Contests, value: &Value) -> Result<Option<Path>, Memory>
     ensures { IfOk result (λ o. option_map path_of o
-        ≡ first (in_votes (scope_view scope.now) (view value.now))) }
+        ≡ first (in_votes (contests_alone contests.now) (view value.now))) }
 {
-    let ids = scope.contests.selections_of(text_at("ContestId", value));
+    let ids = contests.selections_of(text_at("ContestId", value));
     look_in_each(alloc, &InSelectionVote(ids), "CVRContestSelection", value)
 }
 
 #[derive(Drop)]
-struct InSnapshot<'a>(&'a Scope);
+struct InSnapshot<'a>(&'a Contests);
 
 impl Look for InSnapshot<'_> {
-    ghost missing = { λ s d. in_snapshot (scope_view s.0.now) d };
+    ghost missing = { λ s d. in_snapshot (contests_alone s.0.now) d };
 
     fn look(&self, alloc: Global, value: &Value) -> Result<Option<Path>, Memory> {
         look_in_each(alloc, &InContestVote(self.0), "CVRContest", value)
@@ -86,7 +87,7 @@ impl Look for InCvr<'_> {
             None => {}
             Some(found) => return Ok(Some(found)),
         }
-        match look_in_each(alloc, &InSnapshot(scope), "CVRSnapshot", value)? {
+        match look_in_snapshots(alloc, &scope.contests, value)? {
             None => {}
             Some(found) => return Ok(Some(found)),
         }
@@ -106,8 +107,26 @@ impl Look for InCvr<'_> {
     }
 }
 
-// The id of the current snapshot, where the record has none of that id.
-fn look_at_current(alloc: Global, cvr: &Value) -> Result<Option<Path>, Memory>
+/// The contests and selections that the snapshots of a record name.
+///
+/// # Errors
+/// `Memory` where a growth was refused.
+pub fn look_in_snapshots(
+    alloc: Global,
+    contests: &Contests,
+    cvr: &Value,
+) -> Result<Option<Path>, Memory>
+    ensures { IfOk result (λ o. option_map path_of o
+        ≡ first (each (in_snapshot (contests_alone contests.now)) (codes "CVRSnapshot") (view cvr.now))) }
+{
+    look_in_each(alloc, &InSnapshot(contests), "CVRSnapshot", cvr)
+}
+
+/// The id of the current snapshot, where the record has none of that id.
+///
+/// # Errors
+/// `Memory` where a growth was refused.
+pub fn look_at_current(alloc: Global, cvr: &Value) -> Result<Option<Path>, Memory>
     ensures { IfOk result (λ o. option_map path_of o
         ≡ first (one (ids_at (codes "CVRSnapshot") (view cvr.now)) (codes "CurrentSnapshotId") (view cvr.now))) }
 {
