@@ -26,8 +26,7 @@ use Rattle.cdf_form.proofs.Lemmas.{class_of_group}
 use Rattle.cdf_typed.specs.Typed.{cvr_of, device_of}
 use Rattle.cdf_check.specs.References.{Scope, scope_of}
 use Rattle.cdf_check.specs.Resolves.{Each, AllName, CvrResolves, ElectionResolves, Resolves}
-use Rattle.cdf_check.specs.Agreement.{AreListed}
-use Rattle.cdf_check.specs.Apart.{with_records, IsRecord, RecordsLaw, AgreesApartLaw, TypedApartLaw}
+use Rattle.cdf_check.specs.Apart.{with_records, RecordsLaw, AgreesApartLaw, TypedApartLaw}
 use Rattle.cdf_check.proofs.Empty.{at_head, at_tail}
 
 abbrev records : List ℕ
@@ -48,7 +47,7 @@ neither : (a b : Bool) → a ≡ false → b ≡ false → (a || b) ≡ false
 neither true b p q = p
 neither false b p q = q
 
-whole_items : (ds : List Data) → ((d : Data) → Contains ds d → has_float d ≡ false) → items_have_float (items_of ds) ≡ false
+pub whole_items : (ds : List Data) → ((d : Data) → Contains ds d → has_float d ≡ false) → items_have_float (items_of ds) ≡ false
 whole_items [] each = refl
 whole_items (d ∷ ds) each = neither (has_float d) (items_have_float (items_of ds)) (each d (at_head d ds)) (whole_items ds (λ e h. each e (at_tail d e ds h)))
 
@@ -57,7 +56,7 @@ whole_items (d ∷ ds) each = neither (has_float d) (items_have_float (items_of 
 abbrev listed : Option Data → List Data
 listed o = unwrap_or (option_map list_of (option_and_then as_array o)) []
 
-array_stays : (ds : Items) (ms : Members) (q : List ℕ) → bytes_eq q records ≡ false → array_at q (object (filled records ds ms)) ≡ array_at q (object ms)
+pub array_stays : (ds : Items) (ms : Members) (q : List ℕ) → bytes_eq q records ≡ false → array_at q (object (filled records ds ms)) ≡ array_at q (object ms)
 array_stays ds ms q other = ap listed (found_other records ds q ms other)
 
 array_there : (ds : Items) (o : Option Data) → IsSome o → listed (option_map (λ _. array ds) o) ≡ list_of ds

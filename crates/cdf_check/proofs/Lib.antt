@@ -20,6 +20,7 @@ pub mod Contents
 pub mod Standing
 pub mod Spelling
 pub mod Utf8
+pub mod Apart
+pub mod Joining
 pub mod Laws
 pub mod Lemmas
-pub mod Apart

@@ -66,7 +66,7 @@ module _ (scope : Scope) where
   snapshot_law : (d : Data) → (in_snapshot scope d ≡ []) ↔ SnapshotResolves scope d
   snapshot_law = all_items (in_contest_vote scope) (VoteResolves scope) vote_law (codes "CVRContest")
 
-  cvr_law : (d : Data) → (in_cvr scope d ≡ []) ↔ CvrResolves scope d
+  pub cvr_law : (d : Data) → (in_cvr scope d ≡ []) ↔ CvrResolves scope d
   cvr_law d =
       let h = two _ _ (one_law scope.units (codes "BallotStyleUnitId") d)
       (two _ _ (all_items (in_snapshot scope) (SnapshotResolves scope) snapshot_law (codes "CVRSnapshot") d)

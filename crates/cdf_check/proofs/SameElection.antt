@@ -45,7 +45,7 @@ own_text false a b e = absurd (cc)
 only_text : (e0 e : Data) → text_of (sorted (map named (e0 ∷ []))) (id_of e) ≡ Some (compact_text e) → compact_text e0 ≡ compact_text e
 only_text e0 e h = own_text (bytes_eq (id_of e) (id_of e0)) (compact_text e0) (compact_text e) h
 
-same_election : (d0 d e0 e : Data) → IsProper max_depth d0 → IsProper max_depth d
+pub same_election : (d0 d e0 e : Data) → IsProper max_depth d0 → IsProper max_depth d
     → array_at (codes "Election") d0 ≡ e0 ∷ [] → array_at (codes "Election") d ≡ e ∷ []
     → AreListed (entries_at (codes "Election") d0) (codes "Election") d → e0 ≡ e
 same_election d0 d e0 e g0 g one0 one agree =
@@ -65,7 +65,7 @@ elections_agree d0 d w0 w r0 r agree =
     ∙ same_election d0 d one0.0 one.0 (proper_report w0.0 d0 w0.1.1 r0) (proper_report w.0 d w.1.1 r) one0.1 one.1 agree
     ∙ sym (election_is d one.0 one.1)
 
-value_is : (bytes : List ℕ) (d : Data) → value_of bytes ≡ Some d → value_in bytes ≡ d
+pub value_is : (bytes : List ℕ) (d : Data) → value_of bytes ≡ Some d → value_in bytes ≡ d
 value_is bytes d is = ap (λ o. unwrap_or o null) is
 
 module _ (frame : Frame) (bytes : List ℕ) (valid : Valid frame bytes) where

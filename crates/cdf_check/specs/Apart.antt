@@ -1,5 +1,5 @@
 -- A report that is told by its records and by what is left beside them, where an empty array stands in their place. (This project's own.)
-use Rattle.std.specs.Prelude.{◌≡◌, ℕ, ◌≤◌, List, length, map, IsSome, codes, false}
+use Rattle.std.specs.Prelude.{◌≡◌, ◌≤◌, List, length, map, IsSome, codes, false}
 use Rattle.std.specs.List.{Contains}
 use Rattle.serde_json.specs.Data.{Data, object, Members}
 use Rattle.serde_json.specs.Find.{get_member}

@@ -9,6 +9,7 @@ pub mod Sound
 pub mod Same
 pub mod Acceptance
 pub mod Apart
+pub mod Taken
 pub mod Bodies
 pub mod Wider
 pub mod Depths

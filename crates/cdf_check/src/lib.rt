@@ -13,10 +13,12 @@ pub mod law;
 mod look;
 mod named;
 mod path;
+mod quick;
 mod read;
 mod references;
 pub mod rows;
 mod scope;
 
 pub use definition::Definition;
+pub use quick::quick_report;
 pub use read::check_report;

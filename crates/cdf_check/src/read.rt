@@ -10,6 +10,7 @@ ghost use Rattle.cdf_check.specs.Acceptance.{Holds, Sound, Valid, first_unsound,
 
 use crate::check::{check_own, check_value};
 use crate::definition::Definition;
+use crate::quick::quick_report;
 use cdf_form::read::{MAX_FILE, read_value};
 use cdf_typed::read_report;
 use cdf_types::{ReadFault, Report};
@@ -71,6 +72,18 @@ impl Definition {
     }
 }
 
+// The typed report of a file, which is read as one tree.
+fn whole_report(alloc: Global, definition: &Definition, bytes: &[u8]) -> Result<Report, ReadFault>
+    ensures valid { OnOk result (Valid definition.now bytes.now) }
+    ensures report { IfOk result (λ r. r ≡ report_in definition.now.contests bytes.now) }
+    ensures range { IfOk result (λ r. ReportInRange definition.now.contests r) }
+    ensures first { IfErr result (λ e. ¬ IsMemory e → first_refusal definition.now bytes.now ≡ Some e) }
+{
+    definition.made_of_a_report();
+    let value = accepted_value(alloc, definition, bytes)?;
+    Ok(read_report(alloc, definition.contests(), value)?)
+}
+
 /// The typed report of a file that is accepted beside a definition: its records in order, contests
 /// and selections told by their places in the definition, each in range.
 ///
@@ -87,7 +100,8 @@ pub fn check_report(
     ensures range { IfOk result (λ r. ReportInRange definition.now.contests r) }
     ensures first { IfErr result (λ e. ¬ IsMemory e → first_refusal definition.now bytes.now ≡ Some e) }
 {
-    definition.made_of_a_report();
-    let value = accepted_value(alloc, definition, bytes)?;
-    Ok(read_report(alloc, definition.contests(), value)?)
+    match quick_report(alloc, definition, bytes)? {
+        Some(report) => Ok(report),
+        None => whole_report(alloc, definition, bytes),
+    }
 }

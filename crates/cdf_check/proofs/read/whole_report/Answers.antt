@@ -7,7 +7,7 @@ use Rattle.cdf_check.proofs.Sounding.{sound}
 use Rattle.cdf_check.proofs.Agreeing.{agreement}
 use Rattle.cdf_check.proofs.SameElection.{contests_agree}
 use Rattle.cdf_check.proofs.Ranges.{in_range}
-use Rattle.cdf_check.proofs.read.check_report.Goals as goal
+use Rattle.cdf_check.proofs.read.whole_report.Goals as goal
 
 pub read_report-requires : goal.read_report-requires
 read_report-requires c = record { whole = whole_document (view c.in_ok-value.value) c.in_ok-value.ensures.sound.0 }

@@ -1,0 +1,166 @@
+ghost use Rattle.std.specs.Prelude.{◌≡◌, IfOk, IfSome, IsTrue, codes};
+ghost use Rattle.std.specs.List.{list_all};
+ghost use Rattle.serde_json.specs.View.{view};
+ghost use Rattle.cdf_form.specs.Parts.{ids_at};
+ghost use Rattle.cdf_typed.specs.Range.{ReportInRange};
+ghost use Rattle.cdf_check.specs.Acceptance.{Valid, report_in};
+ghost use Rattle.cdf_check.specs.Taken.{NamesWithin, IsTaken, is_placed, IsJoined};
+
+use crate::check::check_value;
+use crate::definition::Definition;
+use crate::look::look_at_one;
+use crate::references::{look_at_current, look_in_snapshots};
+use cdf_form::ids::Ids;
+use cdf_form::items_at;
+use cdf_form::read::{MAX_FILE, is_cvr};
+use cdf_form::table::ANY;
+use cdf_pull::{Stop, Take, read_text_apart};
+use cdf_typed::{read_cvr, read_report};
+use cdf_types::{Cvr, Memory, ReadFault, Report, Seq};
+use json::Scratch;
+use serde_json::Value;
+use simdutf8::compat::from_utf8;
+use std::alloc::Global;
+
+// Whether what a record names is the definition's or its own, but for its device and its unit,
+// which the file has to have. (A record that names a party is left to the reader of whole files.)
+fn names_within(alloc: Global, definition: &Definition, cvr: &Value) -> Result<bool, Memory>
+    ensures { IfOk result (λ is. IsTrue is → NamesWithin definition.now (view cvr.now)) }
+{
+    match look_in_snapshots(alloc, definition.contests(), cvr)? {
+        None => {}
+        Some(_) => return Ok(false),
+    }
+    match look_at_current(alloc, cvr)? {
+        None => {}
+        Some(_) => return Ok(false),
+    }
+    match look_at_one(alloc, definition.elections().ids(), "ElectionId", cvr)? {
+        None => {}
+        Some(_) => return Ok(false),
+    }
+    Ok(items_at("PartyIds", cvr).is_empty())
+}
+
+// The typed record, where all that can be seen before the rest of its file is right.
+fn take_cvr(alloc: Global, definition: &Definition, cvr: Value) -> Result<Option<Cvr>, Memory>
+    ensures { IfOk result (λ taken. IfSome taken (λ c. IsTaken definition.now (view cvr) c)) }
+{
+    if !is_cvr(alloc, &cvr)? {
+        return Ok(None);
+    }
+    if !names_within(alloc, definition, &cvr)? {
+        return Ok(None);
+    }
+    Ok(Some(read_cvr(alloc, definition.contests(), cvr)?))
+}
+
+// Takes the records of a file beside a definition.
+#[derive(Drop)]
+struct Records<'a>(&'a Definition);
+
+impl Take for Records<'_> {
+    type Taken = Cvr;
+
+    ghost takes = { λ s d taken. IsTaken s.0.now d taken };
+
+    fn take(&self, alloc: Global, item: Value) -> Result<Cvr, Stop> {
+        match take_cvr(alloc, self.0, item) {
+            Ok(Some(cvr)) => Ok(cvr),
+            Ok(None) => Err(Stop::Unread),
+            Err(Memory) => Err(Stop::Memory),
+        }
+    }
+}
+
+// Whether a record's device and unit are among these.
+fn is_placed(devices: &Ids, units: &Ids, cvr: &Cvr) -> bool
+    ensures { result ≡ is_placed devices.now units.now cvr.now }
+{
+    if !devices.contains(cvr.device.as_str()) {
+        return false;
+    }
+    match &cvr.unit {
+        None => true,
+        Some(unit) => units.contains(unit.as_str()),
+    }
+}
+
+fn all_placed(devices: &Ids, units: &Ids, cvrs: &[Cvr]) -> bool
+    ensures { result ≡ list_all (is_placed devices.now units.now) cvrs.now }
+{
+    for cvr in cvrs {
+        if !is_placed(devices, units, cvr) {
+            return false;
+        }
+    }
+    true
+}
+
+// Whether the device and the unit of each record are those of the rest of its file.
+fn are_placed(alloc: Global, left: &Value, cvrs: &[Cvr]) -> Result<bool, Memory>
+    ensures { IfOk result (λ b. b ≡ list_all (is_placed
+        (ids_at (codes "ReportingDevice") (view left.now)) (ids_at (codes "GpUnit") (view left.now))) cvrs.now) }
+{
+    let devices = Ids::of_items(alloc, items_at("ReportingDevice", left))?;
+    let units = Ids::of_items(alloc, items_at("GpUnit", left))?;
+    Ok(all_placed(&devices, &units, cvrs))
+}
+
+// The report that the records and what is left beside them make, where that is sound and agrees.
+fn joined(
+    alloc: Global,
+    definition: &Definition,
+    left: Value,
+    cvrs: Vec<Cvr>,
+) -> Result<Option<Report>, Memory>
+    ensures { IfOk result (λ made. IfSome made
+        (λ r. IsJoined definition.now (view left) cvrs.items r)) }
+{
+    // The member CVR itself: it is there, and no longer than its row allows.
+    if left.get("CVR").is_none() || cvrs.len() > ANY {
+        return Ok(None);
+    }
+    match check_value(alloc, definition, &left) {
+        Ok(()) => {}
+        Err(ReadFault::Memory) => return Err(Memory),
+        Err(_) => return Ok(None),
+    }
+    if !are_placed(alloc, &left, &cvrs)? {
+        return Ok(None);
+    }
+    let mut report = read_report(alloc, definition.contests(), left)?;
+    report.cvrs = Seq::new(cvrs);
+    Ok(Some(report))
+}
+
+/// The typed report of a file that is accepted beside a definition, read with no more than a record's
+/// tree at a time. None says nothing of the file.
+///
+/// # Errors
+/// `Memory` where a growth was refused.
+pub fn quick_report(
+    alloc: Global,
+    definition: &Definition,
+    bytes: &[u8],
+) -> Result<Option<Report>, Memory>
+    ensures valid { IfOk result (λ made. IfSome made (λ _. Valid definition.now bytes.now)) }
+    ensures report { IfOk result (λ made. IfSome made
+        (λ r. r ≡ report_in definition.now.contests bytes.now)) }
+    ensures range { IfOk result (λ made. IfSome made
+        (λ r. ReportInRange definition.now.contests r)) }
+{
+    definition.made_of_a_report();
+    if bytes.len() > MAX_FILE {
+        return Ok(None);
+    }
+    let Ok(text) = from_utf8(bytes) else {
+        return Ok(None);
+    };
+    let mut scratch = Scratch::new(alloc);
+    match read_text_apart(alloc, text, &mut scratch, "CVR", &Records(definition)) {
+        Ok((left, cvrs)) => joined(alloc, definition, left, cvrs),
+        Err(Stop::Memory) => Err(Memory),
+        Err(Stop::Unread) => Ok(None),
+    }
+}
