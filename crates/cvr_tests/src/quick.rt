@@ -1,0 +1,90 @@
+//! Which files are read record by record, and which as one tree.
+use crate::files::*;
+use cdf_check::{Definition, check_report, quick_report};
+use std::process::Abort;
+
+// Read as one tree: a party is named, a number has a sign, or the array of records is not there once.
+const OF_A_PARTY: Changes = &[
+    (
+        r#""ReportGeneratingDeviceIds""#,
+        r#""Party":[{"@id":"x","@type":"CVR.Party"}],"ReportGeneratingDeviceIds""#,
+    ),
+    (r#""UniqueId""#, r#""PartyIds":["x"],"UniqueId""#),
+];
+
+const WITH_A_SIGN: Changes = &[(r#""Version""#, r#""Unlisted":-1,"Version""#)];
+
+const OF_RECORDS_TWICE: Changes = &[(r#""CVR":["#, r#""CVR":[],"CVR":["#)];
+
+const OF_NO_RECORDS: Changes = &[(r#""CVR":["#, r#""Unlisted":["#)];
+
+// Refused: a unit that the file hasn't, or a device.
+const OF_UNKNOWN_UNIT: Changes = &[(r#"UnitId":"p1""#, r#"UnitId":"p9""#)];
+
+const OF_UNKNOWN_DEVICE: Changes = &[(r#"DeviceId":"s1""#, r#"DeviceId":"s9""#)];
+
+// Whether a file is accepted, and whether it was read record by record.
+fn read(rt: &(impl Abort + AllocGlobal), definition: &Definition, text: &str) -> (bool, bool) {
+    let bytes = text.as_bytes();
+    let quick = quick_report(rt.alloc(), definition, bytes).expect(rt, "no memory");
+    (
+        check_report(rt.alloc(), definition, bytes).is_ok(),
+        quick.is_some(),
+    )
+}
+
+fn is_read(rt: &(impl Abort + AllocGlobal), changes: Changes) -> (bool, bool) {
+    read(rt, &definition(rt, &[]), file(rt, changes).as_str())
+}
+
+// The file of the scan, with its records as the last member.
+fn with_records_last(rt: &(impl Abort + AllocGlobal)) -> String {
+    let record = record_text(rt, SCAN);
+    let last = format!(in rt.alloc(); r#""Version":"1.0.0","CVR":[{record}]"#);
+    report_text(rt, "")
+        .as_str()
+        .replace(rt.alloc(), r#""CVR":[],"#, "")
+        .expect(rt, "no memory")
+        .as_str()
+        .replace(
+            rt.alloc(),
+            r#""Version":"1.0.0""#,
+            last.expect(rt, "no memory").as_str(),
+        )
+        .expect(rt, "no memory")
+}
+
+#[test]
+fn usual_files_are_read_record_by_record(rt: HostRuntime) {
+    assert!(rt; is_read(&rt, SCAN) == (true, true));
+    assert!(rt; is_read(&rt, EVERY_KIND) == (true, true));
+    assert!(rt; is_read(&rt, MOVED) == (true, true));
+    assert!(rt; is_read(&rt, WITH_THIRD) == (true, true));
+    assert!(rt; is_read(&rt, WITHOUT_SECOND) == (true, true));
+    assert!(rt; is_read(&rt, UNITS_EXCHANGED) == (true, true));
+}
+
+#[test]
+fn records_may_be_the_last_member(rt: HostRuntime) {
+    let text = with_records_last(&rt);
+    assert!(rt; read(&rt, &definition(&rt, &[]), text.as_str()) == (true, true));
+}
+
+#[test]
+fn unusual_files_are_read_as_one_tree(rt: HostRuntime) {
+    assert!(rt; is_read(&rt, WITH_A_SIGN) == (true, false));
+    assert!(rt; is_read(&rt, OF_RECORDS_TWICE) == (true, false));
+    assert!(rt; is_read(&rt, OF_NO_RECORDS) == (true, false));
+    let of_parties = definition(&rt, OF_A_PARTY);
+    let text = file(&rt, OF_A_PARTY);
+    assert!(rt; read(&rt, &of_parties, text.as_str()) == (true, false));
+}
+
+#[test]
+fn what_is_refused_is_not_read_record_by_record(rt: HostRuntime) {
+    assert!(rt; is_read(&rt, UNNAMED) == (false, false));
+    assert!(rt; is_read(&rt, OF_NO_TYPE) == (false, false));
+    assert!(rt; is_read(&rt, OF_UNKNOWN_UNIT) == (false, false));
+    assert!(rt; is_read(&rt, OF_UNKNOWN_DEVICE) == (false, false));
+    assert!(rt; is_read(&rt, OF_NAMED_ELECTION) == (false, false));
+}
