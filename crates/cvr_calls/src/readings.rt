@@ -10,12 +10,12 @@ use crate::same::{
 use crate::tellings::row_of;
 use crate::trying::Reading;
 use crate::writing::{DATE, DEVICE};
-use cdf_check::Definition;
+use cdf_check::{Definition, quick_report};
 use cdf_types::{Body, Memory, ReadFault};
 use cvr_cached::CachedOffice;
 use cvr_collect::{Office, PlainOffice};
 use cvr_facts::text::{push_quoted, push_word, quoted};
-use cvr_facts::{BodySet, DeviceFact, HeaderFact, RecordName, SnapshotFact, VoteSums};
+use cvr_facts::{BodySet, DeviceFact, HeaderFact, RecordName, SnapshotFact, VoteSums, facts_of};
 use cvr_report::{HeadFault, Heading};
 use cvr_tally::{RowKey, tally_text};
 use std::alloc::Global;
@@ -119,6 +119,7 @@ pub enum Filing {
     ReadFile,
     Apart,
     Definition,
+    Quick,
     Facts,
 }
 
@@ -128,6 +129,7 @@ impl Reading for Filing {
             Filing::ReadFile => is_file_read(alloc, records.bytes),
             Filing::Apart => is_read_apart(alloc, records.bytes),
             Filing::Definition => is_definition_read(alloc, records),
+            Filing::Quick => is_quickly_read(alloc, records),
             Filing::Facts => are_facts_made(alloc, records),
         }
     }
@@ -140,6 +142,16 @@ fn is_file_read(alloc: Global, bytes: &[u8]) -> Result<bool, ReadFault> {
 fn is_definition_read(alloc: Global, records: &Records<'_>) -> Result<bool, ReadFault> {
     let definition = Definition::read(alloc, records.bytes)?;
     Ok(are_same_definitions(&definition, records.definition))
+}
+
+fn is_quickly_read(alloc: Global, records: &Records<'_>) -> Result<bool, ReadFault> {
+    match quick_report(alloc, records.definition, records.bytes)? {
+        Some(report) => {
+            let facts = facts_of(alloc, records.definition, &report)?;
+            Ok(are_same_facts(&facts, records.facts))
+        }
+        None => Ok(false),
+    }
 }
 
 fn are_facts_made(alloc: Global, records: &Records<'_>) -> Result<bool, ReadFault> {

@@ -29,10 +29,11 @@ static COPIES: [(&str, Copying); 11] = [
     ("Definition::copy", Copying::Definition),
 ];
 
-static FILINGS: [(&str, Filing); 4] = [
+static FILINGS: [(&str, Filing); 5] = [
     ("read_file", Filing::ReadFile),
     ("read_text_apart", Filing::Apart),
     ("Definition::read", Filing::Definition),
+    ("quick_report, facts_of", Filing::Quick),
     ("check_report, facts_of", Filing::Facts),
 ];
 
