@@ -1,0 +1,195 @@
+#!/usr/bin/env python3
+"""orders.py --cvr PATH
+
+Runs the rows again with the members of each file in other orders: by name, the other way round, `CVR` first and last, each time
+with members that no table has between them. What is printed, what is told and the status have to be those of the row: a file
+is read record by record where that can be done, else as a whole, and no answer may tell which. Then with a second, empty
+`CVR` behind all: that has to do what the file does with an empty one alone, since of two members of one name the last counts,
+but where a row's file is no JSON, which a list that doesn't count may be the reason of.
+
+Members are moved as text, so that each number and each text stays as it is spelled. A file that is no object, or has a name
+twice, stays as it is, and so does one of more than 256 KiB; a row without any other file isn't run, nor one of more than a
+hundred files, which differ in a byte, nor a row's second run with its file as the definition. It tries itself first. The last line is `orders: N right, M wrong`; the status is 0 only where M is 0 and N is not."""
+import argparse
+import os
+import sys
+import tempfile
+from concurrent.futures import ThreadPoolExecutor
+
+sys.dont_write_bytecode = True
+import run           # noqa: E402
+import members       # noqa: E402 (both stand beside this file)
+
+MOST = 1 << 18      # bytes of a file that is arranged
+FILES = 100         # of a row that is run
+BLANK = ' \t\n\r'
+BETWEEN = ['"Of no table %d":{"CVR":[{"@type":"CVR.CVR"}],"GpUnit":[-1]}' % n for n in range(3)]
+
+
+class NoMembers(Exception):
+    """The text is no object of members with names of their own."""
+
+
+def end_of_text(text, first):
+    """The place behind the JSON string that begins at a place."""
+    place = first + 1
+    while text[place] != '"':
+        place += 2 if text[place] == '\\' else 1
+    return place + 1
+
+
+def members_of(text):
+    """The members of an object, as (name, text)."""
+    found, place, deep, first = [], 0, 0, 0
+    try:
+        while True:
+            sign = text[place]
+            if sign == '"':
+                place = end_of_text(text, place) - 1
+            elif sign in '{[':
+                deep += 1
+                first = place + 1 if deep == 1 else first
+            elif sign in '}]' or sign == ',' and deep == 1:
+                deep -= sign != ','
+                if deep == 0 or sign == ',' and deep == 1:
+                    found.append(text[first:place].strip(BLANK))
+                    first = place + 1
+                if deep == 0:
+                    break
+            place += 1
+    except IndexError:
+        raise NoMembers
+    if not text.lstrip(BLANK).startswith('{') or text[place + 1:].strip(BLANK) or not all(it.startswith('"') for it in found):
+        raise NoMembers
+    named = [(it[:end_of_text(it, 0)], it) for it in found]
+    if len({name for name, _ in named}) < len(named) or any('\\' in name for name, _ in named):
+        raise NoMembers
+    return named
+
+
+def by_name(named):
+    return sorted(named)
+
+
+def backwards(named):
+    return sorted(named, reverse=True)
+
+
+def records_first(named):
+    return sorted(named, key=lambda it: it[0] != '"CVR"')
+
+
+def records_last(named):
+    return sorted(named, key=lambda it: it[0] == '"CVR"')
+
+
+def mixed(named):
+    """The texts of members, with the members of no table behind the first, in the middle and at the end."""
+    texts = [text for _, text in named]
+    return texts[:1] + BETWEEN[:1] + texts[1:len(texts) // 2 + 1] + BETWEEN[1:2] + texts[len(texts) // 2 + 1:] + BETWEEN[2:]
+
+
+def emptied(named):
+    """With an empty list of records."""
+    return [(name, '"CVR":[]' if name == '"CVR"' else text) for name, text in named]
+
+
+def arranged(data, arrange):
+    """The bytes of a file with its members arranged, or None where that can't be done."""
+    if len(data) > MOST:
+        return None
+    try:
+        texts = arrange(members_of(data.decode('utf-8')))
+    except (UnicodeDecodeError, NoMembers):
+        return None
+    return ('{%s}' % ','.join(texts)).encode('utf-8') if texts else None
+
+
+ORDERS = [lambda named, order=order: mixed(order(named)) for order in (by_name, backwards, records_first, records_last)]
+
+
+def twice(named):
+    """With a second list of records, which is empty, behind all; None where there is no list."""
+    return [text for _, text in named] + ['"CVR":[]'] if '"CVR"' in dict(named) else None
+
+
+def once(named):
+    return [text for _, text in emptied(named)] if '"CVR"' in dict(named) else None
+
+
+def lay(folder, row, short, arrange):
+    """Lays the files of a row, each arranged where that can be done, and answers how many were."""
+    run.lay(folder, row, short)
+    count = 0
+    for name in os.listdir(folder):
+        path = os.path.join(folder, name)
+        if os.path.isdir(path):
+            continue
+        with open(path, 'rb') as file:
+            made = arranged(file.read(), arrange)
+        if made is not None:
+            with open(path, 'wb') as file:
+                file.write(made)
+            count += 1
+    return count
+
+
+def answer(cvr, row, short, arrange):
+    """What the program does over the arranged files of a row, or None where none could be arranged."""
+    with tempfile.TemporaryDirectory() as folder:
+        return run.run(cvr, row, folder) if lay(folder, row, short, arrange) else None
+
+
+def tried(cvr, row, short):
+    """(how many runs of a row were right, what differs in the others)."""
+    right, wrong = 0, []
+    for arrange in ORDERS:
+        got = answer(cvr, row, short, arrange)
+        found = run.differences(row, short, got) if got else []
+        right, wrong = right + bool(got and not found), wrong + found
+    if ': E2\n' in run.spelled(row['err'], short):
+        return right, wrong
+    got, wanted = answer(cvr, row, short, twice), answer(cvr, row, short, once)
+    if got and got != wanted:
+        wrong.append('a second, empty CVR: got %r, expected %r' % (got, wanted))
+    return right + bool(got and got == wanted), wrong
+
+
+def try_itself():
+    """What the arranging does with a few texts."""
+    text = b' {"b" : [1.50,"}\\"]"] , "CVR":[{"a":{}}],\n"a":"\\u0041,"} '
+    a, b, records = b'"a":"\\u0041,"', b'"b" : [1.50,"}\\"]"]', b'"CVR":[{"a":{}}]'
+    told = []
+    for order, wanted in zip(ORDERS, [(records, a, b), (b, a, records), (records, b, a), (b, a, records)]):
+        pieces = [piece for pair in zip(wanted, BETWEEN) for piece in (pair[0], pair[1].encode())]
+        if arranged(text, order) != b'{%s}' % b','.join(pieces):
+            told.append('%r' % arranged(text, order))
+    if arranged(text, twice) != text.strip()[:-1].replace(b' , ', b',').replace(b',\n', b',') + b',"CVR":[]}':
+        told.append('twice: %r' % arranged(text, twice))
+    told += ['%r is arranged' % it for it in (b'', b'[]', b'{"a":1', b'{"a":1,"a":2}', b'{"a":1}x', b'"{}"', b'\xff{}', b'{"\\u0061":1}')
+             if arranged(it, ORDERS[0]) is not None]
+    return told
+
+
+def main():
+    words = argparse.ArgumentParser()
+    words.add_argument('--cvr', required=True, help='the program to try')
+    words = words.parse_args()
+    sys.stdout.reconfigure(errors='backslashreplace')       # a word may be no UTF-8
+    cvr, right, wrong = os.path.abspath(words.cvr), 0, 0
+    for line in try_itself():
+        print('WRONG the tool itself: %s' % line)
+        wrong += 1
+    rows = [it for it in run.all_rows() + [('members.py', row, {}) for row in members.rows()]
+            if len(it[1].get('files', {})) <= FILES and not it[1]['name'].endswith('(as definition)')]
+    pool = ThreadPoolExecutor(min(run.SIDE_BY_SIDE, len(os.sched_getaffinity(0))))
+    for (where, row, _), (count, found) in zip(rows, pool.map(lambda it: tried(cvr, *it[1:]), rows)):
+        right, wrong = right + count, wrong + bool(found)
+        for line in found:
+            print('WRONG %s: %s: %s' % (where, row['name'], line))
+    print('orders: %d right, %d wrong' % (right, wrong))
+    sys.exit(0 if right and not wrong else 1)
+
+
+if __name__ == '__main__':
+    main()
