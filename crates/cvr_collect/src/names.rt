@@ -22,7 +22,7 @@ pub fn next_record_in<'a>(
 }
 
 // How many records there are. Takes no memory.
-pub fn record_count_in(facts: &[AnyFact]) -> usize
+pub(crate) fn record_count_in(facts: &[AnyFact]) -> usize
     requires { IsStrictlySortedBy any_cmp facts.now }
     ensures { result ≡ length (records (set_of facts.now)) }
 {

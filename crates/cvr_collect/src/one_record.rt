@@ -36,7 +36,7 @@ pub fn run_of<'a>(facts: &'a [AnyFact], key: &RecordName) -> &'a [AnyFact]
 }
 
 // The header of a record: the last of its run.
-pub fn header_in<'a>(facts: &'a [AnyFact], key: &RecordName) -> Option<&'a HeaderFact>
+pub(crate) fn header_in<'a>(facts: &'a [AnyFact], key: &RecordName) -> Option<&'a HeaderFact>
     requires rises { IsStrictlySortedBy any_cmp facts.now }
     requires spelled { (h : HeaderFact) → Contains facts.now (any.Header h) → IsSpelledHeader h }
     ensures { IsHeader (set_of facts.now) key.now (option_map (λ h. h.now) result) }
@@ -44,7 +44,7 @@ pub fn header_in<'a>(facts: &'a [AnyFact], key: &RecordName) -> Option<&'a Heade
     last_header(run_of(facts, key))
 }
 
-pub fn last_header(run: &[AnyFact]) -> Option<&HeaderFact>
+fn last_header(run: &[AnyFact]) -> Option<&HeaderFact>
     ensures { option_map (λ h. h.now) result ≡ last_or None (headers run.now) }
 {
     let mut last = None;
@@ -57,14 +57,14 @@ pub fn last_header(run: &[AnyFact]) -> Option<&HeaderFact>
 }
 
 // The current snapshot of a record: the greatest of its run by the order of choosing.
-pub fn current_in<'a>(facts: &'a [AnyFact], key: &RecordName) -> Option<&'a SnapshotFact>
+pub(crate) fn current_in<'a>(facts: &'a [AnyFact], key: &RecordName) -> Option<&'a SnapshotFact>
     requires { IsStrictlySortedBy any_cmp facts.now }
     ensures { (contests : List Contest) → AreSpelled contests facts.now → IsCurrent contests (set_of facts.now) key.now (option_map (λ s. s.now) result) }
 {
     greatest_snapshot(run_of(facts, key))
 }
 
-pub fn greatest_snapshot(run: &[AnyFact]) -> Option<&SnapshotFact>
+fn greatest_snapshot(run: &[AnyFact]) -> Option<&SnapshotFact>
     ensures { IsChosen (snapshots run.now) (option_map (λ s. s.now) result) }
 {
     let mut greatest = None;

@@ -47,7 +47,7 @@ pub fn own_devices(alloc: Global, definition: &Definition) -> Result<Vec<AnyFact
 }
 
 // The facts of all kinds in one list.
-pub fn in_one(alloc: Global, list: FactList) -> Result<Vec<AnyFact>, Memory>
+pub(crate) fn in_one(alloc: Global, list: FactList) -> Result<Vec<AnyFact>, Memory>
     ensures { IfOk result (λ facts. facts.items ≡ all_of list) }
 {
     let mut facts = of_devices(alloc, list.devices)?;

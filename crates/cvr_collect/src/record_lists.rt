@@ -18,7 +18,7 @@ use std::alloc::Global;
 use std::cmp::Ordering;
 
 // All facts of a record, where there are any.
-pub fn record_facts_in<'a>(
+pub(crate) fn record_facts_in<'a>(
     alloc: Global,
     facts: &'a [AnyFact],
     key: &RecordName,
