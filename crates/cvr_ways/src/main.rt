@@ -1,0 +1,54 @@
+//! A program for tests alone, which tells how `check_report` reads files: record by record, or as one tree.
+//! No answer of `check_report` shows which, so the first way is asked beside it.
+#![tactic(auto)]
+
+use cdf_check::{Definition, check_report, quick_report};
+use cdf_types::{Memory, ReadFault};
+use std::alloc::Global;
+use std::{env, fs};
+
+// What is told of a file. The first way proves what it accepts, so `refused record by record` never comes.
+fn told_of(alloc: Global, definition: &Definition, bytes: &[u8]) -> Result<&'static str, Memory> {
+    let is_by_record = quick_report(alloc, definition, bytes)?.is_some();
+    match (check_report(alloc, definition, bytes), is_by_record) {
+        (Err(ReadFault::Memory), _) => Err(Memory),
+        (Ok(_), true) => Ok("accepted record by record"),
+        (Ok(_), false) => Ok("accepted as one tree"),
+        (Err(_), true) => Ok("refused record by record"),
+        (Err(_), false) => Ok("refused"),
+    }
+}
+
+// Tells of a file beside a definition.
+fn tell(rt: &HostRuntime, definition: &Definition, path: &str) -> anyhow::Result<()> {
+    let bytes = fs::read(rt, path)?;
+    let told = told_of(rt.alloc(), definition, bytes.as_slice())?;
+    println!(rt; "{path}: {told}")?;
+    Ok(())
+}
+
+// The definition in a file, none where it is refused.
+fn definition_in(rt: &HostRuntime, path: &str) -> anyhow::Result<Option<Definition>> {
+    let bytes = fs::read(rt, path)?;
+    match Definition::read(rt.alloc(), bytes.as_slice()) {
+        Ok(definition) => Ok(Some(definition)),
+        Err(ReadFault::Memory) => Err(Memory.into()),
+        Err(_) => Ok(None),
+    }
+}
+
+// The words are a definition and files, of each of which a line is told.
+fn main(rt: HostRuntime) -> anyhow::Result<()> {
+    let mut words = env::args(&rt)?.skip(1);
+    let Some(path) = words.next() else {
+        return Ok(());
+    };
+    let Some(definition) = definition_in(&rt, path.as_str())? else {
+        println!(rt; "refused definition")?;
+        return Ok(());
+    };
+    for path in words {
+        tell(&rt, &definition, path.as_str())?;
+    }
+    Ok(())
+}
