@@ -7,15 +7,28 @@ use cdf_types::{Memory, ReadFault};
 use std::alloc::Global;
 use std::{env, fs};
 
+// Whether a file is accepted.
+fn is_accepted(alloc: Global, definition: &Definition, bytes: &[u8]) -> Result<bool, Memory> {
+    match check_report(alloc, definition, bytes) {
+        Ok(_) => Ok(true),
+        Err(ReadFault::Memory) => Err(Memory),
+        Err(_) => Ok(false),
+    }
+}
+
+// Whether the first way makes a report of a file.
+fn is_by_record(alloc: Global, definition: &Definition, bytes: &[u8]) -> Result<bool, Memory> {
+    Ok(quick_report(alloc, definition, bytes)?.is_some())
+}
+
 // What is told of a file. The first way proves what it accepts, so `refused record by record` never comes.
 fn told_of(alloc: Global, definition: &Definition, bytes: &[u8]) -> Result<&'static str, Memory> {
-    let is_by_record = quick_report(alloc, definition, bytes)?.is_some();
-    match (check_report(alloc, definition, bytes), is_by_record) {
-        (Err(ReadFault::Memory), _) => Err(Memory),
-        (Ok(_), true) => Ok("accepted record by record"),
-        (Ok(_), false) => Ok("accepted as one tree"),
-        (Err(_), true) => Ok("refused record by record"),
-        (Err(_), false) => Ok("refused"),
+    let is_accepted = is_accepted(alloc, definition, bytes)?;
+    match (is_accepted, is_by_record(alloc, definition, bytes)?) {
+        (true, true) => Ok("accepted record by record"),
+        (true, false) => Ok("accepted as one tree"),
+        (false, true) => Ok("refused record by record"),
+        (false, false) => Ok("refused"),
     }
 }
 
