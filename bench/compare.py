@@ -1,0 +1,154 @@
+#!/usr/bin/env python3
+"""compare.py --before PROGRAM [--after PROGRAM] [--peer NAME=PROGRAM ..] [--folder FOLDER ..] [--rounds N] [--cpu K] [--keep NAME]
+
+Times two builds of cvr on the same files, in turns, each run alone. First reports of gen.py: as long as a file may be; short
+records; that long report with a fault in its first record, in the middle, in its last one, and accepted but for a number with a
+sign behind all, which is found last; and one file of one record, named many times. Then each folder that is given (definition.json
+or def.json, and reports), beside the peers: programs that take the words of cvr. Told are processor seconds (the median of the rounds,
+and the least), the peak memory, the ratio of the medians to the first program's, and whether the texts are the same. With
+--cpu all of it runs on one processor."""
+import argparse
+import glob
+import json
+import os
+import statistics
+import subprocess
+import sys
+import tempfile
+
+sys.dont_write_bytecode = True
+import bench        # noqa: E402 (it stands beside this file)
+
+MANY = 10000        # how often the file of one record is named
+SHORT = (20000, 200000)
+KEY = '"UniqueId":"'
+WRONG = '"UniqueID":"'      # no member of that name is demanded, and UniqueId is
+
+
+class Run:
+    """One run of a program: its processor seconds, its peak memory in MiB, its status and its text."""
+
+    def __init__(self, command, out):
+        with open(out, 'wb') as file:
+            child = subprocess.Popen(command, stdin=subprocess.DEVNULL, stdout=file, stderr=subprocess.DEVNULL)
+            _, status, usage = os.wait4(child.pid, 0)
+        child.returncode = status
+        self.status, self.out = os.waitstatus_to_exitcode(status), out
+        self.seconds, self.memory = usage.ru_utime + usage.ru_stime, usage.ru_maxrss / 1024
+
+
+def compared(report, title, commands, rounds, status=0):
+    """Tells a line of each command, (name, words). Returns whether all ended with the status, and with the same text."""
+    runs = {name: [] for name, _ in commands}
+    with tempfile.TemporaryDirectory() as folder:
+        for _ in range(rounds):
+            for name, words in commands:
+                runs[name].append(Run(words, os.path.join(folder, name)))
+        first = runs[commands[0][0]][0]
+        is_same = all(bench.same_bytes(first.out, held[0].out) for held in runs.values())
+    is_right = is_same and all(run.status == status for held in runs.values() for run in held)
+    report.say('%s: %s' % (title, 'the same text' if is_right else 'THEY DIFFER, or ended otherwise'))
+    base = statistics.median(run.seconds for run in runs[commands[0][0]])
+    for name, held in runs.items():
+        middle = statistics.median(run.seconds for run in held)
+        report.say('    %-8s %8.3f   least %8.3f   %8.1f MiB   ratio %6.3f'
+                   % (name, middle, min(run.seconds for run in held), max(run.memory for run in held), middle / max(base, 1e-6)))
+        report.raw('%s, %s, processor seconds' % (title, name), ['%.3f' % run.seconds for run in held])
+    return is_right
+
+
+def reports_in(folder):
+    """(definition, reports) of a folder."""
+    every = sorted(glob.glob(os.path.join(folder, '*.json')))
+    definitions = [path for path in every if os.path.basename(path) in ('definition.json', 'def.json')]
+    if len(definitions) != 1:
+        sys.exit('%s: one definition.json or def.json' % folder)
+    return definitions[0], [path for path in every if path not in definitions]
+
+
+def spoiled(folder, path):
+    """The same report with a fault in its first record, in the middle, and in its last one; and with an odd member at its end."""
+    with open(path, encoding='utf-8') as file:
+        text = file.read()
+    places = {'first': text.find(KEY), 'middle': text.find(KEY, len(text) // 2), 'last': text.rfind(KEY)}
+    if -1 in places.values():
+        raise bench.Failed('%s names no record by %s' % (path, KEY))
+    texts = {name: text[:at] + WRONG + text[at + len(KEY):] for name, at in places.items()}
+    texts['sign'] = text.rstrip()[:-1] + ',"Of no table":-1}'
+    for name, changed in texts.items():
+        with open(os.path.join(folder, name + '.json'), 'w', encoding='utf-8') as file:
+            file.write(changed)
+    return {name: os.path.join(folder, name + '.json') for name in texts}
+
+
+def one_record(folder):
+    """A report of one record."""
+    path = os.path.join(bench.TOP, 'examples', 'county', 'scan.json')
+    with open(path, encoding='utf-8') as file:
+        value = json.load(file)
+    value['CVR'] = value['CVR'][:1]
+    with open(os.path.join(folder, 'one.json'), 'w', encoding='utf-8') as file:
+        json.dump(value, file)
+    return os.path.join(folder, 'one.json')
+
+
+def own_files(report, words, programs):
+    """The reports of gen.py."""
+    def both(title, task, definition, files, status=0):
+        commands = [(name, [program, task, definition] + files) for name, program in programs]
+        return compared(report, title, commands, words.rounds, status)
+
+    special = bench.made(words.data, 'special', ['special'])
+    definition, large = os.path.join(special, 'definition.json'), os.path.join(special, 'large.json')
+    is_right = both('check of a report of 64 MiB', 'check', definition, [large])
+    for amount in SHORT:
+        folder = bench.made(words.data, 'volumes-%d' % amount, ['volumes', '--records', str(amount)])
+        for task in 'check', 'tally':
+            is_right = both('%s of %d short records' % (task, amount), task, *reports_in(folder)) and is_right
+    with tempfile.TemporaryDirectory() as folder:
+        for name, path in spoiled(folder, large).items():
+            is_right = both('check of that report, %s' % name, 'check', definition, [path], int(name != 'sign')) and is_right
+        county = os.path.join(bench.TOP, 'examples', 'county', 'definition.json')
+        is_right = both('check of a record, %d times' % MANY, 'check', county, [one_record(folder)] * MANY) and is_right
+    return is_right
+
+
+def given():
+    words = argparse.ArgumentParser()
+    words.add_argument('--before', required=True, help='a build of cvr')
+    words.add_argument('--after', default=os.path.join(bench.TOP, 'crates', 'cvr', 'out', 'cvr'), help='another one')
+    words.add_argument('--peer', action='append', default=[], metavar='NAME=PROGRAM', help='what is timed on the folders, too')
+    words.add_argument('--folder', action='append', default=[], help='a definition and reports')
+    words.add_argument('--data', default=os.path.join(bench.HERE, 'data'), help='where generated data is kept')
+    words.add_argument('--rounds', type=int, default=5)
+    words.add_argument('--cpu', type=int, help='the processor on which all runs')
+    words.add_argument('--folders-only', action='store_true', help='no reports of gen.py')
+    words.add_argument('--keep', metavar='NAME', help='append the raw figures to runs/DATE-NAME.md')
+    return words.parse_args()
+
+
+def main():
+    words = given()
+    if words.cpu is not None:
+        os.sched_setaffinity(0, {words.cpu})
+    report = bench.Report()
+    report.say('%s, seed %d, commit %s' % (bench.machine(), bench.SEED, bench.commit()))
+    programs = [('before', os.path.abspath(words.before)), ('after', os.path.abspath(words.after))]
+    peers = [tuple(peer.split('=', 1)) for peer in words.peer]
+    is_right = words.folders_only or own_files(report, words, programs)
+    for folder in words.folder:
+        definition, files = reports_in(folder)
+        length = sum(map(os.path.getsize, files))
+        bench.read_all([definition] + files)
+        for task in 'check', 'tally', 'currents':
+            title = '%s of %s, %d files, %d bytes' % (task, os.path.basename(os.path.normpath(folder)), len(files), length)
+            beside = peers if task != 'check' else []
+            commands = [(name, program.split() + [task, definition] + files) for name, program in programs + beside]
+            is_right = compared(report, title, commands, words.rounds) and is_right
+    if words.keep:
+        bench.keep(report, words.keep)
+    sys.exit(0 if is_right else 1)
+
+
+if __name__ == '__main__':
+    main()
