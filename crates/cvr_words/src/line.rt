@@ -34,7 +34,7 @@ fn def_word<'a>(alloc: Global) -> Arg<'a>
     needed_word(
         alloc,
         "DEF",
-        "Any report of the election: it says which contests, selections, units and devices there are",
+        "Any report of the election: it says which contests, selections, units and devices there are; its own records are not counted",
     )
 }
 
@@ -177,7 +177,7 @@ fn merge_command<'a>(alloc: Global) -> Result<Command<'a>, AllocError>
         alloc,
         "merge",
         "Print a report of all that the files hold, or one volume of it where it takes several",
-        "Example:\n  cvr merge definition.json 2026-11-03T20:00:00-05:00 scanner-1 1 scan.json adjudicated.json",
+        "Example:\n  cvr merge definition.json 2026-11-03T20:00:00-05:00 desk-1 1 scan.json adjudicated.json",
     )
     .arg(def_word(alloc))?
     .arg(date_word(alloc))?
