@@ -1,4 +1,4 @@
-# What the recipes share: the parts of a line of `cvr currents` or `cvr tally`, which `jq -R` reads as a text.
+# What the recipes share: the parts of a line of `cvr currents` or `cvr tally`, which `jq -R` reads as a text; and a place in a report.
 
 # Each part as it is spelled: a JSON string, `null`, a number, or a Type. A name may have spaces and quotes in it.
 def spelled: [scan("\"(?:[^\"\\\\]|\\\\.)*\"|[^ ]+")];
@@ -14,3 +14,6 @@ def numbers: parts[:9];
 
 # Of a line of `tally`, for each selection: contest, unit, batch, selection, votes.
 def votes: parts | .[:3] as $row | .[9:] | range(0; length; 2) as $i | $row + .[$i:$i + 2];
+
+# Of a report what stands at a path, as the line of a fault has it between two double quotes: null where nothing does.
+def at($path): reduce ($path | split("/")[1:][] | gsub("~1"; "/") | gsub("~0"; "~")) as $step (.; .[if type == "array" then $step | tonumber else $step end]);
