@@ -30,6 +30,16 @@ fn own_text_in(alloc: Global, text: Option<&str>) -> Result<Option<Body>, Memory
     }
 }
 
+// The compact text of a value. It has no room for more: such texts are most of what a report holds.
+fn compact(alloc: Global, value: &Value) -> Result<Body, Memory>
+    requires { has_float (view value.now) ≡ false }
+    ensures { IfOk result (λ b. b ≡ compact_text (view value.now)) }
+{
+    let mut text = value.to_string(alloc)?;
+    text.shrink_to_fit();
+    Ok(Body::new(text))
+}
+
 // The kind of a snapshot.
 fn kind_of(snapshot: &Value) -> SnapshotKind
     ensures { result ≡ kind_of (view snapshot.now) }
@@ -83,7 +93,7 @@ fn read_snapshot(alloc: Global, contests: &Contests, value: &Value) -> Result<Sn
         kind: kind_of(value),
         moment: moment_of(value),
         contests: read_contests(alloc, contests, items_at("CVRContest", value))?,
-        body: Body::new(value.to_string(alloc)?),
+        body: compact(alloc, value)?,
     })
 }
 
@@ -121,7 +131,7 @@ fn header_text(alloc: Global, cvr: Value) -> Result<Body, Memory>
     requires { has_float (view cvr) ≡ false }
     ensures { IfOk result (λ b. b ≡ compact_text (header_of (view cvr))) }
 {
-    Ok(Body::new(header(cvr).to_string(alloc)?))
+    compact(alloc, &header(cvr))
 }
 
 /// The typed record of a value that has the form of a record (NIST SP 1500-103, class CVR), told as
@@ -167,7 +177,7 @@ fn read_device(alloc: Global, value: &Value) -> Result<ReportingDevice, Memory>
 {
     Ok(ReportingDevice {
         id: own_text(alloc, text_at("@id", value))?,
-        body: Body::new(value.to_string(alloc)?),
+        body: compact(alloc, value)?,
     })
 }
 

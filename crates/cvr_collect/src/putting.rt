@@ -11,23 +11,38 @@ use cdf_check::Definition;
 use cdf_types::{Body, Memory, Seq};
 use cvr_facts::{DeviceFact, FactList, HeaderFact, SnapshotFact};
 use std::alloc::Global;
+use std::mem::swap;
 
 // Puts more facts into a list in order, each once, and answers how many are new. A list of a few
 // rising stretches is sorted in linear time.
-pub fn put_in(facts: &mut Vec<AnyFact>, mut more: Vec<AnyFact>) -> Result<usize, Memory>
+pub fn put_in(facts: &mut Vec<AnyFact>, more: Vec<AnyFact>) -> Result<usize, Memory>
     requires { IsStrictlySortedBy any_cmp facts.old.items }
     ensures put { OnOk result (IsPut facts.old.items more.items facts.new.items) }
     ensures new { IfOk result (λ n. n ≡ growth (set_of facts.old.items) (set_of more.items)) }
     ensures unchanged { OnErr result (facts.new.items ≡ facts.old.items) }
 {
     let before = facts.len();
-    facts.append(&mut more)?;
+    put_behind(facts, more)?;
     if let Err(refused) = facts.sort() {
         facts.truncate(before);
         return Err(refused.into());
     }
     facts.dedup();
     Ok(facts.len() - before)
+}
+
+// Puts facts behind those of a list. An empty list becomes theirs, with no more room than they have:
+// most records are told once, so that room for others would mostly stay unused.
+fn put_behind(facts: &mut Vec<AnyFact>, mut more: Vec<AnyFact>) -> Result<(), Memory>
+    ensures items { OnOk result (facts.new.items ≡ facts.old.items ++ more.items) }
+    ensures unchanged { OnErr result (facts.new.items ≡ facts.old.items) }
+{
+    if facts.is_empty() {
+        swap(facts, &mut more);
+        return Ok(());
+    }
+    facts.append(&mut more)?;
+    Ok(())
 }
 
 // The devices of a definition.
