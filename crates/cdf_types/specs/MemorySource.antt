@@ -1,5 +1,5 @@
 -- A source over bytes, and what a call makes of it. (This project's own.)
-use Rattle.std.specs.Prelude.{◌≡◌, ℕ, ◌-◌, List, ◌++◌, length, take, drop, min, Bool, true}
+use Rattle.std.specs.Prelude.{◌≡◌, ℕ, ◌-◌, List, ◌++◌, length, take, drop, min, ◌==◌, not, Bool, true}
 
 -- The bytes that are left, the most that a call gives, which of the calls to come fails (1: the
 -- next, 0: none), and whether one has failed.
@@ -8,6 +8,10 @@ pub record SourceState : Type 0 where
   pub per_call : ℕ
   pub fails_in : ℕ
   pub has_failed : Bool
+
+-- a call to come fails
+abbrev pub can_fail : SourceState → Bool
+can_fail s = not (s.fails_in == 0)
 
 -- A call gave n bytes: as many as the buffer, one call and the rest allow, at the front of the
 -- buffer. Such a call is counted.

@@ -8,13 +8,16 @@ use thiserror::Error;
 #[error("the device failed")]
 pub struct DeviceFault;
 
-/// Where bytes come from. Contracts see the bytes that are left, where it tells them, and whether a
-/// read has failed.
+/// Where bytes come from. Contracts see the bytes that are left, where it tells them, whether a read
+/// has failed, and whether one can fail.
 pub trait Source {
     // The bytes that are left, where it tells them.
     ghost left: { Self → Option (List ℕ) };
 
     ghost has_failed: { Self → Bool };
+
+    // Whether a read to come may fail.
+    ghost can_fail: { Self → Bool };
 
     /// Puts some bytes at the front of the buffer, and answers how many. A source that tells its
     /// bytes answers 0 only at its end. Takes no memory.
@@ -26,6 +29,8 @@ pub trait Source {
         requires some { 0 < length buffer.old }
         ensures within { count result ≤ length buffer.old }
         ensures failed { has_failed self.new ≡ fails_read result }
+        ensures steady { can_fail self.old ≡ false → has_failed self.new ≡ false }
+        ensures stays { can_fail self.new ≡ can_fail self.old }
         ensures given { IfOk result (Gives (left self.old) (left self.new) buffer.old buffer.new) }
         ensures unchanged { OnErr result (left self.new ≡ left self.old) };
 

@@ -1,6 +1,6 @@
 ghost use Rattle.std.specs.Prelude.{◌≡◌, ◌↔◌, ◌<◌, ◌≤◌, Some, false, length, IfOk, OnErr, IsErr};
 ghost use Rattle.cdf_types.specs.Device.{count, fails_read, Gives};
-ghost use Rattle.cdf_types.specs.MemorySource.{IsGiven, IsRefused};
+ghost use Rattle.cdf_types.specs.MemorySource.{can_fail, IsGiven, IsRefused};
 
 use crate::device::{DeviceFault, Source};
 use std::marker::Model;
@@ -56,6 +56,8 @@ impl Source for MemorySource<'_> {
 
     ghost has_failed = { λ s. s.has_failed };
 
+    ghost can_fail = { λ s. can_fail s };
+
     /// Gives as many bytes as the buffer, one call and the rest allow, except at the call that `new`
     /// was told, which fails. Takes no memory.
     ///
@@ -66,6 +68,8 @@ impl Source for MemorySource<'_> {
         requires some { 0 < length buffer.old }
         ensures within { count result ≤ length buffer.old }
         ensures failed { self.new.has_failed ≡ fails_read result }
+        ensures steady { can_fail self.old ≡ false → self.new.has_failed ≡ false }
+        ensures stays { can_fail self.new ≡ can_fail self.old }
         ensures given { IfOk result
             (Gives (Some self.old.rest) (Some self.new.rest) buffer.old buffer.new) }
         ensures unchanged { OnErr result (Some self.new.rest ≡ Some self.old.rest) }

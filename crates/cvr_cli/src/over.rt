@@ -1,4 +1,4 @@
-ghost use Rattle.std.specs.Prelude.{◌≡◌, ◌<◌, ◌≤◌, length, false, None};
+ghost use Rattle.std.specs.Prelude.{◌≡◌, ◌<◌, ◌≤◌, length, true, false, None};
 ghost use Rattle.std.specs.Io.KnownBytes.{ReadConsumes, WriteAppends};
 ghost use Rattle.cdf_types.specs.Device.{count, fails_read, fails_write};
 
@@ -84,6 +84,8 @@ impl<R: Read + Drop> Source for OverRead<R> {
     ghost left = { λ _. None };
 
     ghost has_failed = { λ s. s.failed };
+
+    ghost can_fail = { λ _. true };
 
     /// Reads once from the reader, which gives what the answer says.
     ///
