@@ -1,5 +1,5 @@
 -- The files of an opener in memory. (This project's own.)
-use Rattle.std.specs.Prelude.{ℕ, List, [], ◌∷◌, ◌==◌, if◌then◌else◌}
+use Rattle.std.specs.Prelude.{ℕ, List, [], ◌∷◌, ◌==◌, if◌then◌else◌, Bool, false, not}
 use Rattle.std.specs.Cmp.Lexicographic.{pointwise}
 use Rattle.cvr_cli.specs.declared.memory_files.MemoryFile.{MemoryFile}
 use Rattle.cvr_cli.specs.Opening.{At, Absent, Has}
@@ -8,3 +8,8 @@ use Rattle.cvr_cli.specs.Opening.{At, Absent, Has}
 abbrev pub found_at : List MemoryFile → List ℕ → At
 found_at [] path = Absent
 found_at (file ∷ files) path = if pointwise ◌==◌ file.path.now path then Has file.bytes.now else found_at files path
+
+-- the reading of the file at a path can fail: one of its calls is to fail; where no file is, nothing is read
+abbrev pub can_fail_at : List MemoryFile → List ℕ → Bool
+can_fail_at [] path = false
+can_fail_at (file ∷ files) path = if pointwise ◌==◌ file.path.now path then not (file.fail_at == 0) else can_fail_at files path

@@ -37,12 +37,8 @@ AreRead file_at (path ∷ paths) (file ∷ files) = IsRead (file_at path) file �
 abbrev pub AreAt : (List ℕ → At) → List (List ℕ) → List (List ℕ) → Type 0
 AreAt file_at paths files = map file_at paths ≡ map Has files
 
--- some source has failed
-abbrev pub SomeFailed : (Source : Type 0) → (Source → Bool) → Type 0
-SomeFailed Source has_failed = (source : Source) × (has_failed source ≡ true)
-
--- a device failed at a path: a file that is there can be opened, so that some source has failed
-abbrev pub FailedAt : At → Type 0 → Type 0
-FailedAt Unknown some_failed = Unit {0}
-FailedAt Absent some_failed = Unit {0}
-FailedAt (Has bytes) some_failed = some_failed
+-- a device can have failed at a path: where a file is there, only if its reading may fail
+abbrev pub FailedAt : At → Bool → Type 0
+FailedAt Unknown may_fail = Unit {0}
+FailedAt Absent may_fail = Unit {0}
+FailedAt (Has bytes) may_fail = may_fail ≡ true

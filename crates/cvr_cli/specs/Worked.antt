@@ -25,13 +25,13 @@ unread_line path Device = path ++ codes ": K1\n"
 unread_line path Memory = path ++ codes ": K2\n"
 
 -- of these paths this is the first whose file was not read: for want of memory; or since a device failed
-pub record IsUnread (file_at : List ℕ → At) (some_failed : Type 0) (paths : List (List ℕ)) (path : List ℕ) (cause : FileFault) : Type 0 where
+pub record IsUnread (file_at : List ℕ → At) (may_fail : List ℕ → Bool) (paths : List (List ℕ)) (path : List ℕ) (cause : FileFault) : Type 0 where
   pub before : List (List ℕ)
   pub after : List (List ℕ)
   pub split : paths ≡ before ++ path ∷ after
   pub files : List (List ℕ)
   pub read : AreRead file_at before files
-  pub device : is_device cause ≡ true → FailedAt (file_at path) some_failed
+  pub device : is_device cause ≡ true → FailedAt (file_at path) (may_fail path)
 
 -- ---- a run that stops
 
@@ -40,9 +40,9 @@ pub data Stop : Type 0 where
   Unread : (path : List ℕ) → (cause : FileFault) → Stop
   NoRoom : Stop
 
-abbrev pub CanStop : (List ℕ → At) → Type 0 → List (List ℕ) → Stop → Type 0
-CanStop file_at some_failed paths (Unread path cause) = IsUnread file_at some_failed paths path cause
-CanStop file_at some_failed paths NoRoom = Unit {0}
+abbrev pub CanStop : (List ℕ → At) → (List ℕ → Bool) → List (List ℕ) → Stop → Type 0
+CanStop file_at may_fail paths (Unread path cause) = IsUnread file_at may_fail paths path cause
+CanStop file_at may_fail paths NoRoom = Unit {0}
 
 abbrev pub stop_status : Stop → Status
 stop_status (Unread path cause) = unread_status cause
@@ -53,10 +53,10 @@ stop_line (Unread path cause) = unread_line path cause
 stop_line NoRoom = memory_line
 
 -- the run stops over these paths: with this answer, and with one line in the log
-pub record Stops (file_at : List ℕ → At) (some_failed : Type 0) (paths : List (List ℕ)) (answer : Status)
+pub record Stops (file_at : List ℕ → At) (may_fail : List ℕ → Bool) (paths : List (List ℕ)) (answer : Status)
     (before : Option (List ℕ)) (had_failed : Bool) (after : Option (List ℕ)) (has_failed : Bool) : Type 0 where
   pub stop : Stop
-  pub possible : CanStop file_at some_failed paths stop
+  pub possible : CanStop file_at may_fail paths stop
   pub status : answer ≡ stop_status stop
   pub log : Logs before had_failed after has_failed (stop_line stop)
 
