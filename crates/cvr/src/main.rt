@@ -3,6 +3,7 @@
 
 mod progress;
 
+ghost use Rattle.std.specs.Prelude.{true};
 ghost use Rattle.cvr_cli.specs.Opening.{Unknown};
 
 use cvr_cli::{FileFault, Open, OverRead, OverWrite, Status, work};
@@ -23,6 +24,8 @@ impl<'a, R: Files + Eprint> Open for System<'a, R> {
     type File = OverRead<Counted<'a, R::File, R>>;
 
     ghost file_at = { λ _ _. Unknown };
+
+    ghost may_fail = { λ _ _. true };
 
     fn open(&self, path: &str) -> Result<OverRead<Counted<'a, R::File, R>>, FileFault> {
         match fs::open(self.rt, path) {

@@ -1,5 +1,5 @@
 -- What was read over an opener, and a run that stops at a file that was not read.
-use Rattle.std.proofs.Common.{◌≡◌, ℕ, ◌<◌, ◌+◌, List, [], ◌∷◌, ◌++◌, length, get_or, take, drop, Bool, true, false, Option, Result, Ok, Err, IfSome, IfOk, IfErr, IsErrAnd, refl, sym, ap, ◌∙◌, subst, true≢false}
+use Rattle.std.proofs.Common.{◌≡◌, ◌≢◌, ℕ, ◌<◌, ◌+◌, List, [], ◌∷◌, ◌++◌, length, get_or, take, drop, Bool, true, false, Option, Result, Ok, Err, IfSome, IfOk, IfErr, IsErrAnd, refl, sym, ap, ◌∙◌, subst, true≢false}
 use Rattle.std.specs.Global.{Vec}
 use Rattle.std.proofs.lemmas.List.{take_more, drop_more, take-append-drop, map-append}
 use Rattle.cvr_cli.specs.declared.file.FileFault.{FileFault}
@@ -7,7 +7,7 @@ use Rattle.cvr_cli.specs.declared.status.Status.{Status}
 use Rattle.cvr_cli.specs.declared.status.Status.TheVariants.{Memory}
 use Rattle.cvr_cli.specs.File.{held_bytes, is_device}
 use Rattle.cvr_cli.specs.Log.{memory_line, Logs}
-use Rattle.cvr_cli.specs.Opening.{At, Unknown, Absent, Has, has_file, IsOpened, IsRead, AreRead, SomeFailed, FailedAt}
+use Rattle.cvr_cli.specs.Opening.{At, Unknown, Absent, Has, has_file, IsOpened, IsRead, AreRead, FailedAt}
 use Rattle.cvr_cli.specs.Outcome.{bytes_of}
 use Rattle.cvr_cli.specs.Worked.{unread_status, unread_line, Stop, Unread, NoRoom, CanStop, Stops}
 
@@ -23,21 +23,23 @@ pub read_of : (at : At) (left : Option (List ℕ)) (answer : Result (Vec ℕ) Fi
 read_of at left (Ok v) opened given = is_read at left v.items opened given
 read_of at left (Err e) opened given = tt
 
-pub failed_to_open : (at : At) (some_failed : Type 0) → has_file at ≡ false → FailedAt at some_failed
-failed_to_open Unknown some_failed none = tt
-failed_to_open Absent some_failed none = tt
-failed_to_open (Has bytes) some_failed none = absurd (true≢false none)
+pub failed_to_open : (at : At) (may_fail : Bool) → has_file at ≡ false → FailedAt at may_fail
+failed_to_open Unknown may_fail none = tt
+failed_to_open Absent may_fail none = tt
+failed_to_open (Has bytes) may_fail none = absurd (true≢false none)
 
-failed_source : (Source : Type 0) (has_failed : Source → Bool) (source : Source) (at : At) → has_failed source ≡ true → FailedAt at (SomeFailed Source has_failed)
-failed_source Source has_failed source Unknown is = tt
-failed_source Source has_failed source Absent is = tt
-failed_source Source has_failed source (Has bytes) is = (source, is)
+may_have_failed : (at : At) (may_fail : Bool) → may_fail ≢ false → FailedAt at may_fail
+may_have_failed Unknown may_fail may = tt
+may_have_failed Absent may_fail may = tt
+may_have_failed (Has bytes) true may = refl
+may_have_failed (Has bytes) false may = absurd (may refl)
 
--- where the reading failed by a device, its source has failed
-pub failed_of : (Source : Type 0) (has_failed : Source → Bool) (source : Source) (at : At) (answer : Result (Vec ℕ) FileFault) → IfErr answer (λ e. has_failed source ≡ is_device e)
-    → IfErr answer (λ e. is_device e ≡ true → FailedAt at (SomeFailed Source has_failed))
-failed_of Source has_failed source at (Ok v) told = tt
-failed_of Source has_failed source at (Err e) told = λ device. failed_source Source has_failed source at (told ∙ device)
+-- where the reading failed by a device, its source has failed, so that it could
+pub failed_of : (at : At) (may_fail can_fail has_failed : Bool) (answer : Result (Vec ℕ) FileFault) → (may_fail ≡ false → can_fail ≡ false) → (can_fail ≡ false → has_failed ≡ false)
+    → IfErr answer (λ e. has_failed ≡ is_device e) → IfErr answer (λ e. is_device e ≡ true → FailedAt at may_fail)
+failed_of at may_fail can_fail has_failed (Ok v) opened read told = tt
+failed_of at may_fail can_fail has_failed (Err e) opened read told =
+    λ device. may_have_failed at may_fail (λ never. true≢false (sym (told ∙ device) ∙ read (opened never)))
 
 -- what holds of the fault that is handed on
 pub at_err : {T E : Type 0} (answer : Result T E) (P Q : E → Type 0) → IsErrAnd answer P → ((e : E) → P e → Q e) → IfErr answer Q
@@ -63,7 +65,7 @@ read_one_more file_at paths n path files file lt named before last =
 
 -- ---- a run that stops
 
-module _ (file_at : List ℕ → At) (some_failed : Type 0) (paths : List (List ℕ)) (answer : Status) (b a : Option (List ℕ)) (f h : Bool) where
+module _ (file_at : List ℕ → At) (may_fail : List ℕ → Bool) (paths : List (List ℕ)) (answer : Status) (b a : Option (List ℕ)) (f h : Bool) where
   among_at : (n : ℕ) (path : List ℕ) → n < length paths → path ≡ get_or paths n [] → paths ≡ take n paths ++ path ∷ drop (n + 1) paths
   among_at n path lt named =
       sym (take-append-drop n paths)
@@ -71,7 +73,7 @@ module _ (file_at : List ℕ → At) (some_failed : Type 0) (paths : List (List 
 
   -- at the nth of its paths
   pub stops_at : (n : ℕ) (path : List ℕ) (files : List (List ℕ)) (cause : FileFault) → n < length paths → path ≡ get_or paths n [] → AreRead file_at (take n paths) files
-      → (is_device cause ≡ true → FailedAt (file_at path) some_failed) → answer ≡ unread_status cause → Logs b f a h (unread_line path cause) → Stops file_at some_failed paths answer b f a h
+      → (is_device cause ≡ true → FailedAt (file_at path) (may_fail path)) → answer ≡ unread_status cause → Logs b f a h (unread_line path cause) → Stops file_at may_fail paths answer b f a h
   stops_at n path files cause lt named read device is log = record {
     stop = Unread path cause;
     possible = record { before = take n paths; after = drop (n + 1) paths; split = among_at n path lt named; files = files; read = read; device = device };
@@ -80,12 +82,12 @@ module _ (file_at : List ℕ → At) (some_failed : Type 0) (paths : List (List 
   }
 
   -- where the list has no room
-  pub stops_full : answer ≡ Memory → Logs b f a h memory_line → Stops file_at some_failed paths answer b f a h
+  pub stops_full : answer ≡ Memory → Logs b f a h memory_line → Stops file_at may_fail paths answer b f a h
   stops_full is log = record { stop = NoRoom; possible = tt; status = is; log = log }
 
   -- at a path before these
-  pub stops_first : (path : List ℕ) (cause : FileFault) → (is_device cause ≡ true → FailedAt (file_at path) some_failed) → answer ≡ unread_status cause → Logs b f a h (unread_line path cause)
-      → Stops file_at some_failed (path ∷ paths) answer b f a h
+  pub stops_first : (path : List ℕ) (cause : FileFault) → (is_device cause ≡ true → FailedAt (file_at path) (may_fail path)) → answer ≡ unread_status cause → Logs b f a h (unread_line path cause)
+      → Stops file_at may_fail (path ∷ paths) answer b f a h
   stops_first path cause device is log = record {
     stop = Unread path cause;
     possible = record { before = []; after = paths; split = refl; files = []; read = tt; device = device };
@@ -93,10 +95,10 @@ module _ (file_at : List ℕ → At) (some_failed : Type 0) (paths : List (List 
     log = log;
   }
 
-  can_stop_later : (path file : List ℕ) (stop : Stop) → IsRead (file_at path) file → CanStop file_at some_failed paths stop → CanStop file_at some_failed (path ∷ paths) stop
+  can_stop_later : (path file : List ℕ) (stop : Stop) → IsRead (file_at path) file → CanStop file_at may_fail paths stop → CanStop file_at may_fail (path ∷ paths) stop
   can_stop_later path file (Unread at cause) read u = record { before = path ∷ u.before; after = u.after; split = ap (λ ps. path ∷ ps) u.split; files = file ∷ u.files; read = (read, u.read); device = u.device }
   can_stop_later path file NoRoom read u = tt
 
   -- after a path before these was read
-  pub stops_later : (path file : List ℕ) → IsRead (file_at path) file → Stops file_at some_failed paths answer b f a h → Stops file_at some_failed (path ∷ paths) answer b f a h
+  pub stops_later : (path file : List ℕ) → IsRead (file_at path) file → Stops file_at may_fail paths answer b f a h → Stops file_at may_fail (path ∷ paths) answer b f a h
   stops_later path file read s = record { stop = s.stop; possible = can_stop_later path file s.stop read s.possible; status = s.status; log = s.log }

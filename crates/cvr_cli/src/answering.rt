@@ -7,7 +7,6 @@ ghost use Rattle.cvr_cli.specs.declared.status.Status.TheVariants.{Done, Refused
 ghost use Rattle.cvr_cli.specs.Answered.{bad_step_line, Answers, IsGiven, TellsWords};
 ghost use Rattle.cvr_cli.specs.Log.{Logs};
 ghost use Rattle.cvr_cli.specs.Merge.{merge_lines};
-ghost use Rattle.cvr_cli.specs.Opening.{SomeFailed};
 ghost use Rattle.cvr_cli.specs.Outcome.{run_text, run_fault, any_refused, IsWhole};
 ghost use Rattle.cvr_cli.specs.Told.{run_lines};
 
@@ -74,7 +73,7 @@ pub fn work<O: Open, W: Sink, L: Sink>(
 ) -> Status
     requires working { W.has_failed out.old ≡ false }
     requires log_working { L.has_failed log.old ≡ false }
-    ensures answers { Answers (O.file_at opener.now) (SomeFailed O.File O.File.has_failed) (out.new ≡ out.old) (map string_bytes words.now) result
+    ensures answers { Answers (O.file_at opener.now) (O.may_fail opener.now) (out.new ≡ out.old) (map string_bytes words.now) result
         (W.taken out.old) (W.taken out.new) (W.has_failed out.new) (L.taken log.old) (L.has_failed log.old) (L.taken log.new) (L.has_failed log.new) }
     ensures text { (request : Request) (def : List ℕ) (files : List (List ℕ)) → IsGiven (O.file_at opener.now) (map string_bytes words.now) request def files
         → IsWhole result → W.taken out.new ≡ appended (W.taken out.old) (run_text request.task def request.paths files) }

@@ -51,6 +51,7 @@ pub fn read_file<R: Source>(alloc: Global, source: &mut R) -> Result<Vec<u8>, Fi
     ensures fits { IfOk result (λ v. vec_len v ≤ held_bytes) }
     ensures working { OnOk result (R.has_failed source.new ≡ false) }
     ensures fault { IfErr result (λ e. R.has_failed source.new ≡ is_device e) }
+    ensures steady { R.can_fail source.old ≡ false → R.has_failed source.new ≡ false }
 {
     let mut bytes = Vec::new(alloc);
     let mut piece = [0u8; PIECE];

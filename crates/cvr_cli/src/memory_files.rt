@@ -1,8 +1,9 @@
-ghost use Rattle.std.specs.Prelude.{◌≡◌, true, false, Some, Err, IsOk, IfOk, IfErr, MatchOption};
+ghost use Rattle.std.specs.Prelude.{◌≡◌, ◌==◌, not, true, false, Some, Err, IsOk, IfOk, IfErr, MatchOption};
+ghost use Rattle.cdf_types.specs.MemorySource.{can_fail};
 ghost use Rattle.cvr_cli.specs.declared.file.FileFault.TheVariants.{Device};
 ghost use Rattle.cvr_cli.specs.File.{is_device};
 ghost use Rattle.cvr_cli.specs.Opening.{Absent, Has, has_file, IsOpened};
-ghost use Rattle.cvr_cli.specs.MemoryFiles.{found_at};
+ghost use Rattle.cvr_cli.specs.MemoryFiles.{found_at, can_fail_at};
 
 use crate::file::FileFault;
 use crate::opening::Open;
@@ -31,7 +32,8 @@ pub struct MemoryFiles<'a> {
 
 // The first file of a path.
 fn find<'a>(files: &'a [MemoryFile<'a>], path: &str) -> Option<&'a MemoryFile<'a>>
-    ensures { MatchOption result (found_at files.now path.now ≡ Absent) (λ file. found_at files.now path.now ≡ Has file.now.bytes.now) }
+    ensures found { MatchOption result (found_at files.now path.now ≡ Absent) (λ file. found_at files.now path.now ≡ Has file.now.bytes.now) }
+    ensures fails { MatchOption result (can_fail_at files.now path.now ≡ false) (λ file. can_fail_at files.now path.now ≡ not (file.now.fail_at == 0)) }
 {
     for file in files {
         if file.path == path {
@@ -46,6 +48,8 @@ impl<'a> Open for MemoryFiles<'a> {
 
     ghost file_at = { λ files path. found_at files.files.now path };
 
+    ghost may_fail = { λ files path. can_fail_at files.files.now path };
+
     /// The file at a path, which gives at most 100 bytes a call. Takes no memory.
     ///
     /// # Errors
@@ -53,6 +57,8 @@ impl<'a> Open for MemoryFiles<'a> {
     fn open(&self, path: &str) -> Result<MemorySource<'a>, FileFault>
         ensures working { IfOk result (λ file. file.has_failed ≡ false) }
         ensures bytes { IfOk result (λ file. IsOpened (found_at self.now.files.now path.now) (Some file.rest)) }
+        ensures steady { IfOk result (λ file. can_fail_at self.now.files.now path.now ≡ false → can_fail file ≡ false) }
+        ensures fails { IfOk result (λ file. can_fail file ≡ can_fail_at self.now.files.now path.now) }
         ensures device { IfErr result (λ e. is_device e ≡ true → has_file (found_at self.now.files.now path.now) ≡ false) }
         ensures opened { has_file (found_at self.now.files.now path.now) ≡ true → IsOk result }
         ensures fault { has_file (found_at self.now.files.now path.now) ≡ false → result ≡ Err Device }

@@ -1,7 +1,7 @@
-ghost use Rattle.std.specs.Prelude.{◌≡◌, ℕ, List, length, true, false, IfOk, IfErr, OnOk};
+ghost use Rattle.std.specs.Prelude.{◌≡◌, ℕ, List, length, Bool, true, false, IfOk, IfErr, OnOk};
 ghost use Rattle.cvr_cli.specs.File.{is_device};
 ghost use Rattle.cvr_cli.specs.Log.{Logs};
-ghost use Rattle.cvr_cli.specs.Opening.{At, has_file, IsOpened, IsRead, AreRead, SomeFailed, FailedAt};
+ghost use Rattle.cvr_cli.specs.Opening.{At, has_file, IsOpened, IsRead, AreRead, FailedAt};
 ghost use Rattle.cvr_cli.specs.Outcome.{bytes_of};
 ghost use Rattle.cvr_cli.specs.Worked.{unread_status, unread_line, Stops};
 
@@ -11,13 +11,17 @@ use crate::status::Status;
 use cdf_types::{Body, Sink, Source};
 use std::alloc::Global;
 
-/// Where the files of a run are found. Contracts see what it says of each path, if it says anything.
+/// Where the files of a run are found. Contracts see what it says of each path, if it says anything,
+/// and whether the reading of a file may fail.
 pub trait Open {
     /// What a file's bytes are read from.
     type File: Source + Drop;
 
     // What it says of a path.
     ghost file_at: { Self → List ℕ → At };
+
+    // Whether the reading of the file at a path may fail.
+    ghost may_fail: { Self → List ℕ → Bool };
 
     /// The file at a path, from its first byte on.
     ///
@@ -26,6 +30,7 @@ pub trait Open {
     fn open(&self, path: &str) -> Result<Self::File, FileFault>
         ensures working { IfOk result (λ file. Self.File.has_failed file ≡ false) }
         ensures bytes { IfOk result (λ file. IsOpened (file_at self.now path.now) (Self.File.left file)) }
+        ensures steady { IfOk result (λ file. may_fail self.now path.now ≡ false → Self.File.can_fail file ≡ false) }
         ensures device { IfErr result (λ e. is_device e ≡ true → has_file (file_at self.now path.now) ≡ false) };
 }
 
@@ -43,7 +48,7 @@ impl From<FileFault> for Status {
 // The bytes of the file at a path.
 fn read_at<O: Open>(alloc: Global, opener: &O, path: &str) -> Result<Vec<u8>, FileFault>
     ensures bytes { IfOk result (λ bytes. IsRead (O.file_at opener.now path.now) bytes.items) }
-    ensures device { IfErr result (λ e. is_device e ≡ true → FailedAt (O.file_at opener.now path.now) (SomeFailed O.File O.File.has_failed)) }
+    ensures device { IfErr result (λ e. is_device e ≡ true → FailedAt (O.file_at opener.now path.now) (O.may_fail opener.now path.now)) }
 {
     let mut file = opener.open(path)?;
     read_file(alloc, &mut file)
@@ -73,7 +78,7 @@ pub fn read_told<O: Open, L: Sink>(
 ) -> Result<Vec<u8>, FileFault>
     ensures bytes { IfOk result (λ bytes. IsRead (O.file_at opener.now path.now) bytes.items) }
     ensures quiet { OnOk result (log.new ≡ log.old) }
-    ensures device { IfErr result (λ e. is_device e ≡ true → FailedAt (O.file_at opener.now path.now) (SomeFailed O.File O.File.has_failed)) }
+    ensures device { IfErr result (λ e. is_device e ≡ true → FailedAt (O.file_at opener.now path.now) (O.may_fail opener.now path.now)) }
     ensures told { IfErr result (λ e. Logs (L.taken log.old) (L.has_failed log.old) (L.taken log.new) (L.has_failed log.new) (unread_line path.now e)) }
 {
     match read_at(alloc, opener, path) {
@@ -99,7 +104,7 @@ pub fn read_all<O: Open, L: Sink>(
     ensures read { IfOk result (λ files. AreRead (O.file_at opener.now) paths.now (bytes_of files.items)) }
     ensures named { IfOk result (λ files. length paths.now ≡ length files.items) }
     ensures quiet { OnOk result (log.new ≡ log.old) }
-    ensures stops { IfErr result (λ status. Stops (O.file_at opener.now) (SomeFailed O.File O.File.has_failed) paths.now status
+    ensures stops { IfErr result (λ status. Stops (O.file_at opener.now) (O.may_fail opener.now) paths.now status
         (L.taken log.old) (L.has_failed log.old) (L.taken log.new) (L.has_failed log.new)) }
 {
     let mut files = Vec::new(alloc);

@@ -3,7 +3,7 @@ ghost use Rattle.cdf_types.specs.Device.{appended};
 ghost use Rattle.cvr_cli.specs.declared.status.Status.TheVariants.{Done, Refused, CommandLine};
 ghost use Rattle.cvr_cli.specs.Log.{Logs};
 ghost use Rattle.cvr_cli.specs.Merge.{merge_lines};
-ghost use Rattle.cvr_cli.specs.Opening.{AreRead, AreAt, SomeFailed};
+ghost use Rattle.cvr_cli.specs.Opening.{AreRead, AreAt};
 ghost use Rattle.cvr_cli.specs.Outcome.{run_text, run_fault, any_refused, bytes_of, IsWhole};
 ghost use Rattle.cvr_cli.specs.Told.{run_lines};
 ghost use Rattle.cvr_cli.specs.Worked.{Stops, Runs};
@@ -34,7 +34,7 @@ fn read_inputs<O: Open, L: Sink>(
     ensures read { IfOk result (λ inputs. AreRead (O.file_at opener.now) (request.now.def ∷ request.now.paths) (inputs.def.items ∷ bytes_of inputs.files.items)) }
     ensures named { IfOk result (λ inputs. length request.now.paths ≡ length inputs.files.items) }
     ensures quiet { OnOk result (log.new ≡ log.old) }
-    ensures stops { IfErr result (λ status. Stops (O.file_at opener.now) (SomeFailed O.File O.File.has_failed) (request.now.def ∷ request.now.paths) status
+    ensures stops { IfErr result (λ status. Stops (O.file_at opener.now) (O.may_fail opener.now) (request.now.def ∷ request.now.paths) status
         (L.taken log.old) (L.has_failed log.old) (L.taken log.new) (L.has_failed log.new)) }
 {
     let def = read_told(alloc, opener, request.def.as_str(), log)?;
@@ -54,7 +54,7 @@ pub fn run_request<O: Open, W: Sink, L: Sink>(
 ) -> Status
     requires working { W.has_failed out.old ≡ false }
     requires log_working { L.has_failed log.old ≡ false }
-    ensures ends { ((out.new ≡ out.old) × Stops (O.file_at opener.now) (SomeFailed O.File O.File.has_failed) (request.now.def ∷ request.now.paths) result
+    ensures ends { ((out.new ≡ out.old) × Stops (O.file_at opener.now) (O.may_fail opener.now) (request.now.def ∷ request.now.paths) result
         (L.taken log.old) (L.has_failed log.old) (L.taken log.new) (L.has_failed log.new))
         ⊎ Runs (O.file_at opener.now) request.now.task request.now.def request.now.paths result (W.taken out.old) (W.taken out.new) (W.has_failed out.new)
         (L.taken log.old) (L.has_failed log.old) (L.taken log.new) (L.has_failed log.new) }

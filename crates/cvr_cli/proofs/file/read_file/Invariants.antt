@@ -4,6 +4,7 @@ use Rattle.cvr_cli.proofs.file.read_file.Given as goal
 abbrev pub invariant-reads : goal.invariant-reads
 invariant-reads g l = record {
   working : g.R.Source.has_failed l.source ≡ false;
+  stays : g.R.Source.can_fail l.source ≡ g.R.Source.can_fail l.initial.source;
   held : vec_len l.bytes ≤ 67108865;
   piece : length l.piece ≡ 4096;
   all : IfSome (g.R.Source.left l.initial.source) (λ xs. (rest : List ℕ) × (g.R.Source.left l.source ≡ Some rest) × (xs ≡ l.bytes.items ++ rest));

@@ -1,7 +1,7 @@
 use Rattle.std.proofs.Common.{◌≡◌, ◌+◌, ◌++◌, ◌∙◌, [], ◌∷◌, length, take, sym, ap, subst, rules}
 use Rattle.std.proofs.lemmas.List.{get_or_default, length_push}
 use Rattle.cvr_cli.specs.Log.{Logs}
-use Rattle.cvr_cli.specs.Opening.{AreRead, SomeFailed}
+use Rattle.cvr_cli.specs.Opening.{AreRead}
 use Rattle.cvr_cli.specs.Outcome.{bytes_of}
 use Rattle.cvr_cli.specs.Worked.{unread_status, unread_line, Stops}
 use Rattle.cvr_cli.proofs.Opened.{at_err, read_one_more, stops_at}
@@ -10,7 +10,7 @@ use Rattle.cvr_cli.proofs.opening.read_all.Goals as goal
 pub returns-in_err-file-clause-stops : goal.returns-in_err-file-clause-stops
 returns-in_err-file-clause-stops g c =
     let file_at = g.O.Open.file_at c.args.opener.now in
-    let some_failed = SomeFailed g.row.O-File.Denot g.O.File.Source.has_failed in
+    let may_fail = g.O.Open.may_fail c.args.opener.now in
     let paths = c.args.paths.now in
     let n = c.loop-path.path-index in
     let path = c.as_str.result.now in
@@ -19,9 +19,9 @@ returns-in_err-file-clause-stops g c =
     let told =
     subst (λ l. Logs (g.L.Sink.taken l) (g.L.Sink.has_failed l) (g.L.Sink.taken c.read_told.new.log) (g.L.Sink.has_failed c.read_told.new.log) (unread_line path cause)) c.loop-path.invariant.quiet c.in_err-file.ensures.told in
     at_err c.from_residual.result (λ s. s ≡ unread_status cause)
-    (λ s. Stops file_at some_failed paths s (g.L.Sink.taken c.args.log.now) (g.L.Sink.has_failed c.args.log.now) (g.L.Sink.taken c.read_told.new.log) (g.L.Sink.has_failed c.read_told.new.log))
+    (λ s. Stops file_at may_fail paths s (g.L.Sink.taken c.args.log.now) (g.L.Sink.has_failed c.args.log.now) (g.L.Sink.taken c.read_told.new.log) (g.L.Sink.has_failed c.read_told.new.log))
     c.from_residual.ensures.1
-    (λ s is. stops_at file_at some_failed paths s _ _ _ _ n path (bytes_of c.loop-path.files.items) cause c.loop-path-test.true named c.loop-path.invariant.read c.in_err-file.ensures.device is told)
+    (λ s is. stops_at file_at may_fail paths s _ _ _ _ n path (bytes_of c.loop-path.files.items) cause c.loop-path-test.true named c.loop-path.invariant.read c.in_err-file.ensures.device is told)
 
 pub loop-path-preserved : goal.loop-path-preserved
 loop-path-preserved g c =

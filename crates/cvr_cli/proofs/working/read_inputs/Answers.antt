@@ -1,5 +1,5 @@
 use Rattle.std.proofs.Common.{◌≡◌, ◌∷◌, sym, subst}
-use Rattle.cvr_cli.specs.Opening.{IsRead, SomeFailed}
+use Rattle.cvr_cli.specs.Opening.{IsRead}
 use Rattle.cvr_cli.specs.Worked.{unread_status, Stops}
 use Rattle.cvr_cli.proofs.Opened.{at_err, stops_first, stops_later}
 use Rattle.cvr_cli.proofs.working.read_inputs.Goals as goal
@@ -7,7 +7,7 @@ use Rattle.cvr_cli.proofs.working.read_inputs.Goals as goal
 pub returns-in_err-def-clause-stops : goal.returns-in_err-def-clause-stops
 returns-in_err-def-clause-stops g c =
     let file_at = g.O.Open.file_at c.args.opener.now in
-    let some_failed = SomeFailed g.row.O-File.Denot g.O.File.Source.has_failed in
+    let may_fail = g.O.Open.may_fail c.args.opener.now in
     let what = c.args.request.now.def in
     let paths = c.args.request.now.paths in
     let cause = c.in_err-def.field-0.0 in
@@ -15,14 +15,14 @@ returns-in_err-def-clause-stops g c =
     let f = g.L.Sink.has_failed c.args.log.now in
     let a = g.L.Sink.taken c.read_told.new.log in
     let h = g.L.Sink.has_failed c.read_told.new.log in
-    at_err c.from_residual.result (λ s. s ≡ unread_status cause) (λ s. Stops file_at some_failed (what ∷ paths) s b f a h) c.from_residual.ensures.1
-    (λ s is. subst (λ path. Stops file_at some_failed (path ∷ paths) s b f a h) c.as_str.ensures
-    (stops_first file_at some_failed paths s b a f h c.as_str.result.now cause c.in_err-def.ensures.device is c.in_err-def.ensures.told))
+    at_err c.from_residual.result (λ s. s ≡ unread_status cause) (λ s. Stops file_at may_fail (what ∷ paths) s b f a h) c.from_residual.ensures.1
+    (λ s is. subst (λ path. Stops file_at may_fail (path ∷ paths) s b f a h) c.as_str.ensures
+    (stops_first file_at may_fail paths s b a f h c.as_str.result.now cause c.in_err-def.ensures.device is c.in_err-def.ensures.told))
 
 pub returns-in_err-files-clause-stops : goal.returns-in_err-files-clause-stops
 returns-in_err-files-clause-stops g c =
     let file_at = g.O.Open.file_at c.args.opener.now in
-    let some_failed = SomeFailed g.row.O-File.Denot g.O.File.Source.has_failed in
+    let may_fail = g.O.Open.may_fail c.args.opener.now in
     let what = c.args.request.now.def in
     let paths = c.args.request.now.paths in
     let def = c.in_ok-def.def.items in
@@ -33,7 +33,7 @@ returns-in_err-files-clause-stops g c =
     let h = g.L.Sink.has_failed c.read_all.new.log in
     let read = subst (λ path. IsRead (file_at path) def) c.as_str.ensures c.in_ok-def.ensures.bytes in
     let stopped =
-    subst (λ ps. Stops file_at some_failed ps status b f a h) c.as_slice.ensures
-    (subst (λ l. Stops file_at some_failed c.as_slice.result.now status (g.L.Sink.taken l) (g.L.Sink.has_failed l) a h) c.in_ok-def.ensures.quiet c.in_err-files.ensures.stops) in
-    at_err c.from_residual-in_err-files.result (λ s. s ≡ status) (λ s. Stops file_at some_failed (what ∷ paths) s b f a h) c.from_residual-in_err-files.ensures.1
-    (λ s is. subst (λ t. Stops file_at some_failed (what ∷ paths) t b f a h) (sym is) (stops_later file_at some_failed paths status b a f h what def read stopped))
+    subst (λ ps. Stops file_at may_fail ps status b f a h) c.as_slice.ensures
+    (subst (λ l. Stops file_at may_fail c.as_slice.result.now status (g.L.Sink.taken l) (g.L.Sink.has_failed l) a h) c.in_ok-def.ensures.quiet c.in_err-files.ensures.stops) in
+    at_err c.from_residual-in_err-files.result (λ s. s ≡ status) (λ s. Stops file_at may_fail (what ∷ paths) s b f a h) c.from_residual-in_err-files.ensures.1
+    (λ s is. subst (λ t. Stops file_at may_fail (what ∷ paths) t b f a h) (sym is) (stops_later file_at may_fail paths status b a f h what def read stopped))
