@@ -1,5 +1,5 @@
 -- A source over bytes, and what a call makes of it. (This project's own.)
-use Rattle.std.specs.Prelude.{◌≡◌, ℕ, ◌-◌, List, ◌++◌, length, take, drop, min, ◌==◌, not, Bool, true}
+use Rattle.std.specs.Prelude.{◌≡◌, ℕ, ◌-◌, List, [], ◌∷◌, ◌++◌, length, take, drop, min, ◌==◌, not, Bool, true, false}
 
 -- The bytes that are left, the most that a call gives, which of the calls to come fails (1: the
 -- next, 0: none), and whether one has failed.
@@ -12,6 +12,10 @@ pub record SourceState : Type 0 where
 -- a call to come fails
 abbrev pub can_fail : SourceState → Bool
 can_fail s = not (s.fails_in == 0)
+
+-- as an example, a source of three bytes that was told which call fails
+abbrev pub told_call : ℕ → SourceState
+told_call n = record { rest = 7 ∷ 8 ∷ 9 ∷ []; per_call = 2; fails_in = n; has_failed = false }
 
 -- A call gave n bytes: as many as the buffer, one call and the rest allow, at the front of the
 -- buffer. Such a call is counted.

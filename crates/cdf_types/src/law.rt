@@ -1,8 +1,9 @@
 // Laws that the types keep, each the contract of a function that does nothing.
-ghost use Rattle.std.specs.Prelude.{◌≡◌, ℤ};
+ghost use Rattle.std.specs.Prelude.{◌≡◌, ℤ, true, false};
 ghost use Rattle.std.specs.Ordering.{nat_cmp, int_cmp};
 ghost use Rattle.cdf_types.specs.Listed.{AreDistinct};
 ghost use Rattle.cdf_types.specs.Mark.{indication_text, allocation_text};
+ghost use Rattle.cdf_types.specs.MemorySource.{can_fail, told_call};
 ghost use Rattle.cdf_types.specs.ReportKind.{report_kind_text};
 ghost use Rattle.cdf_types.specs.SnapshotKind.{snapshot_kind_text, snapshot_kind_rank};
 ghost use Rattle.cdf_types.specs.Status.{cvr_status_text, contest_status_text, selection_status_text, position_status_text};
@@ -33,4 +34,11 @@ pub fn kinds_are_ordered_by_rank()
 /// Moments are ordered as instants.
 pub fn moments_are_ordered_by_time()
     ensures { (a b : ℤ) → ⟦<Moment as Ord>⟧.cmp a b ≡ int_cmp a b }
+{}
+
+/// Worked examples of sources in memory: one that was told no call can't fail, and one that was told its next call, or its fourth, can.
+pub fn sources_fail_as_told()
+    ensures none { can_fail (told_call 0) ≡ false }
+    ensures next { can_fail (told_call 1) ≡ true }
+    ensures fourth { can_fail (told_call 4) ≡ true }
 {}

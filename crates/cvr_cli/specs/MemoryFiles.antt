@@ -1,5 +1,5 @@
 -- The files of an opener in memory. (This project's own.)
-use Rattle.std.specs.Prelude.{ℕ, List, [], ◌∷◌, ◌==◌, if◌then◌else◌, Bool, false, not}
+use Rattle.std.specs.Prelude.{◌≡◌, ℕ, List, [], ◌∷◌, ◌==◌, if◌then◌else◌, Bool, true, false, not, codes}
 use Rattle.std.specs.Cmp.Lexicographic.{pointwise}
 use Rattle.cvr_cli.specs.declared.memory_files.MemoryFile.{MemoryFile}
 use Rattle.cvr_cli.specs.Opening.{At, Absent, Has}
@@ -13,3 +13,17 @@ found_at (file ∷ files) path = if pointwise ◌==◌ file.path.now path then H
 abbrev pub can_fail_at : List MemoryFile → List ℕ → Bool
 can_fail_at [] path = false
 can_fail_at (file ∷ files) path = if pointwise ◌==◌ file.path.now path then not (file.fail_at == 0) else can_fail_at files path
+
+-- ---- as an example, three files: two at one path
+
+-- a file at a path, and which call of its reading fails
+pub record IsTold (file : MemoryFile) (path : List ℕ) (call : ℕ) : Type 0 where
+  pub stands : file.path.now ≡ path
+  pub fails : file.fail_at ≡ call
+
+-- the first file of a path alone says whether its reading can fail
+pub record FailAsTold (x y z : MemoryFile) : Type 0 where
+  pub first : can_fail_at (x ∷ y ∷ z ∷ []) (codes "a") ≡ false
+  pub other : can_fail_at (x ∷ y ∷ z ∷ []) (codes "b") ≡ true
+  pub reversed : can_fail_at (z ∷ y ∷ x ∷ []) (codes "a") ≡ true
+  pub absent : can_fail_at (x ∷ y ∷ z ∷ []) (codes "c") ≡ false

@@ -1,4 +1,7 @@
 //! Worked examples: the whole text of each task over the facts of a few records.
+ghost use Rattle.std.specs.Prelude.{codes};
+ghost use Rattle.cvr_cli.specs.declared.memory_files.MemoryFile.{MemoryFile};
+ghost use Rattle.cvr_cli.specs.MemoryFiles.{IsTold, FailAsTold};
 ghost use Rattle.cvr_cli.specs.Examples.{CurrentsOfFive, TallyOfFive, ConflictsOfTwo, NoConflict, LinesOfTen};
 
 /// The current snapshots and the tally of five records in three contests, the conflicts among facts
@@ -9,4 +12,10 @@ pub fn worked_examples()
     ensures conflicts { ConflictsOfTwo }
     ensures no_conflict { NoConflict }
     ensures drill { LinesOfTen }
+{}
+
+/// Worked example of files in memory: one that was told no call, one at another path that was told its fifth, and
+/// one at the first path again, told its sixth.
+pub fn files_fail_as_told()
+    ensures { (x y z : MemoryFile) → IsTold x (codes "a") 0 → IsTold y (codes "b") 5 → IsTold z (codes "a") 6 → FailAsTold x y z }
 {}
