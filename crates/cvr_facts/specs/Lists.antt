@@ -30,15 +30,19 @@ told_device device = record { id = device.id; body = device.body }
 abbrev pub told_header : Cvr → HeaderFact
 told_header cvr = record { key = name_of cvr; unit = cvr.unit; batch = cvr.batch; body = cvr.body }
 
-abbrev pub told_snapshot : List Contest → Cvr → ReportSnapshot → SnapshotFact
-told_snapshot contests cvr snapshot = record {
-  key = name_of cvr;
+-- a snapshot of the record of a name
+abbrev pub told_under : List Contest → RecordName → ReportSnapshot → SnapshotFact
+told_under contests key snapshot = record {
+  key = key;
   id = snapshot.id;
   kind = snapshot.kind;
   moment = snapshot.moment;
   votes = sums_in contests snapshot.contests;
   body = snapshot.body;
 }
+
+abbrev pub told_snapshot : List Contest → Cvr → ReportSnapshot → SnapshotFact
+told_snapshot contests cvr snapshot = told_under contests (name_of cvr) snapshot
 
 abbrev pub told_snapshots : List Contest → Cvr → List SnapshotFact
 told_snapshots contests cvr = map (told_snapshot contests cvr) cvr.snapshots
