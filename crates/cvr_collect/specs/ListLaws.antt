@@ -1,7 +1,10 @@
 -- Laws of lists of facts in order, which offices keep: what is put in, what a record's run tells, and its conflicts. (This project's own.)
-use Rattle.std.specs.Prelude.{◌≡◌, ◌≤◌, ◌-◌, ℕ, List, [], map, length, reverse, true, Option, None}
+use Rattle.std.specs.Prelude.{◌≡◌, ◌≤◌, ◌-◌, ℕ, List, [], map, length, reverse, true, false, Option, None}
 use Rattle.std.specs.List.{Contains, last_or}
 use Rattle.std.specs.List.Sorted.{IsStrictlySortedBy}
+use Rattle.std.specs.declared.cmp.Ordering.TheVariants.{Less}
+use Rattle.std.specs.Option.{option_cmp}
+use Rattle.std.specs.Ordering.{is_gt}
 use Rattle.std.specs.FinSet.{from_list}
 use Rattle.cdf_types.specs.declared.report.Report.{Report}
 use Rattle.cdf_form.specs.Places.{Contest}
@@ -12,7 +15,7 @@ use Rattle.cvr_facts.specs.declared.name.RecordName.{RecordName}
 use Rattle.cvr_facts.specs.declared.header.HeaderFact.{HeaderFact}
 use Rattle.cvr_facts.specs.declared.snapshot.SnapshotFact.{SnapshotFact}
 use Rattle.cvr_facts.specs.declared.list.FactList.{FactList}
-use Rattle.cvr_facts.specs.Facts.{Fact, Device, fact_cmp}
+use Rattle.cvr_facts.specs.Facts.{Fact, Device, fact_cmp, name_cmp}
 use Rattle.cvr_facts.specs.Lists.{facts_in, IsReportOf}
 use Rattle.cvr_facts.specs.Reports.{facts}
 use Rattle.cvr_facts.specs.Stands as stands
@@ -21,7 +24,7 @@ use Rattle.cvr_collect.specs.declared.any_fact.AnyFact.{AnyFact}
 use Rattle.cvr_collect.specs.declared.any_fact.AnyFact.TheVariants as any
 use Rattle.cvr_collect.specs.declared.conflict.ConflictName.{ConflictName}
 use Rattle.cvr_collect.specs.declared.record_facts.RecordFacts.{RecordFacts}
-use Rattle.cvr_collect.specs.Names.{name_of, is_named, records, conflicts, greatest_count}
+use Rattle.cvr_collect.specs.Names.{name_of, is_named, record_of, records, conflicts, greatest_count}
 use Rattle.cvr_collect.specs.Keeps.{starting}
 use Rattle.cvr_collect.specs.Place.{fact_of, any_cmp}
 use Rattle.cvr_collect.specs.Plain.{set_of, all_of, IsSpelled, IsPlain, IsPut, IsTheFiles}
@@ -82,6 +85,10 @@ GreatestSnapshotLaw = (facts : List AnyFact) (key : RecordName) (contests : List
 -- its snapshots stand by id
 abbrev pub IdsRiseLaw : Type 0
 IdsRiseLaw = (facts : List AnyFact) (key : RecordName) → IsStrictlySortedBy any_cmp facts → RisesById (run key facts)
+
+-- along a list in order records don't fall
+abbrev pub RecordsRiseLaw : Type 0
+RecordsRiseLaw = (one other : AnyFact) → any_cmp one other ≡ Less → is_gt (option_cmp name_cmp (record_of (fact_of one)) (record_of (fact_of other))) ≡ false
 
 -- a record is listed exactly where it has a run
 abbrev pub NoRunLaw : Type 0

@@ -1,5 +1,5 @@
 -- The run of a record: its facts in a list in order, which stand together. (This project's own.)
-use Rattle.std.specs.Prelude.{◌≡◌, List, [], Bool, Option, Some, None}
+use Rattle.std.specs.Prelude.{◌≡◌, List, [], ◌∷◌, Bool, Option, Some, None}
 use Rattle.std.specs.List.{filter, filter_map, Contains}
 use Rattle.std.specs.declared.cmp.Ordering.{Ordering}
 use Rattle.std.specs.Ordering.{is_eq}
@@ -28,6 +28,11 @@ is_of key fact = is_eq (record_order key fact)
 -- the facts of the record
 abbrev pub run : RecordName → List AnyFact → List AnyFact
 run key facts = filter (is_of key) facts
+
+-- the record of the first, if it is of one
+abbrev pub first_record : List AnyFact → Option RecordName
+first_record [] = None
+first_record (fact ∷ facts) = record_of (fact_of fact)
 
 abbrev pub as_header : AnyFact → Option HeaderFact
 as_header (any.Device d) = None
