@@ -8,7 +8,7 @@ use cvr_collect::devices::{device_body_in, device_count_in, next_device_in};
 use cvr_collect::putting::{of_devices, of_records, own_devices, put_in};
 use cvr_collect::record_lists::{grouped, headers_down};
 use cvr_collect::{ConflictList, JoinFault, Office, Receipt, RecordFacts};
-use cvr_facts::{HeaderFact, RecordName, SnapshotFact, facts_of};
+use cvr_facts::{HeaderFact, RecordName, SnapshotFact, take_facts};
 use cvr_tally::{Row, RowKey, Totals, tally_text};
 use std::alloc::Global;
 use std::collections::BTreeMap;
@@ -113,9 +113,8 @@ impl Office for CachedOffice {
     {
         let alloc = *self.devices.allocator();
         let report = check_report(alloc, &self.definition, bytes)?;
-        let list = facts_of(alloc, &self.definition, &report)?;
         let cvrs = report.cvrs.as_slice().len();
-        drop(report);
+        let list = take_facts(alloc, &self.definition, report)?;
         let theirs = of_devices(alloc, list.devices)?;
         let mut more = Vec::new(alloc);
         put_in(&mut more, of_records(alloc, list.headers, list.snapshots)?)?;
@@ -126,7 +125,7 @@ impl Office for CachedOffice {
             &mut self.totals,
             &mut self.count,
             &theirs,
-            &more,
+            more,
         )?;
         Ok(Receipt { cvrs, new_facts })
     }

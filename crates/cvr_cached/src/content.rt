@@ -12,7 +12,7 @@ ghost use Rattle.cvr_cached.specs.Contents.{header_at, current_at, header_in, cu
 
 use cdf_types::Memory;
 use cvr_collect::any_fact::AnyFact;
-use cvr_collect::putting::{copies, put_copies};
+use cvr_collect::putting::{copies, put_in};
 use cvr_facts::{HeaderFact, Join, SnapshotFact, VoteSums, choice_cmp};
 use cvr_tally::RowKey;
 use std::alloc::Global;
@@ -123,13 +123,13 @@ impl RecordContent {
         })
     }
 
-    // Puts in copies of facts, and answers how many are new.
-    pub(crate) fn put_in(&mut self, more: &[AnyFact]) -> Result<usize, Memory>
-        ensures put { OnOk result (IsPut self.old more.now self.new) }
+    // Puts in facts, and answers how many are new.
+    pub(crate) fn put_in(&mut self, more: Vec<AnyFact>) -> Result<usize, Memory>
+        ensures put { OnOk result (IsPut self.old more.items self.new) }
         ensures new { IfOk result (λ n. len (set_of self.old) + n ≡ len (set_of self.new)) }
         ensures unchanged { OnErr result (self.new ≡ self.old) }
     {
-        let new_facts = put_copies(&mut self.facts, more)?;
+        let new_facts = put_in(&mut self.facts, more)?;
         self.header = header_place(&self.facts);
         self.current = current_place(&self.facts);
         Ok(new_facts)
@@ -155,7 +155,8 @@ impl Join for RecordContent {
         ensures unchanged { OnErr result (self.new ≡ self.old) }
         ensures put { OnOk result (IsPut self.old other.now self.new) }
     {
-        self.put_in(other.facts())
+        let more = copies(*self.facts.allocator(), other.facts())?;
+        self.put_in(more)
     }
 
     ghost laws = { union_laws fact_total fact_exact };

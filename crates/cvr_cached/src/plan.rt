@@ -1,4 +1,4 @@
-ghost use Rattle.std.specs.Prelude.{◌≡◌, ◌+◌, OnOk, IfOk, IsTrue, false, length};
+ghost use Rattle.std.specs.Prelude.{◌≡◌, ◌+◌, OnOk, IfOk, IsTrue, Some, false, length};
 ghost use Rattle.std.specs.List.{Contains};
 ghost use Rattle.std.specs.FinSet.{contains};
 ghost use Rattle.cvr_collect.specs.declared.any_fact.AnyFact.{AnyFact};
@@ -6,6 +6,7 @@ ghost use Rattle.std.specs.List.Sorted.{IsStrictlySortedBy};
 ghost use Rattle.std.specs.BTreeMap.{get};
 ghost use Rattle.cvr_facts.specs.Facts.{name_cmp};
 ghost use Rattle.cvr_facts.specs.declared.name.RecordName.{RecordName};
+ghost use Rattle.cvr_collect.specs.Names.{record_of};
 ghost use Rattle.cvr_collect.specs.Place.{fact_of, any_cmp};
 ghost use Rattle.cvr_collect.specs.Plain.{set_of, IsPut};
 ghost use Rattle.cvr_collect.specs.Runs.{run};
@@ -16,31 +17,32 @@ use crate::change::{Keys, Plan};
 use crate::content::RecordContent;
 use cdf_types::Memory;
 use cvr_collect::any_fact::AnyFact;
-use cvr_collect::names::next_record_in;
-use cvr_collect::one_record::run_of;
+use cvr_collect::one_record::{first_record, take_run};
 use cvr_facts::{Join, RecordName};
 use std::alloc::Global;
-use std::collections::BTreeMap;
+use std::collections::{BTreeMap, VecDeque};
 
-// What facts in order change in the contents of records.
+// What facts in order, all of records, change in the contents of these. The facts go there record by record.
 pub(crate) fn plan_of(
     alloc: Global,
     records: &BTreeMap<RecordName, RecordContent>,
-    more: &[AnyFact],
+    more: Vec<AnyFact>,
 ) -> Result<Plan, Memory>
-    requires more { IsStrictlySortedBy any_cmp more.now }
+    requires more { IsStrictlySortedBy any_cmp more.items }
+    requires named { (f : AnyFact) → Contains more.items f → (k : RecordName) × (record_of (fact_of f) ≡ Some k) }
     requires rise { (q : RecordName) → IsStrictlySortedBy any_cmp (facts_at (get name_cmp records.now q)) }
-    ensures { IfOk result (λ plan. IsPlan (get name_cmp records.now) (λ k. run k more.now) plan.contents.items plan.keys.items plan.new_facts) }
+    ensures { IfOk result (λ plan. IsPlan (get name_cmp records.now) (λ k. run k more.items) plan.contents.items plan.keys.items plan.new_facts) }
 {
     let mut plan = Plan {
         contents: Vec::new(alloc),
         keys: Vec::new(alloc),
         new_facts: 0,
     };
-    let mut next = next_record_in(more, None);
-    while let Some(name) = next {
-        add_change(alloc, &mut plan, records, name, run_of(more, name))?;
-        next = next_record_in(more, Some(name));
+    let mut rest = VecDeque::from(more);
+    while let Some(first) = first_record(&rest) {
+        let name = first.copy()?;
+        let group = take_run(alloc, &mut rest, &name)?;
+        add_change(alloc, &mut plan, records, name, group)?;
     }
     Ok(plan)
 }
@@ -70,14 +72,14 @@ fn add_change(
     alloc: Global,
     plan: &mut Plan,
     records: &BTreeMap<RecordName, RecordContent>,
-    name: &RecordName,
-    group: &[AnyFact],
+    name: RecordName,
+    group: Vec<AnyFact>,
 ) -> Result<(), Memory>
-    ensures { OnOk result (IsStep (facts_at (get name_cmp records.now name.now)) group.now name.now plan.old.contents.items plan.old.keys.items plan.old.new_facts plan.new.contents.items plan.new.keys.items plan.new.new_facts) }
+    ensures { OnOk result (IsStep (facts_at (get name_cmp records.now name)) group.items name plan.old.contents.items plan.old.keys.items plan.old.new_facts plan.new.contents.items plan.new.keys.items plan.new.new_facts) }
 {
     let none = RecordContent::empty(alloc);
-    let old = records.get(name).unwrap_or(&none);
-    if has_all(old.facts(), group) {
+    let old = records.get(&name).unwrap_or(&none);
+    if has_all(old.facts(), &group) {
         return Ok(());
     }
     let mut content = old.copy(alloc)?;
@@ -102,20 +104,20 @@ fn add_join(
     }
     let mut content = old.copy(alloc)?;
     let grown = content.join(theirs)?;
-    push_change(alloc, plan, name, old, content, grown)
+    push_change(alloc, plan, name.copy()?, old, content, grown)
 }
 
 // Adds a record's new content to a plan, with the keys of the rows that it leaves and enters.
 fn push_change(
     alloc: Global,
     plan: &mut Plan,
-    name: &RecordName,
+    name: RecordName,
     old: &RecordContent,
     content: RecordContent,
     grown: usize,
 ) -> Result<(), Memory>
     requires { length old.now + grown ≡ length content }
-    ensures { OnOk result (IsPushed old.now content name.now plan.old.contents.items plan.old.keys.items plan.old.new_facts plan.new.contents.items plan.new.keys.items plan.new.new_facts) }
+    ensures { OnOk result (IsPushed old.now content name plan.old.contents.items plan.old.keys.items plan.old.new_facts plan.new.contents.items plan.new.keys.items plan.new.new_facts) }
 {
     let new_facts = match plan.new_facts.checked_add(grown) {
         Some(sum) => sum,
@@ -125,7 +127,6 @@ fn push_change(
         old: old.keys(alloc)?,
         new: content.keys(alloc)?,
     };
-    let name = name.copy()?;
     plan.keys.push(keys)?;
     plan.contents.push((name, content))?;
     plan.new_facts = new_facts;

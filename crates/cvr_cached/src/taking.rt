@@ -40,16 +40,16 @@ pub(crate) fn take_in(
     totals: &mut Totals,
     count: &mut usize,
     theirs: &[AnyFact],
-    more: &[AnyFact],
+    more: Vec<AnyFact>,
 ) -> Result<usize, Memory>
     requires held { IsHeld totals.old.contests devices.old.items records.old.entries totals.old.rows count.old }
     requires theirs { (f : AnyFact) → Contains theirs.now f → record_of (fact_of f) ≡ None }
-    requires more { (f : AnyFact) → Contains more.now f → (k : RecordName) × (record_of (fact_of f) ≡ Some k) }
-    requires rises { IsStrictlySortedBy any_cmp more.now }
-    requires told { IsTold totals.old.contests (listed devices.old.items records.old.entries) (theirs.now ++ more.now) }
-    ensures put { OnOk result (IsPut (listed devices.old.items records.old.entries) (theirs.now ++ more.now) (listed devices.new.items records.new.entries)) }
+    requires more { (f : AnyFact) → Contains more.items f → (k : RecordName) × (record_of (fact_of f) ≡ Some k) }
+    requires rises { IsStrictlySortedBy any_cmp more.items }
+    requires told { IsTold totals.old.contests (listed devices.old.items records.old.entries) (theirs.now ++ more.items) }
+    ensures put { OnOk result (IsPut (listed devices.old.items records.old.entries) (theirs.now ++ more.items) (listed devices.new.items records.new.entries)) }
     ensures held { IsHeld totals.new.contests devices.new.items records.new.entries totals.new.rows count.new }
-    ensures new { IfOk result (λ n. n ≡ growth (set_of (listed devices.old.items records.old.entries)) (set_of (theirs.now ++ more.now))) }
+    ensures new { IfOk result (λ n. n ≡ growth (set_of (listed devices.old.items records.old.entries)) (set_of (theirs.now ++ more.items))) }
     ensures unchanged { OnErr result (listed devices.new.items records.new.entries ≡ listed devices.old.items records.old.entries) }
     ensures rows { OnErr result (totals.new.rows ≡ totals.old.rows) }
     ensures contests { totals.new.contests ≡ totals.old.contests }

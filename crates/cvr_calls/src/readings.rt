@@ -15,7 +15,7 @@ use cdf_types::{Body, Memory, ReadFault};
 use cvr_cached::CachedOffice;
 use cvr_collect::{Office, PlainOffice};
 use cvr_facts::text::{push_quoted, push_word, quoted};
-use cvr_facts::{BodySet, DeviceFact, HeaderFact, RecordName, SnapshotFact, VoteSums, facts_of};
+use cvr_facts::{BodySet, DeviceFact, HeaderFact, RecordName, SnapshotFact, VoteSums, take_facts};
 use cvr_report::{HeadFault, Heading};
 use cvr_tally::{RowKey, tally_text};
 use std::alloc::Global;
@@ -147,7 +147,7 @@ fn is_definition_read(alloc: Global, records: &Records<'_>) -> Result<bool, Read
 fn is_quickly_read(alloc: Global, records: &Records<'_>) -> Result<bool, ReadFault> {
     match quick_report(alloc, records.definition, records.bytes)? {
         Some(report) => {
-            let facts = facts_of(alloc, records.definition, &report)?;
+            let facts = take_facts(alloc, records.definition, report)?;
             Ok(are_same_facts(&facts, records.facts))
         }
         None => Ok(false),

@@ -33,7 +33,7 @@ static FILINGS: [(&str, Filing); 5] = [
     ("read_file", Filing::ReadFile),
     ("read_text_apart", Filing::Apart),
     ("Definition::read", Filing::Definition),
-    ("quick_report, facts_of", Filing::Quick),
+    ("quick_report, take_facts", Filing::Quick),
     ("check_report, facts_of", Filing::Facts),
 ];
 

@@ -1,10 +1,10 @@
 -- In a list along which an order doesn't fall, what is equal stands together: two searches find it.
-use Rattle.std.proofs.Common.{◌≡◌, ℕ, ◌+◌, ◌-◌, ◌≤◌, ◌<◌, Bool, true, false, List, [], ◌∷◌, ◌++◌, length, get_or, take, drop, Ordering, Less, Equal, Greater, refl, sym, ap, ◌∙◌, subst, arith, append-nil}
+use Rattle.std.proofs.Common.{◌≡◌, ℕ, ◌+◌, ◌-◌, ◌≤◌, ◌<◌, Bool, true, false, List, [], ◌∷◌, ◌++◌, length, get_or, take, drop, not, Contains, Ordering, Less, Equal, Greater, refl, sym, ap, ◌∙◌, subst, arith, append-nil}
 use Rattle.std.specs.List.{All, AllWithin, filter}
 use Rattle.std.specs.List.Sorted.{IsNonDecreasingBy, IsPartitionedBy, IsPartitionPoint}
 use Rattle.std.specs.Ordering.{is_lt, is_eq, ordering_index}
 use Rattle.std.proofs.lemmas.List.{take_all, take-append-drop, length-take-le, length-drop, get_or-take, get_or-drop}
-use Rattle.std.proofs.lemmas.List.Elements.{All-head, All-tail, filter-append}
+use Rattle.std.proofs.lemmas.List.Elements.{All-head, All-tail, Contains-get_or, filter-append}
 
 -- ---- tests by their numbers
 
@@ -60,6 +60,12 @@ module _ {X : Type 0} (p : X → Bool) where
       ∙ ((λ i. filter_all (take k xs) (All-front (λ x. p x ≡ true) xs k le passes) i ++ filter_none (drop k xs) (All-back (λ x. p x ≡ false) xs k fails) i)
       ∙ append-nil (take k xs)))
 
+  filter_rest : (xs : List X) (k : ℕ) → k ≤ length xs → AllWithin (λ x. p x ≡ false) xs 0 k → AllWithin (λ x. p x ≡ true) xs k (length xs) → filter p xs ≡ drop k xs
+  filter_rest xs k le fails passes =
+      ap (filter p) (sym (take-append-drop k xs))
+      ∙ (filter-append p (take k xs) (drop k xs)
+      ∙ (λ i. filter_none (take k xs) (All-front (λ x. p x ≡ false) xs k le fails) i ++ filter_all (drop k xs) (All-back (λ x. p x ≡ true) xs k passes) i))
+
   filter_back : (xs : List X) (k : ℕ) → k ≤ length xs → AllWithin (λ x. p x ≡ false) xs 0 k → filter p xs ≡ filter p (drop k xs)
   filter_back xs k le fails =
       ap (filter p) (sym (take-append-drop k xs))
@@ -93,3 +99,22 @@ module _ {X : Type 0} (o : X → Ordering) (xs : List X) (up : IsNonDecreasingBy
         sym (filter_back (λ y. is_eq (o y)) xs k le (λ i d low lt. less_not_equal _ (point.0 i d low lt))
         ∙ (ap (filter (λ y. is_eq (o y))) (sym rest_is)
         ∙ filter_front (λ y. is_eq (o y)) rest n few found.0 found.1))
+
+-- ---- the search where none is less
+
+module _ {X : Type 0} (o : X → Ordering) (xs : List X) (up : IsNonDecreasingBy (λ y. ordering_index (o y)) xs) (none : (y : X) → Contains xs y → is_lt (o y) ≡ false) where
+  not_lt : (i : ℕ) (d : X) → i < length xs → is_lt (o (get_or xs i d)) ≡ false
+  not_lt i d lt = none (get_or xs i d) (Contains-get_or xs i d lt)
+
+  pub equal_leads : IsPartitionedBy (λ y. is_eq (o y)) xs
+  equal_leads i j d below lt h =
+      let one : ordering_index (o (get_or xs j d)) ≡ 1 = is_eq-index _ h in
+      let few : ordering_index (o (get_or xs i d)) ≤ ordering_index (o (get_or xs j d)) = up i j d below lt in
+      middle _ (not_lt i d (omega (arith, below, lt))) (omega (arith, one, few))
+
+  module _ (n : ℕ) (few : n ≤ length xs) (found : IsPartitionPoint (λ y. is_eq (o y) ≡ true) (λ y. is_eq (o y) ≡ false) xs n) where
+    pub run_leads : take n xs ≡ filter (λ y. is_eq (o y)) xs
+    run_leads = sym (filter_front (λ y. is_eq (o y)) xs n few found.0 found.1)
+
+    pub others_follow : drop n xs ≡ filter (λ y. not (is_eq (o y))) xs
+    others_follow = sym (filter_rest (λ y. not (is_eq (o y))) xs n few (λ i d low lt. ap not (found.0 i d low lt)) (λ i d low lt. ap not (found.1 i d low lt)))

@@ -17,6 +17,7 @@ pub use Rattle.cvr_collect.proofs.RecordMembers.{name_exact}
 pub use Rattle.cvr_collect.proofs.RecordNames.{header_under, id_under, snapshot_under}
 pub use Rattle.cvr_collect.proofs.RowSteps.{row_over-more, sums_there}
 pub use Rattle.cvr_collect.proofs.RowsOfKeys.{added-no_current, added-no_header, added_is, ballots_law, rows_law}
+pub use Rattle.cvr_collect.proofs.Runs.{records_rise}
 pub use Rattle.cvr_collect.proofs.SameFacts.{same_facts}
 pub use Rattle.cvr_collect.proofs.SameFiles.{same_files}
 pub use Rattle.cvr_collect.proofs.SameFrames.{agrees_alike}

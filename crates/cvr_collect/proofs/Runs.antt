@@ -37,7 +37,7 @@ not_before Equal h = refl
 not_before Greater h = Prim.cc h
 
 -- a fact's record isn't past that of a later one
-records_rise : (x y : AnyFact) → any_cmp x y ≡ Less → is_gt (option_cmp name_cmp (record_in x) (record_in y)) ≡ false
+pub records_rise : (x y : AnyFact) → any_cmp x y ≡ Less → is_gt (option_cmp name_cmp (record_in x) (record_in y)) ≡ false
 records_rise (any.Device d) (any.Device e) h = refl
 records_rise (any.Device d) (any.Header e) h = refl
 records_rise (any.Device d) (any.Snapshot e) h = refl

@@ -10,7 +10,7 @@ pub mod examples;
 mod fault;
 pub mod law;
 pub mod list_law;
-pub mod names;
+mod names;
 mod office;
 pub mod one_record;
 mod plain;

@@ -1,6 +1,6 @@
 //! Laws of lists of facts in order, which offices keep.
 ghost use Rattle.cvr_collect.specs.ListLaws.{SameListsLaw, PutGrowthLaw, SpelledPutLaw, StartSetLaw, PlainStartLaw, AllOfLaw, AllSpelledLaw, OfFileLaw};
-ghost use Rattle.cvr_collect.specs.ListLaws.{LastHeaderLaw, GreatestSnapshotLaw, IdsRiseLaw, NoRunLaw, WholeRunLaw, NamedLaw, ConflictRunsLaw, GreatestRunLaw};
+ghost use Rattle.cvr_collect.specs.ListLaws.{LastHeaderLaw, GreatestSnapshotLaw, IdsRiseLaw, RecordsRiseLaw, NoRunLaw, WholeRunLaw, NamedLaw, ConflictRunsLaw, GreatestRunLaw};
 ghost use Rattle.cvr_collect.specs.SumLaws.{CurrentSumsLaw, SnapshotSumsLaw, SumsAtLaw, RowMoreLaw, AddedLaw, NoHeaderLaw, NoCurrentLaw};
 
 /// Lists with one set tell the same facts. A list grows by the facts that were not in it, and what
@@ -25,11 +25,13 @@ pub fn files()
 {}
 
 /// The run of a record has its header last of its headers, its current snapshot as the greatest of
-/// its snapshots, and all facts of it. What has no run is no record.
+/// its snapshots, and all facts of it. What has no run is no record. The runs stand in order of
+/// their records.
 pub fn runs()
     ensures header { LastHeaderLaw }
     ensures current { GreatestSnapshotLaw }
     ensures ids { IdsRiseLaw }
+    ensures records { RecordsRiseLaw }
     ensures none { NoRunLaw }
     ensures whole { WholeRunLaw }
 {}

@@ -10,7 +10,7 @@ use crate::any_fact::AnyFact;
 use cvr_facts::RecordName;
 
 // The least record name above the given one, or the least of all. Takes no memory.
-pub fn next_record_in<'a>(
+pub(crate) fn next_record_in<'a>(
     facts: &'a [AnyFact],
     after: Option<&RecordName>,
 ) -> Option<&'a RecordName>
@@ -39,7 +39,7 @@ pub(crate) fn record_count_in(facts: &[AnyFact]) -> usize
 }
 
 // The record that a fact is of, if it is of one.
-fn record_name(fact: &AnyFact) -> Option<&RecordName>
+pub(crate) fn record_name(fact: &AnyFact) -> Option<&RecordName>
     ensures { option_map (λ k. k.now) result ≡ record_of (fact_of fact.now) }
 {
     match fact {

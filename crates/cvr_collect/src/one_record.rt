@@ -1,17 +1,23 @@
-ghost use Rattle.std.specs.Prelude.{◌≡◌, List, option_map, None};
+ghost use Rattle.std.specs.Prelude.{◌≡◌, List, OnOk, IfOk, take, drop, option_map, None, false, not};
 ghost use Rattle.cdf_form.specs.Places.{Contest};
-ghost use Rattle.std.specs.List.{last_or, Contains};
+ghost use Rattle.std.specs.List.{last_or, filter, Contains};
 ghost use Rattle.std.specs.List.Sorted.{IsStrictlySortedBy};
+ghost use Rattle.std.specs.Ordering.{is_lt};
 ghost use Rattle.cvr_facts.specs.Stands.{IsSpelledHeader};
+ghost use Rattle.cvr_collect.specs.declared.any_fact.AnyFact.{AnyFact};
 ghost use Rattle.cvr_collect.specs.declared.any_fact.AnyFact.TheVariants as any;
 ghost use Rattle.cvr_collect.specs.Place.{any_cmp};
 ghost use Rattle.cvr_collect.specs.Plain.{set_of};
 ghost use Rattle.cvr_collect.specs.Readers.{IsHeader, IsCurrent};
-ghost use Rattle.cvr_collect.specs.Runs.{record_order, run, headers, snapshots, chosen, IsChosen, AreSpelled};
+ghost use Rattle.cvr_collect.specs.Runs.{record_order, is_of, first_record, run, headers, snapshots, chosen, IsChosen, AreSpelled};
 
 use crate::any_fact::AnyFact;
+use crate::names::record_name;
+use cdf_types::Memory;
 use cvr_facts::{HeaderFact, RecordName, SnapshotFact, choice_cmp};
+use std::alloc::Global;
 use std::cmp::Ordering;
+use std::collections::VecDeque;
 
 // How a fact's record stands to this one; a device stands before all records.
 fn record_order(fact: &AnyFact, key: &RecordName) -> Ordering
@@ -25,7 +31,7 @@ fn record_order(fact: &AnyFact, key: &RecordName) -> Ordering
 }
 
 // The facts of a record: its headers, then its snapshots by id.
-pub fn run_of<'a>(facts: &'a [AnyFact], key: &RecordName) -> &'a [AnyFact]
+pub(crate) fn run_of<'a>(facts: &'a [AnyFact], key: &RecordName) -> &'a [AnyFact]
     requires { IsStrictlySortedBy any_cmp facts.now }
     ensures { result.now ≡ run key.now facts.now }
 {
@@ -33,6 +39,46 @@ pub fn run_of<'a>(facts: &'a [AnyFact], key: &RecordName) -> &'a [AnyFact]
     let rest = &facts[start..];
     let end = rest.partition_point(|fact| record_order(fact, key).is_eq());
     &rest[..end]
+}
+
+// The record of the first fact, if it is of one. Takes no memory.
+pub fn first_record(facts: &VecDeque<AnyFact>) -> Option<&RecordName>
+    ensures { option_map (λ k. k.now) result ≡ first_record facts.now.items }
+{
+    record_name(facts.front()?)
+}
+
+// Takes the facts of a record out of facts in order, of which none is of a lesser record.
+pub fn take_run(
+    alloc: Global,
+    facts: &mut VecDeque<AnyFact>,
+    key: &RecordName,
+) -> Result<Vec<AnyFact>, Memory>
+    requires rises { IsStrictlySortedBy any_cmp facts.old.items }
+    requires least { (x : AnyFact) → Contains facts.old.items x → is_lt (record_order key.now x) ≡ false }
+    ensures run { IfOk result (λ taken. taken.items ≡ run key.now facts.old.items) }
+    ensures rest { OnOk result (facts.new.items ≡ filter (λ x. not (is_of key.now x)) facts.old.items) }
+{
+    let count = facts.partition_point(|fact| record_order(fact, key).is_eq());
+    take_front(alloc, facts, count)
+}
+
+// Takes so many facts from the front.
+fn take_front(
+    alloc: Global,
+    facts: &mut VecDeque<AnyFact>,
+    count: usize,
+) -> Result<Vec<AnyFact>, Memory>
+    ensures front { IfOk result (λ taken. taken.items ≡ take count facts.old.items) }
+    ensures rest { OnOk result (facts.new.items ≡ drop count facts.old.items) }
+{
+    let mut taken = Vec::with_capacity(alloc, count)?;
+    for place in 0..count {
+        if let Some(fact) = facts.pop_front() {
+            taken.push(fact)?;
+        }
+    }
+    Ok(taken)
 }
 
 // The header of a record: the last of its run.

@@ -12,7 +12,7 @@ use crate::record_lists::record_facts_in;
 use crate::tallying::{row_in, tally_in, totals_in};
 use cdf_check::{Definition, check_report};
 use cdf_types::{Body, Memory, ReadFault};
-use cvr_facts::{HeaderFact, RecordName, SnapshotFact, facts_of};
+use cvr_facts::{HeaderFact, RecordName, SnapshotFact, take_facts};
 use cvr_tally::{Row, RowKey, Totals};
 use std::alloc::Global;
 use std::marker::Model;
@@ -55,9 +55,8 @@ impl Office for PlainOffice {
     fn import(&mut self, bytes: &[u8]) -> Result<Receipt, ReadFault> {
         let alloc = *self.facts.allocator();
         let report = check_report(alloc, &self.definition, bytes)?;
-        let list = facts_of(alloc, &self.definition, &report)?;
         let cvrs = report.cvrs.as_slice().len();
-        drop(report);
+        let list = take_facts(alloc, &self.definition, report)?;
         let new_facts = put_in(&mut self.facts, in_one(alloc, list)?)?;
         Ok(Receipt { cvrs, new_facts })
     }

@@ -43,7 +43,7 @@ pub fn facts_of(alloc: Global, definition: &Definition, report: &Report) -> Resu
 }
 
 // The facts in order, one of those that tie.
-fn in_order<T: Ord + Drop>(mut facts: Vec<T>) -> Seq<T>
+pub(crate) fn in_order<T: Ord + Drop>(mut facts: Vec<T>) -> Seq<T>
     ensures once { IsStrictlySortedBy T.cmp result }
     ensures told { (fact : T) → Contains result fact → Contains facts.items fact }
     ensures kept { (fact : T) → Contains facts.items fact → Any (λ other. T.cmp fact other ≡ Equal) result }

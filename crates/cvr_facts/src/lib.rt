@@ -14,6 +14,7 @@ mod name;
 pub mod rows;
 mod snapshot;
 mod sums;
+mod taken;
 pub mod text;
 
 pub use bodies::BodySet;
@@ -26,3 +27,4 @@ pub use list::FactList;
 pub use name::RecordName;
 pub use snapshot::SnapshotFact;
 pub use sums::VoteSums;
+pub use taken::take_facts;

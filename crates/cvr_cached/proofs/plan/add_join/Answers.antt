@@ -8,7 +8,7 @@ use Rattle.cvr_collect.specs.declared.any_fact.AnyFact.{AnyFact}
 use Rattle.cvr_collect.specs.Place.{fact_of}
 use Rattle.cvr_collect.specs.Plain.{set_of, IsPut}
 use Rattle.cvr_cached.specs.Contents.{facts_at}
-use Rattle.cvr_cached.specs.Plans.{IsStep}
+use Rattle.cvr_cached.specs.Plans.{IsPushed, IsStep}
 use Rattle.cvr_cached.proofs.Growing.{grown_list, step_added}
 use Rattle.cvr_cached.proofs.Olds.{old_is}
 use Rattle.cvr_cached.proofs.plan.add_join.Goals as goal
@@ -29,5 +29,6 @@ returns c =
     let fresh = subst (λ xs. (x : AnyFact) × Contains xs x × (contains (set_of old) (fact_of x) ≡ false)) c.facts-2.ensures.is among in
     let was = c.args.plan.now in
     let now = c.push_change.new.plan in
+    let pushed = subst (λ n. OnOk c.push_change.result (IsPushed old c.join.new.self n was.contents.items was.keys.items was.new_facts now.contents.items now.keys.items now.new_facts)) c.in_ok-copy.ensures c.push_change.ensures in
     subst (λ o. OnOk c.push_change.result (IsStep o c.args.theirs.now c.args.name.now was.contents.items was.keys.items was.new_facts now.contents.items now.keys.items now.new_facts)) is
-    (step_added c.push_change.result old c.args.theirs.now c.join.new.self c.args.name.now was.contents.items was.keys.items was.new_facts now.contents.items now.keys.items now.new_facts c.facts.ensures.rises put fresh c.push_change.ensures)
+    (step_added c.push_change.result old c.args.theirs.now c.join.new.self c.args.name.now was.contents.items was.keys.items was.new_facts now.contents.items now.keys.items now.new_facts c.facts.ensures.rises put fresh pushed)

@@ -1,4 +1,4 @@
-use Rattle.std.proofs.Common.{◌++◌, ◌∷◌, [], ◌∙◌, ap, arith}
+use Rattle.std.proofs.Common.{arith}
 use Rattle.cvr_cached.proofs.plan.push_change.Goals as goal
 
 pub returns : goal.returns
@@ -6,7 +6,7 @@ returns c = record {
   keys = record { old = c.in_ok-keys.field-0; new = c.in_ok-keys-2.field-0 };
   old_keys = c.in_ok-keys.ensures;
   new_keys = c.in_ok-keys-2.ensures;
-  contents_are = c.in_ok-push-2.ensures.items ∙ ap (λ n. c.args.plan.now.contents.items ++ (n, c.args.content) ∷ []) c.in_ok-name.ensures;
+  contents_are = c.in_ok-push-2.ensures.items;
   keys_are = c.in_ok-push.ensures.items;
   count = omega (arith, c.in-Some.ensures, c.requires);
 }

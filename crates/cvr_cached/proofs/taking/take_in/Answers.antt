@@ -9,21 +9,21 @@ use Rattle.cvr_cached.proofs.Taken.{agrees_before, counted_before, full_before, 
 use Rattle.cvr_cached.proofs.taking.take_in.Goals as goal
 
 pub plan_of-requires-clause-rise : goal.plan_of-requires-clause-rise
-plan_of-requires-clause-rise c = rise_before c.args.totals.now.contests c.args.devices.now.items c.args.records.now.entries c.args.totals.now.rows c.args.count.now (c.args.theirs.now ++ c.args.more.now) c.requires.held c.requires.told
+plan_of-requires-clause-rise c = rise_before c.args.totals.now.contests c.args.devices.now.items c.args.records.now.entries c.args.totals.now.rows c.args.count.now (c.args.theirs.now ++ c.args.more.items) c.requires.held c.requires.told
 
 pub settle-new_facts-requires-clause-counted : goal.settle-new_facts-requires-clause-counted
-settle-new_facts-requires-clause-counted c = counted_before c.args.totals.now.contests c.args.devices.now.items c.args.records.now.entries c.args.totals.now.rows c.args.count.now (c.args.theirs.now ++ c.args.more.now) c.requires.held c.requires.told
+settle-new_facts-requires-clause-counted c = counted_before c.args.totals.now.contests c.args.devices.now.items c.args.records.now.entries c.args.totals.now.rows c.args.count.now (c.args.theirs.now ++ c.args.more.items) c.requires.held c.requires.told
 
 pub settle-new_facts-requires-clause-full : goal.settle-new_facts-requires-clause-full
-settle-new_facts-requires-clause-full c = full_before c.args.totals.now.contests c.args.devices.now.items c.args.records.now.entries c.args.totals.now.rows c.args.count.now (c.args.theirs.now ++ c.args.more.now) c.requires.held c.requires.told
+settle-new_facts-requires-clause-full c = full_before c.args.totals.now.contests c.args.devices.now.items c.args.records.now.entries c.args.totals.now.rows c.args.count.now (c.args.theirs.now ++ c.args.more.items) c.requires.held c.requires.told
 
 pub settle-new_facts-requires-clause-agrees : goal.settle-new_facts-requires-clause-agrees
-settle-new_facts-requires-clause-agrees c = agrees_before c.args.totals.now.contests c.args.devices.now.items c.args.records.now.entries c.args.totals.now.rows c.args.count.now (c.args.theirs.now ++ c.args.more.now) c.requires.held c.requires.told
+settle-new_facts-requires-clause-agrees c = agrees_before c.args.totals.now.contests c.args.devices.now.items c.args.records.now.entries c.args.totals.now.rows c.args.count.now (c.args.theirs.now ++ c.args.more.items) c.requires.held c.requires.told
 
 pub settle-new_facts-requires-clause-room : goal.settle-new_facts-requires-clause-room
 settle-new_facts-requires-clause-room c =
-    room_before c.args.totals.now.contests c.args.devices.now.items c.args.records.now.entries c.args.totals.now.rows c.args.count.now (c.args.theirs.now ++ c.args.more.now) c.requires.held c.requires.told
-    (λ k. run k c.args.more.now) (λ k x at. ((apart_runs c.args.theirs.now c.args.more.now c.requires.theirs c.requires.more k x).0 at).0)
+    room_before c.args.totals.now.contests c.args.devices.now.items c.args.records.now.entries c.args.totals.now.rows c.args.count.now (c.args.theirs.now ++ c.args.more.items) c.requires.held c.requires.told
+    (λ k. run k c.args.more.items) (λ k x at. ((apart_runs c.args.theirs.now c.args.more.items c.requires.theirs c.requires.more k x).0 at).0)
     c.in_ok-plan.plan.contents.items c.in_ok-plan.plan.keys.items c.in_ok-plan.plan.new_facts c.in_ok-plan.ensures
 
 pub returns-clause-put : goal.returns-clause-put
@@ -33,7 +33,7 @@ returns-clause-put c =
     let es = c.args.records.now.entries in
     let fs = c.settle-new_facts.new.records.entries in
     let theirs = c.args.theirs.now in
-    let more = c.args.more.now in
+    let more = c.args.more.items in
     let p = c.in_ok-plan.plan in
     both_ok c.settle-new_facts.result c.settle-new_facts.ensures.devices c.settle-new_facts.ensures.records (λ devices done.
     put_after d d' es fs c.requires.held.own c.names_rise.ensures theirs (theirs ++ more) (λ k. run k more) devices (apart_devices theirs more c.requires.theirs c.requires.more) (apart_runs theirs more c.requires.theirs c.requires.more)
@@ -46,7 +46,7 @@ returns-clause-new c =
     let es = c.args.records.now.entries in
     let fs = c.settle-new_facts.new.records.entries in
     let theirs = c.args.theirs.now in
-    let more = c.args.more.now in
+    let more = c.args.more.items in
     let p = c.in_ok-plan.plan in
     let t = c.settle-new_facts.new.totals in
     told_ok c.settle-new_facts.result c.settle-new_facts.ensures.devices c.settle-new_facts.ensures.records c.settle-new_facts.ensures.new (λ n devices done more_is.
@@ -64,7 +64,7 @@ returns-clause-held c =
     let es = c.args.records.now.entries in
     let fs = c.settle-new_facts.new.records.entries in
     let theirs = c.args.theirs.now in
-    let more = c.args.more.now in
+    let more = c.args.more.items in
     let p = c.in_ok-plan.plan in
     let t = c.settle-new_facts.new.totals in
     let s = c.settle-new_facts.ensures in
@@ -93,8 +93,8 @@ pub returns-clause-moves_few : goal.returns-clause-moves_few
 returns-clause-moves_few c =
     let p = c.in_ok-plan.plan in
     moves_told c.settle-new_facts.result c.args.totals.now.moves c.settle-new_facts.new.totals.moves (all_moves p.keys.items) p.new_facts (2 * length c.args.totals.now.contests) c.settle-new_facts.ensures.moves c.settle-new_facts.ensures.more
-    (moves_before c.args.totals.now.contests c.args.devices.now.items c.args.records.now.entries c.args.totals.now.rows c.args.count.now (c.args.theirs.now ++ c.args.more.now) c.requires.held c.requires.told
-    (λ k. run k c.args.more.now) (λ k x at. ((apart_runs c.args.theirs.now c.args.more.now c.requires.theirs c.requires.more k x).0 at).0)
+    (moves_before c.args.totals.now.contests c.args.devices.now.items c.args.records.now.entries c.args.totals.now.rows c.args.count.now (c.args.theirs.now ++ c.args.more.items) c.requires.held c.requires.told
+    (λ k. run k c.args.more.items) (λ k x at. ((apart_runs c.args.theirs.now c.args.more.items c.requires.theirs c.requires.more k x).0 at).0)
     p.contents.items p.keys.items p.new_facts c.in_ok-plan.ensures)
 
 pub returns-clause-moves_stay : goal.returns-clause-moves_stay

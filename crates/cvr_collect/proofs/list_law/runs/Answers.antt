@@ -1,5 +1,6 @@
 use Rattle.cvr_collect.proofs.OneRecord.{header_is, current_is}
 use Rattle.cvr_collect.proofs.RecordGroups.{rises_by_id}
+use Rattle.cvr_collect.proofs.Runs.{records_rise}
 use Rattle.cvr_collect.proofs.WholeRecord.{none_of, facts_are}
 use Rattle.cvr_collect.proofs.list_law.runs.Goals as goal
 
@@ -8,6 +9,7 @@ returns c = record {
   header = header_is;
   current = current_is;
   ids = rises_by_id;
+  records = records_rise;
   none = none_of;
   whole = facts_are;
 }

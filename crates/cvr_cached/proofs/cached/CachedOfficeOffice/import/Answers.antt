@@ -19,19 +19,18 @@ take_in-requires-clause-theirs c =
 
 pub take_in-requires-clause-more : goal.take_in-requires-clause-more
 take_in-requires-clause-more c =
-    rw c.deref-2.ensures.value
     (more_named c.in_ok-list.list c.in_ok-theirs.theirs.items c.new-more.result.items c.in_ok-of_records.field-0.items c.put_in.new.facts.items c.in_ok-theirs.ensures c.new-more.ensures.items c.in_ok-of_records.ensures c.in_ok-put_in.ensures.put)
 
 pub take_in-requires-clause-told : goal.take_in-requires-clause-told
 take_in-requires-clause-told c =
     let files = of_file c.self.inside.definition c.args.bytes.now c.in_ok-report.report c.in_ok-list.list c.in_ok-report.ensures.valid c.in_ok-report.ensures.report c.in_ok-list.ensures.file c.in_ok-list.ensures.spelled in
-    rw (c.deref.ensures.value, c.deref-2.ensures.value)
+    rw c.deref.ensures.value
     (import_told c.in_ok-list.list c.in_ok-theirs.theirs.items c.new-more.result.items c.in_ok-of_records.field-0.items c.put_in.new.facts.items c.in_ok-theirs.ensures c.new-more.ensures.items c.in_ok-of_records.ensures c.in_ok-put_in.ensures.put c.self.inside.definition c.args.bytes.now files c.self.inside.totals.contests (listed c.self.inside.devices.items c.self.inside.records.entries) c.self.invariant.contests_are c.self.invariant.plain c.in_ok-report.ensures.valid)
 
 pub invariant_of-self-2 : goal.invariant_of-self-2
 invariant_of-self-2 c =
     let files = of_file c.self.inside.definition c.args.bytes.now c.in_ok-report.report c.in_ok-list.list c.in_ok-report.ensures.valid c.in_ok-report.ensures.report c.in_ok-list.ensures.file c.in_ok-list.ensures.spelled in
-    let put = rw (c.deref.ensures.value, c.deref-2.ensures.value) at c.take_in.ensures.put in
+    let put = rw c.deref.ensures.value at c.take_in.ensures.put in
     record {
       plain = import_plain c.in_ok-list.list c.in_ok-theirs.theirs.items c.new-more.result.items c.in_ok-of_records.field-0.items c.put_in.new.facts.items c.in_ok-theirs.ensures c.new-more.ensures.items c.in_ok-of_records.ensures c.in_ok-put_in.ensures.put c.self.inside.definition c.args.bytes.now files c.take_in.result (listed c.self.inside.devices.items c.self.inside.records.entries) (listed c.take_in.new.devices.items c.take_in.new.records.entries) c.self.invariant.plain c.in_ok-report.ensures.valid put c.take_in.ensures.unchanged;
       held = c.take_in.ensures.held;
@@ -42,14 +41,14 @@ pub returns-clause-content : goal.returns-clause-content
 returns-clause-content c =
     let files = of_file c.self.inside.definition c.args.bytes.now c.in_ok-report.report c.in_ok-list.list c.in_ok-report.ensures.valid c.in_ok-report.ensures.report c.in_ok-list.ensures.file c.in_ok-list.ensures.spelled in
     let is = set_is c.in_ok-list.list c.in_ok-theirs.theirs.items c.new-more.result.items c.in_ok-of_records.field-0.items c.put_in.new.facts.items c.in_ok-theirs.ensures c.new-more.ensures.items c.in_ok-of_records.ensures c.in_ok-put_in.ensures.put c.self.inside.definition c.args.bytes.now files in
-    let put = rw (c.deref.ensures.value, c.deref-2.ensures.value) at c.in_ok-new_facts.ensures.put in
+    let put = rw c.deref.ensures.value at c.in_ok-new_facts.ensures.put in
     rw (← c.self.view_is) (put.set ∙ ap (union (set_of (listed c.self.inside.devices.items c.self.inside.records.entries))) is)
 
 pub returns-clause-new_facts : goal.returns-clause-new_facts
 returns-clause-new_facts c =
     let files = of_file c.self.inside.definition c.args.bytes.now c.in_ok-report.report c.in_ok-list.list c.in_ok-report.ensures.valid c.in_ok-report.ensures.report c.in_ok-list.ensures.file c.in_ok-list.ensures.spelled in
     let is = set_is c.in_ok-list.list c.in_ok-theirs.theirs.items c.new-more.result.items c.in_ok-of_records.field-0.items c.put_in.new.facts.items c.in_ok-theirs.ensures c.new-more.ensures.items c.in_ok-of_records.ensures c.in_ok-put_in.ensures.put c.self.inside.definition c.args.bytes.now files in
-    let new = rw (c.deref.ensures.value, c.deref-2.ensures.value) at c.in_ok-new_facts.ensures.new in
+    let new = rw c.deref.ensures.value at c.in_ok-new_facts.ensures.new in
     rw (← c.self.view_is) (new ∙ ap (growth (set_of (listed c.self.inside.devices.items c.self.inside.records.entries))) is)
 
 pub returns-clause-moves_few : goal.returns-clause-moves_few
