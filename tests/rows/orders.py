@@ -11,10 +11,11 @@ Members are moved as text, so that each number and each text stays as it is spel
 twice, stays as it is, and so does one of more than 256 KiB; a row without any other file isn't run, nor one of more than a
 hundred files, which differ in a byte, nor a row's second run with its file as the definition. It tries itself first. The last line is `orders: N right, M wrong`; the status is 0 only where M is 0 and N is not."""
 import argparse
+import functools
+import multiprocessing
 import os
 import sys
 import tempfile
-from concurrent.futures import ThreadPoolExecutor
 
 sys.dont_write_bytecode = True
 import run           # noqa: E402
@@ -140,8 +141,9 @@ def answer(cvr, row, short, arrange):
         return run.run(cvr, row, folder) if lay(folder, row, short, arrange) else None
 
 
-def tried(cvr, row, short):
+def tried(cvr, held):
     """(how many runs of a row were right, what differs in the others)."""
+    _, row, short = held
     right, wrong = 0, []
     for arrange in ORDERS:
         got = answer(cvr, row, short, arrange)
@@ -182,11 +184,12 @@ def main():
         wrong += 1
     rows = [it for it in run.all_rows() + [('members.py', row, {}) for row in members.rows()]
             if len(it[1].get('files', {})) <= FILES and not it[1]['name'].endswith('(as definition)')]
-    pool = ThreadPoolExecutor(min(run.SIDE_BY_SIDE, len(os.sched_getaffinity(0))))
-    for (where, row, _), (count, found) in zip(rows, pool.map(lambda it: tried(cvr, *it[1:]), rows)):
-        right, wrong = right + count, wrong + bool(found)
-        for line in found:
-            print('WRONG %s: %s: %s' % (where, row['name'], line))
+    # processes, since the members are moved here
+    with multiprocessing.get_context('fork').Pool(min(run.SIDE_BY_SIDE, len(os.sched_getaffinity(0)))) as pool:
+        for (where, row, _), (count, found) in zip(rows, pool.imap(functools.partial(tried, cvr), rows)):
+            right, wrong = right + count, wrong + bool(found)
+            for line in found:
+                print('WRONG %s: %s: %s' % (where, row['name'], line))
     print('orders: %d right, %d wrong' % (right, wrong))
     sys.exit(0 if right and not wrong else 1)
 

@@ -25,7 +25,11 @@ use std::alloc::Global;
 ///
 /// # Errors
 /// `Memory` where a growth was refused.
-pub fn take_facts(alloc: Global, definition: &Definition, report: Report) -> Result<FactList, Memory>
+pub fn take_facts(
+    alloc: Global,
+    definition: &Definition,
+    report: Report,
+) -> Result<FactList, Memory>
     requires { ReportInRange definition.now.contests report }
     ensures facts { IfOk result (λ list. from_list {R = fact_cmp} (facts_in list) ≡ from_list (told_facts definition.now.contests report)) }
     ensures once { IfOk result Rises }

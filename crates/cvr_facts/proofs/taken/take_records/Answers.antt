@@ -24,9 +24,9 @@ loop-cvr-preserved c =
     let cvr = c.in-Some.cvr in
     let before = c.loop-cvr.yielded in
     record {
-  headers = c.in_ok-push.ensures.items ∙ ap (λ hs. hs ++ c.in_ok-take_record.field-0 ∷ []) c.loop-cvr.invariant.headers
-      ∙ ap (λ h. map told_header before ++ h ∷ []) c.in_ok-take_record.ensures.header ∙ sym (map-append told_header before (cvr ∷ []));
-  snapshots = c.in_ok-take_record.ensures.snapshots ∙ ap (λ ss. ss ++ told cvr) c.loop-cvr.invariant.snapshots
-      ∙ ap (λ t. flat_map told before ++ t) (sym (append-nil (told cvr))) ∙ sym (flat_map-append told before (cvr ∷ []));
-  left = λ r h. c.loop-cvr.invariant.left r (subst (λ xs. Contains xs r) (sym c.in-Some.ensures.steps.0) (at_tail cvr r (into_iter_items c.next.new.self) h));
-}
+      headers = c.in_ok-push.ensures.items ∙ ap (λ hs. hs ++ c.in_ok-take_record.field-0 ∷ []) c.loop-cvr.invariant.headers
+          ∙ ap (λ h. map told_header before ++ h ∷ []) c.in_ok-take_record.ensures.header ∙ sym (map-append told_header before (cvr ∷ []));
+      snapshots = c.in_ok-take_record.ensures.snapshots ∙ ap (λ ss. ss ++ told cvr) c.loop-cvr.invariant.snapshots
+          ∙ ap (λ t. flat_map told before ++ t) (sym (append-nil (told cvr))) ∙ sym (flat_map-append told before (cvr ∷ []));
+      left = λ r h. c.loop-cvr.invariant.left r (subst (λ xs. Contains xs r) (sym c.in-Some.ensures.steps.0) (at_tail cvr r (into_iter_items c.next.new.self) h));
+    }

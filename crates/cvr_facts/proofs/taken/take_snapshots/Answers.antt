@@ -23,7 +23,7 @@ loop-snapshot-preserved c =
     let so_far = map told c.loop-snapshot.yielded in
     let one = c.in_ok-take_snapshot.field-0 in
     record {
-  added = c.in_ok-push.ensures.items ∙ ap (λ fs. fs ++ one ∷ []) c.loop-snapshot.invariant.added ∙ append_assoc old so_far (one ∷ [])
-      ∙ ap (λ f. old ++ (so_far ++ f ∷ [])) c.in_ok-take_snapshot.ensures ∙ ap (λ t. old ++ t) (sym (map-append told c.loop-snapshot.yielded (c.in-Some.snapshot ∷ [])));
-  left = λ s h. c.loop-snapshot.invariant.left s (subst (λ xs. Contains xs s) (sym c.in-Some.ensures.steps.0) (at_tail c.in-Some.snapshot s (into_iter_items c.next.new.self) h));
-}
+      added = c.in_ok-push.ensures.items ∙ ap (λ fs. fs ++ one ∷ []) c.loop-snapshot.invariant.added ∙ append_assoc old so_far (one ∷ [])
+          ∙ ap (λ f. old ++ (so_far ++ f ∷ [])) c.in_ok-take_snapshot.ensures ∙ ap (λ t. old ++ t) (sym (map-append told c.loop-snapshot.yielded (c.in-Some.snapshot ∷ [])));
+      left = λ s h. c.loop-snapshot.invariant.left s (subst (λ xs. Contains xs s) (sym c.in-Some.ensures.steps.0) (at_tail c.in-Some.snapshot s (into_iter_items c.next.new.self) h));
+    }
