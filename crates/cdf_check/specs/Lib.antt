@@ -10,6 +10,7 @@ pub mod Same
 pub mod Acceptance
 pub mod Apart
 pub mod Taken
+pub mod Looked
 pub mod Bodies
 pub mod Wider
 pub mod Depths

@@ -11,6 +11,7 @@ pub mod Kept
 pub mod Laws
 pub mod Listings
 pub mod Merge
+pub mod Records
 pub mod Proper
 pub mod TextLaws
 pub mod Removing

@@ -1,0 +1,26 @@
+-- The faults of cast vote records by themselves, and what they are of the report that has them. (This project's profile of NIST SP 1500-103.)
+use Rattle.std.specs.Prelude.{◌≡◌, ◌≤◌, List, [], Some, codes}
+use Rattle.serde_json.specs.Data.{Data, array, object, Items, Members}
+use Rattle.serde_json.specs.Find.{get_member}
+use Rattle.serde_json.specs.Events.{items_len}
+use Rattle.cdf_form.specs.declared.table.Class.TheVariants as class_of
+use Rattle.cdf_form.specs.declared.table.Group.TheVariants as group
+use Rattle.cdf_form.specs.declared.table.Leaf.TheVariants as leaf
+use Rattle.cdf_form.specs.declared.table.Key.TheVariants as key
+use Rattle.cdf_form.specs.declared.table.Kind.TheVariants.{One}
+use Rattle.cdf_form.specs.Tables.{any}
+use Rattle.cdf_form.specs.Form.{Fault, at_member, deeper, first, class_in, faults, items_faults}
+
+-- those of one record by itself
+abbrev pub cvr_faults : Data → List Fault
+cvr_faults d = faults d (One (leaf.Object group.Cvrs)) key.Free
+
+-- those of the records of an array, in order
+abbrev pub cvrs_faults : Items → List Fault
+cvrs_faults ds = items_faults ds (leaf.Object group.Cvrs) key.Free 0 []
+
+-- records stand first in a report's table: where one has a fault, the first of them is the first of the report's form
+abbrev pub RecordsFirstLaw : Type 0
+RecordsFirstLaw = (ms : Members) (ds : Items) (f : Fault) → class_in group.Reports (object ms) ≡ Some class_of.CastVoteRecordReport
+    → get_member (codes "CVR") ms ≡ Some (array ds) → items_len ds ≤ any → first (cvrs_faults ds) ≡ Some f
+    → first (faults (object ms) (One (leaf.Object group.Reports)) key.Free) ≡ Some (deeper (at_member (codes "CVR")) f)
