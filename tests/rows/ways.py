@@ -4,13 +4,16 @@ ways.py --write
 
 How is each file of the rows read? `check_report` reads a file record by record where it can, and else as one tree, and no
 answer of it tells which. The program `cvr_ways` does; it is asked of each file of each row beside the row's definition, each
-two once. A file that the row refuses has to be `refused`. One that it accepts has to be read record by record, but for
-these, which are told by the file alone:
+two once. A file that the row accepts has to be read record by record, but for these, which are told by the file alone:
 
 - no CVR: it has no member CVR;
 - CVR twice: it has more than one, of which the last counts;
 - a number not of digits: one of its numbers, also in a member that doesn't count, isn't digits alone, or more than 64 bits hold;
 - PartyIds: a record names a party.
+
+One that the row refuses has to be refused record by record where it has none of the first three, a record of it lacks its
+form, what the records before that one name is the definition's or their own, and without its records nothing is wrong with
+its numbers and form, by the rules of rules.py; and else as one tree.
 
 ways.txt has how many files of each file of rows are read in which way, and each accepted one that is read as one tree, by
 the first row that has it. --write writes it anew, by these rules; without it, it has to be as it would be written, so that
@@ -29,12 +32,16 @@ from concurrent.futures import ThreadPoolExecutor
 sys.dont_write_bytecode = True
 import changes       # noqa: E402
 import members       # noqa: E402
+import rules         # noqa: E402
 import run           # noqa: E402 (all stand beside this file)
 
 HERE = os.path.dirname(os.path.abspath(__file__))
 TABLE = os.path.join(HERE, 'ways.txt')
-BY_RECORD, AS_TREE, REFUSED, REFUSED_BY_RECORD = 'accepted record by record', 'accepted as one tree', 'refused', 'refused record by record'
-WAYS = [BY_RECORD, AS_TREE, REFUSED]
+BY_RECORD, AS_TREE = 'accepted record by record', 'accepted as one tree'
+REFUSED_BY_RECORD, REFUSED_AS_TREE = 'refused record by record', 'refused as one tree'
+CONTRADICTED = 'read in a way that contradicts the answer'
+WAYS = [BY_RECORD, AS_TREE, REFUSED_BY_RECORD, REFUSED_AS_TREE]
+RULES = rules.Rules()
 REASONS = ['no CVR', 'CVR twice', 'a number not of digits', 'PartyIds']
 MOST_WHOLE = 18446744073709551615
 AT_ONCE = 400       # files of one call
@@ -49,25 +56,68 @@ def is_digits(number):
     return number.isdigit() and len(number) <= len(str(MOST_WHOLE)) and int(number) <= MOST_WHOLE
 
 
-def reason(data):
-    """Why a file that is accepted isn't read record by record, or None where it is."""
+def tree_reason(data):
+    """Why the records of a file can't be read one by one, or None where they can."""
     numbers = []
     top = json.loads(data.decode('utf-8'), parse_int=numbers.append, parse_float=numbers.append, object_pairs_hook=list)
     lists = [value for name, value in top if name == 'CVR']
     if len(lists) != 1:
         return 'CVR twice' if lists else 'no CVR'
-    if not all(map(is_digits, numbers)):
-        return 'a number not of digits'
-    return 'PartyIds' if any(dict(record).get('PartyIds') for record in lists[0]) else None
+    return None if all(map(is_digits, numbers)) else 'a number not of digits'
+
+
+def reason(data):
+    """Why a file that is accepted isn't read record by record, or None where it is."""
+    records = json.loads(data.decode('utf-8')).get('CVR', [])
+    return tree_reason(data) or ('PartyIds' if any(record.get('PartyIds') for record in records) else None)
+
+
+class Anything:
+    """What holds every text."""
+
+    def __contains__(self, text):
+        return True
+
+
+def is_refused(see, *words):
+    try:
+        see(RULES, *words)
+    except rules.Fault:
+        return True
+    return False
+
+
+def lacks_form(record):
+    return is_refused(rules.see_object, record, ['CVR'], ())
+
+
+def names_more(record, scope):
+    """Whether a record names a party, or what is neither the definition's nor its own; its unit and its device aside."""
+    return bool(record.get('PartyIds')) or is_refused(rules.see_references, record, scope, ())
+
+
+def is_refused_by_record(definition, data):
+    """Whether a file that is refused for the form of a record is refused record by record."""
+    if tree_reason(data):
+        return False
+    value = rules.read(RULES, data)
+    scope = rules.Scope(rules.read(RULES, definition))
+    scope.ids.update({'GpUnit': Anything(), 'ReportingDevice': Anything()})
+    first = next((it for it in value['CVR'] if lacks_form(it) or names_more(it, scope)), None)
+    without = dict(value, CVR=[])
+    return first is not None and lacks_form(first) and not is_refused(rules.see, without, ['classes', ['CastVoteRecordReport']], ())
 
 
 class File:
-    """A file beside a definition, and what the rules say of it."""
+    """A file beside a definition, and what the rules say of it. `fault`: for which the row refuses it, if it does."""
 
-    def __init__(self, where, name, definition, data, is_refused):
+    def __init__(self, where, name, definition, data, fault):
         self.where, self.name, self.definition, self.data = where, name, definition, data
-        self.reason = None if is_refused else reason(data)
-        self.way = REFUSED if is_refused else AS_TREE if self.reason else BY_RECORD
+        self.reason = None if fault else reason(data)
+        self.way = AS_TREE if self.reason else BY_RECORD
+        if fault:
+            is_of_record = fault.startswith('E3 /CVR/') and is_refused_by_record(definition, data)
+            self.way = REFUSED_BY_RECORD if is_of_record else REFUSED_AS_TREE
 
 
 def least(part):
@@ -89,14 +139,16 @@ def rows():
 
 
 def told(row):
-    """Each file of a row as (its path, whether the row refuses it); none where the definition is refused."""
+    """Each file of a row as (its path, the fault for which the row refuses it, or None); none where the definition is refused."""
     left = row.stated
     if left.startswith('%s: E' % row.paths[0]):
         return
     for what, path in row.told:
-        is_refused = left.startswith('%s: E' % what)
-        left = left[left.index('\n', len(what)) + 1:] if is_refused else left
-        yield path, is_refused
+        fault = None
+        if left.startswith('%s: E' % what):
+            end = left.index('\n', len(what))
+            fault, left = left[len(what) + 2:end], left[end + 1:]
+        yield path, fault
 
 
 def files():
@@ -104,10 +156,10 @@ def files():
     found = {}
     for where, row in rows():
         definition = row.data(row.paths[0])
-        for path, is_refused in told(row):
+        for path, fault in told(row):
             data = row.data(path)
             if (definition, data) not in found:
-                found[definition, data] = File(where, row.name, definition, data, is_refused)
+                found[definition, data] = File(where, row.name, definition, data, fault)
     return list(found.values())
 
 
@@ -116,10 +168,10 @@ def files():
 def table(held):
     """The text of ways.txt."""
     wheres = sorted({it.where for it in held}, key=lambda where: (where.endswith('.py'), where))
-    lines = ['%-16s%18s%14s%10s' % ('', 'record by record', 'as one tree', REFUSED)]
+    lines = ['%-16s%26s%22s%26s%22s' % ('', *WAYS)]
     for where in wheres:
         counts = [sum(it.where == where and it.way == way for it in held) for way in WAYS]
-        lines.append('%-16s%18d%14d%10d' % (where, *counts))
+        lines.append('%-16s%26d%22d%26d%22d' % (where, *counts))
     for why in REASONS:
         counted = collections.Counter('%s: %s' % (it.where, it.name) for it in held if it.reason == why)
         lines += ['', 'As one tree: %s' % why] + [line + ', %d files' % count * (count > 1) for line, count in counted.items()]
@@ -174,26 +226,45 @@ TEXTS = [(b'{"CVR":[{"a":18446744073709551615}],"b":"-1,CVR"}', None), (b'{"CVR"
          (b'{"CVR":[{},{"PartyIds":["p"]}]}', 'PartyIds')]
 
 
+def faulty():
+    """Files that are refused for the form of a record, each with whether record by record."""
+    scan = json.loads(run.VECTORS['f2.json'])
+    right = scan['CVR'][0]
+    unnamed = {name: value for name, value in right.items() if name != 'UniqueId'}
+    of_party, of_other = dict(right, PartyIds=['p']), dict(right, CurrentSnapshotId='none')
+    without_version = {name: value for name, value in scan.items() if name != 'Version'}
+    for top, records, is_by_record in (
+            (scan, [unnamed], True), (scan, [right, unnamed, right], True), (scan, [1], True), (scan, [unnamed, of_other], True),
+            (scan, [of_other, unnamed], False), (scan, [of_party, unnamed], False), (without_version, [unnamed], False),
+            (dict(scan, Unlisted=-1), [unnamed], False), (dict(scan, Unlisted=0.5), [unnamed], False)):
+        yield json.dumps(dict(top, CVR=records)).encode('utf-8'), is_by_record
+
+
 def try_itself(program):
     """What the tool does with files of known ways, with wrong answers and wrong tables, and the program without a definition."""
     for data, why in TEXTS:
         if reason(data) != why:
             yield 'the reason of %r is told as %r' % (data, reason(data))
-    held = [File('a.json', 'one', b'', TEXTS[0][0], False), File('a.json', 'two', b'', b'{}', False), File('b.json', 'three', b'', b'', True)]
+    definition, unnamed = run.VECTORS['def.json'], next(faulty())[0]
+    for data, is_by_record in faulty():
+        if is_refused_by_record(definition, data) != is_by_record:
+            yield 'whether %r is refused record by record is told as %r' % (data, not is_by_record)
+    held = [File('a.json', 'one', b'', TEXTS[0][0], None), File('a.json', 'two', b'', b'{}', None),
+            File('b.json', 'three', definition, unnamed, 'E3 /CVR/0/UniqueId 2'), File('b.json', 'four', b'', b'', 'E2')]
     right = ['%d: %s' % pair for pair in enumerate(WAYS)]
-    for place in range(3):
-        for way in WAYS + [REFUSED_BY_RECORD]:
+    for place in range(len(WAYS)):
+        for way in WAYS + [CONTRADICTED]:
             lines = right[:place] + ['%d: %s' % (place, way)] + right[place + 1:]
             if any(judged(held, lines, 0)) == (lines == right):
                 yield 'judged as it is not: %r' % lines
-    if not all(map(any, (judged(held, right[:2], 0), judged(held, right, 1), judged(held, ['refused definition'], 0)))):
+    if not all(map(any, (judged(held, right[:3], 0), judged(held, right, 1), judged(held, ['refused definition'], 0)))):
         yield 'a line too few, or a status, is not told'
     lines = table(held).splitlines()
     for place, line in enumerate(lines):
         if line and not any(differing(lines[:place] + [line + 'x'] + lines[place + 1:], lines)):
             yield 'a wrong line of the table is not told: %r' % line
-    if answers(program, held[2:]) != (['refused definition'], 0):
-        yield 'of an empty definition the program says %r' % (answers(program, held[2:]),)
+    if answers(program, held[3:]) != (['refused definition'], 0):
+        yield 'of an empty definition the program says %r' % (answers(program, held[3:]),)
 
 
 def main():

@@ -13,7 +13,8 @@ use Rattle.cdf_form.specs.Reading.{value_of, max_file, document_faults, refusal_
 use Rattle.cdf_check.specs.Paths.{Path, first}
 use Rattle.cdf_check.specs.References.{missing}
 use Rattle.cdf_check.specs.Agreement.{disagreements}
-use Rattle.cdf_check.specs.Acceptance.{Holds, IsReport, own_refusal, value_refusal, of_value, of_file}
+use Rattle.cdf_check.specs.Frame.{Frame}
+use Rattle.cdf_check.specs.Acceptance.{Holds, IsReport, own_refusal, value_refusal, of_value, of_file, first_unsound, first_refusal}
 use Rattle.cdf_check.specs.Laws.{SoundFileLaw, ValidFileLaw}
 use Rattle.cdf_check.proofs.Agreeing.{agreement}
 use Rattle.cdf_check.proofs.Sounding.{sound}
@@ -60,8 +61,25 @@ file_none f bytes e =
 is_short : (n m : ℕ) → n ≤ m → nat_le n m ≡ true
 is_short n m h = grind (arith, nat_tests)
 
-file_holds : (f : Data → Option ReadFault) (bytes : List ℕ) (d : Data) → Holds bytes d → of_file f bytes ≡ f d
+pub file_holds : (f : Data → Option ReadFault) (bytes : List ℕ) (d : Data) → Holds bytes d → of_file f bytes ≡ f d
 file_holds f bytes d h = rw (is_short (length bytes) max_file h.0, h.1) refl
+
+pub own_first : (a b : Option ReadFault) (e : ReadFault) → a ≡ Some e → option_or a b ≡ Some e
+own_first None b e h = absurd (cc)
+own_first (Some r) b e h = h
+
+value_first : (frame : Frame) (o : Option Data) (e : ReadFault) → of_value own_refusal o ≡ Some e → of_value (value_refusal frame) o ≡ Some e
+value_first frame None e h = h
+value_first frame (Some d) e h = own_first (own_refusal d) (option_map (λ p. Disagrees (path_text p)) (first (disagreements frame d))) e h
+
+short_first : (t : Bool) (frame : Frame) (o : Option Data) (e : ReadFault) → (if t then of_value own_refusal o else Some TooLong) ≡ Some e
+    → (if t then of_value (value_refusal frame) o else Some TooLong) ≡ Some e
+short_first true frame o e h = value_first frame o e h
+short_first false frame o e h = h
+
+-- what a file is refused for as a definition, it is refused for beside each one
+pub first_of_own : (frame : Frame) (bytes : List ℕ) (e : ReadFault) → first_unsound bytes ≡ Some e → first_refusal frame bytes ≡ Some e
+first_of_own frame bytes e h = short_first (nat_le (length bytes) max_file) frame (value_of bytes) e h
 
 pub sound_file : SoundFileLaw
 sound_file bytes = (

@@ -34,7 +34,7 @@ records = codes "CVR"
 
 -- ---- lists of values
 
-items_len-items_of : (ds : List Data) → items_len (items_of ds) ≡ length ds
+pub items_len-items_of : (ds : List Data) → items_len (items_of ds) ≡ length ds
 items_len-items_of [] = refl
 items_len-items_of (d ∷ ds) = ap suc (items_len-items_of ds)
 
@@ -43,7 +43,7 @@ listed_item [] i e h = absurd (cc)
 listed_item (d ∷ ds) zero e h = let same : d ≡ e = cc in subst (λ x. Contains (d ∷ ds) x) same (at_head d ds)
 listed_item (d ∷ ds) (suc i) e h = at_tail d e ds (listed_item ds i e h)
 
-neither : (a b : Bool) → a ≡ false → b ≡ false → (a || b) ≡ false
+pub neither : (a b : Bool) → a ≡ false → b ≡ false → (a || b) ≡ false
 neither true b p q = p
 neither false b p q = q
 

@@ -1,10 +1,7 @@
 -- A report that was read record by record is valid, and is the report of its file.
-use Rattle.std.proofs.Common.{◌≡◌, ◌≤◌, ◌<◌, Result, ℕ, zero, suc, List, [], ◌∷◌, length, map, slice_index_or, Contains, true, false, bytes_eq, Option, Some, None, unwrap_or, codes, refl, sym, ap, subst, ◌∙◌, arith}
-use Rattle.std.specs.Prelude.{IfOk, IfSome}
+use Rattle.std.proofs.Common.{◌≡◌, ◌≤◌, ◌<◌, ℕ, zero, suc, List, [], ◌∷◌, length, map, slice_index_or, Contains, true, false, bytes_eq, Option, Some, None, unwrap_or, codes, refl, sym, ap, subst, ◌∙◌, arith}
 use Rattle.std.specs.List.{list_any, list_all}
 use Rattle.std.specs.Str.{IsUtf8}
-use Rattle.std.proofs.lemmas.Option.{IfSome_then}
-use Rattle.std.proofs.lemmas.Result.{IfOk-weaker}
 use Rattle.std.proofs.lemmas.Str.{is_utf8-from_IsUtf8}
 use Rattle.std.proofs.Math.Logic.{∥∥₁_elim}
 use Rattle.std.proofs.Math.Nat.{ℕ_set}
@@ -48,18 +45,18 @@ use Rattle.cdf_check.proofs.Apart.{whole_items, array_stays, records_law, agrees
 
 -- ---- the records that were taken
 
+pub as_many : {A : Type 0} (takes : Data → A → Type 0) (ds : List Data) (ts : List A) → AreTaken takes ds ts → length ds ≡ length ts
+as_many takes [] [] t = refl
+as_many takes [] (u ∷ us) t = absurd t
+as_many takes (d ∷ ds) [] t = absurd t
+as_many takes (d ∷ ds) (u ∷ us) t = ap suc (as_many takes ds us t.1)
+
 module _ (frame : Frame) where
   typed_all : (ds : List Data) (cs : List Cvr) → AreTaken (IsTaken frame) ds cs → cs ≡ map (cvr_of frame.contests) ds
   typed_all [] [] t = refl
   typed_all [] (c ∷ cs) t = absurd t
   typed_all (d ∷ ds) [] t = absurd t
   typed_all (d ∷ ds) (c ∷ cs) t = ap (λ x. x ∷ cs) t.0.typed ∙ ap (λ xs. cvr_of frame.contests d ∷ xs) (typed_all ds cs t.1)
-
-  as_many : (ds : List Data) (cs : List Cvr) → AreTaken (IsTaken frame) ds cs → length ds ≡ length cs
-  as_many [] [] t = refl
-  as_many [] (c ∷ cs) t = absurd t
-  as_many (d ∷ ds) [] t = absurd t
-  as_many (d ∷ ds) (c ∷ cs) t = ap suc (as_many ds cs t.1)
 
   module _ (scope : Scope) where
     abbrev Seen : Data → Type 0
@@ -159,15 +156,9 @@ joined_law frame bytes left cvrs report of short utf8 h joined =
     let whole : has_float all ≡ false = filled_is_whole (codes "CVR") (items_of ds) ms (whole_items ds (λ d at. (taken d at).1.alone.whole)) r.whole in
     let contests = own_contests frame bytes ds ms h.whole whole r a of in
     let elections = own_elections frame bytes ds ms h.whole whole r a of in
-    let few : length ds ≤ any = subst (λ n. n ≤ any) (sym (as_many frame ds cvrs h.taken_are)) j.few in
+    let few : length ds ≤ any = subst (λ n. n ≤ any) (sym (as_many (IsTaken frame) ds cvrs h.taken_are)) j.few in
     let each : (d : Data) → Contains ds d → IsRecord (scope_of (object ms)) d = λ d at. record_of frame (object ms) d (taken d at).0 contests elections (taken d at).1 (taken d at).2 in
     let value : value_of bytes ≡ Some all = rw (is_utf8-from_IsUtf8 bytes utf8) h.whole in
     let typed : report ≡ report_in frame.contests bytes =
     j.made ∙ ap (made_of frame.contests (object ms)) (typed_all frame ds cvrs h.taken_are) ∙ sym (typed_apart frame.contests ds ms j.some) ∙ ap (report_of frame.contests) (sym (value_is bytes all value)) in
     ((all, (short, value), records_law ds ms j.some few r each, agrees_apart frame ds ms a), typed)
-
-pub joined_result : {E : Type 0} (frame : Frame) (bytes text : List ℕ) (left : Data) (cvrs : List Cvr) (result : Result (Option Report) E) → IsFrame frame → length bytes ≤ max_file → text ≡ bytes → IsUtf8 bytes
-    → IsReadApart (IsTaken frame) text (codes "CVR") left cvrs → IfOk result (λ o. IfSome o (IsJoined frame left cvrs)) → IfOk result (λ o. IfSome o (λ r. Valid frame bytes × (r ≡ report_in frame.contests bytes)))
-joined_result frame bytes text left cvrs result of short same utf8 h joined =
-    let apart = subst (λ s. IsReadApart (IsTaken frame) s (codes "CVR") left cvrs) same h in
-    IfOk-weaker result _ _ (λ o made. IfSome_then o made (λ r j. joined_law frame bytes left cvrs r of short utf8 apart j)) joined

@@ -22,5 +22,6 @@ pub mod Spelling
 pub mod Utf8
 pub mod Apart
 pub mod Joining
+pub mod FaultyRecords
 pub mod Laws
 pub mod Lemmas

@@ -24,7 +24,7 @@ use serde_json::Value;
 use std::alloc::Global;
 
 // The answer that tells a fault of form.
-fn told_fault(alloc: Global, found: Found<'_>) -> Result<ReadFault, Memory>
+pub(crate) fn told_fault(alloc: Global, found: Found<'_>) -> Result<ReadFault, Memory>
     ensures { IfOk result (λ e. e ≡ refusal_of (fault_of found.entry)) }
 {
     let path = Body::new(path_text(alloc, &found.steps)?);

@@ -11,6 +11,7 @@ pub mod examples;
 mod gather;
 pub mod law;
 mod look;
+mod looked;
 mod named;
 mod path;
 mod quick;
@@ -20,5 +21,6 @@ pub mod rows;
 mod scope;
 
 pub use definition::Definition;
+pub use looked::record_fault;
 pub use quick::quick_report;
 pub use read::check_report;

@@ -1,6 +1,7 @@
-ghost use Rattle.std.specs.Prelude.{◌≡◌, IfOk, IfSome, IsTrue, codes};
+ghost use Rattle.std.specs.Prelude.{◌≡◌, IfOk, IfSome, OnOk, IsTrue, codes};
 ghost use Rattle.std.specs.List.{list_all};
 ghost use Rattle.serde_json.specs.View.{view};
+ghost use Rattle.cdf_form.specs.HasForm.{IsCvr};
 ghost use Rattle.cdf_form.specs.Parts.{ids_at};
 ghost use Rattle.cdf_typed.specs.Range.{ReportInRange};
 ghost use Rattle.cdf_check.specs.Acceptance.{Valid, report_in};
@@ -10,10 +11,10 @@ use crate::check::check_value;
 use crate::definition::Definition;
 use crate::look::look_at_one;
 use crate::references::{look_at_current, look_in_snapshots};
+use cdf_form::float::has_fraction;
 use cdf_form::ids::Ids;
 use cdf_form::items_at;
 use cdf_form::read::{MAX_FILE, is_cvr};
-use cdf_form::table::ANY;
 use cdf_pull::{Stop, Take, read_text_apart};
 use cdf_typed::{read_cvr, read_report};
 use cdf_types::{Cvr, Memory, ReadFault, Report, Seq};
@@ -42,13 +43,11 @@ fn names_within(alloc: Global, definition: &Definition, cvr: &Value) -> Result<b
     Ok(items_at("PartyIds", cvr).is_empty())
 }
 
-// The typed record, where all that can be seen before the rest of its file is right.
+// The typed record, where all that can be seen of its names before the rest of its file is right.
 fn take_cvr(alloc: Global, definition: &Definition, cvr: Value) -> Result<Option<Cvr>, Memory>
+    requires { IsCvr (view cvr) }
     ensures { IfOk result (λ taken. IfSome taken (λ c. IsTaken definition.now (view cvr) c)) }
 {
-    if !is_cvr(alloc, &cvr)? {
-        return Ok(None);
-    }
     if !names_within(alloc, definition, &cvr)? {
         return Ok(None);
     }
@@ -65,6 +64,12 @@ impl Take for Records<'_> {
     ghost takes = { λ s d taken. IsTaken s.0.now d taken };
 
     fn take(&self, alloc: Global, item: Value) -> Result<Cvr, Stop> {
+        match is_cvr(alloc, &item) {
+            Ok(true) => {}
+            Ok(false) if has_fraction(&item) => return Err(Stop::Unread),
+            Ok(false) => return Err(Stop::Untaken),
+            Err(Memory) => return Err(Stop::Memory),
+        }
         match take_cvr(alloc, self.0, item) {
             Ok(Some(cvr)) => Ok(cvr),
             Ok(None) => Err(Stop::Unread),
@@ -117,8 +122,7 @@ fn joined(
     ensures { IfOk result (λ made. IfSome made
         (λ r. IsJoined definition.now (view left) cvrs.items r)) }
 {
-    // The member CVR itself: it is there, and no longer than its row allows.
-    if left.get("CVR").is_none() || cvrs.len() > ANY {
+    if left.get("CVR").is_none() {
         return Ok(None);
     }
     match check_value(alloc, definition, &left) {
@@ -135,32 +139,30 @@ fn joined(
 }
 
 /// The typed report of a file that is accepted beside a definition, read with no more than a record's
-/// tree at a time. None says nothing of the file.
+/// tree at a time.
 ///
 /// # Errors
-/// `Memory` where a growth was refused.
-pub fn quick_report(
-    alloc: Global,
-    definition: &Definition,
-    bytes: &[u8],
-) -> Result<Option<Report>, Memory>
-    ensures valid { IfOk result (λ made. IfSome made (λ _. Valid definition.now bytes.now)) }
-    ensures report { IfOk result (λ made. IfSome made
-        (λ r. r ≡ report_in definition.now.contests bytes.now)) }
-    ensures range { IfOk result (λ made. IfSome made
-        (λ r. ReportInRange definition.now.contests r)) }
+/// `Untaken` where a record of whole numbers lacks its form, and nothing was read after it; `Unread`
+/// where anything else is wrong, or unusual: neither says more of the file. `Memory` where a growth was
+/// refused.
+pub fn quick_report(alloc: Global, definition: &Definition, bytes: &[u8]) -> Result<Report, Stop>
+    ensures valid { OnOk result (Valid definition.now bytes.now) }
+    ensures report { IfOk result (λ r. r ≡ report_in definition.now.contests bytes.now) }
+    ensures range { IfOk result (λ r. ReportInRange definition.now.contests r) }
 {
     definition.made_of_a_report();
     if bytes.len() > MAX_FILE {
-        return Ok(None);
+        return Err(Stop::Unread);
     }
     let Ok(text) = from_utf8(bytes) else {
-        return Ok(None);
+        return Err(Stop::Unread);
     };
     let mut scratch = Scratch::new(alloc);
-    match read_text_apart(alloc, text, &mut scratch, "CVR", &Records(definition)) {
-        Ok((left, cvrs)) => joined(alloc, definition, left, cvrs),
-        Err(Stop::Memory) => Err(Memory),
-        Err(Stop::Unread) => Ok(None),
+    let records = Records(definition);
+    let (left, cvrs) = read_text_apart(alloc, text, &mut scratch, "CVR", &records)?;
+    match joined(alloc, definition, left, cvrs) {
+        Ok(Some(report)) => Ok(report),
+        Ok(None) => Err(Stop::Unread),
+        Err(Memory) => Err(Stop::Memory),
     }
 }

@@ -10,8 +10,10 @@ ghost use Rattle.cdf_check.specs.Acceptance.{Holds, Sound, Valid, first_unsound,
 
 use crate::check::{check_own, check_value};
 use crate::definition::Definition;
+use crate::looked::record_fault;
 use crate::quick::quick_report;
 use cdf_form::read::{MAX_FILE, read_value};
+use cdf_pull::Stop;
 use cdf_typed::read_report;
 use cdf_types::{ReadFault, Report};
 use serde_json::Value;
@@ -90,6 +92,7 @@ fn whole_report(alloc: Global, definition: &Definition, bytes: &[u8]) -> Result<
 /// # Errors
 /// As `Definition::read`; else `Disagrees` at the first Election, GpUnit or Party, in this order,
 /// that isn't the definition's.
+#[tactic(auto, using(crate::proofs::Accepting::first_of_own))]
 pub fn check_report(
     alloc: Global,
     definition: &Definition,
@@ -100,8 +103,13 @@ pub fn check_report(
     ensures range { IfOk result (λ r. ReportInRange definition.now.contests r) }
     ensures first { IfErr result (λ e. ¬ IsMemory e → first_refusal definition.now bytes.now ≡ Some e) }
 {
-    match quick_report(alloc, definition, bytes)? {
-        Some(report) => Ok(report),
-        None => whole_report(alloc, definition, bytes),
+    match quick_report(alloc, definition, bytes) {
+        Ok(report) => return Ok(report),
+        Err(Stop::Memory) => return Err(ReadFault::Memory),
+        Err(Stop::Unread) => {}
+        Err(Stop::Untaken) => if let Some(fault) = record_fault(alloc, bytes)? {
+            return Err(fault);
+        },
     }
+    whole_report(alloc, definition, bytes)
 }

@@ -287,7 +287,7 @@ type_ok : (g : Group) (o : Option Data) (c : Class) → option_and_then (find_cl
 type_ok g None c is = cc
 type_ok g (Some d) c is = type_text_ok g (as_str d) c is
 
-object_ok : (g : Group) (d : Data) (c : Class) → class_in g d ≡ Some c → leaf_faults (leaf.Object g) d ≡ []
+pub object_ok : (g : Group) (d : Data) (c : Class) → class_in g d ≡ Some c → leaf_faults (leaf.Object g) d ≡ []
 object_ok g null c is = cc
 object_ok g (boolean b) c is = cc
 object_ok g (number n) c is = cc
@@ -310,7 +310,7 @@ rows_ok d (r ∷ rs) each = rw (each r (inl refl), rows_ok d rs (λ x h. each x 
 nat_le_from : (a b : ℕ) → a ≤ b → nat_le a b ≡ true
 nat_le_from a b h = grind (arith, nat_tests)
 
-length_ok : (least most n : ℕ) → least ≤ n → n ≤ most → length_faults least most n ≡ []
+pub length_ok : (least most n : ℕ) → least ≤ n → n ≤ most → length_faults least most n ≡ []
 length_ok least most n lo hi = rw (nat_le_from least n lo, nat_le_from n most hi)
 
 items_ok : (ds : Items) (l : Leaf) (k : Key) (i : ℕ) (seen : List (List ℕ)) → ((j : ℕ) (e : Data) → get_item j ds ≡ Some e → faults e (One l) key.Free ≡ []) → ApartFrom k seen ds → items_faults ds l k i seen ≡ []

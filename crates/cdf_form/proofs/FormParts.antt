@@ -2,7 +2,7 @@
 use Rattle.std.proofs.Common.{◌≡◌, ◌≤◌, ◌<◌, ℕ, zero, suc, List, [], ◌∷◌, length, slice_index_or, Contains}
 use Rattle.std.proofs.Common.{Bool, true, false, cond, Option, Some, None, IsSome, bytes_eq, codes}
 use Rattle.std.proofs.Common.{refl, sym, ap, ◌∙◌, subst, arith, inl, inr}
-use Rattle.std.specs.Prelude.{⊤, option_and_then, unwrap_or}
+use Rattle.std.specs.Prelude.{option_and_then, unwrap_or}
 use Rattle.std.specs.List.{list_any}
 use Rattle.std.proofs.lemmas.Bool.Decides.{nat_tests}
 use Rattle.serde_json.specs.Data.{Num, unsigned, negative, float}
@@ -16,10 +16,9 @@ use Rattle.cdf_form.specs.declared.table.Listing.{Listing}
 use Rattle.cdf_form.specs.declared.table.Leaf.{Leaf}
 use Rattle.cdf_form.specs.declared.table.Leaf.TheVariants as leaf
 use Rattle.cdf_form.specs.declared.table.Key.{Key}
-use Rattle.cdf_form.specs.declared.table.Kind.{Kind}
 use Rattle.cdf_form.specs.declared.table.Kind.TheVariants.{One, Array}
 use Rattle.cdf_form.specs.Tables.{Entry, table, classes_of, type_text, listed_in}
-use Rattle.cdf_form.specs.Form.{is_empty, is_count, is_moment, class_in, find_class, key_text}
+use Rattle.cdf_form.specs.Form.{is_empty, is_count, is_moment, class_in, find_class}
 use Rattle.cdf_form.specs.HasForm.{IsRow, HasForm, text, name, count, moment, listed, class, items}
 use Rattle.cdf_form.specs.Parts.{list_of, array_at, text_in, text_at}
 use Rattle.cdf_form.specs.ByRow.{AllClasses, find_row, HasRow, HasClass, IsTextual, ListApart}

@@ -2,6 +2,7 @@ pub mod Parts
 pub mod PartsOf
 pub mod Pointers
 pub mod FormLaw
+pub mod Records
 pub mod Whole
 pub mod Merging
 pub mod Walking

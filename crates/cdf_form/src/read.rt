@@ -1,13 +1,14 @@
-ghost use Rattle.std.specs.Prelude.{◌≡◌, ◌↔◌, None, Some, IfOk, IfErr, OnOk, IsTrue};
+ghost use Rattle.std.specs.Prelude.{◌≡◌, ◌↔◌, None, Some, option_map, IfOk, IfErr, OnOk, IsTrue};
 ghost use Rattle.serde_json.specs.View.{view};
 ghost use Rattle.cdf_types.specs.declared.fault.ReadFault.TheVariants.{NotJson};
 ghost use Rattle.cdf_form.specs.Form.{first};
-ghost use Rattle.cdf_form.specs.Found.{Tells};
+ghost use Rattle.cdf_form.specs.Found.{Tells, fault_of};
 ghost use Rattle.cdf_form.specs.HasForm.{IsCvr};
+ghost use Rattle.cdf_form.specs.Records.{cvr_faults};
 ghost use Rattle.cdf_form.specs.Reading.{IsMemory, document_faults, value_of};
 
 use crate::float::find_float;
-use crate::found::Stop;
+use crate::found::{Found, Stop};
 use crate::table::{Group, Key, Kind, Leaf};
 use crate::walk::walk;
 use cdf_types::{Memory, ReadFault};
@@ -70,5 +71,20 @@ pub fn is_cvr(alloc: Global, value: &Value) -> Result<bool, Memory>
         Ok(fraction) => Ok(!fraction),
         Err(Stop::Memory) => Err(Memory),
         Err(Stop::Fault(_)) => Ok(false),
+    }
+}
+
+/// The first fault of the form of a cast vote record by itself (class CVR), if it has one.
+///
+/// # Errors
+/// `Memory` where a growth was refused.
+pub fn cvr_fault(alloc: Global, value: &Value) -> Result<Option<Found<'static>>, Memory>
+    ensures { IfOk result (λ told. option_map fault_of told ≡ first (cvr_faults (view value.now))) }
+{
+    let record = Kind::One(Leaf::Object(Group::Cvrs));
+    match walk(alloc, value, record, Key::Free) {
+        Ok(_) => Ok(None),
+        Err(Stop::Memory) => Err(Memory),
+        Err(Stop::Fault(found)) => Ok(Some(found)),
     }
 }

@@ -20,7 +20,8 @@ pub trait Take {
     /// Takes an item, which is freed at once.
     ///
     /// # Errors
-    /// `Unread` where the item isn't taken; `Memory` where a growth was refused.
+    /// `Untaken` where the item isn't what is taken; `Unread` where it is left to another reader;
+    /// `Memory` where a growth was refused.
     fn take(&self, alloc: Global, item: Value) -> Result<Self::Taken, Stop>
         ensures { IfOk result (λ taken. takes self.now (view item) taken) };
 }
@@ -127,7 +128,8 @@ const MAX_DEPTH: usize = 127;
 ///
 /// # Errors
 /// `Unread` where the text is no such object, has a number other than digits alone for at most 64
-/// bits, or has the name twice, and where an item isn't taken; `Memory` where a growth was refused.
+/// bits, or has the name twice; that of `take` where an item isn't taken, and nothing is read after
+/// it; `Memory` where a growth was refused.
 pub fn read_text_apart<T: Take>(
     alloc: Global,
     text: &str,

@@ -6,8 +6,10 @@ use std::alloc::{AllocError, AllocFailed};
 pub enum Stop {
     /// Want of memory.
     Memory,
-    /// The tokens aren't what is read here.
+    /// The tokens aren't what is read here, or an item is left to another reader.
     Unread,
+    /// An item isn't what is taken here.
+    Untaken,
 }
 
 impl From<AllocError> for Stop {

@@ -10,8 +10,9 @@ use crate::same::{
 use crate::tellings::row_of;
 use crate::trying::Reading;
 use crate::writing::{DATE, DEVICE};
-use cdf_check::{Definition, quick_report};
-use cdf_types::{Body, Memory, ReadFault};
+use cdf_check::{Definition, quick_report, record_fault};
+use cdf_pull::Stop;
+use cdf_types::{Body, Memory, ReadFault, Rule};
 use cvr_cached::CachedOffice;
 use cvr_collect::{Office, PlainOffice};
 use cvr_facts::text::{push_quoted, push_word, quoted};
@@ -120,6 +121,7 @@ pub enum Filing {
     Apart,
     Definition,
     Quick,
+    Fault,
     Facts,
 }
 
@@ -130,6 +132,7 @@ impl Reading for Filing {
             Filing::Apart => is_read_apart(alloc, records.bytes),
             Filing::Definition => is_definition_read(alloc, records),
             Filing::Quick => is_quickly_read(alloc, records),
+            Filing::Fault => is_fault_told(alloc, records.bytes),
             Filing::Facts => are_facts_made(alloc, records),
         }
     }
@@ -145,12 +148,27 @@ fn is_definition_read(alloc: Global, records: &Records<'_>) -> Result<bool, Read
 }
 
 fn is_quickly_read(alloc: Global, records: &Records<'_>) -> Result<bool, ReadFault> {
-    match quick_report(alloc, records.definition, records.bytes)? {
-        Some(report) => {
+    match quick_report(alloc, records.definition, records.bytes) {
+        Ok(report) => {
             let facts = take_facts(alloc, records.definition, report)?;
             Ok(are_same_facts(&facts, records.facts))
         }
-        None => Ok(false),
+        Err(Stop::Memory) => Err(ReadFault::Memory),
+        Err(Stop::Unread | Stop::Untaken) => Ok(false),
+    }
+}
+
+// Whether the fault of a file is told whose first record has lost its UniqueId.
+fn is_fault_told(alloc: Global, bytes: &[u8]) -> Result<bool, ReadFault> {
+    let Ok(text) = str::from_utf8(bytes) else {
+        return Ok(false);
+    };
+    let spoiled = text.replace(alloc, r#""UniqueId""#, r#""UniqueID""#)?;
+    match record_fault(alloc, spoiled.as_bytes())? {
+        Some(ReadFault::Schema { path, rule }) => {
+            Ok(path.as_str() == "/CVR/0/UniqueId" && matches!(rule, Rule::Missing))
+        }
+        _ => Ok(false),
     }
 }
 

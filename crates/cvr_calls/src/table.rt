@@ -29,11 +29,12 @@ static COPIES: [(&str, Copying); 11] = [
     ("Definition::copy", Copying::Definition),
 ];
 
-static FILINGS: [(&str, Filing); 5] = [
+static FILINGS: [(&str, Filing); 6] = [
     ("read_file", Filing::ReadFile),
     ("read_text_apart", Filing::Apart),
     ("Definition::read", Filing::Definition),
     ("quick_report, take_facts", Filing::Quick),
+    ("record_fault", Filing::Fault),
     ("check_report, facts_of", Filing::Facts),
 ];
 

@@ -1,6 +1,7 @@
 //! Which files are read record by record, and which as one tree.
 use crate::files::*;
-use cdf_check::{Definition, check_report, quick_report};
+use cdf_check::{Definition, check_report, quick_report, record_fault};
+use cdf_pull::Stop;
 use std::process::Abort;
 
 // Read as one tree: a party is named, a number has a sign, or the array of records is not there once.
@@ -18,6 +19,12 @@ const OF_RECORDS_TWICE: Changes = &[(r#""CVR":["#, r#""CVR":[],"CVR":["#)];
 
 const OF_NO_RECORDS: Changes = &[(r#""CVR":["#, r#""Unlisted":["#)];
 
+// Refused for something beside a record, too.
+const UNNAMED_WITHOUT_VERSION: Changes = &[
+    (r#","UniqueId":"u1""#, ""),
+    (r#","Version":"1.0.0""#, ""),
+];
+
 // Refused: a unit that the file hasn't, or a device.
 const OF_UNKNOWN_UNIT: Changes = &[(r#"UnitId":"p1""#, r#"UnitId":"p9""#)];
 
@@ -26,10 +33,9 @@ const OF_UNKNOWN_DEVICE: Changes = &[(r#"DeviceId":"s1""#, r#"DeviceId":"s9""#)]
 // Whether a file is accepted, and whether it was read record by record.
 fn read(rt: &(impl Abort + AllocGlobal), definition: &Definition, text: &str) -> (bool, bool) {
     let bytes = text.as_bytes();
-    let quick = quick_report(rt.alloc(), definition, bytes).expect(rt, "no memory");
     (
         check_report(rt.alloc(), definition, bytes).is_ok(),
-        quick.is_some(),
+        quick_report(rt.alloc(), definition, bytes).is_ok(),
     )
 }
 
@@ -87,4 +93,22 @@ fn what_is_refused_is_not_read_record_by_record(rt: HostRuntime) {
     assert!(rt; is_read(&rt, OF_UNKNOWN_UNIT) == (false, false));
     assert!(rt; is_read(&rt, OF_UNKNOWN_DEVICE) == (false, false));
     assert!(rt; is_read(&rt, OF_NAMED_ELECTION) == (false, false));
+}
+
+// Whether a record of a file lacks its form, and that is told record by record.
+fn is_told(rt: &(impl Abort + AllocGlobal), changes: Changes) -> bool {
+    let text = file(rt, changes);
+    let definition = definition(rt, &[]);
+    let quick = quick_report(rt.alloc(), &definition, text.as_bytes());
+    let told = record_fault(rt.alloc(), text.as_bytes()).expect(rt, "no memory");
+    matches!(quick, Err(Stop::Untaken)) && told.is_some()
+}
+
+#[test]
+fn a_record_that_lacks_its_form_is_told_record_by_record(rt: HostRuntime) {
+    assert!(rt; is_told(&rt, UNNAMED));
+    assert!(rt; is_told(&rt, OF_NO_TYPE));
+    assert!(rt; !is_told(&rt, UNNAMED_WITHOUT_VERSION));
+    assert!(rt; !is_told(&rt, OF_UNKNOWN_UNIT));
+    assert!(rt; !is_told(&rt, SCAN));
 }

@@ -1,8 +1,9 @@
 //! A program for tests alone, which tells how `check_report` reads files: record by record, or as one tree.
-//! No answer of `check_report` shows which, so the first way is asked beside it.
+//! No answer of `check_report` shows which, so those that read by record are asked beside it.
 #![tactic(auto)]
 
-use cdf_check::{Definition, check_report, quick_report};
+use cdf_check::{Definition, check_report, quick_report, record_fault};
+use cdf_pull::Stop;
 use cdf_types::{Memory, ReadFault};
 use std::alloc::Global;
 use std::{env, fs};
@@ -16,19 +17,33 @@ fn is_accepted(alloc: Global, definition: &Definition, bytes: &[u8]) -> Result<b
     }
 }
 
-// Whether the first way makes a report of a file.
-fn is_by_record(alloc: Global, definition: &Definition, bytes: &[u8]) -> Result<bool, Memory> {
-    Ok(quick_report(alloc, definition, bytes)?.is_some())
+// Whether a file is accepted record by record, or refused so; None where it is read as one tree.
+fn told_by_record(
+    alloc: Global,
+    definition: &Definition,
+    bytes: &[u8],
+) -> Result<Option<bool>, Memory> {
+    match quick_report(alloc, definition, bytes) {
+        Ok(_) => Ok(Some(true)),
+        Err(Stop::Memory) => Err(Memory),
+        Err(Stop::Unread) => Ok(None),
+        Err(Stop::Untaken) => match record_fault(alloc, bytes)? {
+            Some(ReadFault::Memory) => Err(Memory),
+            Some(_) => Ok(Some(false)),
+            None => Ok(None),
+        },
+    }
 }
 
-// What is told of a file. The first way proves what it accepts, so `refused record by record` never comes.
+// What is told of a file. What is told by record is proved, so that a contradiction never comes.
 fn told_of(alloc: Global, definition: &Definition, bytes: &[u8]) -> Result<&'static str, Memory> {
     let is_accepted = is_accepted(alloc, definition, bytes)?;
-    match (is_accepted, is_by_record(alloc, definition, bytes)?) {
-        (true, true) => Ok("accepted record by record"),
-        (true, false) => Ok("accepted as one tree"),
-        (false, true) => Ok("refused record by record"),
-        (false, false) => Ok("refused"),
+    match (is_accepted, told_by_record(alloc, definition, bytes)?) {
+        (true, Some(true)) => Ok("accepted record by record"),
+        (true, None) => Ok("accepted as one tree"),
+        (false, Some(false)) => Ok("refused record by record"),
+        (false, None) => Ok("refused as one tree"),
+        _ => Ok("read in a way that contradicts the answer"),
     }
 }
 
