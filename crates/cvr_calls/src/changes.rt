@@ -41,7 +41,7 @@ impl Change for Pushing {
 
 // The set of these texts.
 fn set_of(alloc: Global, texts: &[&str]) -> Result<BodySet, Memory> {
-    let mut bodies = Vec::new(alloc);
+    let mut bodies = Seq::empty(alloc);
     for text in texts {
         bodies.push(Body::new(text.to_string(alloc)?))?;
     }
@@ -118,14 +118,13 @@ fn open(totals: &mut Totals, contests: usize, key: &RowKey) -> Result<bool, Memo
 }
 
 impl OpeningRow {
-    // Before the row is opened, or after.
-    fn new(rt: &HostRuntime, is_done: bool) -> Result<OpeningRow, Ended> {
-        let office: PlainOffice = office_of(rt, &[SCAN, ADJUDICATED, BATCHED])?;
+    // Before the row is opened, or after, over the totals of an office.
+    fn new<O: Office + Drop>(rt: &HostRuntime, is_done: bool) -> Result<OpeningRow, Ended> {
+        let office: O = office_of(rt, &[SCAN, ADJUDICATED, BATCHED])?;
         OpeningRow::over(rt.alloc(), &office, is_done)
     }
 
-    // Over the totals of an office.
-    fn over(alloc: Global, office: &PlainOffice, is_done: bool) -> Result<OpeningRow, Ended> {
+    fn over<O: Office>(alloc: Global, office: &O, is_done: bool) -> Result<OpeningRow, Ended> {
         let key = new_key(alloc)?;
         let contests = office.definition().contest_count();
         let mut totals = office.totals(alloc)?;
@@ -178,7 +177,13 @@ pub fn try_join_bodies(rt: &HostRuntime, name: &str) -> Result<(), Ended> {
 
 /// Tries the opening of a row.
 pub fn try_open(rt: &HostRuntime, name: &str) -> Result<(), Ended> {
-    let before = OpeningRow::new(rt, false);
-    let after = OpeningRow::new(rt, true);
-    try_change(rt, name, OpeningRow::new(rt, false), before, after)
+    let before = OpeningRow::new::<PlainOffice>(rt, false);
+    let after = OpeningRow::new::<PlainOffice>(rt, true);
+    try_change(
+        rt,
+        name,
+        OpeningRow::new::<PlainOffice>(rt, false),
+        before,
+        after,
+    )
 }

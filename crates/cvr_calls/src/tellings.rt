@@ -31,9 +31,9 @@ impl Telling {
             Telling::Opened => opened_text(alloc, records.definition),
             Telling::Row => told_row(alloc, office, records.header),
             Telling::Record => told_record(alloc, office, &records.snapshot.key),
-            Telling::Conflicts => conflicts_text(alloc, &office.conflicts(alloc)?),
+            Telling::Conflicts => told_conflicts(alloc, office),
             Telling::Currents => currents_text(alloc, office),
-            Telling::Totals => tally_text(alloc, &office.totals(alloc)?),
+            Telling::Totals => told_totals(alloc, office),
             Telling::Tally => office.tally_text(alloc),
         }
     }
@@ -109,6 +109,16 @@ fn record_text(alloc: Global, record: &RecordFacts<'_>) -> Result<String, Memory
         }
     }
     Ok(text)
+}
+
+fn told_conflicts<O: Office>(alloc: Global, office: &O) -> Result<String, Memory> {
+    let list = office.conflicts(alloc)?;
+    conflicts_text(alloc, &list)
+}
+
+fn told_totals<O: Office>(alloc: Global, office: &O) -> Result<String, Memory> {
+    let totals = office.totals(alloc)?;
+    tally_text(alloc, &totals)
 }
 
 // A text over the office of a kind, beside the one that was told before.

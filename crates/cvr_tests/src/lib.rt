@@ -1,13 +1,11 @@
-//! Tests of the libraries, and nothing else: each public call that can answer want of memory is run
-//! with ample memory, and worked examples of facts, offices and runs.
+//! Tests of the libraries, and nothing else: worked examples of calls that the program doesn't make, of
+//! facts and offices, and of files and devices that fail.
 #![tactic(auto)]
 
 #[cfg(test)]
 mod cached;
 #[cfg(test)]
 mod definitions;
-#[cfg(test)]
-mod drills;
 #[cfg(test)]
 mod facts;
 #[cfg(test)]
@@ -32,5 +30,3 @@ mod sets;
 mod texts;
 #[cfg(test)]
 mod volumes;
-#[cfg(test)]
-mod words;

@@ -1,9 +1,18 @@
 //! Runs over files in memory, which an opener finds by their paths.
 use crate::files::*;
-use crate::words::texts;
 use cdf_types::MemorySink;
 use cvr_cli::{MemoryFile, MemoryFiles, Status, work};
 use std::process::Abort;
+
+// Words as texts of their own.
+fn texts(rt: &(impl Abort + AllocGlobal), words: &[&str]) -> Vec<String> {
+    let mut texts = Vec::new(rt.alloc());
+    for word in words {
+        let text = word.to_string(rt.alloc()).expect(rt, "no memory");
+        texts.push(text).expect(rt, "no memory");
+    }
+    texts
+}
 
 // Whether the work on these words over the definition, a scan and its adjudication, whose reading fails
 // at a call or never (0), ends so, prints this and tells this.
@@ -43,34 +52,6 @@ fn leaves(
     ended == status && out.taken() == text.as_bytes() && log.taken() == told.as_bytes()
 }
 
-const SCANNED: &str = "\"s1\" \"u1\" \"a\" original\n";
-
-const MENDED: &str = "\"s1\" \"u1\" \"m\" modified\n";
-
-#[test]
-fn each_file_is_read_at_its_path(rt: HostRuntime) {
-    assert!(rt;
-        leaves(
-            &rt,
-            &["currents", "def.json", "for_ann.json"],
-            0,
-            Status::Done,
-            SCANNED,
-            ""
-        )
-    );
-    assert!(rt;
-        leaves(
-            &rt,
-            &["currents", "def.json", "for_bob.json"],
-            0,
-            Status::Done,
-            MENDED,
-            ""
-        )
-    );
-}
-
 #[test]
 fn the_first_path_without_a_file_ends_all(rt: HostRuntime) {
     let words = [
@@ -87,18 +68,4 @@ fn the_first_path_without_a_file_ends_all(rt: HostRuntime) {
 fn a_file_that_fails_within_ends_all(rt: HostRuntime) {
     let words = ["currents", "def.json", "for_ann.json", "for_bob.json"];
     assert!(rt; leaves(&rt, &words, 2, Status::Device, "", "for_bob.json: K1\n"));
-}
-
-const DRILLED: &str = "office 1 records 1 facts 5 same 1\noffice 2 records 1 facts 5 same 1\n";
-
-#[test]
-fn a_drill_reads_each_file_that_its_steps_name(rt: HostRuntime) {
-    let words = ["drill", "def.json", "2", "1=for_ann.json", "1>2", "1>3"];
-    assert!(rt; leaves(&rt, &words, 0, Status::Refused, DRILLED, "1>3: N1\n"));
-}
-
-#[test]
-fn a_step_that_has_no_form_is_told_by_its_text(rt: HostRuntime) {
-    let words = ["drill", "def.json", "2", "1=none.json", "--", "-1>2", "x"];
-    assert!(rt; leaves(&rt, &words, 0, Status::CommandLine, "", "-1>2: L3\n"));
 }

@@ -65,35 +65,6 @@ fn ran_over(
 
 const CURRENT: &str = "\"s1\" \"u1\" \"m\" modified\n";
 
-const COUNTED: &str = "\"mayor\" \"p1\" null 1 0 0 0 0 0 \"ann\" 0 \"bob\" 1 \"wi\" 0\n";
-
-const CONFLICT: &str = "\"s1\" \"u1\" snapshot \"m\" 2\nvolumes 2\n";
-
-// Whether a run over files prints this, with no log line.
-fn prints(rt: &(impl Abort + AllocGlobal), task: Task, files: &[Changes], text: &str) -> bool {
-    let ending = ran(rt, task, files, 0, 0);
-    ending.status == Status::Done
-        && ending.out.taken() == text.as_bytes()
-        && ending.log.taken().is_empty()
-}
-
-#[test]
-fn each_task_prints_its_text(rt: HostRuntime) {
-    let adjudicated = [ADJUDICATED, SCAN];
-    let in_conflict = [ADJUDICATED, FOR_WRITE_IN];
-    assert!(rt; prints(&rt, Task::Currents, &adjudicated, CURRENT));
-    assert!(rt; prints(&rt, Task::Tally, &adjudicated, COUNTED));
-    assert!(rt; prints(&rt, Task::Conflicts, &in_conflict, CONFLICT));
-    assert!(rt;
-        prints(
-            &rt,
-            Task::Check,
-            &adjudicated,
-            "first.json 1\nsecond.json 1\n"
-        )
-    );
-}
-
 // A merge of a volume.
 fn merge_of(rt: &(impl Abort + AllocGlobal), date: &str, device: &str, volume: u32) -> Task {
     Task::Merge {
@@ -101,34 +72,6 @@ fn merge_of(rt: &(impl Abort + AllocGlobal), date: &str, device: &str, volume: u
         device: body(rt, device),
         volume: NonZeroU32::new(volume).expect(rt, "no volume 0"),
     }
-}
-
-#[test]
-fn a_merge_prints_its_volume(rt: HostRuntime) {
-    let text = text_of(&rt, SCANNED);
-    assert!(rt;
-        prints(
-            &rt,
-            merge_of(&rt, DATE, "desk", 1),
-            &[SCAN, SCAN],
-            text.as_str()
-        )
-    );
-}
-
-// Whether a merge prints nothing, and tells this.
-fn refuses(rt: &(impl Abort + AllocGlobal), task: Task, told: &str) -> bool {
-    let ending = ran(rt, task, &[SCAN, ADJUDICATED], 0, 0);
-    ending.status == Status::Refused
-        && ending.out.taken().is_empty()
-        && ending.log.taken() == told.as_bytes()
-}
-
-#[test]
-fn a_merge_is_refused_by_its_first_fault(rt: HostRuntime) {
-    assert!(rt; refuses(&rt, merge_of(&rt, "2024-11-06", "s9", 2), "merge: H1\n"));
-    assert!(rt; refuses(&rt, merge_of(&rt, DATE, "s9", 2), "merge: H2\n"));
-    assert!(rt; refuses(&rt, merge_of(&rt, DATE, "desk", 2), "merge: V1 1\n"));
 }
 
 // Whether a run whose second file is refused prints the rest, and tells this in a log that fails at
