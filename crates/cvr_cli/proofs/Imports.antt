@@ -22,7 +22,7 @@ use Rattle.cvr_cli.specs.Told.{file_dues}
 use Rattle.cvr_cli.specs.Laws.{imports}
 use Rattle.cvr_cli.specs.Outcome.{held}
 use Rattle.cvr_cli.proofs.Drilled.{import_due, is_held, all_here}
-use Rattle.cvr_cli.proofs.Steps.{due_by, events_due, events_refused, past_is}
+use Rattle.cvr_cli.proofs.Steps.{due_by, refused_as_due, events_due, past_is}
 
 -- what is told of the only office
 pub get_or-one : {O X : Type 0} (told_of : O → X) (other : X) (offices : List O) (office : O) → length offices ≡ 1 → office ≡ get_or offices 0 office → get_or (map told_of offices) 0 other ≡ told_of office
@@ -37,6 +37,9 @@ is_some-file_due (Some fault) = refl
 any_due : (definition : Frame) (files : List (List ℕ)) → list_any (λ d. is_some d.cause) (file_dues definition files) ≡ list_any (is_refused definition) files
 any_due definition [] = refl
 any_due definition (file ∷ files) = λ i. is_some-file_due (first_refusal definition file) i || any_due definition files i
+
+pub refused_some : (definition : Frame) (files : List (List ℕ)) (rs : List Outcome) → AreDue (file_dues definition files) rs → list_any is_want rs ≡ false → list_any is_refusal rs ≡ list_any (is_refused definition) files
+refused_some definition files rs due working = refused_as_due (file_dues definition files) rs due.count due.each working ∙ any_due definition files
 
 -- the events es, an import of each file, had the outcomes rs
 module _ (definition : Frame) (files : List (List ℕ)) (es : List Event) (rs : List Outcome)
@@ -75,11 +78,6 @@ module _ (definition : Frame) (files : List (List ℕ)) (es : List Event) (rs : 
     content_held =
         ap (λ past. content (starting definition ∷ []) files past 0) (past_is definition 1 files es rs count out working)
         ∙ is_held definition 1 files (reverse es) 0 (all_here definition 1 files (reverse es) 0 (omega arith) among)
-
-    pub refused_some : list_any is_refusal rs ≡ list_any (is_refused definition) files
-    refused_some =
-        events_refused definition 1 files es rs count out working
-        ∙ (ap (list_any (λ d. is_some d.cause)) dues_are ∙ any_due definition files)
 
 -- ---- the law
 

@@ -4,6 +4,7 @@ pub mod Members
 pub mod Steps
 pub mod DueOutcomes
 pub mod Imports
+pub mod Turns
 pub mod Endings
 pub mod CurrentLines
 pub mod Most

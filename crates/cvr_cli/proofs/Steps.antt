@@ -50,9 +50,9 @@ pub growth_itself : (s : Facts) → growth s s ≡ 0
 growth_itself s = omega (arith, ap len (union_same fact_total fact_exact s))
 
 -- what is told of an outcome: it is due, and it is the one that is due unless memory was wanting
-record IsTold (d : Due) (n : ℕ) (r : Outcome) : Type 0 where
-  is_due : IsDue d (cause_in r)
-  exact : is_want r ≡ false → r ≡ outcome_by d.cause n
+pub record IsTold (d : Due) (n : ℕ) (r : Outcome) : Type 0 where
+  pub is_due : IsDue d (cause_in r)
+  pub exact : is_want r ≡ false → r ≡ outcome_by d.cause n
 
 told_certain : (cause : Cause) (n : ℕ) (r : Outcome) → wants_memory cause ≡ false → r ≡ Refused cause → IsTold (certain cause) n r
 told_certain cause n r not is = subst (IsTold (certain cause) n) (sym is) (record {
@@ -60,7 +60,7 @@ told_certain cause n r not is = subst (IsTold (certain cause) n) (sym is) (recor
   exact = λ working. refl;
 })
 
-told_import : (first : Option ReadFault) (n : ℕ) (r : Outcome) → (r ≡ due first n) ⊎ (r ≡ Refused (Read read.Memory)) → IsTold (file_due first) n r
+pub told_import : (first : Option ReadFault) (n : ℕ) (r : Outcome) → (r ≡ due first n) ⊎ (r ≡ Refused (Read read.Memory)) → IsTold (file_due first) n r
 told_import first n r (inl is) = subst (IsTold (file_due first) n) (sym is) (record { is_due = file_told first n; exact = λ working. due_by first n })
 told_import first n r (inr is) = subst (IsTold (file_due first) n) (sym is) (record { is_due = refl; exact = λ working. absurd (true≢false working) })
 
@@ -194,7 +194,7 @@ one_as_due : (d : Due) (cause : Option Cause) → IsDue d cause → option_map_o
 one_as_due d None is working = sym (ap is_some is)
 one_as_due d (Some cause) is working = sym (ap is_some (ap (λ want. if want then d.want else d.cause) (sym working) ∙ is))
 
-refused_as_due : (dues : List Due) (rs : List Outcome) → length dues ≡ length rs → ((k : ℕ) → k < length rs → IsDue (get_or dues k no_due) (cause_in (get_or rs k (Accepted 0))))
+pub refused_as_due : (dues : List Due) (rs : List Outcome) → length dues ≡ length rs → ((k : ℕ) → k < length rs → IsDue (get_or dues k no_due) (cause_in (get_or rs k (Accepted 0))))
     → list_any is_want rs ≡ false → list_any is_refusal rs ≡ list_any (λ d. is_some d.cause) dues
 refused_as_due [] [] same each working = refl
 refused_as_due [] (r ∷ rs) same each working = absurd (omega arith)

@@ -281,8 +281,11 @@ wanted texts dues wanting rest b a f h want some = record {
 }
 
 -- as much is due as there are files
+pub all_due : (definition : Frame) (files : List (List ℕ)) → length files ≡ length (file_dues definition files)
+all_due definition files = sym (length-map files (λ file. file_due (first_refusal definition file)))
+
 pub dues_count : (definition : Frame) (files : List (Vec ℕ)) → length files ≡ length (file_dues definition (bytes_of files))
-dues_count definition files = sym (length-map (bytes_of files) (λ file. file_due (first_refusal definition file)) ∙ length-map files (λ file. file.items))
+dues_count definition files = sym (length-map files (λ file. file.items)) ∙ all_due definition (bytes_of files)
 
 -- and what to one of them
 pub due_at : (definition : Frame) (files : List (Vec ℕ)) (n : ℕ) (file : Vec ℕ) → n < length files → file ≡ get_or files n file → get_or (file_dues definition (bytes_of files)) n no_due ≡ file_due (first_refusal definition file.items)

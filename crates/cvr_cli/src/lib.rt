@@ -10,6 +10,7 @@ mod drilling;
 mod ending;
 pub mod examples;
 mod file;
+mod given;
 pub mod law;
 mod log;
 mod memory_files;

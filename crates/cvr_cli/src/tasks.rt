@@ -2,6 +2,7 @@ ghost use Rattle.std.specs.Prelude.{◌≡◌, ◌≢◌, ◌⊎◌, ◌++◌, �
 ghost use Rattle.std.specs.List.{list_any};
 ghost use Rattle.cdf_types.specs.Device.{appended, AppendsFront};
 ghost use Rattle.cvr_cli.specs.Accepted.{is_refused};
+ghost use Rattle.cvr_cli.specs.Imported.{files_bytes};
 ghost use Rattle.cvr_cli.specs.Outcome.{held, check_lines, facts_text, task_text, run_text, task_fault, run_fault, files_refused, task_refused, any_refused, bytes_of, IsWhole};
 ghost use Rattle.cvr_cli.specs.declared.status.Status.TheVariants.{Done, Refused, CommandLine, Device, Memory as NoMemory};
 ghost use Rattle.cvr_cli.specs.declared.refusals.Refusals.{Refusals};
@@ -13,6 +14,7 @@ use crate::check::push_count;
 use crate::collecting::collect;
 use crate::drilling::run_drill;
 use crate::ending::{end_in_memory, end_with};
+use crate::given::Files;
 use crate::printing::{print_office, print_text};
 use crate::reading::count_records;
 use crate::refusals::Refusals;
@@ -58,18 +60,18 @@ fn collect_all<O: Office + Drop, L: Sink>(
     alloc: Global,
     definition: Definition,
     paths: &[Body],
-    files: &[Vec<u8>],
+    files: Files<'_>,
     log: &mut L,
 ) -> Result<(O, Refusals), Status>
-    requires { length paths.now ≡ length files.now }
+    requires { length paths.now ≡ length (files_bytes files) }
     ensures definition { IfOk result (λ r. O.defined r.0 ≡ definition) }
-    ensures content { IfOk result (λ r. O.held r.0 ≡ held definition (bytes_of files.now)) }
-    ensures any_refusal { IfOk result (λ r. r.1.any_refusal ≡ list_any (is_refused definition) (bytes_of files.now)) }
+    ensures content { IfOk result (λ r. O.held r.0 ≡ held definition (files_bytes files.entry)) }
+    ensures any_refusal { IfOk result (λ r. r.1.any_refusal ≡ list_any (is_refused definition) (files_bytes files.entry)) }
     ensures whole { IfOk result (λ r. r.1.file_lacking ≡ false) }
     ensures status { IfErr result (λ s. s ≡ NoMemory) }
-    ensures log { IfOk result (λ r. Tells paths.now (file_dues definition (bytes_of files.now)) (length files.now) r.1
+    ensures log { IfOk result (λ r. Tells paths.now (file_dues definition (files_bytes files.entry)) (length (files_bytes files.entry)) r.1
         (L.taken log.old) (L.has_failed log.old) (L.taken log.new) (L.has_failed log.new)) }
-    ensures cut_short { OnErr result ((rest : List ℕ) → LogsSome (IsCutShort paths.now (file_dues definition (bytes_of files.now)) rest)
+    ensures cut_short { OnErr result ((rest : List ℕ) → LogsSome (IsCutShort paths.now (file_dues definition (files_bytes files.entry)) rest)
         (L.taken log.old) (L.has_failed log.old) (L.taken log.new) (L.has_failed log.new)) }
 {
     let Ok((office, refusals)) = collect::<O, L>(alloc, definition, paths, files, log) else {
@@ -87,16 +89,16 @@ fn run_office<O: Office + Drop, W: Sink, L: Sink>(
     definition: Definition,
     task: &Task,
     paths: &[Body],
-    files: &[Vec<u8>],
+    files: Files<'_>,
     out: &mut W,
     log: &mut L,
 ) -> Status
     requires working { W.has_failed out.old ≡ false }
-    requires named { length paths.now ≡ length files.now }
+    requires named { length paths.now ≡ length (files_bytes files) }
     ensures ends { Ends (W.taken out.old) (W.taken out.new) (W.has_failed out.new)
-        (facts_text definition task.now (held definition (bytes_of files.now))) (files_refused definition task.now (bytes_of files.now)) result }
-    ensures log { TellsRun paths.now (file_dues definition (bytes_of files.now)) (result ≡ NoMemory)
-        (last_lines (task_fault definition task.now (bytes_of files.now)) (W.has_failed out.new))
+        (facts_text definition task.now (held definition (files_bytes files.entry))) (files_refused definition task.now (files_bytes files.entry)) result }
+    ensures log { TellsRun paths.now (file_dues definition (files_bytes files.entry)) (result ≡ NoMemory)
+        (last_lines (task_fault definition task.now (files_bytes files.entry)) (W.has_failed out.new))
         (L.taken log.old) (L.has_failed log.old) (L.taken log.new) (L.has_failed log.new) }
 {
     match collect_all::<O, L>(alloc, definition, paths, files, log) {
@@ -140,17 +142,17 @@ fn run_task<O: Office + Drop, W: Sink, L: Sink>(
     alloc: Global,
     definition: Definition,
     request: &Request,
-    files: &[Vec<u8>],
+    files: Files<'_>,
     out: &mut W,
     log: &mut L,
 ) -> Status
     requires working { W.has_failed out.old ≡ false }
-    requires named { length request.now.paths ≡ length files.now }
+    requires named { length request.now.paths ≡ length (files_bytes files) }
     ensures ends { Ends (W.taken out.old) (W.taken out.new) (W.has_failed out.new)
-        (task_text definition request.now.task request.now.paths (bytes_of files.now))
-        (task_refused definition request.now.task (bytes_of files.now)) result }
-    ensures log { TellsRun (texts_of request.now.task request.now.paths) (dues_of definition request.now.task (bytes_of files.now)) (result ≡ NoMemory)
-        (last_lines (task_fault definition request.now.task (bytes_of files.now)) (W.has_failed out.new))
+        (task_text definition request.now.task request.now.paths (files_bytes files.entry))
+        (task_refused definition request.now.task (files_bytes files.entry)) result }
+    ensures log { TellsRun (texts_of request.now.task request.now.paths) (dues_of definition request.now.task (files_bytes files.entry)) (result ≡ NoMemory)
+        (last_lines (task_fault definition request.now.task (files_bytes files.entry)) (W.has_failed out.new))
         (L.taken log.old) (L.has_failed log.old) (L.taken log.new) (L.has_failed log.new) }
 {
     let paths = request.paths.as_slice();
@@ -159,15 +161,49 @@ fn run_task<O: Office + Drop, W: Sink, L: Sink>(
         Task::Currents | Task::Conflicts | Task::Tally | Task::Merge { .. } => {
             run_office::<O, W, L>(alloc, definition, task, paths, files, out, log)
         }
-        Task::Check => run_check(alloc, &definition, paths, files, out, log),
+        Task::Check => run_check(alloc, &definition, paths, files.all(), out, log),
         Task::Drill { offices, steps } => run_drill::<O, W, L>(
             alloc,
             &definition,
             *offices as usize,
             steps.as_slice(),
-            files,
+            files.all(),
             out,
             log,
+        ),
+    }
+}
+
+/// Runs a request, as `run` does, over files that are lent or given.
+pub fn run_files<W: Sink, L: Sink>(
+    alloc: Global,
+    request: &Request,
+    def: &[u8],
+    files: Files<'_>,
+    out: &mut W,
+    log: &mut L,
+) -> Status
+    requires working { W.has_failed out.old ≡ false }
+    requires log_working { L.has_failed log.old ≡ false }
+    requires named { length request.now.paths ≡ length (files_bytes files) }
+    ensures ends { Ends (W.taken out.old) (W.taken out.new) (W.has_failed out.new)
+        (run_text request.now.task def.now request.now.paths (files_bytes files.entry)) (any_refused request.now.task def.now (files_bytes files.entry)) result }
+    ensures log { result ≢ NoMemory → Logs (L.taken log.old) (L.has_failed log.old) (L.taken log.new) (L.has_failed log.new)
+        (run_lines request.now.task request.now.def def.now request.now.paths (files_bytes files.entry)
+        ++ last_lines (run_fault request.now.task def.now (files_bytes files.entry)) (W.has_failed out.new)) }
+    ensures cut_short { result ≡ NoMemory
+        → LogsSome (IsRunCutShort request.now.task request.now.def def.now request.now.paths (files_bytes files.entry)
+        (last_lines (run_fault request.now.task def.now (files_bytes files.entry)) (W.has_failed out.new)))
+        (L.taken log.old) (L.has_failed log.old) (L.taken log.new) (L.has_failed log.new) }
+{
+    match Definition::read(alloc, def) {
+        Err(fault) => {
+            let mut refusals = Refusals::none();
+            refusals.note_file(alloc, log, request.def.as_str(), fault);
+            refusals.status()
+        }
+        Ok(definition) => run_task::<CachedOffice, W, L>(
+            alloc, definition, request, files, out, log,
         ),
     }
 }
@@ -205,14 +241,5 @@ pub fn run<W: Sink, L: Sink>(
         (last_lines (run_fault request.now.task def.now (bytes_of files.now)) (W.has_failed out.new)))
         (L.taken log.old) (L.has_failed log.old) (L.taken log.new) (L.has_failed log.new) }
 {
-    match Definition::read(alloc, def) {
-        Err(fault) => {
-            let mut refusals = Refusals::none();
-            refusals.note_file(alloc, log, request.def.as_str(), fault);
-            refusals.status()
-        }
-        Ok(definition) => run_task::<CachedOffice, W, L>(
-            alloc, definition, request, files, out, log,
-        ),
-    }
+    run_files(alloc, request, def, Files::Lent(files), out, log)
 }

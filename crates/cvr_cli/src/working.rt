@@ -8,9 +8,10 @@ ghost use Rattle.cvr_cli.specs.Outcome.{run_text, run_fault, any_refused, bytes_
 ghost use Rattle.cvr_cli.specs.Told.{run_lines};
 ghost use Rattle.cvr_cli.specs.Worked.{Stops, Runs};
 
+use crate::given::Files;
 use crate::opening::{Open, read_all, read_told};
 use crate::status::Status;
-use crate::tasks::run;
+use crate::tasks::run_files;
 use cdf_types::Sink;
 use cvr_words::Request;
 use std::alloc::Global;
@@ -70,11 +71,11 @@ pub fn run_request<O: Open, W: Sink, L: Sink>(
     ensures no_words { result ≢ CommandLine }
 {
     match read_inputs(alloc, opener, request, log) {
-        Ok(inputs) => run(
+        Ok(Inputs { def, files }) => run_files(
             alloc,
             request,
-            inputs.def.as_slice(),
-            inputs.files.as_slice(),
+            def.as_slice(),
+            Files::Given(files),
             out,
             log,
         ),

@@ -1,61 +1,29 @@
-use Rattle.std.proofs.Common.{◌≡◌, ◌<◌, ◌∙◌, ℕ, [], ◌∷◌, false, length, get_or, map, sym, ap, subst, arith, rules}
+use Rattle.std.proofs.Common.{◌∙◌, ℕ, List, length, map, sym, ap, subst}
 use Rattle.std.specs.List.{list_any}
-use Rattle.std.specs.FinSet.{empty}
-use Rattle.std.proofs.lemmas.List.{length-map}
-use Rattle.cvr_collect.specs.declared.event.Event.TheVariants.{Import, Exchange}
-use Rattle.cvr_collect.specs.Keeps.{starting}
-use Rattle.cvr_collect.specs.Reach.{content, history}
-use Rattle.cvr_collect.specs.Outcomes.{AreOutcomes}
-use Rattle.cvr_cli.specs.Outcome.{bytes_of}
+use Rattle.cvr_cli.specs.Imported.{files_bytes}
 use Rattle.cvr_cli.specs.Refusals.{is_refusal, is_want, AreDue}
 use Rattle.cvr_cli.specs.Told.{file_dues, Tells}
+use Rattle.cvr_cli.proofs.Imports.{refused_some}
 use Rattle.cvr_cli.proofs.Outcomes.{path_texts}
-use Rattle.cvr_cli.proofs.Imports.{get_or-one, content_held, refused_some, are_due}
+use Rattle.cvr_cli.proofs.Telling.{all_due}
 use Rattle.cvr_cli.proofs.collecting.collect.Goals as goal
 
-pub returns : goal.returns
-returns g c =
-    let def = c.args.definition in
-    let files = bytes_of c.args.files.now in
-    let es = c.in_ok-events.events.items in
-    let rs = c.in_ok-outcomes.outcomes.items in
-    let before = c.as_mut_slice.result.now in
-    let after = c.play.new.offices in
-    let office = c.swap_remove.result in
-    let started : before ≡ c.in_ok-new.field-0 ∷ [] = search rules in
-    let one : length after ≡ 1 = search rules in
-    let is : office ≡ get_or after 0 office = search rules in
-    let held_are : map g.O.Office.held before ≡ starting def ∷ [] = ap (map g.O.Office.held) started ∙ ap (λ s. s ∷ []) c.in_ok-new.ensures.content in
-    let defined_are : map g.O.Office.defined before ≡ def ∷ [] = ap (map g.O.Office.defined) started ∙ ap (λ d. d ∷ []) c.in_ok-new.ensures.definition in
-    let same_events = c.as_slice.ensures.value in
-    let out : AreOutcomes (starting def ∷ []) (def ∷ []) files (history es rs) =
-    subst (λ ss. AreOutcomes ss (def ∷ []) files (history es rs)) held_are
-    (subst (λ ds. AreOutcomes (map g.O.Office.held before) ds files (history es rs)) defined_are
-    (subst (λ xs. AreOutcomes (map g.O.Office.held before) (map g.O.Office.defined before) files (history xs rs)) same_events c.in_ok-outcomes.ensures.outcomes)) in
-    let files_count : length files ≡ length c.args.files.now = length-map c.args.files.now _ in
-    let many : length es ≡ length files = c.in_ok-events.ensures.count ∙ sym files_count in
-    let also : length rs ≡ length files = c.in_ok-outcomes.ensures.count ∙ (ap length same_events ∙ many) in
-    let each : (k : ℕ) → k < length files → get_or es k (Exchange 0 0) ≡ Import 0 k = λ k lt. c.in_ok-events.ensures.each k (omega (arith, lt, files_count)) in
+pub returns-clause-any_refusal : goal.returns-clause-any_refusal
+returns-clause-any_refusal g c = λ working.
     let told = c.note_refused-refusals.ensures in
-    let wants : c.note_refused-refusals.result.file_lacking ≡ false → list_any is_want rs ≡ false = λ working. ap (list_any is_want) (sym c.as_slice-2.ensures.value) ∙ (sym told.file_lacking ∙ working) in
-    record {
-      definition =
-          sym (get_or-one g.O.Office.defined def after office one is)
-          ∙ ap (λ ds. get_or ds 0 def) (c.in_ok-outcomes.ensures.definitions ∙ defined_are);
-      content = λ working.
-          sym (get_or-one g.O.Office.held empty after office one is)
-          ∙ (c.in_ok-outcomes.ensures.content 0 (omega (arith, ap length started))
-          ∙ ((λ i. content (held_are i) files (history (same_events i) rs) 0)
-          ∙ content_held def files es rs many also each (wants working) out));
-      any_refusal = λ working.
-          told.any_refusal
-          ∙ (ap (list_any is_refusal) c.as_slice-2.ensures.value
-          ∙ refused_some def files es rs many also each (wants working) out);
-      log =
-          subst (λ paths. Tells paths (file_dues def files) (length c.args.files.now) c.note_refused-refusals.result (g.L.Sink.taken c.args.log.now) (g.L.Sink.has_failed c.args.log.now) (g.L.Sink.taken c.note_refused-refusals.new.log) (g.L.Sink.has_failed c.note_refused-refusals.new.log))
-          (path_texts c.args.paths.now)
-          (subst (λ n. Tells (map (λ path. path) c.args.paths.now) (file_dues def files) n c.note_refused-refusals.result (g.L.Sink.taken c.args.log.now) (g.L.Sink.has_failed c.args.log.now) (g.L.Sink.taken c.note_refused-refusals.new.log) (g.L.Sink.has_failed c.note_refused-refusals.new.log))
-          (ap length c.as_slice-2.ensures.value ∙ (also ∙ files_count))
-          (told.log (file_dues def files) (subst (AreDue (file_dues def files)) (sym c.as_slice-2.ensures.value) (are_due def files es rs many also each out))));
-      unchanged = tt;
-    }
+    let same = c.as_slice.ensures.value in
+    told.any_refusal
+    ∙ (ap (list_any is_refusal) same
+    ∙ refused_some c.args.definition (files_bytes c.args.files) c.in_ok-office.outcomes.items c.in_ok-office.ensures.imported.due
+    (ap (list_any is_want) (sym same) ∙ (sym told.file_lacking ∙ working)))
+
+pub returns-clause-log : goal.returns-clause-log
+returns-clause-log g c =
+    let files = files_bytes c.args.files in
+    let dues = file_dues c.args.definition files in
+    let due = c.in_ok-office.ensures.imported.due in
+    let same = c.as_slice.ensures.value in
+    let tells : List (List ℕ) → ℕ → Type 0 = λ texts n. Tells texts dues n c.note_refused-refusals.result (g.L.Sink.taken c.args.log.now) (g.L.Sink.has_failed c.args.log.now) (g.L.Sink.taken c.note_refused-refusals.new.log) (g.L.Sink.has_failed c.note_refused-refusals.new.log) in
+    subst (λ texts. tells texts (length files)) (path_texts c.args.paths.now)
+    (subst (tells (map (λ path. path) c.args.paths.now)) (ap length same ∙ (sym due.count ∙ sym (all_due c.args.definition files)))
+    (c.note_refused-refusals.ensures.log dues (subst (AreDue dues) (sym same) due)))

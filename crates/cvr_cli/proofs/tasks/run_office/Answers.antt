@@ -2,20 +2,21 @@ use Rattle.std.proofs.Common.{◌≡◌, length, subst}
 use Rattle.std.specs.List.{list_any}
 use Rattle.cvr_cli.specs.declared.status.Status.TheVariants.{Memory}
 use Rattle.cvr_cli.specs.Accepted.{is_refused}
-use Rattle.cvr_cli.specs.Outcome.{held, facts_fault, facts_text, task_fault, bytes_of}
+use Rattle.cvr_cli.specs.Imported.{files_bytes}
+use Rattle.cvr_cli.specs.Outcome.{held, facts_fault, facts_text, task_fault}
 use Rattle.cvr_cli.specs.Printing.{Prints}
 use Rattle.cvr_cli.specs.Told.{file_dues, last_lines}
 use Rattle.cvr_cli.proofs.Endings.{ends_in_memory}
 use Rattle.cvr_cli.proofs.Merging.{no_facts_text}
 use Rattle.cvr_cli.proofs.Printed.{ends_after, tells_after}
-use Rattle.cvr_cli.proofs.Telling.{wanted, dues_count}
+use Rattle.cvr_cli.proofs.Telling.{wanted, all_due}
 use Rattle.cvr_cli.proofs.tasks.run_office.Goals as goal
 
 pub returns-in-Ok-clause-ends : goal.returns-in-Ok-clause-ends
 returns-in-Ok-clause-ends g c =
     let definition = c.args.definition in
     let task = c.args.task.now in
-    let files = bytes_of c.args.files.now in
+    let files = files_bytes c.args.files in
     let before = g.W.Sink.taken c.args.out.now in
     let after = g.W.Sink.taken c.print_office-printed.new.out in
     let failed = g.W.Sink.has_failed c.print_office-printed.new.out in
@@ -30,7 +31,7 @@ pub returns-in-Ok-clause-log : goal.returns-in-Ok-clause-log
 returns-in-Ok-clause-log g c =
     let definition = c.args.definition in
     let task = c.args.task.now in
-    let files = bytes_of c.args.files.now in
+    let files = files_bytes c.args.files in
     let before = g.W.Sink.taken c.args.out.now in
     let after = g.W.Sink.taken c.print_office-printed.new.out in
     let failed = g.W.Sink.has_failed c.print_office-printed.new.out in
@@ -38,7 +39,7 @@ returns-in-Ok-clause-log g c =
     let prints =
     subst (λ h. Prints before after failed printed (facts_fault definition task h) (facts_text definition task h)) c.in-Ok.ensures.content
     (subst (λ d. Prints before after failed printed (facts_fault d task (g.O.Office.held c.in-Ok.office)) (facts_text d task (g.O.Office.held c.in-Ok.office))) c.in-Ok.ensures.definition c.print_office-printed.ensures) in
-    tells_after c.args.paths.now (file_dues definition files) (length c.args.files.now) c.in-Ok.refusals _ _ _ _ _ _ c.in-Ok.ensures.log (dues_count definition c.args.files.now) c.in-Ok.ensures.whole
+    tells_after c.args.paths.now (file_dues definition files) (length files) c.in-Ok.refusals _ _ _ _ _ _ c.in-Ok.ensures.log (all_due definition files) c.in-Ok.ensures.whole
     before after failed printed (task_fault definition task files) (facts_text definition task (held definition files)) _ prints c.end_with.ensures.status c.end_with.ensures.log
 
 pub returns-in-Err-clause-ends : goal.returns-in-Err-clause-ends
@@ -47,5 +48,5 @@ returns-in-Err-clause-ends g c = ends_in_memory _ _ _ _ _ c.requires.working c.i
 pub returns-in-Err-clause-log : goal.returns-in-Err-clause-log
 returns-in-Err-clause-log g c =
     let definition = c.args.definition in
-    let rest = last_lines (task_fault definition c.args.task.now (bytes_of c.args.files.now)) (g.W.Sink.has_failed c.args.out.now) in
-    wanted c.args.paths.now (file_dues definition (bytes_of c.args.files.now)) (c.in-Err.status ≡ Memory) rest _ _ _ _ c.in-Err.ensures.status (c.in-Err.ensures.cut_short rest)
+    let rest = last_lines (task_fault definition c.args.task.now (files_bytes c.args.files)) (g.W.Sink.has_failed c.args.out.now) in
+    wanted c.args.paths.now (file_dues definition (files_bytes c.args.files)) (c.in-Err.status ≡ Memory) rest _ _ _ _ c.in-Err.ensures.status (c.in-Err.ensures.cut_short rest)

@@ -11,22 +11,22 @@ returns-in-Ok g c =
     let task = c.args.request.now.task in
     let what = c.args.request.now.def in
     let paths = c.args.request.now.paths in
-    let answer = c.run.result in
+    let answer = c.run_files.result in
     let before = g.W.Sink.taken c.args.out.now in
-    let after = g.W.Sink.taken c.run.new.out in
-    let out_failed = g.W.Sink.has_failed c.run.new.out in
+    let after = g.W.Sink.taken c.run_files.new.out in
+    let out_failed = g.W.Sink.has_failed c.run_files.new.out in
     let b = g.L.Sink.taken c.args.log.now in
     let f = g.L.Sink.has_failed c.args.log.now in
-    let a = g.L.Sink.taken c.run.new.log in
-    let h = g.L.Sink.has_failed c.run.new.log in
-    let told = c.run.ensures in
+    let a = g.L.Sink.taken c.run_files.new.log in
+    let h = g.L.Sink.has_failed c.run_files.new.log in
+    let told = c.run_files.ensures in
     let run : Runs file_at task what paths answer before after out_failed b f a h =
     subst (λ l. Runs file_at task what paths answer before after out_failed (g.L.Sink.taken l) (g.L.Sink.has_failed l) a h) c.in-Ok.ensures.quiet
     (record {
       def = c.as_slice.result.now;
-      files = bytes_of c.as_slice-in-Ok.result.now;
-      read = subst (AreRead file_at (what ∷ paths)) (λ i. sym c.as_slice.ensures.value i ∷ bytes_of (sym c.as_slice-in-Ok.ensures.value i)) c.in-Ok.ensures.read;
-      ends = record { done = told.done; refused = told.refused; whole = told.text; front = told.front; device = told.device; failed = told.failed; no_words = told.no_words };
+      files = bytes_of c.in-Ok.field-0.files.items;
+      read = subst (λ def. AreRead file_at (what ∷ paths) (def ∷ bytes_of c.in-Ok.field-0.files.items)) (sym c.as_slice.ensures.value) c.in-Ok.ensures.read;
+      ends = told.ends;
       log = told.log;
       cut_short = told.cut_short;
     }) in
@@ -36,5 +36,5 @@ returns-in-Ok g c =
       log = λ def files at. log_known file_at task what paths answer before after out_failed b a f h run def files at;
       done = λ def files at. done_known file_at task what paths answer before after out_failed b a f h run def files at;
       refused = λ def files at. refused_known file_at task what paths answer before after out_failed b a f h run def files at;
-      no_words = told.no_words;
+      no_words = told.ends.no_words;
     }

@@ -1,0 +1,58 @@
+use Rattle.std.proofs.Common.{ℕ, List, Bool, inr, sym, ◌∙◌, subst}
+use Rattle.cdf_check.specs.Acceptance.{frame_in}
+use Rattle.cvr_cli.specs.Ends.{Ends}
+use Rattle.cvr_cli.specs.Imported.{files_bytes}
+use Rattle.cvr_cli.specs.Outcome.{task_text, task_fault, run_fault, any_refused}
+use Rattle.cvr_cli.specs.Log.{Logs}
+use Rattle.cvr_cli.specs.Told.{texts_of, dues_of, last_lines, IsCutShort}
+use Rattle.cvr_cli.proofs.Accepted.{text_beside, refused_beside, is_sound, lines_beside, last_beside, none_last}
+use Rattle.cvr_cli.proofs.Telling.{definition_log, definition_cut_short}
+use Rattle.cvr_cli.proofs.tasks.run_files.Goals as goal
+
+pub returns-in-Ok-clause-ends : goal.returns-in-Ok-clause-ends
+returns-in-Ok-clause-ends g c =
+    let task = c.args.request.now.task in
+    let def = c.args.def.now in
+    let paths = c.args.request.now.paths in
+    let files = files_bytes c.args.files in
+    let ends : List ℕ → Bool → Type 0 = λ text refused. Ends (g.W.Sink.taken c.args.out.now) (g.W.Sink.taken c.run_task.new.out) (g.W.Sink.has_failed c.run_task.new.out) text refused c.run_task.result in
+    subst (λ text. ends text (any_refused task def files)) (text_beside task def c.in-Ok.definition paths files c.in-Ok.ensures.sound c.in-Ok.ensures.frame)
+    (subst (ends (task_text c.in-Ok.definition task paths files)) (refused_beside task def c.in-Ok.definition files c.in-Ok.ensures.sound c.in-Ok.ensures.frame) c.run_task.ensures.ends)
+
+pub returns-in-Err-clause-log : goal.returns-in-Err-clause-log
+returns-in-Err-clause-log g c = λ whole.
+    definition_log c.args.request.now.task c.args.request.now.def c.args.def.now c.args.request.now.paths (files_bytes c.args.files) c.in-Err.fault c.none-refusals.result c.note_file.new.self _ _ _ _ c.as_str.result.now
+    (last_lines (run_fault c.args.request.now.task c.args.def.now (files_bytes c.args.files)) (g.W.Sink.has_failed c.args.out.now))
+    c.as_str.ensures c.in-Err.ensures.first c.none-refusals.ensures.file_lacking c.none-refusals.ensures.path_unspelled c.note_file.ensures.file_lacking
+    (none_last c.args.request.now.task c.args.def.now (files_bytes c.args.files) _ c.in-Err.fault c.requires.working)
+    c.note_file.ensures.told (λ e. whole (c.status.ensures ∙ e))
+
+pub returns-in-Err-clause-cut_short : goal.returns-in-Err-clause-cut_short
+returns-in-Err-clause-cut_short g c = λ want.
+    definition_cut_short c.args.request.now.task c.args.request.now.def c.args.def.now c.args.request.now.paths (files_bytes c.args.files) c.in-Err.fault c.none-refusals.result c.note_file.new.self _ _ _ _ c.as_str.result.now
+    (last_lines (run_fault c.args.request.now.task c.args.def.now (files_bytes c.args.files)) (g.W.Sink.has_failed c.args.out.now))
+    c.as_str.ensures c.in-Err.ensures.first c.none-refusals.ensures.file_lacking c.none-refusals.ensures.path_unspelled c.note_file.ensures.file_lacking c.note_file.ensures.told (sym c.status.ensures ∙ want)
+
+pub returns-in-Ok-clause-log : goal.returns-in-Ok-clause-log
+returns-in-Ok-clause-log g c = λ whole.
+    subst (Logs (g.L.Sink.taken c.args.log.now) (g.L.Sink.has_failed c.args.log.now) (g.L.Sink.taken c.run_task.new.log) (g.L.Sink.has_failed c.run_task.new.log))
+    (lines_beside c.args.request.now.task c.args.request.now.def c.args.def.now c.in-Ok.definition c.args.request.now.paths (files_bytes c.args.files) (g.W.Sink.has_failed c.run_task.new.out) c.in-Ok.ensures.sound c.in-Ok.ensures.frame)
+    (c.run_task.ensures.log.log whole)
+
+pub returns-in-Ok-clause-cut_short : goal.returns-in-Ok-clause-cut_short
+returns-in-Ok-clause-cut_short g c = λ want.
+    let some = c.run_task.ensures.log.cut_short want in
+    let paths = c.args.request.now.paths in
+    let files = files_bytes c.args.files in
+    let failed = g.W.Sink.has_failed c.run_task.new.out in
+    let sound = c.in-Ok.ensures.sound in
+    let frame = c.in-Ok.ensures.frame in
+    let task = c.args.request.now.task in (
+      some.0,
+      inr (
+        is_sound c.args.def.now sound,
+        subst (λ rest. IsCutShort (texts_of task paths) (dues_of (frame_in c.args.def.now) task files) rest some.0) (last_beside task c.args.def.now c.in-Ok.definition files failed sound frame)
+            (subst (λ d. IsCutShort (texts_of task paths) (dues_of d task files) (last_lines (task_fault c.in-Ok.definition task files) failed) some.0) frame some.1),
+      ),
+      some.2,
+    )
