@@ -2,8 +2,8 @@
 """compare.py --before PROGRAM [--after PROGRAM] [--peer NAME=PROGRAM ..] [--folder FOLDER ..] [--rounds N] [--cpu K] [--keep NAME]
 
 Times two builds of cvr on the same files, in turns, each run alone. First reports of gen.py: as long as a file may be; short
-records; that long report with a fault in its first record, in the middle, in its last one, and accepted but for a number with a
-sign behind all, which is found last; and one file of one record, named many times. Then each folder that is given (definition.json
+records; that long report with a fault in its first record, in the middle, in its last one, two of other kinds in its last one, and
+accepted but for a number with a sign behind all, which is found last; and one file of one record, named many times. Then each folder that is given (definition.json
 or def.json, and reports), beside the peers: programs that take the words of cvr. Told are processor seconds (the median of the rounds,
 and the least), the peak memory, the ratio of the medians to the first program's, and whether the texts are the same. With
 --cpu all of it runs on one processor."""
@@ -23,6 +23,7 @@ MANY = 10000        # how often the file of one record is named
 SHORT = (20000, 200000)
 KEY = '"UniqueId":"'
 WRONG = '"UniqueID":"'      # no member of that name is demanded, and UniqueId is
+LATE = {'unknown': ('"ContestId":"', '"ContestId":"no '), 'fraction': ('"NumberVotes":1', '"NumberVotes":1.5')}
 
 
 class Run:
@@ -67,13 +68,17 @@ def reports_in(folder):
 
 
 def spoiled(folder, path):
-    """The same report with a fault in its first record, in the middle, and in its last one; and with an odd member at its end."""
+    """The same report with a fault of form in its first record, in the middle, and in its last one; with a text in its last record
+    that names nothing, and with a fraction; and with an odd member at its end."""
     with open(path, encoding='utf-8') as file:
         text = file.read()
     places = {'first': text.find(KEY), 'middle': text.find(KEY, len(text) // 2), 'last': text.rfind(KEY)}
     if -1 in places.values():
         raise bench.Failed('%s names no record by %s' % (path, KEY))
     texts = {name: text[:at] + WRONG + text[at + len(KEY):] for name, at in places.items()}
+    for name, (old, new) in LATE.items():
+        at = text.rindex(old)
+        texts[name] = text[:at] + new + text[at + len(old):]
     texts['sign'] = text.rstrip()[:-1] + ',"Of no table":-1}'
     for name, changed in texts.items():
         with open(os.path.join(folder, name + '.json'), 'w', encoding='utf-8') as file:
