@@ -212,12 +212,16 @@ fn outcome_of<O: Office>(
     text
 }
 
-// Whether the running totals of each office are its rows.
-fn are_kept(rt: &(impl Abort + AllocGlobal), offices: &[CachedOffice]) -> bool {
+// Whether the running totals of an office are its rows.
+fn is_kept<O: Office + Keeping>(rt: &(impl Abort + AllocGlobal), office: &O) -> bool {
+    let totals = office.totals(rt.alloc()).expect(rt, "no memory");
+    let rows = tally_text(rt.alloc(), &totals).expect(rt, "no memory");
+    kept_text(rt, office).as_str() == rows.as_str()
+}
+
+fn are_kept<O: Office + Keeping>(rt: &(impl Abort + AllocGlobal), offices: &[O]) -> bool {
     for office in offices {
-        let totals = office.totals(rt.alloc()).expect(rt, "no memory");
-        let rows = tally_text(rt.alloc(), &totals).expect(rt, "no memory");
-        if kept_text(rt, office).as_str() != rows.as_str() {
+        if !is_kept(rt, office) {
             return false;
         }
     }
@@ -249,13 +253,14 @@ impl Numbers {
 
     // An event among three offices and fourteen files, or one with an office or a file too many.
     fn event(&mut self) -> Event {
-        match self.below(3) {
+        let (kind, office) = (self.below(3), self.below(4));
+        match kind {
             0 => Event::Exchange {
-                from: self.below(4),
+                from: office,
                 to: self.below(4),
             },
             _ => Event::Import {
-                office: self.below(4),
+                office,
                 file: self.below(15),
             },
         }
@@ -264,10 +269,10 @@ impl Numbers {
 
 // Plays one event in offices of both kinds, ends the test where they tell or answer otherwise, or where what is kept
 // isn't what is computed anew, and tells what became of it.
-fn outcome_of_both(
+fn outcome_of_both<C: Office + Keeping, P: Office>(
     rt: &(impl Abort + AllocGlobal),
-    cached: &mut [CachedOffice],
-    plain: &mut [PlainOffice],
+    cached: &mut [C],
+    plain: &mut [P],
     files: &[Vec<u8>],
     event: Event,
 ) -> String {
@@ -289,10 +294,12 @@ fn all_told(told: &str, wanted: &[&str]) -> bool {
 }
 
 // What became of 120 events, in offices of both kinds side by side.
-fn drilled(rt: &(impl Abort + AllocGlobal)) -> String {
+fn drilled<C: Office + Keeping + Drop, P: Office + Drop>(
+    rt: &(impl Abort + AllocGlobal),
+) -> String {
     let files = bytes_of(rt, &FILES);
-    let mut cached: Vec<CachedOffice> = new_offices(rt, &DEFINITIONS);
-    let mut plain: Vec<PlainOffice> = new_offices(rt, &DEFINITIONS);
+    let mut cached: Vec<C> = new_offices(rt, &DEFINITIONS);
+    let mut plain: Vec<P> = new_offices(rt, &DEFINITIONS);
     let mut numbers = Numbers { state: 20261123 };
     let mut told = String::new(rt.alloc());
     for _ in 0..120 {
@@ -304,7 +311,7 @@ fn drilled(rt: &(impl Abort + AllocGlobal)) -> String {
 
 #[test]
 fn a_drill_goes_the_same_way_in_plain_offices(rt: HostRuntime) {
-    let told = drilled(&rt);
+    let told = drilled::<CachedOffice, PlainOffice>(&rt);
     assert!(rt;
         all_told(
             told.as_str(),

@@ -144,10 +144,14 @@ pub fn new_office<O: Office>(rt: &(impl Abort + AllocGlobal), changes: Changes) 
 /// An office that took files.
 pub fn office_of<O: Office>(rt: &(impl Abort + AllocGlobal), files: &[Changes]) -> O {
     let mut office: O = new_office(rt, &[]);
-    for changes in files {
-        take(rt, &mut office, changes);
-    }
+    take_all(rt, &mut office, files);
     office
+}
+
+fn take_all<O: Office>(rt: &(impl Abort + AllocGlobal), office: &mut O, files: &[Changes]) {
+    for changes in files {
+        take(rt, office, changes);
+    }
 }
 
 /// Has an office take a file. A function of its own, so that no other proof has to carry all that is said of `import`.
