@@ -103,9 +103,9 @@ def is_refused_by_record(definition, data):
     value = rules.read(RULES, data)
     scope = rules.Scope(rules.read(RULES, definition))
     scope.ids.update({'GpUnit': Anything(), 'ReportingDevice': Anything()})
-    first = next((it for it in value['CVR'] if lacks_form(it) or names_more(it, scope)), None)
+    unlike = [it for it in value['CVR'] if lacks_form(it) or names_more(it, scope)]
     without = dict(value, CVR=[])
-    return first is not None and lacks_form(first) and not is_refused(rules.see, without, ['classes', ['CastVoteRecordReport']], ())
+    return bool(unlike) and lacks_form(unlike[0]) and not is_refused(rules.see, without, ['classes', ['CastVoteRecordReport']], ())
 
 
 class File:
