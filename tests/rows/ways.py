@@ -11,9 +11,10 @@ two once. A file that the row accepts has to be read record by record, but for t
 - a number not of digits: one of its numbers, also in a member that doesn't count, isn't digits alone, or more than 64 bits hold;
 - PartyIds: a record names a party.
 
-One that the row refuses has to be refused record by record where it has none of the first three, a record of it lacks its
-form, what the records before that one name is the definition's or their own, and without its records nothing is wrong with
-its numbers and form, by the rules of rules.py; and else as one tree.
+One that the row refuses for a record's form, for references or for agreement has to be refused record by record where it has
+none of the first three, without its records nothing is wrong with its numbers and form, and the first of its records that
+lacks its form, names a party, or names what is neither the definition's nor its own, if there is one, lacks its form or names
+no party, by the rules of rules.py; its unit and its device aside. Else it has to be refused as one tree.
 
 ways.txt has how many files of each file of rows are read in which way, and each accepted one that is read as one tree, by
 the first row that has it. --write writes it anew, by these rules; without it, it has to be as it would be written, so that
@@ -92,20 +93,20 @@ def lacks_form(record):
 
 
 def names_more(record, scope):
-    """Whether a record names a party, or what is neither the definition's nor its own; its unit and its device aside."""
-    return bool(record.get('PartyIds')) or is_refused(rules.see_references, record, scope, ())
+    """Whether a record names what is neither the definition's nor its own; its unit and its device aside."""
+    return is_refused(rules.see_references, record, scope, ())
 
 
 def is_refused_by_record(definition, data):
-    """Whether a file that is refused for the form of a record is refused record by record."""
+    """Whether a file that is refused for a record's form, for references or for agreement is refused record by record."""
     if tree_reason(data):
         return False
     value = rules.read(RULES, data)
     scope = rules.Scope(rules.read(RULES, definition))
     scope.ids.update({'GpUnit': Anything(), 'ReportingDevice': Anything()})
-    unlike = [it for it in value['CVR'] if lacks_form(it) or names_more(it, scope)]
-    without = dict(value, CVR=[])
-    return bool(unlike) and lacks_form(unlike[0]) and not is_refused(rules.see, without, ['classes', ['CastVoteRecordReport']], ())
+    odd = [it for it in value['CVR'] if lacks_form(it) or it.get('PartyIds') or names_more(it, scope)][:1]
+    is_of_party = any(not lacks_form(it) and it.get('PartyIds') for it in odd)
+    return not is_of_party and not is_refused(rules.see, dict(value, CVR=[]), ['classes', ['CastVoteRecordReport']], ())
 
 
 class File:
@@ -116,8 +117,8 @@ class File:
         self.reason = None if fault else reason(data)
         self.way = AS_TREE if self.reason else BY_RECORD
         if fault:
-            is_of_record = fault.startswith('E3 /CVR/') and is_refused_by_record(definition, data)
-            self.way = REFUSED_BY_RECORD if is_of_record else REFUSED_AS_TREE
+            is_by_record = fault.startswith(('E3 /CVR/', 'E4', 'E5')) and is_refused_by_record(definition, data)
+            self.way = REFUSED_BY_RECORD if is_by_record else REFUSED_AS_TREE
 
 
 def least(part):
@@ -227,16 +228,24 @@ TEXTS = [(b'{"CVR":[{"a":18446744073709551615}],"b":"-1,CVR"}', None), (b'{"CVR"
 
 
 def faulty():
-    """Files that are refused for the form of a record, each with whether record by record."""
+    """Files that are refused for the form of a record, for references or for agreement, each with whether record by record."""
     scan = json.loads(run.VECTORS['f2.json'])
     right = scan['CVR'][0]
     unnamed = {name: value for name, value in right.items() if name != 'UniqueId'}
     of_party, of_other = dict(right, PartyIds=['p']), dict(right, CurrentSnapshotId='none')
+    of_unit, of_device = dict(right, BallotStyleUnitId='none'), dict(right, CreatingDeviceId='none')
     without_version = {name: value for name, value in scan.items() if name != 'Version'}
+    other_election = dict(scan, Election=[dict(scan['Election'][0], Unlisted='other')])
+    of_no_device = dict(scan, ReportGeneratingDeviceIds=['none'])
     for top, records, is_by_record in (
-            (scan, [unnamed], True), (scan, [right, unnamed, right], True), (scan, [1], True), (scan, [unnamed, of_other], True),
-            (scan, [of_other, unnamed], False), (scan, [of_party, unnamed], False), (without_version, [unnamed], False),
-            (dict(scan, Unlisted=-1), [unnamed], False), (dict(scan, Unlisted=0.5), [unnamed], False)):
+            (scan, [unnamed], True), (scan, [right, unnamed, right], True), (scan, [1], True), (scan, [None], True),
+            (scan, [unnamed, of_other], True), (scan, [of_other, unnamed], True), (scan, [of_party, unnamed], False),
+            (without_version, [unnamed], False), (without_version, [of_other, unnamed], False),
+            (dict(scan, Unlisted=-1), [unnamed], False), (dict(scan, Unlisted=0.5), [unnamed], False),
+            (scan, [of_other], True), (scan, [right, of_unit], True), (scan, [of_device, right], True), (scan, [of_unit, unnamed], True),
+            (scan, [of_other, of_party], True), (scan, [of_party], False), (scan, [of_party, of_other], False),
+            (scan, [of_unit, of_party], False), (other_election, [right], True), (other_election, [of_party], False),
+            (of_no_device, [right], True), (of_no_device, [of_other], True), (dict(of_no_device, Unlisted=-1), [right], False)):
         yield json.dumps(dict(top, CVR=records)).encode('utf-8'), is_by_record
 
 

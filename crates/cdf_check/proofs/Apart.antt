@@ -63,7 +63,7 @@ array_there : (ds : Items) (o : Option Data) → IsSome o → listed (option_map
 array_there ds None h = absurd (cc)
 array_there ds (Some d) h = refl
 
-records_there : (ds : List Data) (ms : Members) → IsSome (get_member records ms) → array_at records (with_records ds ms) ≡ ds
+pub records_there : (ds : List Data) (ms : Members) → IsSome (get_member records ms) → array_at records (with_records ds ms) ≡ ds
 records_there ds ms h = ap listed (found_here records (items_of ds) ms) ∙ array_there (items_of ds) (get_member records ms) h ∙ list_of-items_of ds
 
 module _ (ds : List Data) (ms : Members) where
@@ -163,8 +163,8 @@ module _ (ds : Items) (ms : Members) where
         subst (λ k. HasForm k e) (sym (kind is)) (subst (HasForm records_kind) whole (records_form ds each few))
     part r e false is kind old found = old (sym (found_other records ds r.name ms is) ∙ found)
 
-    form : HasForm (One (leaf.Object group.Reports)) (object ms) → HasForm (One (leaf.Object group.Reports)) (object (filled records ds ms))
-    form (class {c = c} is needs parts) =
+    pub form_stays : HasForm (One (leaf.Object group.Reports)) (object ms) → HasForm (One (leaf.Object group.Reports)) (object (filled records ds ms))
+    form_stays (class {c = c} is needs parts) =
         let kinds : HasKind c = class_of_group HasKind group.Reports (object ms) c (row_kind, tt) is in
         class {c = c} (ap (λ o. option_and_then (find_class (classes_of group.Reports)) (option_and_then as_str o)) (found_other records ds (codes "@type") ms refl) ∙ is)
         (λ r row must. there r _ refl (needs r row must))
@@ -175,7 +175,7 @@ module _ (ds : Items) (ms : Members) where
 pub records_law : RecordsLaw
 records_law cvrs left some few report each = record {
   whole = filled_is_whole records (items_of cvrs) left (whole_items cvrs (λ d h. (each d h).whole)) report.whole;
-  form = form (items_of cvrs) left (λ i e h. (each e (listed_item cvrs i e h)).form) (subst (λ n. n ≤ any) (sym (items_len-items_of cvrs)) few) report.form;
+  form = form_stays (items_of cvrs) left (λ i e h. (each e (listed_item cvrs i e h)).form) (subst (λ n. n ≤ any) (sym (items_len-items_of cvrs)) few) report.form;
   references = resolves cvrs left some report.references (λ d h. (each d h).references);
 }
 

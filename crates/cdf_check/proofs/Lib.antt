@@ -23,5 +23,6 @@ pub mod Utf8
 pub mod Apart
 pub mod Joining
 pub mod FaultyRecords
+pub mod FollowedRecords
 pub mod Laws
 pub mod Lemmas

@@ -35,7 +35,7 @@ pub(crate) fn told_fault(alloc: Global, found: Found<'_>) -> Result<ReadFault, M
 }
 
 // The JSON Pointer of a path.
-fn pointer(alloc: Global, path: &Path) -> Result<Body, Memory>
+pub(crate) fn pointer(alloc: Global, path: &Path) -> Result<Body, Memory>
     ensures { IfOk result (λ b. b ≡ path_text (path_of path.now)) }
 {
     Ok(Body::new(path_text(alloc, &path.steps)?))

@@ -8,6 +8,7 @@ mod check;
 pub mod defaults;
 mod definition;
 pub mod examples;
+mod followed;
 mod gather;
 pub mod law;
 mod look;
@@ -21,6 +22,7 @@ pub mod rows;
 mod scope;
 
 pub use definition::Definition;
+pub use followed::reference_fault;
 pub use looked::record_fault;
 pub use quick::quick_report;
 pub use read::check_report;

@@ -1,8 +1,8 @@
-ghost use Rattle.std.specs.Prelude.{◌≡◌, IfOk, IfSome, OnOk, IsTrue, codes};
+ghost use Rattle.std.specs.Prelude.{◌≡◌, IfOk, IfSome, OnOk, IsTrue, codes, []};
 ghost use Rattle.std.specs.List.{list_all};
 ghost use Rattle.serde_json.specs.View.{view};
 ghost use Rattle.cdf_form.specs.HasForm.{IsCvr};
-ghost use Rattle.cdf_form.specs.Parts.{ids_at};
+ghost use Rattle.cdf_form.specs.Parts.{ids_at, array_at};
 ghost use Rattle.cdf_typed.specs.Range.{ReportInRange};
 ghost use Rattle.cdf_check.specs.Acceptance.{Valid, report_in};
 ghost use Rattle.cdf_check.specs.Taken.{NamesWithin, IsTaken, is_placed, IsJoined};
@@ -23,9 +23,17 @@ use serde_json::Value;
 use simdutf8::compat::from_utf8;
 use std::alloc::Global;
 
+// Whether a record names no party. (One that does is left to the reader of whole files.)
+fn names_no_party(cvr: &Value) -> bool
+    ensures { IsTrue result → array_at (codes "PartyIds") (view cvr.now) ≡ [] }
+{
+    items_at("PartyIds", cvr).is_empty()
+}
+
 // Whether what a record names is the definition's or its own, but for its device and its unit,
-// which the file has to have. (A record that names a party is left to the reader of whole files.)
+// which the file has to have.
 fn names_within(alloc: Global, definition: &Definition, cvr: &Value) -> Result<bool, Memory>
+    requires { array_at (codes "PartyIds") (view cvr.now) ≡ [] }
     ensures { IfOk result (λ is. IsTrue is → NamesWithin definition.now (view cvr.now)) }
 {
     match look_in_snapshots(alloc, definition.contests(), cvr)? {
@@ -40,12 +48,13 @@ fn names_within(alloc: Global, definition: &Definition, cvr: &Value) -> Result<b
         None => {}
         Some(_) => return Ok(false),
     }
-    Ok(items_at("PartyIds", cvr).is_empty())
+    Ok(true)
 }
 
 // The typed record, where all that can be seen of its names before the rest of its file is right.
 fn take_cvr(alloc: Global, definition: &Definition, cvr: Value) -> Result<Option<Cvr>, Memory>
-    requires { IsCvr (view cvr) }
+    requires alone { IsCvr (view cvr) }
+    requires parties { array_at (codes "PartyIds") (view cvr) ≡ [] }
     ensures { IfOk result (λ taken. IfSome taken (λ c. IsTaken definition.now (view cvr) c)) }
 {
     if !names_within(alloc, definition, &cvr)? {
@@ -70,9 +79,12 @@ impl Take for Records<'_> {
             Ok(false) => return Err(Stop::Untaken),
             Err(Memory) => return Err(Stop::Memory),
         }
+        if !names_no_party(&item) {
+            return Err(Stop::Unread);
+        }
         match take_cvr(alloc, self.0, item) {
             Ok(Some(cvr)) => Ok(cvr),
-            Ok(None) => Err(Stop::Unread),
+            Ok(None) => Err(Stop::Unresolved),
             Err(Memory) => Err(Stop::Memory),
         }
     }
@@ -118,33 +130,41 @@ fn joined(
     definition: &Definition,
     left: Value,
     cvrs: Vec<Cvr>,
-) -> Result<Option<Report>, Memory>
-    ensures { IfOk result (λ made. IfSome made
-        (λ r. IsJoined definition.now (view left) cvrs.items r)) }
+) -> Result<Report, Stop>
+    ensures { IfOk result (λ r. IsJoined definition.now (view left) cvrs.items r) }
 {
     if left.get("CVR").is_none() {
-        return Ok(None);
+        return Err(Stop::Unread);
     }
     match check_value(alloc, definition, &left) {
         Ok(()) => {}
-        Err(ReadFault::Memory) => return Err(Memory),
-        Err(_) => return Ok(None),
+        Err(ReadFault::Memory) => return Err(Stop::Memory),
+        Err(ReadFault::Schema { .. }) => return Err(Stop::Unread),
+        Err(_) => return Err(Stop::Unresolved),
     }
-    if !are_placed(alloc, &left, &cvrs)? {
-        return Ok(None);
+    match are_placed(alloc, &left, &cvrs) {
+        Ok(true) => {}
+        Ok(false) => return Err(Stop::Unresolved),
+        Err(Memory) => return Err(Stop::Memory),
     }
-    let mut report = read_report(alloc, definition.contests(), left)?;
-    report.cvrs = Seq::new(cvrs);
-    Ok(Some(report))
+    match read_report(alloc, definition.contests(), left) {
+        Ok(mut report) => {
+            report.cvrs = Seq::new(cvrs);
+            Ok(report)
+        }
+        Err(Memory) => Err(Stop::Memory),
+    }
 }
 
 /// The typed report of a file that is accepted beside a definition, read with no more than a record's
 /// tree at a time.
 ///
 /// # Errors
-/// `Untaken` where a record of whole numbers lacks its form, and nothing was read after it; `Unread`
-/// where anything else is wrong, or unusual: neither says more of the file. `Memory` where a growth was
-/// refused.
+/// `Untaken` where a record of whole numbers lacks its form, and nothing was read after it;
+/// `Unresolved` where one that has it names what is neither the definition's nor its own, and nothing
+/// was read after it, or where all numbers and forms are right, and something is named that the file
+/// hasn't, or isn't the definition's; `Unread` where anything else is wrong, or unusual. None says more
+/// of the file. `Memory` where a growth was refused.
 pub fn quick_report(alloc: Global, definition: &Definition, bytes: &[u8]) -> Result<Report, Stop>
     ensures valid { OnOk result (Valid definition.now bytes.now) }
     ensures report { IfOk result (λ r. r ≡ report_in definition.now.contests bytes.now) }
@@ -160,9 +180,5 @@ pub fn quick_report(alloc: Global, definition: &Definition, bytes: &[u8]) -> Res
     let mut scratch = Scratch::new(alloc);
     let records = Records(definition);
     let (left, cvrs) = read_text_apart(alloc, text, &mut scratch, "CVR", &records)?;
-    match joined(alloc, definition, left, cvrs) {
-        Ok(Some(report)) => Ok(report),
-        Ok(None) => Err(Stop::Unread),
-        Err(Memory) => Err(Stop::Memory),
-    }
+    joined(alloc, definition, left, cvrs)
 }

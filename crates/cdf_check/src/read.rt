@@ -10,6 +10,7 @@ ghost use Rattle.cdf_check.specs.Acceptance.{Holds, Sound, Valid, first_unsound,
 
 use crate::check::{check_own, check_value};
 use crate::definition::Definition;
+use crate::followed::reference_fault;
 use crate::looked::record_fault;
 use crate::quick::quick_report;
 use cdf_form::read::{MAX_FILE, read_value};
@@ -108,6 +109,9 @@ pub fn check_report(
         Err(Stop::Memory) => return Err(ReadFault::Memory),
         Err(Stop::Unread) => {}
         Err(Stop::Untaken) => if let Some(fault) = record_fault(alloc, bytes)? {
+            return Err(fault);
+        },
+        Err(Stop::Unresolved) => if let Some(fault) = reference_fault(alloc, definition, bytes)? {
             return Err(fault);
         },
     }

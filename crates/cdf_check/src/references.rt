@@ -75,7 +75,7 @@ impl Look for InSnapshot<'_> {
 }
 
 #[derive(Drop)]
-struct InCvr<'a>(&'a Scope);
+pub(crate) struct InCvr<'a>(pub(crate) &'a Scope);
 
 impl Look for InCvr<'_> {
     ghost missing = { λ s d. in_cvr (scope_view s.0.now) d };

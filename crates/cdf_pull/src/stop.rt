@@ -10,6 +10,8 @@ pub enum Stop {
     Unread,
     /// An item isn't what is taken here.
     Untaken,
+    /// An item is what is taken here, but names something that isn't known.
+    Unresolved,
 }
 
 impl From<AllocError> for Stop {

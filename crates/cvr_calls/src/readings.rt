@@ -10,7 +10,7 @@ use crate::same::{
 use crate::tellings::row_of;
 use crate::trying::Reading;
 use crate::writing::{DATE, DEVICE};
-use cdf_check::{Definition, quick_report, record_fault};
+use cdf_check::{Definition, quick_report, record_fault, reference_fault};
 use cdf_pull::Stop;
 use cdf_types::{Body, Memory, ReadFault, Rule};
 use cvr_cached::CachedOffice;
@@ -122,6 +122,7 @@ pub enum Filing {
     Definition,
     Quick,
     Fault,
+    Reference,
     Facts,
 }
 
@@ -133,6 +134,7 @@ impl Reading for Filing {
             Filing::Definition => is_definition_read(alloc, records),
             Filing::Quick => is_quickly_read(alloc, records),
             Filing::Fault => is_fault_told(alloc, records.bytes),
+            Filing::Reference => is_reference_told(alloc, records),
             Filing::Facts => are_facts_made(alloc, records),
         }
     }
@@ -154,7 +156,7 @@ fn is_quickly_read(alloc: Global, records: &Records<'_>) -> Result<bool, ReadFau
             Ok(are_same_facts(&facts, records.facts))
         }
         Err(Stop::Memory) => Err(ReadFault::Memory),
-        Err(Stop::Unread | Stop::Untaken) => Ok(false),
+        Err(Stop::Unread | Stop::Untaken | Stop::Unresolved) => Ok(false),
     }
 }
 
@@ -168,6 +170,19 @@ fn is_fault_told(alloc: Global, bytes: &[u8]) -> Result<bool, ReadFault> {
         Some(ReadFault::Schema { path, rule }) => {
             Ok(path.as_str() == "/CVR/0/UniqueId" && matches!(rule, Rule::Missing))
         }
+        _ => Ok(false),
+    }
+}
+
+// Whether the fault of a file is told whose first record comes from a device that the file hasn't.
+fn is_reference_told(alloc: Global, records: &Records<'_>) -> Result<bool, ReadFault> {
+    let Ok(text) = str::from_utf8(records.bytes) else {
+        return Ok(false);
+    };
+    let here = r#""CreatingDeviceId":"s1""#;
+    let spoiled = text.replace(alloc, here, r#""CreatingDeviceId":"s9""#)?;
+    match reference_fault(alloc, records.definition, spoiled.as_bytes())? {
+        Some(ReadFault::Reference { path }) => Ok(path.as_str() == "/CVR/0/CreatingDeviceId"),
         _ => Ok(false),
     }
 }

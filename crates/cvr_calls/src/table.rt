@@ -29,12 +29,13 @@ static COPIES: [(&str, Copying); 11] = [
     ("Definition::copy", Copying::Definition),
 ];
 
-static FILINGS: [(&str, Filing); 6] = [
+static FILINGS: [(&str, Filing); 7] = [
     ("read_file", Filing::ReadFile),
     ("read_text_apart", Filing::Apart),
     ("Definition::read", Filing::Definition),
     ("quick_report, take_facts", Filing::Quick),
     ("record_fault", Filing::Fault),
+    ("reference_fault", Filing::Reference),
     ("check_report, facts_of", Filing::Facts),
 ];
 

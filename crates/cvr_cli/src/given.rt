@@ -5,7 +5,7 @@ ghost use Rattle.std.specs.Prelude.{◌≡◌};
 pub enum Files<'a> {
     /// Those that are lent: they stay as they are.
     Lent(&'a [Vec<u8>]),
-    /// Those that are given: each may be let go as soon as it was read.
+    /// Those that are given: each may be let go as soon as it was imported.
     Given(Vec<Vec<u8>>),
 }
 

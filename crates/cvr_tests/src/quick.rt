@@ -1,6 +1,6 @@
 //! Which files are read record by record, and which as one tree.
 use crate::files::*;
-use cdf_check::{Definition, check_report, quick_report, record_fault};
+use cdf_check::{Definition, check_report, quick_report, record_fault, reference_fault};
 use cdf_pull::Stop;
 use std::process::Abort;
 
@@ -111,4 +111,23 @@ fn a_record_that_lacks_its_form_is_told_record_by_record(rt: HostRuntime) {
     assert!(rt; !is_told(&rt, UNNAMED_WITHOUT_VERSION));
     assert!(rt; !is_told(&rt, OF_UNKNOWN_UNIT));
     assert!(rt; !is_told(&rt, SCAN));
+}
+
+// Whether something that a file names isn't there, or isn't the definition's, and that is told record by
+// record.
+fn is_reference_told(rt: &(impl Abort + AllocGlobal), changes: Changes) -> bool {
+    let text = file(rt, changes);
+    let definition = definition(rt, &[]);
+    let quick = quick_report(rt.alloc(), &definition, text.as_bytes());
+    let told = reference_fault(rt.alloc(), &definition, text.as_bytes()).expect(rt, "no memory");
+    matches!(quick, Err(Stop::Unresolved)) && told.is_some()
+}
+
+#[test]
+fn what_is_named_and_is_not_there_is_told_record_by_record(rt: HostRuntime) {
+    assert!(rt; is_reference_told(&rt, OF_UNKNOWN_UNIT));
+    assert!(rt; is_reference_told(&rt, OF_UNKNOWN_DEVICE));
+    assert!(rt; is_reference_told(&rt, OF_NAMED_ELECTION));
+    assert!(rt; !is_reference_told(&rt, UNNAMED));
+    assert!(rt; !is_reference_told(&rt, SCAN));
 }

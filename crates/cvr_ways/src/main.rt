@@ -2,7 +2,7 @@
 //! No answer of `check_report` shows which, so those that read by record are asked beside it.
 #![tactic(auto)]
 
-use cdf_check::{Definition, check_report, quick_report, record_fault};
+use cdf_check::{Definition, check_report, quick_report, record_fault, reference_fault};
 use cdf_pull::Stop;
 use cdf_types::{Memory, ReadFault};
 use std::alloc::Global;
@@ -27,11 +27,17 @@ fn told_by_record(
         Ok(_) => Ok(Some(true)),
         Err(Stop::Memory) => Err(Memory),
         Err(Stop::Unread) => Ok(None),
-        Err(Stop::Untaken) => match record_fault(alloc, bytes)? {
-            Some(ReadFault::Memory) => Err(Memory),
-            Some(_) => Ok(Some(false)),
-            None => Ok(None),
-        },
+        Err(Stop::Untaken) => is_told(record_fault(alloc, bytes)?),
+        Err(Stop::Unresolved) => is_told(reference_fault(alloc, definition, bytes)?),
+    }
+}
+
+// The same of a refusal that is told record by record, or of none.
+fn is_told(fault: Option<ReadFault>) -> Result<Option<bool>, Memory> {
+    match fault {
+        Some(ReadFault::Memory) => Err(Memory),
+        Some(_) => Ok(Some(false)),
+        None => Ok(None),
     }
 }
 

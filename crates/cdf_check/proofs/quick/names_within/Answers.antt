@@ -1,4 +1,4 @@
-use Rattle.std.proofs.Common.{◌≡◌, ◌∷◌, List, [], Option, Some, None, option_map, map, length, codes, sym, ap, subst, ◌∙◌, refl, arith}
+use Rattle.std.proofs.Common.{◌≡◌, ◌∷◌, List, [], Option, Some, None, option_map, length, codes, sym, ap, subst, ◌∙◌, refl, arith}
 use Rattle.serde_json.specs.View.{view}
 use Rattle.cdf_check.specs.declared.path.Path.{Path as Kept}
 use Rattle.cdf_check.specs.Paths.{Path, first, path_of, each}
@@ -24,5 +24,5 @@ returns c =
       snapshots = subst (λ cs. each (in_snapshot (contests_alone cs)) (codes "CVRSnapshot") d ≡ []) c.contests.ensures (no_path _ _ c.in_ok-look_in_snapshots.ensures c.in-None.is);
       current = no_path _ _ c.in_ok-look_at_current.ensures c.in-None-2.is;
       election = subst (λ ids. one ids (codes "ElectionId") d ≡ []) (c.ids.ensures ∙ ap ids_of known) (no_path _ _ c.in_ok-look_at_one.ensures c.in-None-3.is);
-      parties = let none : length c.items_at.result.now ≡ 0 = grind arith in sym c.items_at.ensures ∙ ap (map view) (of_no_length c.items_at.result.now none);
+      parties = c.requires;
     }
