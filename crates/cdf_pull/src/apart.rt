@@ -1,6 +1,7 @@
-ghost use Rattle.std.specs.Prelude.{◌≡◌, ◌<◌, ◌∷◌, length, List, Some, IfOk, OnOk};
+ghost use Rattle.std.specs.Prelude.{◌≡◌, ◌<◌, ◌∷◌, [], length, List, None, Some, IfOk, OnOk};
 ghost use Rattle.json.specs.Token as spec;
 ghost use Rattle.serde_json.specs.Data.{Data, array, no_items, no_members};
+ghost use Rattle.serde_json.specs.Find.{get_member};
 ghost use Rattle.serde_json.specs.View.{view, items_of, members_view};
 ghost use Rattle.cdf_pull.specs.Next.{next_value, next_items, next_members};
 ghost use Rattle.cdf_pull.specs.Apart.{AreTaken, filled, IsReadApart};
@@ -99,6 +100,8 @@ where
         × AreTaken (T.takes taker.now) ds p.1.items) }
     ensures emptied { IfOk result (λ p. filled name.now no_items (members_view p.0.entries)
         ≡ members_view p.0.entries) }
+    ensures none { IfOk result (λ p.
+        get_member name.now (members_view p.0.entries) ≡ None → p.1.items ≡ []) }
 {
     let mut found = Map::new(alloc);
     let mut taken = Vec::new(alloc);

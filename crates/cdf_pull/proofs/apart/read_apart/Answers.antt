@@ -1,11 +1,13 @@
-use Rattle.std.proofs.Common.{◌≡◌, ◌-◌, [], length, true, false, bytes_eq, true≢false, Some, string_bytes, refl, sym, ap, subst, ◌∙◌, arith, rules}
+use Rattle.std.proofs.Common.{◌≡◌, ◌-◌, List, [], length, Bool, true, false, bytes_eq, true≢false, Option, None, Some, IsSome, string_bytes, refl, sym, ap, subst, ◌∙◌, arith, rules}
+use Rattle.std.proofs.lemmas.Slice.Eq.{bytes_eq-Decides}
 use Rattle.json.specs.Json.{read_key, members, value}
 use Rattle.json.proofs.Grammar.{read_key-shorter}
-use Rattle.serde_json.specs.Data.{array, no_items, put}
+use Rattle.serde_json.specs.Data.{Data, array, no_items, put}
+use Rattle.serde_json.specs.Find.{get_member}
 use Rattle.serde_json.specs.Read.{of_members, converted}
 use Rattle.serde_json.specs.View.{view, items_of, items_view, members_view}
 use Rattle.serde_json.specs.declared.value.Value.{Array}
-use Rattle.serde_json.proofs.Views.{view-Array, members_view-insert_entry}
+use Rattle.serde_json.proofs.Views.{view-Array, members_view-insert_entry, get_member-put, get_member-put_other}
 use Rattle.cdf_pull.specs.Apart.{AreTaken, filled}
 use Rattle.cdf_pull.proofs.Next.{members-next, members-over}
 use Rattle.cdf_pull.proofs.Taking.{Lacks, lacks_put, put_filled_other, put_filled_here}
@@ -23,6 +25,8 @@ members-init g c =
       taken = subst (AreTaken (g.T.Take.takes c.args.taker.now) []) (sym c.new-taken.ensures.items) tt;
       emptied = subst (λ es. filled name no_items (members_view es) ≡ members_view es) (sym c.new-found.ensures.empty) refl;
       lacks = λ _. subst (λ es. Lacks name (members_view es)) (sym c.new-found.ensures.empty) tt;
+      none = λ _. c.new-taken.ensures.items;
+      there = λ e. absurd (true≢false (sym e));
     }
 
 pub members-preserved : goal.members-preserved
@@ -54,6 +58,9 @@ members-preserved g c =
       taken = l.invariant.taken;
       emptied = ap (filled name no_items) inserted ∙ sym (put_filled_other name no_items k (view v) old other) ∙ ap (put k (view v)) l.invariant.emptied ∙ sym inserted;
       lacks = λ e. subst (Lacks name) (sym inserted) (lacks_put name k (view v) old other (l.invariant.lacks e));
+      none = l.invariant.none;
+      there = λ e. subst IsSome (sym (get_member-put_other name k (view v) old (λ same. true≢false (sym ((bytes_eq-Decides k name).1 (sym same)) ∙ other)))
+          ∙ ap (get_member name) (sym inserted)) (l.invariant.there e);
     }
 
 pub members-preserved-then-eq : goal.members-preserved-then-eq
@@ -87,6 +94,9 @@ members-preserved-then-eq g c =
       taken = done.value.2;
       emptied = ap (filled name no_items) inserted ∙ sym (put_filled_here name no_items no_items k (array no_items) old lacks here) ∙ ap (put k (array no_items)) l.invariant.emptied ∙ sym inserted;
       lacks = λ e. absurd (true≢false e);
+      none = λ e. absurd (true≢false e);
+      there = λ _. subst IsSome (sym (get_member-put k (array no_items) old) ∙ ap (λ q. get_member q (put k (array no_items) old)) ((bytes_eq-Decides k name).0 here)
+          ∙ ap (get_member name) (sym inserted)) refl;
     }
 
 pub returns-clause-members : goal.returns-clause-members
@@ -99,3 +109,12 @@ returns-clause-members g c =
 
 pub returns-clause-emptied : goal.returns-clause-emptied
 returns-clause-emptied g c = c.members.invariant.emptied
+
+none_taken : {A : Type 0} (seen : Bool) (at_name : Option Data) (ts : List A) → (seen ≡ false → ts ≡ []) → (seen ≡ true → IsSome at_name) → at_name ≡ None → ts ≡ []
+none_taken false at_name ts none there lacks = none refl
+none_taken true at_name ts none there lacks = absurd (true≢false (sym (subst IsSome lacks (there refl))))
+
+pub returns-clause-none : goal.returns-clause-none
+returns-clause-none g c =
+    let l = c.members in
+    none_taken l.seen _ l.taken.items l.invariant.none l.invariant.there

@@ -1,6 +1,7 @@
-use Rattle.std.proofs.Common.{◌≡◌, ℕ, ◌≤◌, List, length, false}
+use Rattle.std.proofs.Common.{◌≡◌, ℕ, ◌≤◌, List, [], length, true, false, IsSome}
 use Rattle.json.specs.Json.{members, value}
 use Rattle.serde_json.specs.Data.{Data, no_items, no_members}
+use Rattle.serde_json.specs.Find.{get_member}
 use Rattle.serde_json.specs.Read.{of_members, converted}
 use Rattle.serde_json.specs.View.{items_of, members_view}
 use Rattle.cdf_pull.specs.Apart.{AreTaken, filled}
@@ -18,6 +19,8 @@ invariant-members g l = record {
   taken : AreTaken (g.T.Take.takes l.taker) ds l.taken.items;
   emptied : filled l.name no_items (members_view l.found.entries) ≡ members_view l.found.entries;
   lacks : l.seen ≡ false → Lacks l.name (members_view l.found.entries);
+  none : l.seen ≡ false → l.taken.items ≡ [];
+  there : l.seen ≡ true → IsSome (get_member l.name (members_view l.found.entries));
 }
 
 abbrev pub decreases-members : goal.decreases-members

@@ -27,4 +27,5 @@ returns-else-is_some g c =
       left_is = view-Object found.found;
       emptied = h.emptied;
       taken_are = h.members.2;
+      none = h.none;
     }
