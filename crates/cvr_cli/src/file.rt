@@ -1,4 +1,4 @@
-ghost use Rattle.std.specs.Prelude.{◌≡◌, ◌≤◌, false, length, take, vec_len, IfOk, IfErr, OnOk, IfSome};
+ghost use Rattle.std.specs.Prelude.{◌≡◌, ◌≤◌, false, Some, length, take, drop, vec_len, IfOk, IfErr, OnOk, IfSome};
 ghost use Rattle.cvr_cli.specs.declared.file.FileFault.TheVariants.{Device, Memory as NoMemory};
 ghost use Rattle.cvr_cli.specs.File.{is_device, held_bytes};
 
@@ -40,7 +40,7 @@ impl From<AllocError> for FileFault {
 }
 
 /// The bytes of a source up to its end, or the first 67,108,865 of them, so that a longer file can be
-/// told from one that is as long as it may be.
+/// told from one that is as long as it may be. No more is taken of the source.
 ///
 /// # Errors
 /// `Device` exactly where the source has failed at the return; `Memory` where a growth was refused.
@@ -48,6 +48,8 @@ impl From<AllocError> for FileFault {
 pub fn read_file<R: Source>(alloc: Global, source: &mut R) -> Result<Vec<u8>, FileFault>
     requires { R.has_failed source.old ≡ false }
     ensures bytes { IfOk result (λ v. IfSome (R.left source.old) (λ left. v.items ≡ take held_bytes left)) }
+    ensures rest { IfOk result (λ _. IfSome (R.left source.old)
+        (λ left. R.left source.new ≡ Some (drop held_bytes left))) }
     ensures fits { IfOk result (λ v. vec_len v ≤ held_bytes) }
     ensures working { OnOk result (R.has_failed source.new ≡ false) }
     ensures fault { IfErr result (λ e. R.has_failed source.new ≡ is_device e) }
