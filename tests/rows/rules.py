@@ -13,9 +13,11 @@ from datetime import date
 TOP = os.path.dirname(os.path.dirname(os.path.dirname(os.path.abspath(__file__))))
 FORMAT = os.path.join(TOP, 'docs', 'FORMAT.md')
 # A date-time as `jiff` reads it, with an offset.
-MOMENT = re.compile(r'(?P<year>\d{4})-?(?P<month>\d\d)-?(?P<day>\d\d)[Tt ](?P<hour>\d\d)(:?(?P<minute>\d\d)'
-                    r'(:?(?P<second>\d\d)([.,]\d{1,9})?)?)?([Zz]|[+-](?P<off>\d\d)(:?(?P<offm>\d\d)(:?(?P<offs>\d\d))?)?)')
-LAST_SECOND = 253402207200  # since 1970, of the instants that `jiff` has
+MOMENT = re.compile(r'((?P<sign>[+-])00)?(?P<year>\d{4})(?P<dash>-?)(?P<month>\d\d)(?P=dash)(?P<day>\d\d)[Tt ]'
+                    r'(?P<hour>\d\d)((?P<colon>:?)(?P<minute>\d\d)((?P=colon)(?P<second>\d\d)([.,]\d{1,9})?)?)?'
+                    r'([Zz]|[+-](?P<off>\d\d)((?P<mark>:?)(?P<offm>\d\d)((?P=mark)(?P<offs>\d\d))?)?)', re.ASCII)
+NUMBERS = 'year', 'month', 'day', 'hour', 'minute', 'second', 'off', 'offm', 'offs'
+FIRST_SECOND, LAST_SECOND = -377705023201, 253402207200     # since 1970, of the instants that `jiff` has
 CYCLE = 146097              # the days of 400 years
 TEXT = re.compile(r'"(?:[^"\\]|\\.)*"', re.S)
 STEPS = {ord('['): 1, ord('{'): 1, ord(']'): -1, ord('}'): -1}
@@ -172,15 +174,24 @@ def see_numbers(value, path):
         see_numbers(value[name], path + (name,))
 
 
+def numbers_of(text):
+    """The numbers of a date-time with an offset, 0 where one is left out; None of another text."""
+    found = MOMENT.fullmatch(text)
+    if not found or found['sign'] == '-' and found['year'] == '0000':
+        return None
+    part = {name: int(found[name] or 0) for name in NUMBERS}
+    return dict(part, year=-part['year'] if found['sign'] == '-' else part['year'])
+
+
 def instant(text):
-    """The nanoseconds of a date-time with an offset, from a day on that comes before all."""
-    found = MOMENT.fullmatch(text).groupdict()
-    year, month, day, hour, minute, second = (int(found[name] or 0) for name in ('year', 'month', 'day', 'hour', 'minute', 'second'))
-    days = date(year % 400 + 400, month, day).toordinal() + year // 400 * CYCLE
-    offset = sum(int(found[name] or 0) * unit for name, unit in (('off', 3600), ('offm', 60), ('offs', 1)))
-    seconds = days * 86400 + hour * 3600 + minute * 60 + min(second, 59) + (offset if is_behind(text) else -offset)
+    """The nanoseconds of a date-time with an offset, from the same day on."""
+    part = numbers_of(text)
+    days = date(part['year'] % 400 + 400, part['month'], part['day']).toordinal() + part['year'] // 400 * CYCLE
+    offset = part['off'] * 3600 + part['offm'] * 60 + part['offs']
+    clock = part['hour'] * 3600 + part['minute'] * 60 + min(part['second'], 59)
     fraction = re.search(r'[.,](\d+)', text)
-    return seconds * 10 ** 9 + (int(fraction.group(1).ljust(9, '0')) if fraction else 0)
+    return ((days * 86400 + clock + (offset if is_behind(text) else -offset)) * 10 ** 9
+            + (int(fraction.group(1).ljust(9, '0')) if fraction else 0))
 
 
 def is_behind(text):
@@ -189,15 +200,14 @@ def is_behind(text):
 
 
 def is_moment(text):
-    found = MOMENT.fullmatch(text)
-    if not found:
+    part = numbers_of(text)
+    if not part:
         return False
-    part = {name: int(number or 0) for name, number in found.groupdict().items()}
     leap = part['year'] % 4 == 0 and (part['year'] % 100 != 0 or part['year'] % 400 == 0)
     days = [31, 29 if leap else 28, 31, 30, 31, 30, 31, 31, 30, 31, 30, 31]
     return (1 <= part['month'] <= 12 and 1 <= part['day'] <= days[part['month'] - 1] and part['hour'] < 24
             and part['minute'] < 60 and part['second'] <= 60 and part['off'] <= 25 and part['offm'] < 60 and part['offs'] < 60
-            and (instant(text) - instant('1970-01-01T00:00:00Z')) // 10 ** 9 <= LAST_SECOND)
+            and FIRST_SECOND <= (instant(text) - instant('1970-01-01T00:00:00Z')) // 10 ** 9 <= LAST_SECOND)
 
 
 def is_number(value):
