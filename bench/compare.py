@@ -1,12 +1,13 @@
 #!/usr/bin/env python3
-"""compare.py --before PROGRAM [--after PROGRAM] [--peer NAME=PROGRAM ..] [--folder FOLDER ..] [--rounds N] [--cpu K] [--keep NAME]
+"""compare.py [--before PROGRAM] [--after PROGRAM] [--peer NAME=PROGRAM ..] [--folder FOLDER ..] [--rounds N] [--cpu K] [--keep NAME]
 
-Times two builds of cvr on the same files, in turns, each run alone. First reports of gen.py: as long as a file may be; short
-records; that long report with a fault in its first record, in the middle, in its last one, two of other kinds in its last one, and
-accepted but for a number with a sign behind all, which is found last; and one file of one record, named many times. Then each folder that is given (definition.json
-or def.json, and reports), beside the peers: programs that take the words of cvr. Told are processor seconds (the median of the rounds,
-and the least), the peak memory, the ratio of the medians to the first program's, and whether the texts are the same. With
---cpu all of it runs on one processor."""
+Times two builds of cvr on the same files, in turns, each run alone; without --before, one build. First reports of gen.py: as
+long as a file may be; short records; that long report with a fault in its first record, in the middle, in its last one, two of
+other kinds in its last one, and accepted but for a number with a sign behind all, which is found last; each of these beside
+the same file with such a number before all (`tree`), which is read as one tree from the start; and one file of one record,
+named many times. Then each folder that is given (definition.json or def.json, and reports), beside the peers: programs that
+take the words of cvr. Told are processor seconds (the median of the rounds, and the least), the peak memory, the ratio of the
+medians to the first program's, and whether the texts are the same. With --cpu all of it runs on one processor."""
 import argparse
 import glob
 import json
@@ -15,6 +16,7 @@ import statistics
 import subprocess
 import sys
 import tempfile
+from concurrent.futures import ProcessPoolExecutor
 
 sys.dont_write_bytecode = True
 import bench        # noqa: E402 (it stands beside this file)
@@ -27,11 +29,11 @@ LATE = {'unknown': ('"ContestId":"', '"ContestId":"no '), 'fraction': ('"NumberV
 
 
 class Run:
-    """One run of a program: its processor seconds, its peak memory in MiB, its status and its text."""
+    """One run of a program in a folder: its processor seconds, its peak memory in MiB, its status and its text."""
 
-    def __init__(self, command, out):
+    def __init__(self, command, out, folder):
         with open(out, 'wb') as file:
-            child = subprocess.Popen(command, stdin=subprocess.DEVNULL, stdout=file, stderr=subprocess.DEVNULL)
+            child = subprocess.Popen(command, cwd=folder, stdin=subprocess.DEVNULL, stdout=file, stderr=subprocess.DEVNULL)
             _, status, usage = os.wait4(child.pid, 0)
         child.returncode = status
         self.status, self.out = os.waitstatus_to_exitcode(status), out
@@ -39,12 +41,12 @@ class Run:
 
 
 def compared(report, title, commands, rounds, status=0):
-    """Tells a line of each command, (name, words). Returns whether all ended with the status, and with the same text."""
-    runs = {name: [] for name, _ in commands}
+    """Tells a line of each command, (name, words, folder). Returns whether all ended with the status, and with the same text."""
+    runs = {name: [] for name, _, _ in commands}
     with tempfile.TemporaryDirectory() as folder:
         for _ in range(rounds):
-            for name, words in commands:
-                runs[name].append(Run(words, os.path.join(folder, name)))
+            for name, words, where in commands:
+                runs[name].append(Run(words, os.path.join(folder, name), where))
         first = runs[commands[0][0]][0]
         is_same = all(bench.same_bytes(first.out, held[0].out) for held in runs.values())
     is_right = is_same and all(run.status == status for held in runs.values() for run in held)
@@ -52,7 +54,7 @@ def compared(report, title, commands, rounds, status=0):
     base = statistics.median(run.seconds for run in runs[commands[0][0]])
     for name, held in runs.items():
         middle = statistics.median(run.seconds for run in held)
-        report.say('    %-8s %8.3f   least %8.3f   %8.1f MiB   ratio %6.3f'
+        report.say('    %-11s %8.3f   least %8.3f   %8.1f MiB   ratio %6.3f'
                    % (name, middle, min(run.seconds for run in held), max(run.memory for run in held), middle / max(base, 1e-6)))
         report.raw('%s, %s, processor seconds' % (title, name), ['%.3f' % run.seconds for run in held])
     return is_right
@@ -68,8 +70,9 @@ def reports_in(folder):
 
 
 def spoiled(folder, path):
-    """The same report with a fault of form in its first record, in the middle, and in its last one; with a text in its last record
-    that names nothing, and with a fraction; and with an odd member at its end."""
+    """The names of files: the same report with a fault of form in its first record, in the middle, and in its last one; with a text
+    in its last record that names nothing, and with a fraction; and with an odd member at its end. Those of the folder `tree` have
+    one before all, too."""
     with open(path, encoding='utf-8') as file:
         text = file.read()
     places = {'first': text.find(KEY), 'middle': text.find(KEY, len(text) // 2), 'last': text.rfind(KEY)}
@@ -80,10 +83,12 @@ def spoiled(folder, path):
         at = text.rindex(old)
         texts[name] = text[:at] + new + text[at + len(old):]
     texts['sign'] = text.rstrip()[:-1] + ',"Of no table":-1}'
+    os.mkdir(os.path.join(folder, 'tree'))
     for name, changed in texts.items():
-        with open(os.path.join(folder, name + '.json'), 'w', encoding='utf-8') as file:
-            file.write(changed)
-    return {name: os.path.join(folder, name + '.json') for name in texts}
+        for front, *steps in ('{',), ('{"Before all":-1,', 'tree'):
+            with open(os.path.join(folder, *steps, name + '.json'), 'w', encoding='utf-8') as file:
+                file.write(front + changed.lstrip()[1:])
+    return list(texts)
 
 
 def one_record(folder):
@@ -99,11 +104,17 @@ def one_record(folder):
 
 def own_files(report, words, programs):
     """The reports of gen.py."""
-    def both(title, task, definition, files, status=0):
-        commands = [(name, [program, task, definition] + files) for name, program in programs]
-        return compared(report, title, commands, words.rounds, status)
+    def both(title, task, definition, files):
+        commands = [(name, [program, task, definition] + files, None) for name, program in programs]
+        return compared(report, title, commands, words.rounds)
 
-    special = bench.made(words.data, 'special', ['special'])
+    def late(folder, name):
+        wanted = [(program, [path, 'check', definition, name + '.json']) for program, path in programs]
+        commands = [(program, command, folder) for program, command in wanted]
+        commands += [(program + ' tree', command, os.path.join(folder, 'tree')) for program, command in wanted]
+        return compared(report, 'check of that report, %s' % name, commands, words.rounds, int(name != 'sign'))
+
+    special = os.path.abspath(bench.made(words.data, 'special', ['special']))
     definition, large = os.path.join(special, 'definition.json'), os.path.join(special, 'large.json')
     is_right = both('check of a report of 64 MiB', 'check', definition, [large])
     for amount in SHORT:
@@ -111,8 +122,10 @@ def own_files(report, words, programs):
         for task in 'check', 'tally':
             is_right = both('%s of %d short records' % (task, amount), task, *reports_in(folder)) and is_right
     with tempfile.TemporaryDirectory() as folder:
-        for name, path in spoiled(folder, large).items():
-            is_right = both('check of that report, %s' % name, 'check', definition, [path], int(name != 'sign')) and is_right
+        with ProcessPoolExecutor(1) as pool:    # a run's peak would else be at least what these texts take here
+            names = pool.submit(spoiled, folder, large).result()
+        for name in names:
+            is_right = late(folder, name) and is_right
         county = os.path.join(bench.TOP, 'examples', 'county', 'definition.json')
         is_right = both('check of a record, %d times' % MANY, 'check', county, [one_record(folder)] * MANY) and is_right
     return is_right
@@ -120,7 +133,7 @@ def own_files(report, words, programs):
 
 def given():
     words = argparse.ArgumentParser()
-    words.add_argument('--before', required=True, help='a build of cvr')
+    words.add_argument('--before', help='a build of cvr')
     words.add_argument('--after', default=os.path.join(bench.TOP, 'crates', 'cvr', 'out', 'cvr'), help='another one')
     words.add_argument('--peer', action='append', default=[], metavar='NAME=PROGRAM', help='what is timed on the folders, too')
     words.add_argument('--folder', action='append', default=[], help='a definition and reports')
@@ -138,7 +151,8 @@ def main():
         os.sched_setaffinity(0, {words.cpu})
     report = bench.Report()
     report.say('%s, seed %d, commit %s' % (bench.machine(), bench.SEED, bench.commit()))
-    programs = [('before', os.path.abspath(words.before)), ('after', os.path.abspath(words.after))]
+    builds = [('before', words.before)] * bool(words.before) + [('after', words.after)]
+    programs = [(name, os.path.abspath(program)) for name, program in builds]
     peers = [tuple(peer.split('=', 1)) for peer in words.peer]
     is_right = words.folders_only or own_files(report, words, programs)
     for folder in words.folder:
@@ -148,7 +162,7 @@ def main():
         for task in 'check', 'tally', 'currents':
             title = '%s of %s, %d files, %d bytes' % (task, os.path.basename(os.path.normpath(folder)), len(files), length)
             beside = peers if task != 'check' else []
-            commands = [(name, program.split() + [task, definition] + files) for name, program in programs + beside]
+            commands = [(name, program.split() + [task, definition] + files, None) for name, program in programs + beside]
             is_right = compared(report, title, commands, words.rounds) and is_right
     if words.keep:
         bench.keep(report, words.keep)
