@@ -1,4 +1,4 @@
--- No default of the typed readers occurs in an accepted file: each part is there, of its kind, and in its range. (NIST SP 1500-103, classes ReportingDevice, CVR to SelectionPosition; limits: this project's own.)
+-- In an accepted file no default of the typed readers stands for a part that is demanded, or for one of another kind or out of range. (NIST SP 1500-103, classes ReportingDevice, CVR to SelectionPosition; limits: this project's own.)
 use Rattle.std.specs.Prelude.{◌≡◌, ◌≤◌, ℕ, List, Some, IsSome, codes, length}
 use Rattle.std.specs.List.{Contains}
 use Rattle.serde_json.specs.Data.{Data}
@@ -35,7 +35,7 @@ HasCount name d = (n : ℕ) × (count_in name d ≡ Some n) × (n ≤ 4_294_967_
 abbrev pub MayHaveCount : List ℕ → Data → Type 0
 MayHaveCount name d = (e : Data) → get name d ≡ Some e → HasCount name d
 
--- the array under a name is there, and each of its items is so
+-- what is under a name, if anything, is an array, and each of its items is so
 pub record HasItems (P : Data → Type 0) (name : List ℕ) (d : Data) : Type 0 where
   pub array : (e : Data) → get name d ≡ Some e → IsSome (as_array e)
   pub items : (e : Data) → Contains (array_at name d) e → P e

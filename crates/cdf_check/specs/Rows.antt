@@ -137,7 +137,7 @@ other_unit_and_election_file =
 abbrev pub Tells : List ℕ → Option ReadFault → Type 0
 Tells bytes fault = first_refusal (frame_in definition_file) bytes ≡ fault
 
--- the first position of a file
+-- the first contest selection of a file
 abbrev pub selection_path : List ℕ
 selection_path = codes "/CVR/0/CVRSnapshot/0/CVRContest/0/CVRContestSelection/0/"
 

@@ -1,7 +1,7 @@
 ghost use Rattle.cdf_check.specs.Defaults.{ReportIsReadLaw, NoDefaultLaw, InRangeLaw};
 
-/// No default of the typed readers occurs in an accepted file: each part that they read is there, of
-/// its kind, and in its range.
+/// In an accepted file no default of the typed readers stands for a part that is demanded, or for one of
+/// another kind or out of range: what is demanded is there, and what is there is of its kind.
 pub fn no_default_occurs()
     ensures { NoDefaultLaw }
 {}

@@ -161,10 +161,11 @@ fn joined(
 ///
 /// # Errors
 /// `Untaken` where a record of whole numbers lacks its form, and nothing was read after it;
-/// `Unresolved` where one that has it names what is neither the definition's nor its own, and nothing
-/// was read after it, or where all numbers and forms are right, and something is named that the file
-/// hasn't, or isn't the definition's; `Unread` where anything else is wrong, or unusual. None says more
-/// of the file. `Memory` where a growth was refused.
+/// `Unresolved` where one that has it, and names no party, names a contest, a selection, an election or
+/// a current snapshot that is neither the definition's nor its own, and nothing was read after it, or
+/// where all numbers and forms are right, and something is named that the file hasn't, or isn't the
+/// definition's; `Unread` where anything else is wrong, or unusual. None says more of the file.
+/// `Memory` where a growth was refused.
 pub fn quick_report(alloc: Global, definition: &Definition, bytes: &[u8]) -> Result<Report, Stop>
     ensures valid { OnOk result (Valid definition.now bytes.now) }
     ensures report { IfOk result (λ r. r ≡ report_in definition.now.contests bytes.now) }

@@ -217,7 +217,7 @@ AnswersCandidate = HasAnswers group.Candidates class.Candidate (codes "Candidate
 abbrev pub told_of : Group → List ℕ → List ℕ → List ℕ → ℕ
 told_of g type name value = told_at g type name (with_value name value)
 
--- each list takes a text that it alone has, but for those of marks, which are the same
+-- each list takes a text or texts that stand in it
 abbrev pub OwnTexts : Type 0
 OwnTexts = (
     told_of group.Reports (codes "CastVoteRecordReport") (codes "ReportType") (codes "[\"rcv-round\"]") ∷
@@ -232,7 +232,7 @@ OwnTexts = (
     told_of group.Contests (codes "Contest") (codes "VoteVariation") (codes "\"borda\"") ∷ [])
     ≡ 0 ∷ 0 ∷ 0 ∷ 0 ∷ 0 ∷ 0 ∷ 0 ∷ 0 ∷ 0 ∷ 0 ∷ []
 
--- a snapshot's status is none of a selection's
+-- a snapshot's status is not this one, which a selection's may be
 abbrev pub OtherList : Type 0
 OtherList = told_of group.Snapshots (codes "CVRSnapshot") (codes "Status") (codes "[\"generated-rules\"]") ≡ 4
 

@@ -21,8 +21,8 @@ pub const MAX_FILE: usize = 67_108_864;
 /// The JSON value of a file.
 ///
 /// # Errors
-/// `NotJson` where it is no JSON text (RFC 8259) or nests deeper than 127; `Memory` where a growth
-/// was refused.
+/// `NotJson` where it is no JSON text as `serde_json` reads it (RFC 8259; at most 127 deep); `Memory`
+/// where a growth was refused.
 pub fn read_value(alloc: Global, bytes: &[u8]) -> Result<Value, ReadFault>
     ensures ok { IfOk result (λ v. value_of bytes.now ≡ Some (view v)) }
     ensures json { IfErr result (λ e. ¬ IsMemory e → e ≡ NotJson) }

@@ -76,7 +76,7 @@ pub enum Leaf {
     Whole,
     /// True or false.
     Truth,
-    /// A date-time with an offset, as `jiff` reads it.
+    /// A date-time with an offset, as `jiff` reads it, and with no `[`.
     Moment,
     /// Fractional votes, which are refused.
     Fractional,

@@ -1,7 +1,7 @@
 use json::Invalid;
 use std::alloc::{AllocError, AllocFailed};
 
-/// Why nothing was read. Neither cause says that the text is refused: another reader may take it.
+/// Why nothing was read. No cause says that the text is refused: another reader may take it.
 #[derive(Clone, Copy, Debug, PartialEq, Eq, Drop)]
 pub enum Stop {
     /// Want of memory.

@@ -24,7 +24,7 @@ pub enum Rule {
     TooMany,
     /// Fractional votes aren't counted.
     Fractional,
-    /// The text isn't a date-time with an offset.
+    /// No instant is read from the text, or it has a `[`: it isn't a date-time with an offset.
     NotMoment,
     /// An earlier item of the array has the same `@id`.
     RepeatedId,
@@ -35,7 +35,7 @@ pub enum Rule {
 }
 
 impl Rule {
-    /// The rule's number, 1 to 14.
+    /// The rule's number, 1 to 14. Takes no memory.
     pub fn number(&self) -> u8
         ensures { result ≡ number_of self.now }
     {

@@ -12,8 +12,8 @@ pub fn wholes_are_joined<J: Join>()
 {}
 
 /// Offices of one kind and of another that held the same facts, place by place, and played the same
-/// events with the same outcomes, hold the same facts. So one that remembers answers as a plain one,
-/// and its running totals are the rows that the plain one computes.
+/// events with the same outcomes, hold the same facts. So one that remembers answers as a plain one of
+/// an equal definition, and its running totals are the rows that the plain one computes.
 pub fn kinds_hold_the_same<One: Office, Other: Office>()
     ensures { KindsLaw One.held One.defined Other.held Other.defined }
 {}

@@ -46,14 +46,14 @@ impl BodySet {
         Ok(BodySet { items })
     }
 
-    /// The number of bodies.
+    /// The number of bodies. Takes no memory.
     pub fn len(&self) -> usize
         ensures { result ≡ set.len self.now }
     {
         self.items.len()
     }
 
-    /// The body at a place, counted from 0 in byte order.
+    /// The body at a place, counted from 0 in byte order. Takes no memory.
     pub fn get(&self, place: usize) -> &Body
         requires { place < set.len self.now }
         ensures { result.now ≡ slice_index_or (in_order self.now) place [] }
