@@ -1,19 +1,22 @@
--- The first fault of a record is the first of its report's form.
-use Rattle.std.proofs.Common.{◌≡◌, ℕ, ◌≤◌, List, ◌∷◌, ◌++◌, drop, Some, option_map, codes, refl, ap, ◌∙◌, arith}
-use Rattle.serde_json.specs.Data.{Data, array, object, Items, Members}
-use Rattle.serde_json.specs.Find.{get_member}
+-- The first fault of a record is the first of its report's form; records with none play no part.
+use Rattle.std.proofs.Common.{◌≡◌, ℕ, ◌≤◌, List, [], ◌∷◌, ◌++◌, drop, Bool, true, false, not, ◌&&◌, bytes_eq, Option, None, Some, option_map, option_and_then, codes, refl, sym, ap, ◌∙◌, arith}
+use Rattle.std.specs.Prelude.{if◌then◌else◌}
+use Rattle.std.proofs.lemmas.Bool.{not-true}
+use Rattle.serde_json.specs.Data.{Data, array, object, Items, no_items, Members}
+use Rattle.serde_json.specs.Find.{get_member, as_str}
 use Rattle.serde_json.specs.Events.{items_len}
 use Rattle.cdf_form.specs.declared.table.Class.TheVariants as class_of
 use Rattle.cdf_form.specs.declared.table.Group.TheVariants as group
 use Rattle.cdf_form.specs.declared.table.Leaf.TheVariants as leaf
 use Rattle.cdf_form.specs.declared.table.Key.TheVariants as key
 use Rattle.cdf_form.specs.declared.table.Kind.{Kind}
-use Rattle.cdf_form.specs.declared.table.Kind.TheVariants.{Array}
-use Rattle.cdf_form.specs.Tables.{Entry, optional, table, any}
-use Rattle.cdf_form.specs.Form.{Step, at_member, Fault, deeper, under, first, repeat_faults, row_faults, rows_faults, faults, member_look}
-use Rattle.cdf_form.specs.Records.{cvrs_faults, RecordsFirstLaw}
+use Rattle.cdf_form.specs.declared.table.Kind.TheVariants.{One, Array}
+use Rattle.cdf_form.specs.Tables.{Entry, optional, table, type_text, classes_of, any}
+use Rattle.cdf_form.specs.Form.{Step, at_member, Fault, deeper, under, first, find_class, type_faults, rows_of, repeat_faults, row_faults, rows_faults, faults, member_look}
+use Rattle.cdf_form.specs.Records.{cvrs_faults, RecordsFirstLaw, RecordsApartLaw}
 use Rattle.cdf_form.proofs.Parts.{first-append_some, first-under, faults-one, faults-array}
 use Rattle.cdf_form.proofs.FormLaw.{object_ok, length_ok}
+use Rattle.cdf_form.proofs.Merging.{and-left, and-right}
 
 abbrev records : List ℕ
 records = codes "CVR"
@@ -44,3 +47,54 @@ rows_first ms ds f there few e = rows_begin ms (optional records records_kind) (
 pub records_first : RecordsFirstLaw
 records_first ms ds f class there few e =
     rw (faults-one (object ms) (leaf.Object group.Reports) key.Free, object_ok group.Reports (object ms) class_of.CastVoteRecordReport class, class) (rows_first ms ds f there few e)
+
+-- ---- a report and one that differs from it in its records alone
+
+abbrev others_only : List Entry → Bool
+others_only [] = true
+others_only (r ∷ rs) = not (bytes_eq r.name records) && others_only rs
+
+module _ (ms left : Members) (ds : Items) (same : (name : List ℕ) → bytes_eq name records ≡ false → get_member name ms ≡ get_member name left)
+    (here : get_member records ms ≡ Some (array ds)) (empty : get_member records left ≡ Some (array no_items)) (few : items_len ds ≤ any) (right : cvrs_faults ds ≡ []) where
+  rows_same : (rs : List Entry) → others_only rs ≡ true → rows_faults (member_look (object ms)) key.Free rs ≡ rows_faults (member_look (object left)) key.Free rs
+  rows_same [] e = refl
+  rows_same (r ∷ rs) e =
+      let looked : member_look (object ms) r.name r.kind ≡ member_look (object left) r.name r.kind = ap (option_map (λ d. faults d r.kind key.Free)) (same r.name (not-true _ (and-left _ _ e))) in
+      ap (λ o. under (at_member r.name) (row_faults key.Free r o) ++ rows_faults (member_look (object ms)) key.Free rs) looked
+      ∙ ap (λ fs. under (at_member r.name) (row_faults key.Free r (member_look (object left) r.name r.kind)) ++ fs) (rows_same rs (and-right _ _ e))
+
+  array_right : faults (array ds) records_kind key.Free ≡ []
+  array_right = rw (faults-array (array ds) ds (leaf.Object group.Cvrs) 0 any key.Free key.Free refl, length_ok 0 any (items_len ds) (omega arith) few) right
+
+  records_look : member_look (object ms) records records_kind ≡ member_look (object left) records records_kind
+  records_look = ap (option_map (λ d. faults d records_kind key.Free)) here ∙ ap Some array_right ∙ ap (option_map (λ d. faults d records_kind key.Free)) (sym empty)
+
+  table_same : rows_faults (member_look (object ms)) key.Free (table class_of.CastVoteRecordReport) ≡ rows_faults (member_look (object left)) key.Free (table class_of.CastVoteRecordReport)
+  table_same =
+      let row = optional records records_kind in
+      let rest = drop 1 (table class_of.CastVoteRecordReport) in
+      ap (λ o. under (at_member records) (row_faults key.Free row o) ++ rows_faults (member_look (object ms)) key.Free rest) records_look
+      ∙ ap (λ fs. under (at_member records) (row_faults key.Free row (member_look (object left) records records_kind)) ++ fs) (rows_same rest refl)
+
+  class_same : (b : Bool) → rows_faults (member_look (object ms)) key.Free (rows_of (if b then Some class_of.CastVoteRecordReport else None))
+      ≡ rows_faults (member_look (object left)) key.Free (rows_of (if b then Some class_of.CastVoteRecordReport else None))
+  class_same true = table_same
+  class_same false = refl
+
+  text_same : (o : Option (List ℕ)) → rows_faults (member_look (object ms)) key.Free (rows_of (option_and_then (find_class (classes_of group.Reports)) o))
+      ≡ rows_faults (member_look (object left)) key.Free (rows_of (option_and_then (find_class (classes_of group.Reports)) o))
+  text_same None = refl
+  text_same (Some s) = class_same (bytes_eq s (type_text class_of.CastVoteRecordReport))
+
+  type_same : get_member (codes "@type") ms ≡ get_member (codes "@type") left
+  type_same = same (codes "@type") refl
+
+  apart : faults (object ms) (One (leaf.Object group.Reports)) key.Free ≡ faults (object left) (One (leaf.Object group.Reports)) key.Free
+  apart =
+      faults-one (object ms) (leaf.Object group.Reports) key.Free
+      ∙ ap (λ o. type_faults group.Reports o ++ rows_faults (member_look (object ms)) key.Free (rows_of (option_and_then (find_class (classes_of group.Reports)) (option_and_then as_str o)))) type_same
+      ∙ ap (λ fs. type_faults group.Reports (get_member (codes "@type") left) ++ fs) (text_same (option_and_then as_str (get_member (codes "@type") left)))
+      ∙ sym (faults-one (object left) (leaf.Object group.Reports) key.Free)
+
+pub records_apart : RecordsApartLaw
+records_apart ms left ds same here empty few right = apart ms left ds same here empty few right

@@ -1,6 +1,6 @@
 -- The faults of cast vote records by themselves, and what they are of the report that has them. (This project's profile of NIST SP 1500-103.)
-use Rattle.std.specs.Prelude.{◌≡◌, ◌≤◌, List, [], Some, codes}
-use Rattle.serde_json.specs.Data.{Data, array, object, Items, Members}
+use Rattle.std.specs.Prelude.{◌≡◌, ◌≤◌, ℕ, List, [], false, Some, bytes_eq, codes}
+use Rattle.serde_json.specs.Data.{Data, array, object, Items, no_items, Members}
 use Rattle.serde_json.specs.Find.{get_member}
 use Rattle.serde_json.specs.Events.{items_len}
 use Rattle.cdf_form.specs.declared.table.Class.TheVariants as class_of
@@ -24,3 +24,9 @@ abbrev pub RecordsFirstLaw : Type 0
 RecordsFirstLaw = (ms : Members) (ds : Items) (f : Fault) → class_in group.Reports (object ms) ≡ Some class_of.CastVoteRecordReport
     → get_member (codes "CVR") ms ≡ Some (array ds) → items_len ds ≤ any → first (cvrs_faults ds) ≡ Some f
     → first (faults (object ms) (One (leaf.Object group.Reports)) key.Free) ≡ Some (deeper (at_member (codes "CVR")) f)
+
+-- where the records have no fault, a report has the faults of form of one that differs from it in having none
+abbrev pub RecordsApartLaw : Type 0
+RecordsApartLaw = (ms left : Members) (ds : Items) → ((name : List ℕ) → bytes_eq name (codes "CVR") ≡ false → get_member name ms ≡ get_member name left)
+    → get_member (codes "CVR") ms ≡ Some (array ds) → get_member (codes "CVR") left ≡ Some (array no_items) → items_len ds ≤ any → cvrs_faults ds ≡ []
+    → faults (object ms) (One (leaf.Object group.Reports)) key.Free ≡ faults (object left) (One (leaf.Object group.Reports)) key.Free

@@ -7,7 +7,7 @@ ghost use Rattle.cdf_types.specs.VoteVariation.{vote_variation_text};
 ghost use Rattle.cdf_form.specs.declared.table.Listing.TheVariants as listing;
 ghost use Rattle.cdf_form.specs.Listings.{HasTextsOf};
 ghost use Rattle.cdf_form.specs.Reading.{max_file};
-ghost use Rattle.cdf_form.specs.Records.{RecordsFirstLaw};
+ghost use Rattle.cdf_form.specs.Records.{RecordsFirstLaw, RecordsApartLaw};
 ghost use Rattle.cdf_form.specs.Laws.{FormLaw, TablesInOrder, WholeLaw, WholeMembers, WholeItems, WholeValues, NoFloatFaults, WholeDocument};
 ghost use Rattle.cdf_form.specs.ByRow.{HasClassLaw, OnlyClassLaw, RowLaw, ObjectLaw, TextLaw, MayBeTextLaw, MustBeTextLaw, MustBeFoundLaw, MustHaveFormLaw};
 ghost use Rattle.cdf_form.specs.ByRow.{MomentFormLaw, ListedFormLaw, CountFormLaw, ArrayLaw, ItemsLaw, FewLaw, SomeLaw, ApartLaw};
@@ -37,6 +37,11 @@ pub fn whole_law()
 /// the first fault of one of them is the first of the report's form.
 pub fn records_first()
     ensures { RecordsFirstLaw }
+{}
+
+/// Records without a fault play no part in what else is wrong with the form of their report.
+pub fn records_apart()
+    ensures { RecordsApartLaw }
 {}
 
 /// An object that has the form of a group has a class of it, and what each row of that class's
