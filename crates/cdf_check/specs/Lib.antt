@@ -11,6 +11,7 @@ pub mod Acceptance
 pub mod Apart
 pub mod Taken
 pub mod Looked
+pub mod Fractional
 pub mod Followed
 pub mod Bodies
 pub mod Wider
