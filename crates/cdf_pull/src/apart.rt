@@ -124,15 +124,15 @@ where
 }
 
 // How deep serde_json lets arrays and objects nest.
-const MAX_DEPTH: usize = 127;
+pub(crate) const MAX_DEPTH: usize = 127;
 
 /// What is left of a text, an object, beside the array under a name, whose items are taken one by
 /// one; in its place stands an empty one. The members may come in any order. The text is what
 /// serde_json reads, nested no deeper than 127, and `scratch` grows to its length.
 ///
 /// # Errors
-/// `Unread` where the text is no such object, has a number other than digits alone for at most 64
-/// bits, or has the name twice; that of `take` where an item isn't taken, and nothing is read after
+/// `Unread` where the text is no such object, has a number too large for a float, or has the name
+/// twice; that of `take` where an item isn't taken, and nothing is read after
 /// it; `Memory` where a growth was refused.
 pub fn read_text_apart<T: Take>(
     alloc: Global,

@@ -5,8 +5,10 @@
 mod apart;
 pub mod law;
 mod scalar;
+mod skim;
 mod stop;
 mod value;
 
 pub use apart::{Take, read_text_apart};
+pub use skim::is_json;
 pub use stop::Stop;

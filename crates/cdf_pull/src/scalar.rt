@@ -1,30 +1,52 @@
-ghost use Rattle.std.specs.Prelude.{◌≡◌, Some, IfOk, IfSome};
+ghost use Rattle.std.specs.Prelude.{◌≡◌, false, true, Some, IfOk, IfSome};
 ghost use Rattle.json.specs.Reads.{token_of};
-ghost use Rattle.serde_json.specs.Read.{number_of};
+ghost use Rattle.serde_json.specs.Read.{number_of, number_from};
 ghost use Rattle.serde_json.specs.View.{view, number_view};
 ghost use Rattle.cdf_pull.specs.Next.{IsAlone};
 
 use crate::stop::Stop;
+use fast_float::Numeral;
 use json::Token;
 use serde_json::{Number, Value};
 use std::alloc::Global;
 
-// The number that digits alone write, where 64 bits hold it; none of a text with a sign.
-fn whole(text: &str) -> Option<Number>
-    ensures { IfSome result (λ n. number_of text.now ≡ Some (number_view n)) }
+// The number that a numeral with no sign writes, unless it is too large.
+fn positive(numeral: &Numeral<'_>) -> Option<Number>
+    ensures { IfSome result (λ n. number_from false numeral.now ≡ Some (number_view n)) }
 {
-    if text.starts_with('+') {
-        return None;
+    match numeral.to_u64() {
+        Some(whole) => Some(Number::from(whole)),
+        None => Number::from_f64(numeral.to_float(false)),
     }
-    let number: u64 = text.parse().ok()?;
-    Some(Number::from(number))
 }
 
-/// The value that a token is by itself: a text, a number of digits alone for at most 64 bits, a truth
-/// value or null.
+// The number that a numeral behind a minus writes, unless it is too large; `-0` is a float.
+fn negative(numeral: &Numeral<'_>) -> Option<Number>
+    ensures { IfSome result (λ n. number_from true numeral.now ≡ Some (number_view n)) }
+{
+    match numeral.to_i64(true) {
+        Some(whole) if whole < 0 => Some(Number::from(whole)),
+        _ => Number::from_f64(numeral.to_float(true)),
+    }
+}
+
+// The number that a text writes, unless it is too large.
+#[tactic(auto, using(crate::proofs::Numbers::number_of_minus, crate::proofs::Numbers::number_of_plain))]
+fn number(text: &str) -> Option<Number>
+    ensures { IfSome result (λ n. number_of text.now ≡ Some (number_view n)) }
+{
+    let bytes = text.as_bytes();
+    match bytes.split_first() {
+        Some((b'-', behind)) => negative(&Numeral::scan(behind)),
+        _ => positive(&Numeral::scan(bytes)),
+    }
+}
+
+/// The value that a token is by itself: a text, a number, a truth value or null.
 ///
 /// # Errors
-/// `Unread` at any other token; `Memory` where a growth was refused.
+/// `Unread` at any other token, and at a number too large for a float; `Memory` where a growth was
+/// refused.
 pub fn scalar(alloc: Global, token: Token<'_>) -> Result<Value, Stop>
     ensures { IfOk result (λ v. IsAlone (token_of token.entry) (view v)) }
 {
@@ -32,7 +54,7 @@ pub fn scalar(alloc: Global, token: Token<'_>) -> Result<Value, Stop>
         Token::Null => Ok(Value::Null),
         Token::Bool(truth) => Ok(Value::Bool(truth)),
         Token::String(text) => Ok(Value::String(String::from_str(alloc, text)?)),
-        Token::Number(text) => match whole(text) {
+        Token::Number(text) => match number(text) {
             Some(number) => Ok(Value::Number(number)),
             None => Err(Stop::Unread),
         },

@@ -9,8 +9,8 @@ use json::{Reader, Token};
 use serde_json::{Map, Value};
 use std::alloc::Global;
 
-/// The next value of a text, as serde_json reads it: of members of one name the last, numbers of
-/// digits alone for at most 64 bits, arrays and objects nested no deeper than `depth`.
+/// The next value of a text, as serde_json reads it: of members of one name the last, arrays and
+/// objects nested no deeper than `depth`.
 ///
 /// # Errors
 /// `Unread` where no such value comes next; `Memory` where a growth was refused. Where the reader
