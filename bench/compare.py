@@ -3,9 +3,9 @@
 
 Times two builds of cvr on the same files, in turns, each run alone; without --before, one build. First reports of gen.py: as
 long as a file may be; short records; that long report with a fault in its first record, in the middle, in its last one, two of
-other kinds in its last one, and accepted but for a number with a sign behind all, which is found last; each of these beside
-the same file with such a number before all (`tree`), which is read as one tree from the start; and one file of one record,
-named many times. Then each folder that is given (definition.json or def.json, and reports), beside the peers: programs that
+other kinds in its last one, one behind all records, cut off, and accepted with a number with a sign; each of these beside the
+same file with another CVR before all (`tree`), which is read as one tree once its tokens were looked at; and one file of one
+record, named many times. Then each folder that is given (definition.json or def.json, and reports), beside the peers: programs that
 take the words of cvr. Told are processor seconds (the median of the rounds, and the least), the peak memory, the ratio of the
 medians to the first program's, and whether the texts are the same. With --cpu all of it runs on one processor."""
 import argparse
@@ -71,8 +71,8 @@ def reports_in(folder):
 
 def spoiled(folder, path):
     """The names of files: the same report with a fault of form in its first record, in the middle, and in its last one; with a text
-    in its last record that names nothing, and with a fraction; and with an odd member at its end. Those of the folder `tree` have
-    one before all, too."""
+    in its last record that names nothing, and with a fraction; with a fault of form behind all records; cut off at its end; and
+    accepted, with a number with a sign at its end. Those of the folder `tree` have another CVR before all, too."""
     with open(path, encoding='utf-8') as file:
         text = file.read()
     places = {'first': text.find(KEY), 'middle': text.find(KEY, len(text) // 2), 'last': text.rfind(KEY)}
@@ -82,10 +82,12 @@ def spoiled(folder, path):
     for name, (old, new) in LATE.items():
         at = text.rindex(old)
         texts[name] = text[:at] + new + text[at + len(old):]
+    texts['rest'] = text.rstrip()[:-1] + ',"Version":1}'
+    texts['cut'] = text.rstrip()[:-1]
     texts['sign'] = text.rstrip()[:-1] + ',"Of no table":-1}'
     os.mkdir(os.path.join(folder, 'tree'))
     for name, changed in texts.items():
-        for front, *steps in ('{',), ('{"Before all":-1,', 'tree'):
+        for front, *steps in ('{',), ('{"CVR":[],', 'tree'):
             with open(os.path.join(folder, *steps, name + '.json'), 'w', encoding='utf-8') as file:
                 file.write(front + changed.lstrip()[1:])
     return list(texts)

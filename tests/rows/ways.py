@@ -8,13 +8,14 @@ two once. A file that the row accepts has to be read record by record, but for t
 
 - no CVR: it has no member CVR;
 - CVR twice: it has more than one, of which the last counts;
-- a number not of digits: one of its numbers, also in a member that doesn't count, isn't digits alone, or more than 64 bits hold;
 - PartyIds: a record names a party.
 
-One that the row refuses for a record's form, for references or for agreement has to be refused record by record where it has
-none of the first three, without its records nothing is wrong with its numbers and form, and the first of its records that
-lacks its form, names a party, or names what is neither the definition's nor its own, if there is one, lacks its form or names
-no party, by the rules of rules.py; its unit and its device aside. Else it has to be refused as one tree.
+One that the row refuses for numbers or form, for references or for agreement has to be refused record by record where it has
+one member CVR, an array; where the first of its records that is faulty, names a party, or names what is neither the definition's
+nor its own, its unit and its device aside, if there is one, is faulty or names no party; and where not both a record is faulty
+and what is left without the records: in its numbers, where a record has one that isn't whole, and else in its form. Faulty is, by
+the rules of rules.py, what has such a number, or lacks its form. Else it has to be refused in another way: as one tree, or by its
+tokens where it is no JSON.
 
 ways.txt has how many files of each file of rows are read in which way, and each accepted one that is read as one tree, by
 the first row that has it. --write writes it anew, by these rules; without it, it has to be as it would be written, so that
@@ -43,8 +44,7 @@ REFUSED_BY_RECORD, REFUSED_AS_TREE = 'refused record by record', 'refused as one
 CONTRADICTED = 'read in a way that contradicts the answer'
 WAYS = [BY_RECORD, AS_TREE, REFUSED_BY_RECORD, REFUSED_AS_TREE]
 RULES = rules.Rules()
-REASONS = ['no CVR', 'CVR twice', 'a number not of digits', 'PartyIds']
-MOST_WHOLE = 18446744073709551615
+REASONS = ['no CVR', 'CVR twice', 'PartyIds']
 AT_ONCE = 400       # files of one call
 HEAD = """# How the files of the rows are read, by the rules of ways.py, which writes this file with --write. Each file beside
 # its definition counts once, in the file of its first row.
@@ -53,18 +53,23 @@ HEAD = """# How the files of the rows are read, by the rules of ways.py, which w
 
 # ---- what the rules say
 
-def is_digits(number):
-    return number.isdigit() and len(number) <= len(str(MOST_WHOLE)) and int(number) <= MOST_WHOLE
-
-
 def tree_reason(data):
     """Why the records of a file can't be read one by one, or None where they can."""
-    numbers = []
-    top = json.loads(data.decode('utf-8'), parse_int=numbers.append, parse_float=numbers.append, object_pairs_hook=list)
-    lists = [value for name, value in top if name == 'CVR']
-    if len(lists) != 1:
-        return 'CVR twice' if lists else 'no CVR'
-    return None if all(map(is_digits, numbers)) else 'a number not of digits'
+    if not isinstance(json.loads(data.decode('utf-8')), dict):
+        return 'no CVR'
+    names = [name for name, _ in json.loads(data.decode('utf-8'), object_pairs_hook=list)]
+    return {0: 'no CVR', 1: None}.get(names.count('CVR'), 'CVR twice')
+
+
+def value_of(data):
+    """The value of a file, with a rules.Bad for each number that isn't whole."""
+    def integer(text):
+        return int(text) if text != '-0' and RULES.least_whole <= int(text) <= RULES.most_whole else rules.Bad()
+    return json.loads(data.decode('utf-8'), parse_int=integer, parse_float=lambda _: rules.Bad())
+
+
+def has_fraction(value):
+    return is_refused(rules.see_numbers, value, ())
 
 
 def reason(data):
@@ -82,31 +87,37 @@ class Anything:
 
 def is_refused(see, *words):
     try:
-        see(RULES, *words)
+        see(*words)
     except rules.Fault:
         return True
     return False
 
 
-def lacks_form(record):
-    return is_refused(rules.see_object, record, ['CVR'], ())
+def is_faulty(record):
+    """Whether a record has a number that isn't whole, or lacks its form."""
+    return has_fraction(record) or is_refused(rules.see_object, RULES, record, ['CVR'], ())
 
 
 def names_more(record, scope):
     """Whether a record names what is neither the definition's nor its own; its unit and its device aside."""
-    return is_refused(rules.see_references, record, scope, ())
+    return is_refused(rules.see_references, RULES, record, scope, ())
 
 
 def is_refused_by_record(definition, data):
-    """Whether a file that is refused for a record's form, for references or for agreement is refused record by record."""
-    if tree_reason(data):
+    """Whether a file that is refused for numbers or form, for references or for agreement is refused record by record."""
+    if tree_reason(data) or not isinstance(value_of(data)['CVR'], list):
         return False
-    value = rules.read(RULES, data)
+    value = value_of(data)
+    records, left = value['CVR'], dict(value, CVR=[])
     scope = rules.Scope(rules.read(RULES, definition))
     scope.ids.update({'GpUnit': Anything(), 'ReportingDevice': Anything()})
-    odd = [it for it in value['CVR'] if lacks_form(it) or it.get('PartyIds') or names_more(it, scope)][:1]
-    is_of_party = any(not lacks_form(it) and it.get('PartyIds') for it in odd)
-    return not is_of_party and not is_refused(rules.see, dict(value, CVR=[]), ['classes', ['CastVoteRecordReport']], ())
+    odd = [it for it in records if is_faulty(it) or it.get('PartyIds') or names_more(it, scope)][:1]
+    if any(not is_faulty(it) and it.get('PartyIds') for it in odd):
+        return False
+    if any(map(has_fraction, records)):
+        return not has_fraction(left)
+    is_left_faulty = has_fraction(left) or is_refused(rules.see, RULES, left, ['classes', ['CastVoteRecordReport']], ())
+    return not (is_left_faulty and any(map(is_faulty, records)))
 
 
 class File:
@@ -117,7 +128,7 @@ class File:
         self.reason = None if fault else reason(data)
         self.way = AS_TREE if self.reason else BY_RECORD
         if fault:
-            is_by_record = fault.startswith(('E3 /CVR/', 'E4', 'E5')) and is_refused_by_record(definition, data)
+            is_by_record = fault.startswith(('E3', 'E4', 'E5')) and is_refused_by_record(definition, data)
             self.way = REFUSED_BY_RECORD if is_by_record else REFUSED_AS_TREE
 
 
@@ -222,13 +233,13 @@ def calls(held):
 
 TEXTS = [(b'{"CVR":[{"a":18446744073709551615}],"b":"-1,CVR"}', None), (b'{"CVR":[{"PartyIds":[]}]}', None),
          (b'{"CVR":[{"PartyIds":["p"],"PartyIds":[]}]}', None), (b'{"CVR":[],"a":{"CVR":[]}}', None),
-         (b'{"a":{"CVR":[]}}', 'no CVR'), (b'{"CVR":[],"\\u0043VR":[]}', 'CVR twice'), (b'{"CVR":[],"a":[{"b":-1}]}', 'a number not of digits'),
-         (b'{"CVR":[],"a":1.0,"a":1}', 'a number not of digits'), (b'{"CVR":[{"a":18446744073709551616,"a":1}]}', 'a number not of digits'),
+         (b'{"a":{"CVR":[]}}', 'no CVR'), (b'{"CVR":[],"\\u0043VR":[]}', 'CVR twice'), (b'{"CVR":[],"a":[{"b":-1}]}', None),
+         (b'{"CVR":[],"a":1.0,"a":1}', None), (b'{"CVR":[{"a":18446744073709551616,"a":1}]}', None),
          (b'{"CVR":[{},{"PartyIds":["p"]}]}', 'PartyIds')]
 
 
 def faulty():
-    """Files that are refused for the form of a record, for references or for agreement, each with whether record by record."""
+    """Files that are refused for numbers or form, for references or for agreement, each with whether record by record."""
     scan = json.loads(run.VECTORS['f2.json'])
     right = scan['CVR'][0]
     unnamed = {name: value for name, value in right.items() if name != 'UniqueId'}
@@ -237,15 +248,20 @@ def faulty():
     without_version = {name: value for name, value in scan.items() if name != 'Version'}
     other_election = dict(scan, Election=[dict(scan['Election'][0], Unlisted='other')])
     of_no_device = dict(scan, ReportGeneratingDeviceIds=['none'])
+    half, half_of_party = dict(right, Unlisted=0.5), dict(right, PartyIds=['p'], Unlisted=-0.5)
     for top, records, is_by_record in (
             (scan, [unnamed], True), (scan, [right, unnamed, right], True), (scan, [1], True), (scan, [None], True),
             (scan, [unnamed, of_other], True), (scan, [of_other, unnamed], True), (scan, [of_party, unnamed], False),
-            (without_version, [unnamed], False), (without_version, [of_other, unnamed], False),
-            (dict(scan, Unlisted=-1), [unnamed], False), (dict(scan, Unlisted=0.5), [unnamed], False),
+            (without_version, [unnamed], False), (without_version, [of_other, unnamed], False), (without_version, [right], True),
+            (dict(scan, Unlisted=-1), [unnamed], True),
             (scan, [of_other], True), (scan, [right, of_unit], True), (scan, [of_device, right], True), (scan, [of_unit, unnamed], True),
             (scan, [of_other, of_party], True), (scan, [of_party], False), (scan, [of_party, of_other], False),
             (scan, [of_unit, of_party], False), (other_election, [right], True), (other_election, [of_party], False),
-            (of_no_device, [right], True), (of_no_device, [of_other], True), (dict(of_no_device, Unlisted=-1), [right], False)):
+            (of_no_device, [right], True), (of_no_device, [of_other], True), (dict(of_no_device, Unlisted=-1), [right], True),
+            (scan, [right, half], True), (scan, [unnamed, half], True), (scan, [of_other, half], True), (scan, [of_party, half], False),
+            (scan, [half, of_party], True), (scan, [half_of_party], True), (without_version, [half], True),
+            (without_version, [unnamed, half], True), (without_version, [of_other, half], True), (without_version, [of_other], True), (without_version, [of_party], False), (dict(scan, Unlisted=0.5), [half], False),
+            (dict(scan, Unlisted=0.5), [right], True), (dict(scan, Unlisted=0.5), [unnamed], False), (scan, [dict(right, Unlisted=18446744073709551616)], True)):
         yield json.dumps(dict(top, CVR=records)).encode('utf-8'), is_by_record
 
 

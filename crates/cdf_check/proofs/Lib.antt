@@ -23,6 +23,7 @@ pub mod Utf8
 pub mod Apart
 pub mod Joining
 pub mod FaultyRecords
+pub mod FractionalRecords
 pub mod FollowedRecords
 pub mod Laws
 pub mod Lemmas

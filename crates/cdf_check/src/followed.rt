@@ -85,7 +85,7 @@ fn follow_all(alloc: Global, text: &str) -> Result<(Value, Vec<Option<Path>>), S
     let (left, _) = read_text_apart(alloc, text, &mut scratch, "CVR", &Drops)?;
     match scope_beside(alloc, &left) {
         Ok(Some(scope)) => read_text_apart(alloc, text, &mut scratch, "CVR", &Follows(&scope)),
-        Ok(None) => Err(Stop::Unread),
+        Ok(None) => Err(Stop::Untaken),
         Err(Memory) => Err(Stop::Memory),
     }
 }
@@ -141,8 +141,8 @@ fn told_refusal(
 }
 
 /// Why a file is refused beside a definition, where something that it names isn't there, or isn't the
-/// definition's, read with no more than a record's tree at a time. Where a record lacks its form, this is
-/// what `record_fault` tells. None says nothing of the file.
+/// definition's, read with no more than a record's tree at a time. Where numbers or form are wrong, this
+/// is what `record_fault` tells. None says nothing of the file.
 ///
 /// # Errors
 /// `Memory` where a growth was refused.

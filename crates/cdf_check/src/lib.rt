@@ -9,6 +9,7 @@ pub mod defaults;
 mod definition;
 pub mod examples;
 mod followed;
+mod fractions;
 mod gather;
 pub mod law;
 mod look;

@@ -1,10 +1,11 @@
-ghost use Rattle.std.specs.Prelude.{◌≡◌, Some, IfOk, IfErr, IfSome};
+ghost use Rattle.std.specs.Prelude.{◌≡◌, None, Some, [], IfOk, IfErr, IfSome, OnOk};
 ghost use Rattle.serde_json.specs.View.{view};
 ghost use Rattle.cdf_form.specs.Found.{Tells};
 ghost use Rattle.cdf_check.specs.Acceptance.{first_unsound};
-ghost use Rattle.cdf_check.specs.Looked.{IsLookedAt, IsTold, first_told};
+ghost use Rattle.cdf_check.specs.Looked.{IsLookedAt, IsTold, first_told, either_refusal};
 
 use crate::check::told_fault;
+use crate::fractions::fraction_fault;
 use cdf_form::float::has_fraction;
 use cdf_form::found::{Found, Step, Stop as Cause};
 use cdf_form::read::{MAX_FILE, cvr_fault, document_fault};
@@ -26,7 +27,7 @@ impl Take for Looks {
 
     fn take(&self, alloc: Global, item: Value) -> Result<Option<Found<'static>>, Stop> {
         if has_fraction(&item) {
-            return Err(Stop::Unread);
+            return Err(Stop::Untaken);
         }
         match cvr_fault(alloc, &item) {
             Ok(told) => Ok(told),
@@ -37,7 +38,8 @@ impl Take for Looks {
 
 // Looks for the first fault that was told of a record, from the array of them on.
 fn first_told(looks: Vec<Option<Found<'static>>>) -> Result<(), Cause<'static>>
-    ensures { IfErr result (λ s. Tells s (first_told 0 looks.entry.items)) }
+    ensures none { OnOk result (first_told 0 looks.entry.items ≡ None) }
+    ensures fault { IfErr result (λ s. Tells s (first_told 0 looks.entry.items)) }
 {
     for (place, told) in looks.into_iter().enumerate() {
         if let Some(found) = told {
@@ -47,7 +49,24 @@ fn first_told(looks: Vec<Option<Found<'static>>>) -> Result<(), Cause<'static>>
     Ok(())
 }
 
-// Why a file is refused, where what is left beside its records has nothing wrong with it.
+// Why a file is refused for a record, where what is left beside them has nothing wrong with it.
+fn refusal_of_records(
+    alloc: Global,
+    looks: Vec<Option<Found<'static>>>,
+) -> Result<Option<ReadFault>, Memory>
+    ensures { IfOk result (λ made. IfSome made
+        (λ e. either_refusal [] (first_told 0 looks.entry.items) ≡ Some e)) }
+{
+    match first_told(looks) {
+        Ok(()) => Ok(None),
+        Err(cause) => match cause.under(Step::Member("CVR")) {
+            Cause::Memory => Err(Memory),
+            Cause::Fault(found) => Ok(Some(told_fault(alloc, found)?)),
+        },
+    }
+}
+
+// Why a file is refused: for a record, or else for what is left beside them.
 fn told_refusal(
     alloc: Global,
     left: &Value,
@@ -59,21 +78,18 @@ fn told_refusal(
         return Ok(None);
     }
     match document_fault(alloc, left) {
-        Ok(()) => {}
-        Err(Cause::Memory) => return Err(Memory),
-        Err(Cause::Fault(_)) => return Ok(None),
-    }
-    match first_told(looks) {
-        Ok(()) => Ok(None),
-        Err(cause) => match cause.under(Step::Member("CVR")) {
-            Cause::Memory => Err(Memory),
-            Cause::Fault(found) => Ok(Some(told_fault(alloc, found)?)),
+        Ok(()) => refusal_of_records(alloc, looks),
+        Err(Cause::Memory) => Err(Memory),
+        Err(Cause::Fault(found)) => match first_told(looks) {
+            Ok(()) => Ok(Some(told_fault(alloc, found)?)),
+            Err(_) => Ok(None),
         },
     }
 }
 
-/// Why a file is refused, where a record lacks its form and nothing else is wrong with numbers and form,
-/// read with no more than a record's tree at a time. None says nothing of the file.
+/// Why a file is refused for its numbers or form, read with no more than a record's tree at a time: where
+/// records alone have something wrong with them, or what is left beside them alone. None says nothing of
+/// the file.
 ///
 /// # Errors
 /// `Memory` where a growth was refused.
@@ -89,6 +105,7 @@ pub fn record_fault(alloc: Global, bytes: &[u8]) -> Result<Option<ReadFault>, Me
     let mut scratch = Scratch::new(alloc);
     match read_text_apart(alloc, text, &mut scratch, "CVR", &Looks) {
         Ok((left, looks)) => told_refusal(alloc, &left, looks),
+        Err(Stop::Untaken) => fraction_fault(alloc, text, &mut scratch),
         Err(Stop::Memory) => Err(Memory),
         Err(_) => Ok(None),
     }

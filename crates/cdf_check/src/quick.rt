@@ -11,7 +11,6 @@ use crate::check::check_value;
 use crate::definition::Definition;
 use crate::look::look_at_one;
 use crate::references::{look_at_current, look_in_snapshots};
-use cdf_form::float::has_fraction;
 use cdf_form::ids::Ids;
 use cdf_form::items_at;
 use cdf_form::read::{MAX_FILE, is_cvr};
@@ -75,7 +74,6 @@ impl Take for Records<'_> {
     fn take(&self, alloc: Global, item: Value) -> Result<Cvr, Stop> {
         match is_cvr(alloc, &item) {
             Ok(true) => {}
-            Ok(false) if has_fraction(&item) => return Err(Stop::Unread),
             Ok(false) => return Err(Stop::Untaken),
             Err(Memory) => return Err(Stop::Memory),
         }
@@ -139,7 +137,7 @@ fn joined(
     match check_value(alloc, definition, &left) {
         Ok(()) => {}
         Err(ReadFault::Memory) => return Err(Stop::Memory),
-        Err(ReadFault::Schema { .. }) => return Err(Stop::Unread),
+        Err(ReadFault::Schema { .. }) => return Err(Stop::Untaken),
         Err(_) => return Err(Stop::Unresolved),
     }
     match are_placed(alloc, &left, &cvrs) {
@@ -160,12 +158,12 @@ fn joined(
 /// tree at a time.
 ///
 /// # Errors
-/// `Untaken` where a record of whole numbers lacks its form, and nothing was read after it;
-/// `Unresolved` where one that has it, and names no party, names a contest, a selection, an election or
-/// a current snapshot that is neither the definition's nor its own, and nothing was read after it, or
-/// where all numbers and forms are right, and something is named that the file hasn't, or isn't the
-/// definition's; `Unread` where anything else is wrong, or unusual. None says more of the file.
-/// `Memory` where a growth was refused.
+/// `Untaken` where a record lacks its form, or has a number that isn't whole, and nothing was read after
+/// it, or where no record does and what is left beside them has such a fault; `Unresolved` where a record
+/// with none, that names no party, names a contest, a selection, an election or a current snapshot that is
+/// neither the definition's nor its own, and nothing was read after it, or where all numbers and forms are
+/// right, and something is named that the file hasn't, or isn't the definition's; `Unread` where anything
+/// else is wrong, or unusual. None says more of the file. `Memory` where a growth was refused.
 pub fn quick_report(alloc: Global, definition: &Definition, bytes: &[u8]) -> Result<Report, Stop>
     ensures valid { OnOk result (Valid definition.now bytes.now) }
     ensures report { IfOk result (λ r. r ≡ report_in definition.now.contests bytes.now) }

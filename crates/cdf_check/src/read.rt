@@ -1,7 +1,8 @@
-ghost use Rattle.std.specs.Prelude.{◌≡◌, Option, Some, [], IfOk, IfErr, OnOk};
+ghost use Rattle.std.specs.Prelude.{◌≡◌, Option, Some, [], IfOk, IfErr, OnOk, IsTrue};
 ghost use Rattle.serde_json.specs.Data.{Data};
 ghost use Rattle.serde_json.specs.View.{view};
 ghost use Rattle.cdf_types.specs.declared.fault.ReadFault.{ReadFault};
+ghost use Rattle.cdf_types.specs.declared.fault.ReadFault.TheVariants.{NotJson};
 ghost use Rattle.cdf_form.specs.Reading.{IsMemory};
 ghost use Rattle.cdf_typed.specs.Range.{ReportInRange};
 ghost use Rattle.cdf_check.specs.Agreement.{disagreements};
@@ -14,10 +15,12 @@ use crate::followed::reference_fault;
 use crate::looked::record_fault;
 use crate::quick::quick_report;
 use cdf_form::read::{MAX_FILE, read_value};
-use cdf_pull::Stop;
+use cdf_pull::{Stop, is_json};
 use cdf_typed::read_report;
-use cdf_types::{ReadFault, Report};
+use cdf_types::{Memory, ReadFault, Report};
+use json::Scratch;
 use serde_json::Value;
+use simdutf8::compat::from_utf8;
 use std::alloc::Global;
 
 // The value of a file.
@@ -87,6 +90,20 @@ fn whole_report(alloc: Global, definition: &Definition, bytes: &[u8]) -> Result<
     Ok(read_report(alloc, definition.contests(), value)?)
 }
 
+// Whether a file is no JSON text, by its tokens alone. False says nothing.
+fn is_no_json(alloc: Global, bytes: &[u8]) -> Result<bool, Memory>
+    ensures { IfOk result (λ is. IsTrue is
+        → (refusal : Data → Option ReadFault) → of_file refusal bytes.now ≡ Some NotJson) }
+{
+    match from_utf8(bytes) {
+        Ok(text) if bytes.len() <= MAX_FILE => {
+            let mut scratch = Scratch::new(alloc);
+            Ok(!is_json(text, &mut scratch)?)
+        }
+        _ => Ok(false),
+    }
+}
+
 /// The typed report of a file that is accepted beside a definition: its records in order, contests
 /// and selections told by their places in the definition, each in range.
 ///
@@ -107,7 +124,9 @@ pub fn check_report(
     match quick_report(alloc, definition, bytes) {
         Ok(report) => return Ok(report),
         Err(Stop::Memory) => return Err(ReadFault::Memory),
-        Err(Stop::Unread) => {}
+        Err(Stop::Unread) => if is_no_json(alloc, bytes)? {
+            return Err(ReadFault::NotJson);
+        },
         Err(Stop::Untaken) => if let Some(fault) = record_fault(alloc, bytes)? {
             return Err(fault);
         },

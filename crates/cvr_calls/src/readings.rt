@@ -11,7 +11,7 @@ use crate::tellings::row_of;
 use crate::trying::Reading;
 use crate::writing::{DATE, DEVICE};
 use cdf_check::{Definition, quick_report, record_fault, reference_fault};
-use cdf_pull::Stop;
+use cdf_pull::{Stop, is_json};
 use cdf_types::{Body, Memory, ReadFault, Rule};
 use cvr_cached::CachedOffice;
 use cvr_collect::{Office, PlainOffice};
@@ -19,6 +19,7 @@ use cvr_facts::text::{push_quoted, push_word, quoted};
 use cvr_facts::{BodySet, DeviceFact, HeaderFact, RecordName, SnapshotFact, VoteSums, take_facts};
 use cvr_report::{HeadFault, Heading};
 use cvr_tally::{RowKey, tally_text};
+use json::Scratch;
 use std::alloc::Global;
 
 /// Copies.
@@ -119,9 +120,11 @@ fn is_definition_copied(alloc: Global, definition: &Definition) -> Result<bool, 
 pub enum Filing {
     ReadFile,
     Apart,
+    Json,
     Definition,
     Quick,
     Fault,
+    Fraction,
     Reference,
     Facts,
 }
@@ -131,9 +134,11 @@ impl Reading for Filing {
         match self {
             Filing::ReadFile => is_file_read(alloc, records.bytes),
             Filing::Apart => is_read_apart(alloc, records.bytes),
+            Filing::Json => is_json_seen(alloc, records.bytes),
             Filing::Definition => is_definition_read(alloc, records),
             Filing::Quick => is_quickly_read(alloc, records),
             Filing::Fault => is_fault_told(alloc, records.bytes),
+            Filing::Fraction => is_fraction_told(alloc, records.bytes),
             Filing::Reference => is_reference_told(alloc, records),
             Filing::Facts => are_facts_made(alloc, records),
         }
@@ -142,6 +147,16 @@ impl Reading for Filing {
 
 fn is_file_read(alloc: Global, bytes: &[u8]) -> Result<bool, ReadFault> {
     Ok(read_whole(alloc, bytes)?.as_slice() == bytes)
+}
+
+// Whether a file is told as JSON, and its beginning isn't.
+fn is_json_seen(alloc: Global, bytes: &[u8]) -> Result<bool, ReadFault> {
+    let Ok(text) = str::from_utf8(bytes) else {
+        return Ok(false);
+    };
+    let mut scratch = Scratch::new(alloc);
+    let is_seen = is_json(text, &mut scratch)?;
+    Ok(is_seen && !is_json("{", &mut scratch)?)
 }
 
 fn is_definition_read(alloc: Global, records: &Records<'_>) -> Result<bool, ReadFault> {
@@ -169,6 +184,20 @@ fn is_fault_told(alloc: Global, bytes: &[u8]) -> Result<bool, ReadFault> {
     match record_fault(alloc, spoiled.as_bytes())? {
         Some(ReadFault::Schema { path, rule }) => {
             Ok(path.as_str() == "/CVR/0/UniqueId" && matches!(rule, Rule::Missing))
+        }
+        _ => Ok(false),
+    }
+}
+
+// Whether the fault of a file is told whose first record has a number that isn't whole.
+fn is_fraction_told(alloc: Global, bytes: &[u8]) -> Result<bool, ReadFault> {
+    let Ok(text) = str::from_utf8(bytes) else {
+        return Ok(false);
+    };
+    let spoiled = text.replace(alloc, r#""UniqueId""#, r#""a/b":0.5,"UniqueId""#)?;
+    match record_fault(alloc, spoiled.as_bytes())? {
+        Some(ReadFault::Schema { path, rule }) => {
+            Ok(path.as_str() == "/CVR/0/a~1b" && matches!(rule, Rule::NotWhole))
         }
         _ => Ok(false),
     }

@@ -29,12 +29,14 @@ static COPIES: [(&str, Copying); 11] = [
     ("Definition::copy", Copying::Definition),
 ];
 
-static FILINGS: [(&str, Filing); 7] = [
+static FILINGS: [(&str, Filing); 9] = [
     ("read_file", Filing::ReadFile),
     ("read_text_apart", Filing::Apart),
+    ("is_json", Filing::Json),
     ("Definition::read", Filing::Definition),
     ("quick_report, take_facts", Filing::Quick),
     ("record_fault", Filing::Fault),
+    ("record_fault, of a number", Filing::Fraction),
     ("reference_fault", Filing::Reference),
     ("check_report, facts_of", Filing::Facts),
 ];

@@ -85,17 +85,19 @@ fn of_members_of_one_name_the_last_stands_but_for_the_array(rt: HostRuntime) {
 }
 
 #[test]
-fn numbers_of_digits_alone_up_to_64_bits_are_read(rt: HostRuntime) {
+fn numbers_are_read_but_those_too_large(rt: HostRuntime) {
     gives(
         &rt,
         r#"{"a":18446744073709551615,"b":0}"#,
         "{\"a\":18446744073709551615,\"b\":0}",
     );
-    is_unread(&rt, r#"{"a":18446744073709551616}"#);
-    is_unread(&rt, r#"{"a":-1}"#);
-    is_unread(&rt, r#"{"a":-0}"#);
-    is_unread(&rt, r#"{"a":1.0}"#);
-    is_unread(&rt, r#"{"CVR":[1e2]}"#);
+    gives(
+        &rt,
+        r#"{"CVR":[-9223372036854775808,-2.5e1,0.75]}"#,
+        "{\"CVR\":[]}\n-9223372036854775808\n-25.0\n0.75",
+    );
+    is_unread(&rt, r#"{"a":1e999}"#);
+    is_unread(&rt, r#"{"CVR":[-1e999]}"#);
 }
 
 #[test]

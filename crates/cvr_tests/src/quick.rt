@@ -4,7 +4,7 @@ use cdf_check::{Definition, check_report, quick_report, record_fault, reference_
 use cdf_pull::Stop;
 use std::process::Abort;
 
-// Read as one tree: a party is named, a number has a sign, or the array of records is not there once.
+// Read as one tree: a party is named, or the array of records is not there once.
 const OF_A_PARTY: Changes = &[
     (
         r#""ReportGeneratingDeviceIds""#,
@@ -13,11 +13,12 @@ const OF_A_PARTY: Changes = &[
     (r#""UniqueId""#, r#""PartyIds":["x"],"UniqueId""#),
 ];
 
-const WITH_A_SIGN: Changes = &[(r#""Version""#, r#""Unlisted":-1,"Version""#)];
-
 const OF_RECORDS_TWICE: Changes = &[(r#""CVR":["#, r#""CVR":[],"CVR":["#)];
 
 const OF_NO_RECORDS: Changes = &[(r#""CVR":["#, r#""Unlisted":["#)];
+
+// Read record by record.
+const WITH_A_SIGN: Changes = &[(r#""Version""#, r#""Unlisted":-1,"Version""#)];
 
 // Refused for something beside a record, too.
 const UNNAMED_WITHOUT_VERSION: Changes = &[
@@ -68,6 +69,7 @@ fn usual_files_are_read_record_by_record(rt: HostRuntime) {
     assert!(rt; is_read(&rt, WITH_THIRD) == (true, true));
     assert!(rt; is_read(&rt, WITHOUT_SECOND) == (true, true));
     assert!(rt; is_read(&rt, UNITS_EXCHANGED) == (true, true));
+    assert!(rt; is_read(&rt, WITH_A_SIGN) == (true, true));
 }
 
 #[test]
@@ -78,7 +80,6 @@ fn records_may_be_the_last_member(rt: HostRuntime) {
 
 #[test]
 fn unusual_files_are_read_as_one_tree(rt: HostRuntime) {
-    assert!(rt; is_read(&rt, WITH_A_SIGN) == (true, false));
     assert!(rt; is_read(&rt, OF_RECORDS_TWICE) == (true, false));
     assert!(rt; is_read(&rt, OF_NO_RECORDS) == (true, false));
     let of_parties = definition(&rt, OF_A_PARTY);

@@ -16,7 +16,7 @@ returns-in-Some-told c =
     let told : first_told at (Some found ∷ rest) ≡ first_told 0 c.args.looks.items =
     ap (λ o. first_told at (o ∷ rest)) (sym c.in-Some-told.is) ∙ ap (first_told at) (sym steps.0.0)
     ∙ ap (λ n. first_told n (into_iter_items c.loop-place.place-iterator.iter)) steps.1 ∙ c.loop-place.invariant in
-    subst (Tells c.under.result) told (c.under.ensures (Some (fault_of found)) refl)
+    record { none = tt; fault = subst (Tells c.under.result) told (c.under.ensures (Some (fault_of found)) refl) }
 
 pub loop-place-preserved : goal.loop-place-preserved
 loop-place-preserved c =
