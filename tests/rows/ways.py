@@ -260,8 +260,9 @@ def faulty():
             (of_no_device, [right], True), (of_no_device, [of_other], True), (dict(of_no_device, Unlisted=-1), [right], True),
             (scan, [right, half], True), (scan, [unnamed, half], True), (scan, [of_other, half], True), (scan, [of_party, half], False),
             (scan, [half, of_party], True), (scan, [half_of_party], True), (without_version, [half], True),
-            (without_version, [unnamed, half], True), (without_version, [of_other, half], True), (without_version, [of_other], True), (without_version, [of_party], False), (dict(scan, Unlisted=0.5), [half], False),
-            (dict(scan, Unlisted=0.5), [right], True), (dict(scan, Unlisted=0.5), [unnamed], False), (scan, [dict(right, Unlisted=18446744073709551616)], True)):
+            (without_version, [unnamed, half], True), (without_version, [of_other, half], True), (without_version, [of_other], True),
+            (without_version, [of_party], False), (dict(scan, Unlisted=0.5), [half], False), (dict(scan, Unlisted=0.5), [right], True),
+            (dict(scan, Unlisted=0.5), [unnamed], False), (scan, [dict(right, Unlisted=18446744073709551616)], True)):
         yield json.dumps(dict(top, CVR=records)).encode('utf-8'), is_by_record
 
 
