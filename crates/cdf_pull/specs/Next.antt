@@ -1,9 +1,10 @@
 -- What comes next among the tokens of a text, as serde_json reads it, and the tokens after it. The number says how deep arrays and objects may nest.
-use Rattle.std.specs.Prelude.{◌≡◌, ℕ, List, ◌∷◌, length, Option, Some}
+use Rattle.std.specs.Prelude.{◌≡◌, ℕ, List, ◌∷◌, length, Option, Some, IsSome, option_and_then}
 use Rattle.json.specs.Token.{Token}
-use Rattle.json.specs.Json.{items, members, value}
+use Rattle.json.specs.Json.{items, members, value, if_last}
+use Rattle.json.specs.Lex.{tokens}
 use Rattle.serde_json.specs.Data.{Data, Items, Members}
-use Rattle.serde_json.specs.Read.{of_json, of_items, of_members, converted}
+use Rattle.serde_json.specs.Read.{of_json, of_items, of_members, converted, max_depth}
 
 -- a value
 abbrev pub next_value : ℕ → List Token → Option (Data × List Token)
@@ -20,3 +21,7 @@ next_members depth found ts = converted (λ ms. of_members ms found) (members (v
 -- the token is this value by itself, whatever follows
 abbrev pub IsAlone : Token → Data → Type 0
 IsAlone t d = (depth : ℕ) (rest : List Token) → next_value depth (t ∷ rest) ≡ Some (d, rest)
+
+-- the text is one value and nothing behind it, nested no deeper than serde_json lets it; its numbers may be of any size
+abbrev pub IsJson : List ℕ → Type 0
+IsJson text = IsSome (option_and_then (λ p. if_last p.0 p.1) (value max_depth (tokens text)))
