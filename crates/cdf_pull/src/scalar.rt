@@ -1,4 +1,4 @@
-ghost use Rattle.std.specs.Prelude.{◌≡◌, false, true, Some, IfOk, IfSome};
+ghost use Rattle.std.specs.Prelude.{◌≡◌, false, true, option_map, IfOk};
 ghost use Rattle.json.specs.Reads.{token_of};
 ghost use Rattle.serde_json.specs.Read.{number_of, number_from};
 ghost use Rattle.serde_json.specs.View.{view, number_view};
@@ -12,7 +12,7 @@ use std::alloc::Global;
 
 // The number that a numeral with no sign writes, unless it is too large.
 fn positive(numeral: &Numeral<'_>) -> Option<Number>
-    ensures { IfSome result (λ n. number_from false numeral.now ≡ Some (number_view n)) }
+    ensures { option_map number_view result ≡ number_from false numeral.now }
 {
     match numeral.to_u64() {
         Some(whole) => Some(Number::from(whole)),
@@ -22,7 +22,7 @@ fn positive(numeral: &Numeral<'_>) -> Option<Number>
 
 // The number that a numeral behind a minus writes, unless it is too large; `-0` is a float.
 fn negative(numeral: &Numeral<'_>) -> Option<Number>
-    ensures { IfSome result (λ n. number_from true numeral.now ≡ Some (number_view n)) }
+    ensures { option_map number_view result ≡ number_from true numeral.now }
 {
     match numeral.to_i64(true) {
         Some(whole) if whole < 0 => Some(Number::from(whole)),
@@ -33,7 +33,7 @@ fn negative(numeral: &Numeral<'_>) -> Option<Number>
 // The number that a text writes, unless it is too large.
 #[tactic(auto, using(crate::proofs::Numbers::number_of_minus, crate::proofs::Numbers::number_of_plain))]
 fn number(text: &str) -> Option<Number>
-    ensures { IfSome result (λ n. number_of text.now ≡ Some (number_view n)) }
+    ensures { option_map number_view result ≡ number_of text.now }
 {
     let bytes = text.as_bytes();
     match bytes.split_first() {

@@ -1,5 +1,6 @@
-ghost use Rattle.std.specs.Prelude.{◌≡◌, IfOk, IsFalse, None};
+ghost use Rattle.std.specs.Prelude.{◌≡◌, ◌↔◌, IfOk, IsTrue, IsFalse, None};
 ghost use Rattle.serde_json.specs.Read.{read};
+ghost use Rattle.cdf_pull.specs.Next.{IsJson};
 
 use crate::apart::MAX_DEPTH;
 use json::{Reader, Scratch};
@@ -11,7 +12,8 @@ use std::alloc::AllocError;
 /// # Errors
 /// An `AllocError` where that growth was refused.
 pub fn is_json(text: &str, scratch: &mut Scratch) -> Result<bool, AllocError>
-    ensures { IfOk result (λ is. IsFalse is → read text.now ≡ None) }
+    ensures exact { IfOk result (λ is. IsTrue is ↔ IsJson text.now) }
+    ensures unread { IfOk result (λ is. IsFalse is → read text.now ≡ None) }
 {
     let mut reader = Reader::new(text, scratch)?;
     match reader.skip_value(MAX_DEPTH) {
