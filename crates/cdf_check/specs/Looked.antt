@@ -1,12 +1,14 @@
--- A look at the form of each record of a file, and the refusal that it tells, or that of what is left beside them. (This project's own.)
-use Rattle.std.specs.Prelude.{◌≡◌, ◌≤◌, ◌+◌, ℕ, List, length, [], ◌∷◌, false, Option, Some, None, IsSome, option_map, codes}
+-- A look at the form of each record of a file, and the refusal that it tells together with what is left beside them. (This project's own.)
+use Rattle.std.specs.Prelude.{◌≡◌, ◌+◌, ℕ, List, [], ◌∷◌, false, Option, Some, None, option_map, option_and_then, codes}
+use Rattle.std.specs.Option.{option_or}
 use Rattle.serde_json.specs.Data.{Data}
 use Rattle.serde_json.specs.Find.{get}
 use Rattle.serde_json.specs.Written.{has_float}
 use Rattle.cdf_types.specs.declared.fault.ReadFault.{ReadFault}
 use Rattle.cdf_form.specs.declared.found.Found.{Found}
-use Rattle.cdf_form.specs.Tables.{any}
-use Rattle.cdf_form.specs.Form.{Fault, at_member, at_item, deeper}
+use Rattle.cdf_form.specs.declared.table.Group.TheVariants as group
+use Rattle.cdf_form.specs.declared.table.Leaf.TheVariants as leaf
+use Rattle.cdf_form.specs.Form.{Fault, at_member, at_item, deeper, float_faults, leaf_faults}
 use Rattle.cdf_form.specs.Form as form
 use Rattle.cdf_form.specs.Found.{fault_of}
 use Rattle.cdf_form.specs.Reading.{document_faults, refusal_of}
@@ -23,14 +25,14 @@ first_told i [] = None
 first_told i (None ∷ ts) = first_told (i + 1) ts
 first_told i (Some f ∷ ts) = Some (deeper (at_item i) (fault_of f))
 
--- the refusal for the fault that was told of records, where what is left beside them has none; or for the first of these, where none was told; and none where there are both
-abbrev pub either_refusal : List Fault → Option Fault → Option ReadFault
-either_refusal [] told = option_map (λ f. refusal_of (deeper (at_member (codes "CVR")) f)) told
-either_refusal (g ∷ gs) None = Some (refusal_of g)
-either_refusal (g ∷ gs) (Some f) = None
+-- the first fault of a file, by what is left beside its records, none of which has a fractional number, and the first fault that was told of them: of its numbers, else of the report's class, else of the records, else of all else
+abbrev pub first_of_file : Data → Option Fault → Option Fault
+first_of_file left told =
+    option_or (form.first (float_faults left))
+    (option_or (form.first (leaf_faults (leaf.Object group.Reports) left))
+    (option_or (option_map (deeper (at_member (codes "CVR"))) told)
+    (form.first (document_faults left))))
 
--- what is left beside the records has a member CVR; they are no more than an array may have; and this is the refusal for their first fault, or else for that of what is left
-pub record IsTold (left : Data) (looks : List (Option Found)) (refusal : ReadFault) : Type 0 where
-  pub some : IsSome (get (codes "CVR") left)
-  pub few : length looks ≤ any
-  pub told : either_refusal (document_faults left) (first_told 0 looks) ≡ Some refusal
+-- the refusal for it, where it has one and what is left has a member CVR
+abbrev pub file_refusal : Data → List (Option Found) → Option ReadFault
+file_refusal left looks = option_and_then (λ _. option_map refusal_of (first_of_file left (first_told 0 looks))) (get (codes "CVR") left)
