@@ -71,8 +71,9 @@ def reports_in(folder):
 
 def spoiled(folder, path):
     """The names of files: the same report with a fault of form in its first record, in the middle, and in its last one; with a text
-    in its last record that names nothing, and with a fraction; with a fault of form behind all records; cut off at its end; and
-    accepted, with a number with a sign at its end. Those of the folder `tree` have another CVR before all, too."""
+    in its last record that names nothing, and with a fraction; with a fault of form behind all records; with the last record's fault of
+    form, or its fraction, and another behind all records; cut off at its end; and accepted, with a number with a sign at its end. Those
+    of the folder `tree` have another CVR before all, too."""
     with open(path, encoding='utf-8') as file:
         text = file.read()
     places = {'first': text.find(KEY), 'middle': text.find(KEY, len(text) // 2), 'last': text.rfind(KEY)}
@@ -83,6 +84,8 @@ def spoiled(folder, path):
         at = text.rindex(old)
         texts[name] = text[:at] + new + text[at + len(old):]
     texts['rest'] = text.rstrip()[:-1] + ',"Version":1}'
+    texts['both'] = texts['last'].rstrip()[:-1] + ',"Version":1}'
+    texts['fractions'] = texts['fraction'].rstrip()[:-1] + ',"Of no table":0.5}'
     texts['cut'] = text.rstrip()[:-1]
     texts['sign'] = text.rstrip()[:-1] + ',"Of no table":-1}'
     os.mkdir(os.path.join(folder, 'tree'))

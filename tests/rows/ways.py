@@ -12,10 +12,9 @@ two once. A file that the row accepts has to be read record by record, but for t
 
 One that the row refuses for numbers or form, for references or for agreement has to be refused record by record where it has
 one member CVR, an array; where the first of its records that is faulty, names a party, or names what is neither the definition's
-nor its own, its unit and its device aside, if there is one, is faulty or names no party; and where not both a record is faulty
-and what is left without the records: in its numbers, where a record has one that isn't whole, and else in its form. Faulty is, by
-the rules of rules.py, what has such a number, or lacks its form. Else it has to be refused in another way: as one tree, or by its
-tokens where it is no JSON.
+nor its own, its unit and its device aside, if there is one, is faulty or names no party. Faulty is, by the rules of rules.py, one
+that has a number that isn't whole, or lacks its form. Else the file has to be refused in another way: as one tree, or by its tokens
+where it is no JSON.
 
 ways.txt has how many files of each file of rows are read in which way, and each accepted one that is read as one tree, by
 the first row that has it. --write writes it anew, by these rules; without it, it has to be as it would be written, so that
@@ -107,17 +106,10 @@ def is_refused_by_record(definition, data):
     """Whether a file that is refused for numbers or form, for references or for agreement is refused record by record."""
     if tree_reason(data) or not isinstance(value_of(data)['CVR'], list):
         return False
-    value = value_of(data)
-    records, left = value['CVR'], dict(value, CVR=[])
     scope = rules.Scope(rules.read(RULES, definition))
     scope.ids.update({'GpUnit': Anything(), 'ReportingDevice': Anything()})
-    odd = [it for it in records if is_faulty(it) or it.get('PartyIds') or names_more(it, scope)][:1]
-    if any(not is_faulty(it) and it.get('PartyIds') for it in odd):
-        return False
-    if any(map(has_fraction, records)):
-        return not has_fraction(left)
-    is_left_faulty = has_fraction(left) or is_refused(rules.see, RULES, left, ['classes', ['CastVoteRecordReport']], ())
-    return not (is_left_faulty and any(map(is_faulty, records)))
+    odd = [it for it in value_of(data)['CVR'] if is_faulty(it) or it.get('PartyIds') or names_more(it, scope)][:1]
+    return all(is_faulty(it) or not it.get('PartyIds') for it in odd)
 
 
 class File:
@@ -252,7 +244,7 @@ def faulty():
     for top, records, is_by_record in (
             (scan, [unnamed], True), (scan, [right, unnamed, right], True), (scan, [1], True), (scan, [None], True),
             (scan, [unnamed, of_other], True), (scan, [of_other, unnamed], True), (scan, [of_party, unnamed], False),
-            (without_version, [unnamed], False), (without_version, [of_other, unnamed], False), (without_version, [right], True),
+            (without_version, [unnamed], True), (without_version, [of_other, unnamed], True), (without_version, [right], True),
             (dict(scan, Unlisted=-1), [unnamed], True),
             (scan, [of_other], True), (scan, [right, of_unit], True), (scan, [of_device, right], True), (scan, [of_unit, unnamed], True),
             (scan, [of_other, of_party], True), (scan, [of_party], False), (scan, [of_party, of_other], False),
@@ -261,8 +253,9 @@ def faulty():
             (scan, [right, half], True), (scan, [unnamed, half], True), (scan, [of_other, half], True), (scan, [of_party, half], False),
             (scan, [half, of_party], True), (scan, [half_of_party], True), (without_version, [half], True),
             (without_version, [unnamed, half], True), (without_version, [of_other, half], True), (without_version, [of_other], True),
-            (without_version, [of_party], False), (dict(scan, Unlisted=0.5), [half], False), (dict(scan, Unlisted=0.5), [right], True),
-            (dict(scan, Unlisted=0.5), [unnamed], False), (scan, [dict(right, Unlisted=18446744073709551616)], True)):
+            (without_version, [of_party], False), (dict(scan, Unlisted=0.5), [half], True), (dict(scan, Unlisted=0.5), [right], True),
+            (dict(scan, Unlisted=0.5), [unnamed], True), (dict(scan, **{'@type': 'CVR.CVR'}), [unnamed], True),
+            (dict(scan, **{'@type': 'CVR.CVR'}), [of_party, unnamed], False), (scan, [dict(right, Unlisted=18446744073709551616)], True)):
         yield json.dumps(dict(top, CVR=records)).encode('utf-8'), is_by_record
 
 

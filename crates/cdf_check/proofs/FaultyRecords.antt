@@ -1,8 +1,8 @@
--- A file whose records alone have faults of form is refused for the first of them; one of which what is left beside the records alone has faults, for the first of those.
+-- A file of which no record has a fractional number is refused for the first fault of what is left and of its records.
 use Rattle.std.proofs.Common.{◌≡◌, ◌≤◌, ◌+◌, Result, ℕ, List, [], ◌∷◌, ◌++◌, length, Bool, true, false, bytes_eq, Option, Some, None, IsSome, option_map, codes, refl, sym, ap, subst, ◌∙◌}
 use Rattle.std.specs.Prelude.{if◌then◌else◌, option_and_then, IfOk, IfSome}
+use Rattle.std.specs.Option.{option_or}
 use Rattle.std.specs.Str.{IsUtf8}
-use Rattle.std.proofs.lemmas.Option.{IfSome_then}
 use Rattle.std.proofs.lemmas.Result.{IfOk-weaker}
 use Rattle.std.proofs.lemmas.Str.{is_utf8-from_IsUtf8}
 use Rattle.serde_json.specs.Data.{Data, array, object, Items, no_items, Members, no_members, member}
@@ -11,27 +11,27 @@ use Rattle.serde_json.specs.Events.{items_len}
 use Rattle.serde_json.specs.View.{items_of}
 use Rattle.serde_json.specs.Written.{has_float, items_have_float}
 use Rattle.cdf_pull.specs.Apart.{filled, AreTaken, IsReadApart}
-use Rattle.cdf_pull.proofs.Laws.{found_other, found_here, filled_is_whole}
+use Rattle.cdf_pull.proofs.Laws.{found_other, found_here}
 use Rattle.cdf_types.specs.declared.fault.ReadFault.{ReadFault}
 use Rattle.cdf_form.specs.declared.found.Found.{Found}
 use Rattle.cdf_form.specs.declared.table.Class.TheVariants as class_of
 use Rattle.cdf_form.specs.declared.table.Group.TheVariants as group
+use Rattle.cdf_form.specs.declared.table.Leaf.{Leaf}
 use Rattle.cdf_form.specs.declared.table.Leaf.TheVariants as leaf
 use Rattle.cdf_form.specs.declared.table.Key.TheVariants as key
 use Rattle.cdf_form.specs.declared.table.Kind.TheVariants.{One}
-use Rattle.cdf_form.specs.Tables.{any, classes_of}
-use Rattle.cdf_form.specs.Form.{Step, at_member, at_item, Fault, deeper, under, first, find_class, class_in, faults, items_faults, float_faults, items_floats, members_floats}
+use Rattle.cdf_form.specs.Tables.{any, type_text, classes_of}
+use Rattle.cdf_form.specs.Form.{Step, at_member, at_item, Fault, deeper, under, first, find_class, class_faults, type_text_faults, type_faults, class_in, leaf_faults, faults, items_faults, float_faults, items_floats, members_floats}
 use Rattle.cdf_form.specs.Found.{fault_of}
-use Rattle.cdf_form.specs.HasForm.{HasForm}
 use Rattle.cdf_form.specs.Reading.{value_of, max_file, document_faults, refusal_of}
 use Rattle.cdf_form.specs.Records.{cvr_faults, cvrs_faults}
-use Rattle.cdf_form.proofs.Laws.{fits_of, only_class, records_apart, records_first, no_float_faults, whole_document}
-use Rattle.cdf_form.proofs.Lemmas.{right_nil}
+use Rattle.cdf_form.proofs.Laws.{records_apart, records_first, no_float_faults}
 use Rattle.cdf_check.specs.Acceptance.{own_refusal, first_unsound}
 use Rattle.cdf_check.specs.Apart.{with_records}
-use Rattle.cdf_check.specs.Looked.{IsLookedAt, first_told, either_refusal, IsTold}
+use Rattle.cdf_check.specs.Looked.{IsLookedAt, first_told, first_of_file, file_refusal}
 use Rattle.cdf_check.proofs.Accepting.{file_holds, own_first}
 use Rattle.cdf_check.proofs.Apart.{neither, items_len-items_of}
+use Rattle.cdf_check.proofs.FractionalRecords.{if_made}
 use Rattle.cdf_check.proofs.Joining.{as_many}
 
 abbrev records : List ℕ
@@ -66,23 +66,29 @@ array_there : (ds : Items) (o : Option Data) → IsSome o → option_map (λ _. 
 array_there ds None h = absurd (cc)
 array_there ds (Some d) h = refl
 
-report_class : (ds : Items) (ms : Members) → document_faults (object ms) ≡ [] → class_in group.Reports (object (filled records ds ms)) ≡ Some class_of.CastVoteRecordReport
-report_class ds ms sound =
-    let form : HasForm (One (leaf.Object group.Reports)) (object ms) = fits_of (object ms) (One (leaf.Object group.Reports)) key.Free refl (right_nil _ _ sound) in
-    ap (λ o. option_and_then (find_class (classes_of group.Reports)) (option_and_then as_str o)) (found_other records ds (codes "@type") ms refl)
-    ∙ only_class group.Reports class_of.CastVoteRecordReport (object ms) (refl, tt) form
+abbrev report : Leaf
+report = leaf.Object group.Reports
 
-whole_first : (d : Data) (f : Fault) → has_float d ≡ false → first (faults d (One (leaf.Object group.Reports)) key.Free) ≡ Some f → first (document_faults d) ≡ Some f
-whole_first d f whole e = rw (no_float_faults d whole) e
+one_class : (b : Bool) → class_faults (if b then Some class_of.CastVoteRecordReport else None) ≡ [] → (if b then Some class_of.CastVoteRecordReport else None) ≡ Some class_of.CastVoteRecordReport
+one_class true e = refl
+one_class false e = absurd (cc)
 
-first_of_report : (ds : List Data) (ms : Members) (looks : List (Option Found)) (f : Fault) → AreTaken IsLookedAt ds looks → IsSome (get_member records ms) → document_faults (object ms) ≡ []
-    → length looks ≤ any → first_told 0 looks ≡ Some f → first (document_faults (with_records ds ms)) ≡ Some (deeper (at_member records) f)
-first_of_report ds ms looks f taken some sound few told =
-    let whole : has_float (with_records ds ms) ≡ false = filled_is_whole records (items_of ds) ms (whole_looks ds looks taken) (whole_document (object ms) sound) in
+text_class : (o : Option (List ℕ)) → type_text_faults group.Reports o ≡ [] → option_and_then (find_class (classes_of group.Reports)) o ≡ Some class_of.CastVoteRecordReport
+text_class None e = absurd (cc)
+text_class (Some s) e = one_class (bytes_eq s (type_text class_of.CastVoteRecordReport)) e
+
+type_class : (o : Option Data) → type_faults group.Reports o ≡ [] → option_and_then (find_class (classes_of group.Reports)) (option_and_then as_str o) ≡ Some class_of.CastVoteRecordReport
+type_class None e = absurd (cc)
+type_class (Some d) e = text_class (as_str d) e
+
+first_of_report : (ds : List Data) (ms : Members) (looks : List (Option Found)) (f : Fault) → AreTaken IsLookedAt ds looks → IsSome (get_member records ms) → leaf_faults report (object ms) ≡ []
+    → length looks ≤ any → first_told 0 looks ≡ Some f → first (faults (with_records ds ms) (One report) key.Free) ≡ Some (deeper (at_member records) f)
+first_of_report ds ms looks f taken some right few told =
     let here : get_member records (filled records (items_of ds) ms) ≡ Some (array (items_of ds)) = found_here records (items_of ds) ms ∙ array_there (items_of ds) (get_member records ms) some in
     let short : items_len (items_of ds) ≤ any = subst (λ n. n ≤ any) (sym (items_len-items_of ds ∙ as_many IsLookedAt ds looks taken)) few in
-    whole_first (with_records ds ms) _ whole
-    (records_first (filled records (items_of ds) ms) (items_of ds) f (report_class (items_of ds) ms sound) here short (told_first ds looks 0 taken ∙ told))
+    let class : class_in group.Reports (with_records ds ms) ≡ Some class_of.CastVoteRecordReport =
+    type_class (get_member (codes "@type") (filled records (items_of ds) ms)) (ap (type_faults group.Reports) (found_other records (items_of ds) (codes "@type") ms refl) ∙ right) in
+    records_first (filled records (items_of ds) ms) (items_of ds) f class here short (told_first ds looks 0 taken ∙ told)
 
 -- ---- what is left beside them
 
@@ -119,34 +125,54 @@ faults_stay ds ms looks taken some emptied few none =
 
 -- ---- together
 
-told_one : (o : Option Fault) (e : ReadFault) → option_map (λ f. refusal_of (deeper (at_member records) f)) o ≡ Some e
-    → (f : Fault) × (o ≡ Some f) × (Some (refusal_of (deeper (at_member records) f)) ≡ Some e)
-told_one None e h = absurd (cc)
-told_one (Some f) e h = (f, refl, h)
+first_over : (xs ys : List Fault) (f : Fault) (fs : List Fault) → xs ≡ f ∷ fs → first (xs ++ ys) ≡ Some f
+first_over xs ys f fs e = ap (λ zs. first (zs ++ ys)) e
 
-module _ (ds : List Data) (ms : Members) (looks : List (Option Found)) (e : ReadFault) (taken : AreTaken IsLookedAt ds looks) (emptied : filled records no_items ms ≡ ms)
+module _ (ds : List Data) (ms : Members) (looks : List (Option Found)) (taken : AreTaken IsLookedAt ds looks) (emptied : filled records no_items ms ≡ ms)
     (some : IsSome (get_member records ms)) (few : length looks ≤ any) where
-  either_told : (left : List Fault) (o : Option Fault) → document_faults (object ms) ≡ left → first_told 0 looks ≡ o → either_refusal left o ≡ Some e
-      → option_map refusal_of (first (document_faults (with_records ds ms))) ≡ Some e
-  either_told [] o sound is told =
-      let one = told_one o e told in
-      ap (option_map refusal_of) (first_of_report ds ms looks one.0 taken some sound few (is ∙ one.1)) ∙ one.2
-  either_told (g ∷ gs) None faulty is told = ap (λ fs. option_map refusal_of (first fs)) (faults_stay ds ms looks taken some emptied few is ∙ faulty) ∙ told
-  either_told (g ∷ gs) (Some f) faulty is told = absurd (cc)
+  numbers_stay : float_faults (with_records ds ms) ≡ float_faults (object ms)
+  numbers_stay = floats_stay (items_of ds) ms (no_float_faults (array (items_of ds)) (whole_looks ds looks taken)) emptied
+
+  class_stays : leaf_faults report (with_records ds ms) ≡ leaf_faults report (object ms)
+  class_stays = ap (type_faults group.Reports) (found_other records (items_of ds) (codes "@type") ms refl)
+
+  by_record : (o : Option Fault) → first_told 0 looks ≡ o → float_faults (object ms) ≡ [] → leaf_faults report (object ms) ≡ []
+      → first (faults (with_records ds ms) (One report) key.Free) ≡ option_or (option_map (deeper (at_member records)) o) (first (document_faults (object ms)))
+  by_record None is whole right =
+      ap (λ fs. first (fs ++ faults (with_records ds ms) (One report) key.Free)) (sym (numbers_stay ∙ whole)) ∙ ap first (faults_stay ds ms looks taken some emptied few is)
+  by_record (Some f) is whole right = first_of_report ds ms looks f taken some right few is
+
+  by_class : (fs : List Fault) → float_faults (object ms) ≡ [] → leaf_faults report (object ms) ≡ fs
+      → first (faults (with_records ds ms) (One report) key.Free) ≡ option_or (first fs) (option_or (option_map (deeper (at_member records)) (first_told 0 looks)) (first (document_faults (object ms))))
+  by_class [] whole is = by_record (first_told 0 looks) refl whole is
+  by_class (f ∷ fs) whole is = first_over (leaf_faults report (with_records ds ms)) _ f fs (class_stays ∙ is)
+
+  by_numbers : (fs : List Fault) → float_faults (object ms) ≡ fs
+      → first (fs ++ faults (with_records ds ms) (One report) key.Free)
+      ≡ option_or (first fs) (option_or (first (leaf_faults report (object ms))) (option_or (option_map (deeper (at_member records)) (first_told 0 looks)) (first (document_faults (object ms)))))
+  by_numbers [] is = by_class (leaf_faults report (object ms)) is refl
+  by_numbers (f ∷ fs) is = refl
+
+  file_first : first (document_faults (with_records ds ms)) ≡ first_of_file (object ms) (first_told 0 looks)
+  file_first = ap (λ fs. first (fs ++ faults (with_records ds ms) (One report) key.Free)) numbers_stay ∙ by_numbers (float_faults (object ms)) refl
+
+told_parts : (o : Option Data) (t : Option ReadFault) (e : ReadFault) → Some e ≡ option_and_then (λ _. t) o → IsSome o × (t ≡ Some e)
+told_parts None t e h = absurd (cc)
+told_parts (Some d) t e h = (refl, sym h)
 
 told_law : (bytes : List ℕ) (left : Data) (looks : List (Option Found)) (e : ReadFault) → length bytes ≤ max_file → IsUtf8 bytes
-    → IsReadApart IsLookedAt bytes records left looks → IsTold left looks e → first_unsound bytes ≡ Some e
-told_law bytes left looks e short utf8 h is =
+    → IsReadApart IsLookedAt bytes records left looks → length looks ≤ any → Some e ≡ file_refusal left looks → first_unsound bytes ≡ Some e
+told_law bytes left looks e short utf8 h few is =
     let ds = h.items in
     let ms = h.members in
     let all = with_records ds ms in
-    let j : IsTold (object ms) looks e = subst (λ d. IsTold d looks e) h.left_is is in
+    let j = told_parts (get_member records ms) _ e (is ∙ ap (λ d. file_refusal d looks) h.left_is) in
     let value : value_of bytes ≡ Some all = rw (is_utf8-from_IsUtf8 bytes utf8) h.whole in
     file_holds own_refusal bytes all (short, value)
-    ∙ own_first (option_map refusal_of (first (document_faults all))) _ e (either_told ds ms looks e h.taken_are h.emptied j.some j.few (document_faults (object ms)) (first_told 0 looks) refl refl j.told)
+    ∙ own_first (option_map refusal_of (first (document_faults all))) _ e (ap (option_map refusal_of) (file_first ds ms looks h.taken_are h.emptied j.0 few) ∙ j.1)
 
 pub told_result : {E : Type 0} (bytes text : List ℕ) (left : Data) (looks : List (Option Found)) (result : Result (Option ReadFault) E) → length bytes ≤ max_file → text ≡ bytes → IsUtf8 bytes
-    → IsReadApart IsLookedAt text records left looks → IfOk result (λ o. IfSome o (IsTold left looks)) → IfOk result (λ o. IfSome o (λ e. first_unsound bytes ≡ Some e))
-told_result bytes text left looks result short same utf8 h told =
+    → IsReadApart IsLookedAt text records left looks → length looks ≤ any → IfOk result (λ o. o ≡ file_refusal left looks) → IfOk result (λ o. IfSome o (λ e. first_unsound bytes ≡ Some e))
+told_result bytes text left looks result short same utf8 h few told =
     let apart = subst (λ s. IsReadApart IsLookedAt s records left looks) same h in
-    IfOk-weaker result _ _ (λ o made. IfSome_then o made (λ e is. told_law bytes left looks e short utf8 apart is)) told
+    IfOk-weaker result _ _ (λ o made. if_made o _ made (λ e is. told_law bytes left looks e short utf8 apart few is)) told

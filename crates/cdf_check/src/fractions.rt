@@ -1,17 +1,17 @@
 ghost use Rattle.std.specs.Prelude.{◌≡◌, ◌≤◌, Some, IfOk, IfSome, length};
 ghost use Rattle.std.specs.Str.{IsUtf8};
-ghost use Rattle.serde_json.specs.View.{view};
+ghost use Rattle.serde_json.specs.View.{view, members_view};
 ghost use Rattle.cdf_form.specs.Reading.{max_file};
 ghost use Rattle.cdf_check.specs.Acceptance.{first_unsound};
-ghost use Rattle.cdf_check.specs.Fractional.{IsSearched, IsFractional, in_record, first_fraction};
+ghost use Rattle.cdf_check.specs.Fractional.{IsSearched, in_record, first_fraction, member_fraction, file_fraction, fraction_refusal};
 
-use cdf_form::float::{find_float, has_fraction};
+use cdf_form::float::find_float;
 use cdf_form::found::{Step, Stop as Cause};
 use cdf_form::path::path_text;
 use cdf_pull::{Stop, Take, read_text_apart};
 use cdf_types::{Body, Memory, ReadFault, Rule};
 use json::Scratch;
-use serde_json::Value;
+use serde_json::{Map, Value};
 use std::alloc::Global;
 
 // Searches each record of a file for a number that isn't whole, and keeps its path.
@@ -53,18 +53,53 @@ fn first_fraction(alloc: Global, looks: Vec<Option<Body>>) -> Result<Option<Body
     Ok(None)
 }
 
-// Why a file is refused, where all numbers of what is left beside its records are whole.
+// Looks for the first number of a member that isn't whole.
+fn member_fraction(alloc: Global, name: &str, member: &Value) -> Result<Option<Body>, Memory>
+    ensures { IfOk result (λ told. told ≡ member_fraction name.now (view member.now)) }
+{
+    let Err(cause) = find_float(alloc, member) else {
+        return Ok(None);
+    };
+    match cause.under(Step::Member(name)) {
+        Cause::Memory => Err(Memory),
+        Cause::Fault(found) => Ok(Some(Body::new(path_text(alloc, &found.steps)?))),
+    }
+}
+
+// Looks for the first number of a file that isn't whole, by what is left beside its records and what was
+// told of these.
+fn file_fraction(
+    alloc: Global,
+    left: &Map<String, Value>,
+    told: Option<Body>,
+) -> Result<Option<Body>, Memory>
+    ensures { IfOk result (λ path. path ≡ file_fraction (members_view left.now.entries) told) }
+{
+    for (name, member) in left.iter() {
+        if name.as_str() == "CVR" {
+            if told.is_some() {
+                return Ok(told);
+            }
+        } else if let Some(path) = member_fraction(alloc, name.as_str(), member)? {
+            return Ok(Some(path));
+        }
+    }
+    Ok(None)
+}
+
+// Why a file is refused, where a number of it isn't whole.
 fn told_refusal(
     alloc: Global,
     left: &Value,
     looks: Vec<Option<Body>>,
 ) -> Result<Option<ReadFault>, Memory>
-    ensures { IfOk result (λ made. IfSome made (λ e. IsFractional (view left.now) looks.items e)) }
+    ensures { IfOk result (λ made. made ≡ fraction_refusal (view left.now) looks.items) }
 {
-    if left.get("CVR").is_none() || has_fraction(left) {
+    let Some(members) = left.as_object() else {
         return Ok(None);
-    }
-    match first_fraction(alloc, looks)? {
+    };
+    let told = first_fraction(alloc, looks)?;
+    match file_fraction(alloc, members, told)? {
         None => Ok(None),
         Some(path) => Ok(Some(ReadFault::Schema {
             path,
@@ -73,8 +108,8 @@ fn told_refusal(
     }
 }
 
-/// Why a file of this text is refused, where a number of a record isn't whole, read with no more than a
-/// record's tree at a time. None says nothing of the file.
+/// Why a file of this text is refused, where a number of it isn't whole, read with no more than a record's
+/// tree at a time. None says nothing of the file.
 ///
 /// # Errors
 /// `Memory` where a growth was refused.

@@ -1,14 +1,16 @@
-ghost use Rattle.std.specs.Prelude.{◌≡◌, None, Some, [], IfOk, IfErr, IfSome, OnOk};
+ghost use Rattle.std.specs.Prelude.{◌≡◌, None, Some, IfOk, IfErr, IfSome, OnOk};
 ghost use Rattle.serde_json.specs.View.{view};
 ghost use Rattle.cdf_form.specs.Found.{Tells};
 ghost use Rattle.cdf_check.specs.Acceptance.{first_unsound};
-ghost use Rattle.cdf_check.specs.Looked.{IsLookedAt, IsTold, first_told, either_refusal};
+ghost use Rattle.cdf_check.specs.Looked.{IsLookedAt, first_told, first_of_file, file_refusal};
 
 use crate::check::told_fault;
 use crate::fractions::fraction_fault;
-use cdf_form::float::has_fraction;
+use cdf_form::float::{find_float, has_fraction};
 use cdf_form::found::{Found, Step, Stop as Cause};
+use cdf_form::leaf::class_of;
 use cdf_form::read::{MAX_FILE, cvr_fault, document_fault};
+use cdf_form::table::Group;
 use cdf_pull::{Stop, Take, read_text_apart};
 use cdf_types::{Memory, ReadFault};
 use json::Scratch;
@@ -49,47 +51,46 @@ fn first_told(looks: Vec<Option<Found<'static>>>) -> Result<(), Cause<'static>>
     Ok(())
 }
 
-// Why a file is refused for a record, where what is left beside them has nothing wrong with it.
-fn refusal_of_records(
+// Looks for the first fault of a file: of numbers beside its records, of its class, of a record, or else
+// of the rest of what is left.
+fn file_fault<'a>(
     alloc: Global,
+    left: &'a Value,
     looks: Vec<Option<Found<'static>>>,
-) -> Result<Option<ReadFault>, Memory>
-    ensures { IfOk result (λ made. IfSome made
-        (λ e. either_refusal [] (first_told 0 looks.entry.items) ≡ Some e)) }
+) -> Result<(), Cause<'a>>
+    ensures none { OnOk result
+        (first_of_file (view left.entry.now) (first_told 0 looks.entry.items) ≡ None) }
+    ensures fault { IfErr result (λ s.
+        Tells s (first_of_file (view left.entry.now) (first_told 0 looks.entry.items))) }
 {
-    match first_told(looks) {
-        Ok(()) => Ok(None),
-        Err(cause) => match cause.under(Step::Member("CVR")) {
-            Cause::Memory => Err(Memory),
-            Cause::Fault(found) => Ok(Some(told_fault(alloc, found)?)),
-        },
+    find_float(alloc, left)?;
+    class_of(alloc, Group::Reports, left)?;
+    if let Err(cause) = first_told(looks) {
+        return Err(cause.under(Step::Member("CVR")));
     }
+    document_fault(alloc, left)
 }
 
-// Why a file is refused: for a record, or else for what is left beside them.
+// Why a file is refused, where it has a fault.
 fn told_refusal(
     alloc: Global,
     left: &Value,
     looks: Vec<Option<Found<'static>>>,
 ) -> Result<Option<ReadFault>, Memory>
-    ensures { IfOk result (λ made. IfSome made (λ e. IsTold (view left.now) looks.entry.items e)) }
+    ensures { IfOk result (λ made. made ≡ file_refusal (view left.now) looks.entry.items) }
 {
     if left.get("CVR").is_none() {
         return Ok(None);
     }
-    match document_fault(alloc, left) {
-        Ok(()) => refusal_of_records(alloc, looks),
+    match file_fault(alloc, left, looks) {
+        Ok(()) => Ok(None),
         Err(Cause::Memory) => Err(Memory),
-        Err(Cause::Fault(found)) => match first_told(looks) {
-            Ok(()) => Ok(Some(told_fault(alloc, found)?)),
-            Err(_) => Ok(None),
-        },
+        Err(Cause::Fault(found)) => Ok(Some(told_fault(alloc, found)?)),
     }
 }
 
-/// Why a file is refused for its numbers or form, read with no more than a record's tree at a time: where
-/// records alone have something wrong with them, or what is left beside them alone. None says nothing of
-/// the file.
+/// Why a file is refused for its numbers or form, read with no more than a record's tree at a time. None
+/// says nothing of the file.
 ///
 /// # Errors
 /// `Memory` where a growth was refused.

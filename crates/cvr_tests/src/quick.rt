@@ -109,7 +109,7 @@ fn is_told(rt: &(impl Abort + AllocGlobal), changes: Changes) -> bool {
 fn a_record_that_lacks_its_form_is_told_record_by_record(rt: HostRuntime) {
     assert!(rt; is_told(&rt, UNNAMED));
     assert!(rt; is_told(&rt, OF_NO_TYPE));
-    assert!(rt; !is_told(&rt, UNNAMED_WITHOUT_VERSION));
+    assert!(rt; is_told(&rt, UNNAMED_WITHOUT_VERSION));
     assert!(rt; !is_told(&rt, OF_UNKNOWN_UNIT));
     assert!(rt; !is_told(&rt, SCAN));
 }

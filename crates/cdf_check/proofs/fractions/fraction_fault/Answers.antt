@@ -1,4 +1,3 @@
-use Rattle.std.proofs.Common.{rules, ◌≡◌, ◌≤◌, length}
 use Rattle.serde_json.specs.View.{view}
 use Rattle.cdf_check.proofs.FractionalRecords.{told_result}
 use Rattle.cdf_check.proofs.fractions.fraction_fault.Goals as goal
