@@ -2,16 +2,18 @@
 """compare.py [--before PROGRAM] [--after PROGRAM] [--peer NAME=PROGRAM ..] [--folder FOLDER ..] [--rounds N] [--cpu K] [--keep NAME]
 
 Times two builds of cvr on the same files, in turns, each run alone; without --before, one build. First reports of gen.py: as
-long as a file may be; short records; that long report with a fault in its first record, in the middle, in its last one, two of
-other kinds in its last one, one behind all records, cut off, and accepted with a number with a sign; each of these beside the
-same file with another CVR before all (`tree`), which is read as one tree once its tokens were looked at; and one file of one
-record, named many times. Then each folder that is given (definition.json or def.json, and reports), beside the peers: programs that
-take the words of cvr. Told are processor seconds (the median of the rounds, and the least), the peak memory, the ratio of the
-medians to the first program's, and whether the texts are the same. With --cpu all of it runs on one processor."""
+long as a file may be; short records; that long report with a fault in its first record, in the middle, in its last one, two
+of other kinds in its last one, one behind all records, cut off, and accepted with a number with a sign, and where records
+name a party; each of these beside the same file with another CVR before all (`tree`), which is read as one tree once its
+tokens were looked at; and one file of one record, named many times. Then each folder that is given (definition.json or
+def.json, and reports), beside the peers: programs that take the words of cvr. Told are processor seconds (the median of the
+rounds, and the least), the peak memory, the ratio of the medians to the first program's, and whether the texts are the same.
+With --cpu all of it runs on one processor."""
 import argparse
 import glob
 import json
 import os
+import re
 import statistics
 import subprocess
 import sys
@@ -25,6 +27,8 @@ MANY = 10000        # how often the file of one record is named
 SHORT = (20000, 200000)
 KEY = '"UniqueId":"'
 WRONG = '"UniqueID":"'      # no member of that name is demanded, and UniqueId is
+STYLE, PARTY = r'"BallotStyleId":"style-\d+"', '"PartyIds":["blue"]'
+ACCEPTED = ('sign', 'party', 'party late', 'party unlisted')
 LATE = {'unknown': ('"ContestId":"', '"ContestId":"no '), 'fraction': ('"NumberVotes":1', '"NumberVotes":1.5')}
 
 
@@ -72,8 +76,8 @@ def reports_in(folder):
 def spoiled(folder, path):
     """The names of files: the same report with a fault of form in its first record, in the middle, and in its last one; with a text
     in its last record that names nothing, and with a fraction; with a fault of form behind all records; with the last record's fault of
-    form, or its fraction, and another behind all records; cut off at its end; and accepted, with a number with a sign at its end. Those
-    of the folder `tree` have another CVR before all, too."""
+    form, or its fraction, and another behind all records; cut off at its end; accepted, with a number with a sign at its end; and those
+    of_parties. Those of the folder `tree` have another CVR before all, too."""
     with open(path, encoding='utf-8') as file:
         text = file.read()
     places = {'first': text.find(KEY), 'middle': text.find(KEY, len(text) // 2), 'last': text.rfind(KEY)}
@@ -88,12 +92,32 @@ def spoiled(folder, path):
     texts['fractions'] = texts['fraction'].rstrip()[:-1] + ',"Of no table":0.5}'
     texts['cut'] = text.rstrip()[:-1]
     texts['sign'] = text.rstrip()[:-1] + ',"Of no table":-1}'
+    texts.update(of_parties(text))
     os.mkdir(os.path.join(folder, 'tree'))
     for name, changed in texts.items():
         for front, *steps in ('{',), ('{"CVR":[],', 'tree'):
             with open(os.path.join(folder, *steps, name + '.json'), 'w', encoding='utf-8') as file:
                 file.write(front + changed.lstrip()[1:])
     return list(texts)
+
+
+def of_parties(text):
+    """The text of the report where each record names a party in place of a ballot style; where the last record but one alone does,
+    also with a fault of form in the last one; and the first one again, for a definition with one party more than the report lists."""
+    each, at = re.sub(STYLE, PARTY, text), [found.start() for found in re.finditer(STYLE, text)][-2]
+    late = text[:at] + re.sub(STYLE, PARTY, text[at:], count=1)
+    last = late.rfind(KEY)
+    return {'party': each, 'party late': late, 'party before': late[:last] + WRONG + late[last + len(KEY):], 'party unlisted': each}
+
+
+def with_a_party(folder, path):
+    """The definition with one more party."""
+    with open(path, encoding='utf-8') as file:
+        value = json.load(file)
+    value['Party'].append({'@id': 'unlisted', '@type': 'CVR.Party'})
+    with open(os.path.join(folder, 'wider.json'), 'w', encoding='utf-8') as file:
+        json.dump(value, file)
+    return os.path.join(folder, 'wider.json')
 
 
 def one_record(folder):
@@ -114,10 +138,11 @@ def own_files(report, words, programs):
         return compared(report, title, commands, words.rounds)
 
     def late(folder, name):
-        wanted = [(program, [path, 'check', definition, name + '.json']) for program, path in programs]
+        beside = with_a_party(folder, definition) if name == 'party unlisted' else definition
+        wanted = [(program, [path, 'check', beside, name + '.json']) for program, path in programs]
         commands = [(program, command, folder) for program, command in wanted]
         commands += [(program + ' tree', command, os.path.join(folder, 'tree')) for program, command in wanted]
-        return compared(report, 'check of that report, %s' % name, commands, words.rounds, int(name != 'sign'))
+        return compared(report, 'check of that report, %s' % name, commands, words.rounds, int(name not in ACCEPTED))
 
     special = os.path.abspath(bench.made(words.data, 'special', ['special']))
     definition, large = os.path.join(special, 'definition.json'), os.path.join(special, 'large.json')

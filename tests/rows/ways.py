@@ -7,14 +7,11 @@ answer of it tells which. The program `cvr_ways` does; it is asked of each file 
 two once. A file that the row accepts has to be read record by record, but for these, which are told by the file alone:
 
 - no CVR: it has no member CVR;
-- CVR twice: it has more than one, of which the last counts;
-- PartyIds: a record names a party.
+- CVR twice: it has more than one, of which the last counts.
 
-One that the row refuses for numbers or form, for references or for agreement has to be refused record by record where it has
-one member CVR, an array; where the first of its records that is faulty, names a party, or names what is neither the definition's
-nor its own, its unit and its device aside, if there is one, is faulty or names no party. Faulty is, by the rules of rules.py, one
-that has a number that isn't whole, or lacks its form. Else the file has to be refused in another way: as one tree, or by its tokens
-where it is no JSON.
+One that the row refuses for numbers or form, for references or for agreement has to be refused record by record, too, but for
+these, and for one whose CVR is no array. Else the file has to be refused in another way: as one tree, or by its tokens where
+it is no JSON.
 
 ways.txt has how many files of each file of rows are read in which way, and each accepted one that is read as one tree, by
 the first row that has it. --write writes it anew, by these rules; without it, it has to be as it would be written, so that
@@ -33,7 +30,6 @@ from concurrent.futures import ThreadPoolExecutor
 sys.dont_write_bytecode = True
 import changes       # noqa: E402
 import members       # noqa: E402
-import rules         # noqa: E402
 import run           # noqa: E402 (all stand beside this file)
 
 HERE = os.path.dirname(os.path.abspath(__file__))
@@ -42,8 +38,7 @@ BY_RECORD, AS_TREE = 'accepted record by record', 'accepted as one tree'
 REFUSED_BY_RECORD, REFUSED_AS_TREE = 'refused record by record', 'refused as one tree'
 CONTRADICTED = 'read in a way that contradicts the answer'
 WAYS = [BY_RECORD, AS_TREE, REFUSED_BY_RECORD, REFUSED_AS_TREE]
-RULES = rules.Rules()
-REASONS = ['no CVR', 'CVR twice', 'PartyIds']
+REASONS = ['no CVR', 'CVR twice']
 AT_ONCE = 400       # files of one call
 HEAD = """# How the files of the rows are read, by the rules of ways.py, which writes this file with --write. Each file beside
 # its definition counts once, in the file of its first row.
@@ -60,56 +55,9 @@ def tree_reason(data):
     return {0: 'no CVR', 1: None}.get(names.count('CVR'), 'CVR twice')
 
 
-def value_of(data):
-    """The value of a file, with a rules.Bad for each number that isn't whole."""
-    def integer(text):
-        return int(text) if text != '-0' and RULES.least_whole <= int(text) <= RULES.most_whole else rules.Bad()
-    return json.loads(data.decode('utf-8'), parse_int=integer, parse_float=lambda _: rules.Bad())
-
-
-def has_fraction(value):
-    return is_refused(rules.see_numbers, value, ())
-
-
-def reason(data):
-    """Why a file that is accepted isn't read record by record, or None where it is."""
-    records = json.loads(data.decode('utf-8')).get('CVR', [])
-    return tree_reason(data) or ('PartyIds' if any(record.get('PartyIds') for record in records) else None)
-
-
-class Anything:
-    """What holds every text."""
-
-    def __contains__(self, text):
-        return True
-
-
-def is_refused(see, *words):
-    try:
-        see(*words)
-    except rules.Fault:
-        return True
-    return False
-
-
-def is_faulty(record):
-    """Whether a record has a number that isn't whole, or lacks its form."""
-    return has_fraction(record) or is_refused(rules.see_object, RULES, record, ['CVR'], ())
-
-
-def names_more(record, scope):
-    """Whether a record names what is neither the definition's nor its own; its unit and its device aside."""
-    return is_refused(rules.see_references, RULES, record, scope, ())
-
-
-def is_refused_by_record(definition, data):
+def is_refused_by_record(data):
     """Whether a file that is refused for numbers or form, for references or for agreement is refused record by record."""
-    if tree_reason(data) or not isinstance(value_of(data)['CVR'], list):
-        return False
-    scope = rules.Scope(rules.read(RULES, definition))
-    scope.ids.update({'GpUnit': Anything(), 'ReportingDevice': Anything()})
-    odd = [it for it in value_of(data)['CVR'] if is_faulty(it) or it.get('PartyIds') or names_more(it, scope)][:1]
-    return all(is_faulty(it) or not it.get('PartyIds') for it in odd)
+    return not tree_reason(data) and isinstance(json.loads(data.decode('utf-8'))['CVR'], list)
 
 
 class File:
@@ -117,10 +65,10 @@ class File:
 
     def __init__(self, where, name, definition, data, fault):
         self.where, self.name, self.definition, self.data = where, name, definition, data
-        self.reason = None if fault else reason(data)
+        self.reason = None if fault else tree_reason(data)
         self.way = AS_TREE if self.reason else BY_RECORD
         if fault:
-            is_by_record = fault.startswith(('E3', 'E4', 'E5')) and is_refused_by_record(definition, data)
+            is_by_record = fault.startswith(('E3', 'E4', 'E5')) and is_refused_by_record(data)
             self.way = REFUSED_BY_RECORD if is_by_record else REFUSED_AS_TREE
 
 
@@ -227,49 +175,61 @@ TEXTS = [(b'{"CVR":[{"a":18446744073709551615}],"b":"-1,CVR"}', None), (b'{"CVR"
          (b'{"CVR":[{"PartyIds":["p"],"PartyIds":[]}]}', None), (b'{"CVR":[],"a":{"CVR":[]}}', None),
          (b'{"a":{"CVR":[]}}', 'no CVR'), (b'{"CVR":[],"\\u0043VR":[]}', 'CVR twice'), (b'{"CVR":[],"a":[{"b":-1}]}', None),
          (b'{"CVR":[],"a":1.0,"a":1}', None), (b'{"CVR":[{"a":18446744073709551616,"a":1}]}', None),
-         (b'{"CVR":[{},{"PartyIds":["p"]}]}', 'PartyIds')]
+         (b'{"CVR":[{},{"PartyIds":["p"]}]}', None)]
 
 
-def faulty():
-    """Files that are refused for numbers or form, for references or for agreement, each with whether record by record."""
-    scan = json.loads(run.VECTORS['f2.json'])
-    right = scan['CVR'][0]
-    unnamed = {name: value for name, value in right.items() if name != 'UniqueId'}
-    of_party, of_other = dict(right, PartyIds=['p']), dict(right, CurrentSnapshotId='none')
-    of_unit, of_device = dict(right, BallotStyleUnitId='none'), dict(right, CreatingDeviceId='none')
+def asked():
+    """Files beside a definition of two parties of which the program itself is asked, each with its way: each fault first, last
+    and beside another, each party known, unknown and listed nowhere."""
+    definition, scan = json.loads(run.VECTORS['parties-def.json']), json.loads(run.VECTORS['parties.json'])
+    own = scan['CVR'][0]
+    right = {name: value for name, value in own.items() if name != 'PartyIds'}
+    unnamed, half = {name: value for name, value in right.items() if name != 'UniqueId'}, dict(right, Unlisted=0.5)
+    of_red, of_green, of_both = (dict(right, PartyIds=ids) for ids in (['red'], ['green'], ['blue', 'red']))
+    of_other, of_unit = dict(right, CurrentSnapshotId='none'), dict(right, BallotStyleUnitId='none')
+    of_device, half_of_red = dict(right, CreatingDeviceId='none'), dict(of_red, Unlisted=-0.5)
+    wider = dict(definition, Party=definition['Party'] + [dict(definition['Party'][0], **{'@id': 'green'})])
     without_version = {name: value for name, value in scan.items() if name != 'Version'}
     other_election = dict(scan, Election=[dict(scan['Election'][0], Unlisted='other')])
-    of_no_device = dict(scan, ReportGeneratingDeviceIds=['none'])
-    half, half_of_party = dict(right, Unlisted=0.5), dict(right, PartyIds=['p'], Unlisted=-0.5)
-    for top, records, is_by_record in (
-            (scan, [unnamed], True), (scan, [right, unnamed, right], True), (scan, [1], True), (scan, [None], True),
-            (scan, [unnamed, of_other], True), (scan, [of_other, unnamed], True), (scan, [of_party, unnamed], False),
-            (without_version, [unnamed], True), (without_version, [of_other, unnamed], True), (without_version, [right], True),
-            (dict(scan, Unlisted=-1), [unnamed], True),
-            (scan, [of_other], True), (scan, [right, of_unit], True), (scan, [of_device, right], True), (scan, [of_unit, unnamed], True),
-            (scan, [of_other, of_party], True), (scan, [of_party], False), (scan, [of_party, of_other], False),
-            (scan, [of_unit, of_party], False), (other_election, [right], True), (other_election, [of_party], False),
-            (of_no_device, [right], True), (of_no_device, [of_other], True), (dict(of_no_device, Unlisted=-1), [right], True),
-            (scan, [right, half], True), (scan, [unnamed, half], True), (scan, [of_other, half], True), (scan, [of_party, half], False),
-            (scan, [half, of_party], True), (scan, [half_of_party], True), (without_version, [half], True),
-            (without_version, [unnamed, half], True), (without_version, [of_other, half], True), (without_version, [of_other], True),
-            (without_version, [of_party], False), (dict(scan, Unlisted=0.5), [half], True), (dict(scan, Unlisted=0.5), [right], True),
-            (dict(scan, Unlisted=0.5), [unnamed], True), (dict(scan, **{'@type': 'CVR.CVR'}), [unnamed], True),
-            (dict(scan, **{'@type': 'CVR.CVR'}), [of_party, unnamed], False), (scan, [dict(right, Unlisted=18446744073709551616)], True)):
-        yield json.dumps(dict(top, CVR=records)).encode('utf-8'), is_by_record
+    of_no_device, half_beside = dict(scan, ReportGeneratingDeviceIds=['none']), dict(scan, Unlisted=0.5)
+    other_class = dict(scan, **{'@type': 'CVR.CVR'})
+    refused, no_others = (unnamed, half, of_green, of_other, of_unit, of_device, half_of_red, 1, None), [[], [of_both]]
+    for beside, way in ((definition, BY_RECORD), (wider, BY_RECORD)):
+        for records in ([], [right], [of_red], [right, of_both], [own, right, of_red]):
+            yield beside, scan, records, way
+    for beside in (definition, wider):
+        for record in refused:
+            for others in no_others + [[it] for it in refused]:
+                yield beside, scan, others + [record], REFUSED_BY_RECORD
+        for top in (without_version, other_election, of_no_device, half_beside, other_class):
+            for records in [[], [right], [of_red]] + [others + [record] for others in no_others for record in refused]:
+                yield beside, top, records, REFUSED_BY_RECORD
+    yield wider, wider, [of_green], BY_RECORD
+    yield definition, wider, [of_green], REFUSED_BY_RECORD
+    for top in ({name: value for name, value in scan.items() if name != 'CVR'}, dict(scan, CVR=own)):
+        yield definition, top, None, REFUSED_AS_TREE if 'CVR' in top else AS_TREE
+
+
+def asked_files():
+    """The same as files. The rules have to say the same of each."""
+    for beside, top, records, way in asked():
+        data = json.dumps(top if records is None else dict(top, CVR=records)).encode('utf-8')
+        made = File('ways.py', 'asked', json.dumps(beside).encode('utf-8'), data, 'E3' if way in (REFUSED_BY_RECORD, REFUSED_AS_TREE) else None)
+        yield made, way
 
 
 def try_itself(program):
     """What the tool does with files of known ways, with wrong answers and wrong tables, and the program without a definition."""
     for data, why in TEXTS:
-        if reason(data) != why:
-            yield 'the reason of %r is told as %r' % (data, reason(data))
-    definition, unnamed = run.VECTORS['def.json'], next(faulty())[0]
-    for data, is_by_record in faulty():
-        if is_refused_by_record(definition, data) != is_by_record:
-            yield 'whether %r is refused record by record is told as %r' % (data, not is_by_record)
+        if tree_reason(data) != why:
+            yield 'the reason of %r is told as %r' % (data, tree_reason(data))
+    for made, way in asked_files():
+        if made.way != way:
+            yield 'the way of %r is told as %r' % (made.data, made.way)
+    for some in calls([made for made, _ in asked_files()]):
+        yield from judged(some, *answers(program, some))
     held = [File('a.json', 'one', b'', TEXTS[0][0], None), File('a.json', 'two', b'', b'{}', None),
-            File('b.json', 'three', definition, unnamed, 'E3 /CVR/0/UniqueId 2'), File('b.json', 'four', b'', b'', 'E2')]
+            File('b.json', 'three', b'', TEXTS[0][0], 'E3 /CVR/0/UniqueId 2'), File('b.json', 'four', b'', b'', 'E2')]
     right = ['%d: %s' % pair for pair in enumerate(WAYS)]
     for place in range(len(WAYS)):
         for way in WAYS + [CONTRADICTED]:

@@ -26,7 +26,7 @@ use std::alloc::Global;
 
 // Drops each record of a file.
 #[derive(Drop)]
-struct Drops;
+pub(crate) struct Drops;
 
 impl Take for Drops {
     type Taken = ();

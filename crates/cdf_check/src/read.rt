@@ -124,7 +124,7 @@ pub fn check_report(
     match quick_report(alloc, definition, bytes) {
         Ok(report) => return Ok(report),
         Err(Stop::Memory) => return Err(ReadFault::Memory),
-        Err(Stop::Unread) => if is_no_json(alloc, bytes)? {
+        Err(Stop::Unread | Stop::Deferred) => if is_no_json(alloc, bytes)? {
             return Err(ReadFault::NotJson);
         },
         Err(Stop::Untaken) => if let Some(fault) = record_fault(alloc, bytes)? {

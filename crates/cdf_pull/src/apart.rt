@@ -22,7 +22,7 @@ pub trait Take {
     ///
     /// # Errors
     /// `Untaken` where the item isn't what is taken; `Unresolved` where it is, but names something
-    /// that isn't known; `Unread` where it is left to another reader; `Memory` where a growth was
+    /// that isn't known; `Deferred` where it is left to another reader; `Memory` where a growth was
     /// refused.
     fn take(&self, alloc: Global, item: Value) -> Result<Self::Taken, Stop>
         ensures { IfOk result (λ taken. takes self.now (view item) taken) };

@@ -6,8 +6,10 @@ use std::alloc::{AllocError, AllocFailed};
 pub enum Stop {
     /// Want of memory.
     Memory,
-    /// The tokens aren't what is read here, or an item is left to another reader.
+    /// The tokens aren't what is read here.
     Unread,
+    /// An item is left to another reader.
+    Deferred,
     /// An item isn't what is taken here.
     Untaken,
     /// An item is what is taken here, but names something that isn't known.

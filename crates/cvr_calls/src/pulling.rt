@@ -30,7 +30,7 @@ pub fn is_read_apart(alloc: Global, bytes: &[u8]) -> Result<bool, ReadFault> {
     match read_text_apart(alloc, text, &mut scratch, "CVR", &Keeping) {
         Ok((left, records)) => Ok(with_records(alloc, left, records)? == value_of(alloc, text)?),
         Err(Stop::Memory) => Err(ReadFault::Memory),
-        Err(Stop::Unread | Stop::Untaken | Stop::Unresolved) => Ok(false),
+        Err(_) => Ok(false),
     }
 }
 

@@ -123,6 +123,7 @@ pub enum Filing {
     Json,
     Definition,
     Quick,
+    OfAParty,
     Fault,
     Fraction,
     Reference,
@@ -137,6 +138,7 @@ impl Reading for Filing {
             Filing::Json => is_json_seen(alloc, records.bytes),
             Filing::Definition => is_definition_read(alloc, records),
             Filing::Quick => is_quickly_read(alloc, records),
+            Filing::OfAParty => is_party_read(alloc, records.bytes),
             Filing::Fault => is_fault_told(alloc, records.bytes),
             Filing::Fraction => is_fraction_told(alloc, records.bytes),
             Filing::Reference => is_reference_told(alloc, records),
@@ -171,7 +173,31 @@ fn is_quickly_read(alloc: Global, records: &Records<'_>) -> Result<bool, ReadFau
             Ok(are_same_facts(&facts, records.facts))
         }
         Err(Stop::Memory) => Err(ReadFault::Memory),
-        Err(Stop::Unread | Stop::Untaken | Stop::Unresolved) => Ok(false),
+        Err(_) => Ok(false),
+    }
+}
+
+// The text of a file with these parties.
+fn with_parties(alloc: Global, bytes: &[u8], parties: &str) -> Result<String, ReadFault> {
+    let Ok(text) = str::from_utf8(bytes) else {
+        return Ok(String::new(alloc));
+    };
+    Ok(text.replace(alloc, r#""Version""#, parties)?)
+}
+
+// Whether a file is read record by record whose record names a party, and the definition lists one more.
+fn is_party_read(alloc: Global, bytes: &[u8]) -> Result<bool, ReadFault> {
+    let two =
+        r#""Party":[{"@id":"a","@type":"CVR.Party"},{"@id":"b","@type":"CVR.Party"}],"Version""#;
+    let wider = with_parties(alloc, bytes, two)?;
+    let definition = Definition::read(alloc, wider.as_bytes())?;
+    let one = r#""Party":[{"@id":"b","@type":"CVR.Party"}],"Version""#;
+    let listed = with_parties(alloc, bytes, one)?;
+    let named = listed.replace(alloc, r#""UniqueId""#, r#""PartyIds":["b"],"UniqueId""#)?;
+    match quick_report(alloc, &definition, named.as_bytes()) {
+        Ok(report) => Ok(report.cvrs.as_slice().len() == 1),
+        Err(Stop::Memory) => Err(ReadFault::Memory),
+        Err(_) => Ok(false),
     }
 }
 

@@ -29,12 +29,13 @@ static COPIES: [(&str, Copying); 11] = [
     ("Definition::copy", Copying::Definition),
 ];
 
-static FILINGS: [(&str, Filing); 9] = [
+static FILINGS: [(&str, Filing); 10] = [
     ("read_file", Filing::ReadFile),
     ("read_text_apart", Filing::Apart),
     ("is_json", Filing::Json),
     ("Definition::read", Filing::Definition),
     ("quick_report, take_facts", Filing::Quick),
+    ("quick_report, of a party", Filing::OfAParty),
     ("record_fault", Filing::Fault),
     ("record_fault, of a number", Filing::Fraction),
     ("reference_fault", Filing::Reference),

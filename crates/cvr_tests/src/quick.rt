@@ -4,7 +4,12 @@ use cdf_check::{Definition, check_report, quick_report, record_fault, reference_
 use cdf_pull::Stop;
 use std::process::Abort;
 
-// Read as one tree: a party is named, or the array of records is not there once.
+// Read as one tree: the array of records is not there once.
+const OF_RECORDS_TWICE: Changes = &[(r#""CVR":["#, r#""CVR":[],"CVR":["#)];
+
+const OF_NO_RECORDS: Changes = &[(r#""CVR":["#, r#""Unlisted":["#)];
+
+// Read record by record: a party is named, which is all that are listed or one of two.
 const OF_A_PARTY: Changes = &[
     (
         r#""ReportGeneratingDeviceIds""#,
@@ -13,11 +18,11 @@ const OF_A_PARTY: Changes = &[
     (r#""UniqueId""#, r#""PartyIds":["x"],"UniqueId""#),
 ];
 
-const OF_RECORDS_TWICE: Changes = &[(r#""CVR":["#, r#""CVR":[],"CVR":["#)];
+const OF_TWO_PARTIES: Changes = &[(
+    r#""ReportGeneratingDeviceIds""#,
+    r#""Party":[{"@id":"w","@type":"CVR.Party"},{"@id":"x","@type":"CVR.Party"}],"ReportGeneratingDeviceIds""#,
+)];
 
-const OF_NO_RECORDS: Changes = &[(r#""CVR":["#, r#""Unlisted":["#)];
-
-// Read record by record.
 const WITH_A_SIGN: Changes = &[(r#""Version""#, r#""Unlisted":-1,"Version""#)];
 
 // Refused for something beside a record, too.
@@ -79,12 +84,20 @@ fn records_may_be_the_last_member(rt: HostRuntime) {
 }
 
 #[test]
+fn a_record_may_name_a_party(rt: HostRuntime) {
+    let text = file(&rt, OF_A_PARTY);
+    let of_one = definition(&rt, OF_A_PARTY);
+    assert!(rt; read(&rt, &of_one, text.as_str()) == (true, true));
+    let of_two = definition(&rt, OF_TWO_PARTIES);
+    assert!(rt; read(&rt, &of_two, text.as_str()) == (true, true));
+    let of_none = definition(&rt, &[]);
+    assert!(rt; read(&rt, &of_none, text.as_str()) == (false, false));
+}
+
+#[test]
 fn unusual_files_are_read_as_one_tree(rt: HostRuntime) {
     assert!(rt; is_read(&rt, OF_RECORDS_TWICE) == (true, false));
     assert!(rt; is_read(&rt, OF_NO_RECORDS) == (true, false));
-    let of_parties = definition(&rt, OF_A_PARTY);
-    let text = file(&rt, OF_A_PARTY);
-    assert!(rt; read(&rt, &of_parties, text.as_str()) == (true, false));
 }
 
 #[test]

@@ -26,7 +26,7 @@ fn told_by_record(
     match quick_report(alloc, definition, bytes) {
         Ok(_) => Ok(Some(true)),
         Err(Stop::Memory) => Err(Memory),
-        Err(Stop::Unread) => Ok(None),
+        Err(Stop::Unread | Stop::Deferred) => Ok(None),
         Err(Stop::Untaken) => is_told(record_fault(alloc, bytes)?),
         Err(Stop::Unresolved) => is_told(reference_fault(alloc, definition, bytes)?),
     }
