@@ -15,13 +15,13 @@ use crate::looked::record_fault;
 use crate::path::Path;
 use crate::references::InCvr;
 use crate::scope::Scope;
+use crate::text::file_text;
 use cdf_form::found::{Step, Stop as Cause};
-use cdf_form::read::{MAX_FILE, document_fault, is_cvr};
+use cdf_form::read::{document_fault, is_cvr};
 use cdf_pull::{Stop, Take, read_text_apart};
 use cdf_types::{Memory, ReadFault};
 use json::Scratch;
 use serde_json::Value;
-use simdutf8::compat::from_utf8;
 use std::alloc::Global;
 
 // Drops each record of a file.
@@ -154,10 +154,7 @@ pub fn reference_fault(
     ensures { IfOk result (λ told. IfSome told
         (λ e. first_refusal definition.now bytes.now ≡ Some e)) }
 {
-    if bytes.len() > MAX_FILE {
-        return Ok(None);
-    }
-    let Ok(text) = from_utf8(bytes) else {
+    let Some(text) = file_text(bytes) else {
         return Ok(None);
     };
     match follow_all(alloc, text) {

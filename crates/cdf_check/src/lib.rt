@@ -21,6 +21,7 @@ mod read;
 mod references;
 pub mod rows;
 mod scope;
+mod text;
 
 pub use definition::Definition;
 pub use followed::reference_fault;

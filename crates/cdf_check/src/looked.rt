@@ -6,16 +6,16 @@ ghost use Rattle.cdf_check.specs.Looked.{IsLookedAt, first_told, first_of_file, 
 
 use crate::check::told_fault;
 use crate::fractions::fraction_fault;
+use crate::text::file_text;
 use cdf_form::float::{find_float, has_fraction};
 use cdf_form::found::{Found, Step, Stop as Cause};
 use cdf_form::leaf::class_of;
-use cdf_form::read::{MAX_FILE, cvr_fault, document_fault};
+use cdf_form::read::{cvr_fault, document_fault};
 use cdf_form::table::Group;
 use cdf_pull::{Stop, Take, read_text_apart};
 use cdf_types::{Memory, ReadFault};
 use json::Scratch;
 use serde_json::Value;
-use simdutf8::compat::from_utf8;
 use std::alloc::Global;
 
 // Looks at the form of each record of a file.
@@ -97,10 +97,7 @@ fn told_refusal(
 pub fn record_fault(alloc: Global, bytes: &[u8]) -> Result<Option<ReadFault>, Memory>
     ensures { IfOk result (λ told. IfSome told (λ e. first_unsound bytes.now ≡ Some e)) }
 {
-    if bytes.len() > MAX_FILE {
-        return Ok(None);
-    }
-    let Ok(text) = from_utf8(bytes) else {
+    let Some(text) = file_text(bytes) else {
         return Ok(None);
     };
     let mut scratch = Scratch::new(alloc);

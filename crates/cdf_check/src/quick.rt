@@ -14,15 +14,15 @@ use crate::definition::Definition;
 use crate::followed::Drops;
 use crate::look::{look_at_many, look_at_one};
 use crate::references::{look_at_current, look_in_snapshots};
+use crate::text::file_text;
 use cdf_form::ids::Ids;
 use cdf_form::items_at;
-use cdf_form::read::{MAX_FILE, is_cvr};
+use cdf_form::read::is_cvr;
 use cdf_pull::{Stop, Take, read_text_apart};
 use cdf_typed::{read_cvr, read_report};
 use cdf_types::{Cvr, Memory, ReadFault, Report, Seq};
 use json::Scratch;
 use serde_json::Value;
-use simdutf8::compat::from_utf8;
 use std::alloc::Global;
 
 // Whether what a record names is the definition's or its own, but for its device and its unit,
@@ -266,11 +266,8 @@ pub fn quick_report(alloc: Global, definition: &Definition, bytes: &[u8]) -> Res
     ensures report { IfOk result (λ r. r ≡ report_in definition.now.contests bytes.now) }
     ensures range { IfOk result (λ r. ReportInRange definition.now.contests r) }
 {
-    if bytes.len() > MAX_FILE {
-        return Err(Stop::Unread);
-    }
-    match from_utf8(bytes) {
-        Ok(text) => report_of_text(alloc, definition, text),
-        Err(_) => Err(Stop::Unread),
+    match file_text(bytes) {
+        Some(text) => report_of_text(alloc, definition, text),
+        None => Err(Stop::Unread),
     }
 }

@@ -14,13 +14,13 @@ use crate::definition::Definition;
 use crate::followed::reference_fault;
 use crate::looked::record_fault;
 use crate::quick::quick_report;
+use crate::text::file_text;
 use cdf_form::read::{MAX_FILE, read_value};
 use cdf_pull::{Stop, is_json};
 use cdf_typed::read_report;
 use cdf_types::{Memory, ReadFault, Report};
 use json::Scratch;
 use serde_json::Value;
-use simdutf8::compat::from_utf8;
 use std::alloc::Global;
 
 // The value of a file.
@@ -95,13 +95,11 @@ fn is_no_json(alloc: Global, bytes: &[u8]) -> Result<bool, Memory>
     ensures { IfOk result (λ is. IsTrue is
         → (refusal : Data → Option ReadFault) → of_file refusal bytes.now ≡ Some NotJson) }
 {
-    match from_utf8(bytes) {
-        Ok(text) if bytes.len() <= MAX_FILE => {
-            let mut scratch = Scratch::new(alloc);
-            Ok(!is_json(text, &mut scratch)?)
-        }
-        _ => Ok(false),
-    }
+    let Some(text) = file_text(bytes) else {
+        return Ok(false);
+    };
+    let mut scratch = Scratch::new(alloc);
+    Ok(!is_json(text, &mut scratch)?)
 }
 
 /// The typed report of a file that is accepted beside a definition: its records in order, contests
