@@ -3,6 +3,7 @@ ghost use Rattle.std.specs.List.{list_all};
 ghost use Rattle.serde_json.specs.View.{view};
 ghost use Rattle.cdf_form.specs.HasForm.{IsCvr};
 ghost use Rattle.cdf_form.specs.Parts.{ids_at};
+ghost use Rattle.cdf_form.specs.Places.{Texts};
 ghost use Rattle.cdf_form.specs.Reading.{max_file};
 ghost use Rattle.cdf_typed.specs.Range.{ReportInRange};
 ghost use Rattle.cdf_check.specs.Acceptance.{Valid, value_in, report_in};
@@ -27,14 +28,10 @@ use std::alloc::Global;
 
 // Whether what a record names is the definition's or its own, but for its device and its unit,
 // which the file has to have, and its parties.
-fn names_within(
-    alloc: Global,
-    definition: &Definition,
-    parties: &Ids,
-    cvr: &Value,
-) -> Result<bool, Memory>
-    requires { many parties.now (codes "PartyIds") (view cvr.now) ≡ [] }
-    ensures { IfOk result (λ is. IsTrue is → NamesWithin definition.now parties.now (view cvr.now)) }
+fn names_within(alloc: Global, definition: &Definition, cvr: &Value) -> Result<bool, Memory>
+    ensures { IfOk result (λ is. IsTrue is → (allowed : Texts)
+        → many allowed (codes "PartyIds") (view cvr.now) ≡ []
+        → NamesWithin definition.now allowed (view cvr.now)) }
 {
     match look_in_snapshots(alloc, definition.contests(), cvr)? {
         None => {}
@@ -68,7 +65,7 @@ impl Records<'_> {
         ensures { IfOk result (λ taken. IfSome taken
             (λ c. IsTaken self.now.definition.now self.now.parties.now (view cvr) c)) }
     {
-        if !names_within(alloc, self.definition, self.parties, &cvr)? {
+        if !names_within(alloc, self.definition, &cvr)? {
             return Ok(None);
         }
         Ok(Some(read_cvr(alloc, self.definition.contests(), cvr)?))

@@ -20,9 +20,9 @@ pub returns : goal.returns
 returns c =
     let d = view c.args.cvr.now in
     let known = c.elections.ensures in
-    λ empty. record {
+    λ names allowed within. record {
       snapshots = subst (λ cs. each (in_snapshot (contests_alone cs)) (codes "CVRSnapshot") d ≡ []) c.contests.ensures (no_path _ _ c.in_ok-look_in_snapshots.ensures c.in-None.is);
       current = no_path _ _ c.in_ok-look_at_current.ensures c.in-None-2.is;
       election = subst (λ ids. one ids (codes "ElectionId") d ≡ []) (c.ids.ensures ∙ ap ids_of known) (no_path _ _ c.in_ok-look_at_one.ensures c.in-None-3.is);
-      parties = c.requires;
+      parties = within;
     }
