@@ -1,5 +1,5 @@
 -- What a source gave and a sink took, and whether it failed. (This project's own.)
-use Rattle.std.specs.Prelude.{◌≡◌, ℕ, ◌≤◌, zero, suc, List, [], ◌++◌, length, take, drop, Bool, true, false, Option, None, Some, option_map, Result, Ok, Err, MatchOption}
+use Rattle.std.specs.Prelude.{◌≡◌, ◌≢◌, ℕ, ◌≤◌, zero, suc, List, [], ◌++◌, length, take, drop, Bool, true, false, Option, None, Some, option_map, Result, Ok, Err, MatchOption}
 
 -- the count that a call answered: an Err moves no byte
 abbrev pub count : {E : Type 0} → Result ℕ E → ℕ
@@ -21,10 +21,15 @@ fails_read (Err e) = true
 abbrev pub appended : Option (List ℕ) → List ℕ → Option (List ℕ)
 appended before bytes = option_map (λ taken. taken ++ bytes) before
 
--- some front of the bytes was appended
-abbrev pub AppendsFront : Option (List ℕ) → Option (List ℕ) → List ℕ → Type 0
-AppendsFront before after bytes =
+-- some prefix of the bytes was appended
+abbrev pub AppendsPrefix : Option (List ℕ) → Option (List ℕ) → List ℕ → Type 0
+AppendsPrefix before after bytes =
     (front rest : List ℕ) × (bytes ≡ front ++ rest) × (after ≡ appended before front)
+
+-- some prefix of the bytes was appended, and not all of them
+abbrev pub AppendsProperPrefix : Option (List ℕ) → Option (List ℕ) → List ℕ → Type 0
+AppendsProperPrefix before after bytes =
+    (front rest : List ℕ) × (bytes ≡ front ++ rest) × (rest ≢ []) × (after ≡ appended before front)
 
 -- a source that tells gave n of what was left, and 0 only at its end; the rest of the buffer is as
 -- it was

@@ -1,5 +1,5 @@
 ghost use Rattle.std.specs.Prelude.{◌≡◌, ℕ, ◌<◌, ◌≤◌, List, length, take, false, true, Bool, Option, IfOk, OnOk, OnErr};
-ghost use Rattle.cdf_types.specs.Device.{count, fails_write, fails_read, appended, AppendsFront, Gives};
+ghost use Rattle.cdf_types.specs.Device.{count, fails_write, fails_read, appended, AppendsProperPrefix, Gives};
 
 use thiserror::Error;
 
@@ -68,13 +68,13 @@ pub trait Sink {
 ///
 /// # Errors
 /// `DeviceFault` exactly where the sink has failed, which a write that takes nothing counts as. The
-/// sink has then taken a front of the bytes.
+/// sink has then taken a prefix of the bytes, and not all of them.
 pub fn write_all<W: Sink>(out: &mut W, bytes: &[u8]) -> Result<(), DeviceFault>
     requires { W.has_failed out.old ≡ false }
     ensures ok { OnOk result (W.taken out.new ≡ appended (W.taken out.old) bytes.now) }
     ensures working { OnOk result (W.has_failed out.new ≡ false) }
     ensures failed { OnErr result (W.has_failed out.new ≡ true) }
-    ensures front { OnErr result (AppendsFront (W.taken out.old) (W.taken out.new) bytes.now) }
+    ensures front { OnErr result (AppendsProperPrefix (W.taken out.old) (W.taken out.new) bytes.now) }
 {
     let mut rest = bytes;
     'pieces: while !rest.is_empty() {

@@ -2,7 +2,7 @@
 use Rattle.std.proofs.Common.{◌≡◌, ◌≢◌, ℕ, List, [], ◌∷◌, ◌++◌, length, Bool, true, false, ◌||◌, Option, Some, None, Result, Ok, Err, inl, inr, refl, sym, ap, ◌∙◌, subst, append-nil}
 use Rattle.std.specs.Prelude.{is_some, if◌then◌else◌}
 use Rattle.std.specs.Result.{IsErrAnd}
-use Rattle.cdf_types.specs.Device.{appended, AppendsFront}
+use Rattle.cdf_types.specs.Device.{appended, AppendsPrefix}
 use Rattle.cvr_cli.specs.declared.merge.MergeFault.{MergeFault}
 use Rattle.cvr_cli.specs.declared.printing.PrintFault.{PrintFault}
 use Rattle.cvr_cli.specs.declared.printing.PrintFault.TheVariants.{Merge, Device, Memory}
@@ -48,7 +48,7 @@ module _ (before after : Option (List ℕ)) (failed : Bool) (text : List ℕ) (r
     no_words = λ other. cc;
   }
 
-  ends_device : s ≡ status.Device → AppendsFront before after text → failed ≡ true → Ends before after failed text refused s
+  ends_device : s ≡ status.Device → AppendsPrefix before after text → failed ≡ true → Ends before after failed text refused s
   ends_device is front fails = record {
     done = λ other. absurd (cc);
     refused = λ other. absurd (cc);
@@ -62,7 +62,7 @@ module _ (before after : Option (List ℕ)) (failed : Bool) (text : List ℕ) (r
     no_words = λ other. cc;
   }
 
-  ends_memory : s ≡ status.Memory → AppendsFront before after text → Ends before after failed text refused s
+  ends_memory : s ≡ status.Memory → AppendsPrefix before after text → Ends before after failed text refused s
   ends_memory is front = record {
     done = λ other. absurd (cc);
     refused = λ other. absurd (cc);
@@ -76,11 +76,11 @@ module _ (before after : Option (List ℕ)) (failed : Bool) (text : List ℕ) (r
     no_words = λ other. cc;
   }
 
-pub whole_front : (before after : Option (List ℕ)) (text : List ℕ) → after ≡ appended before text → AppendsFront before after text
+pub whole_front : (before after : Option (List ℕ)) (text : List ℕ) → after ≡ appended before text → AppendsPrefix before after text
 whole_front before after text taken = (text, [], sym (append-nil text), taken)
 
 -- a front of nothing is all of it
-all_of_none : (before after : Option (List ℕ)) (text : List ℕ) → text ≡ [] → AppendsFront before after text → after ≡ appended before text
+all_of_none : (before after : Option (List ℕ)) (text : List ℕ) → text ≡ [] → AppendsPrefix before after text → after ≡ appended before text
 all_of_none before after text none ([], rest, cut, taken) = taken ∙ ap (appended before) (sym none)
 all_of_none before after text none (x ∷ front, rest, cut, taken) = absurd (let same : x ∷ (front ++ rest) ≡ [] = sym cut ∙ none in Prim.cc same)
 
@@ -104,7 +104,7 @@ ends_printed before after failed text fault false false false some s taken works
 
 -- after a fault: by whether a path was not spelled
 ends_faulty : (before after : Option (List ℕ)) (failed : Bool) (text : List ℕ) (fault : Option MergeFault) (e : PrintFault) (unspelled some : Bool) (s : Status)
-    → AppendsFront before after text → failed ≡ is_output e → (e ≢ Memory → fault ≡ merge_part e) → ((m : MergeFault) → fault ≡ Some m → text ≡ [])
+    → AppendsPrefix before after text → failed ≡ is_output e → (e ≢ Memory → fault ≡ merge_part e) → ((m : MergeFault) → fault ≡ Some m → text ≡ [])
     → s ≡ (if unspelled then status.Memory else print_status e) → Ends before after failed text (is_some fault || some) s
 ends_faulty before after failed text fault e true some s front fails part empty is = ends_memory before after failed text _ s is front
 ends_faulty before after failed text fault (Merge m) false some s front fails part empty is =

@@ -7,7 +7,7 @@ use Rattle.std.specs.List.{list_any}
 use Rattle.std.proofs.lemmas.List.{length_push, length-map, get_or-map}
 use Rattle.std.proofs.lemmas.List.Folds.{list_any-append}
 use Rattle.std.proofs.Math.Bool.{or-false}
-use Rattle.cdf_types.specs.Device.{appended, AppendsFront}
+use Rattle.cdf_types.specs.Device.{appended, AppendsPrefix}
 use Rattle.cdf_types.specs.declared.fault.ReadFault.{ReadFault}
 use Rattle.cdf_types.specs.declared.fault.ReadFault.TheVariants.{TooLong, NotJson, Schema, Reference, Disagrees, Memory}
 use Rattle.cdf_types.proofs.Lemmas.{appended_twice}
@@ -40,7 +40,7 @@ worked_before : (g h : Bool) (P : Type 0) → (g ≡ true → P × (h ≡ true))
 worked_before false h P silent works = refl
 worked_before true h P silent works = absurd (true≢false (sym (silent refl).1 ∙ works))
 
-front_then : (g : Bool) (b m a : Option (List ℕ)) (one two : List ℕ) → (g ≡ false → m ≡ appended b one) → AppendsFront b m one → AppendsFront m a two → (g ≡ true → a ≡ m) → AppendsFront b a (one ++ two)
+front_then : (g : Bool) (b m a : Option (List ℕ)) (one two : List ℕ) → (g ≡ false → m ≡ appended b one) → AppendsPrefix b m one → AppendsPrefix m a two → (g ≡ true → a ≡ m) → AppendsPrefix b a (one ++ two)
 front_then false b m a one two whole first (some, more, cut, told) silent = (
   one ++ some,
   more,

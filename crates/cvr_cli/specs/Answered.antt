@@ -1,6 +1,6 @@
 -- How the program answers its words: it does the request that they ask for, or tells why they ask for none. (This project's own.)
 use Rattle.std.specs.Prelude.{◌≡◌, ◌⊎◌, ℕ, List, [], ◌∷◌, ◌++◌, codes, string_bytes, Bool, true, false, if◌then◌else◌, Option}
-use Rattle.cdf_types.specs.Device.{appended, AppendsFront}
+use Rattle.cdf_types.specs.Device.{appended, AppendsPrefix}
 use Rattle.cvr_words.specs.Fault.{IsLineFault}
 use Rattle.cvr_words.specs.Line.{named}
 use Rattle.cvr_words.specs.Request.{IsRequest}
@@ -51,7 +51,7 @@ pub record TellsWords (unchanged : Type 0) (fault : LineFault) (answer : Status)
   pub status : answer ≡ words_status fault out_failed
   pub quiet : is_help fault ≡ false → unchanged
   pub whole : out_failed ≡ false → out_after ≡ appended out_before (help_text fault)
-  pub front : AppendsFront out_before out_after (help_text fault)
+  pub front : AppendsPrefix out_before out_after (help_text fault)
   pub log : Logs before had_failed after has_failed (words_line fault out_failed)
 
 -- ---- words that ask for one

@@ -1,6 +1,6 @@
 -- How a run ends: its status, and what its output took. (This project's own.)
 use Rattle.std.specs.Prelude.{◌≡◌, ◌≢◌, ◌⊎◌, ℕ, List, Bool, true, false, Option}
-use Rattle.cdf_types.specs.Device.{appended, AppendsFront}
+use Rattle.cdf_types.specs.Device.{appended, AppendsPrefix}
 use Rattle.cvr_cli.specs.declared.status.Status.{Status}
 use Rattle.cvr_cli.specs.declared.status.Status.TheVariants.{Done, Refused, CommandLine, Device, Memory}
 use Rattle.cvr_cli.specs.Outcome.{IsWhole}
@@ -10,7 +10,7 @@ pub record Ends (before after : Option (List ℕ)) (out_failed : Bool) (text : L
   pub done : status ≡ Done → any_refused ≡ false
   pub refused : status ≡ Refused → any_refused ≡ true
   pub whole : IsWhole status → after ≡ appended before text
-  pub front : AppendsFront before after text
+  pub front : AppendsPrefix before after text
   pub device : status ≡ Device → out_failed ≡ true
   pub failed : out_failed ≡ true → (status ≡ Device) ⊎ (status ≡ Memory)
   pub no_words : status ≢ CommandLine

@@ -1,7 +1,7 @@
 -- The lines of the log. (This project's own.)
 use Rattle.std.specs.Prelude.{◌≡◌, ℕ, List, [], ◌∷◌, ◌++◌, codes, decimal, Bool, true, false, Option}
 use Rattle.json.specs.Print.{escape}
-use Rattle.cdf_types.specs.Device.{appended, AppendsFront}
+use Rattle.cdf_types.specs.Device.{appended, AppendsPrefix}
 use Rattle.cdf_types.specs.declared.fault.ReadFault.{ReadFault}
 use Rattle.cdf_types.specs.declared.fault.ReadFault.TheVariants.{TooLong, NotJson, Schema, Reference, Disagrees, Memory}
 use Rattle.cdf_types.specs.Rule.{number_of}
@@ -55,5 +55,5 @@ memory_line = codes "memory\n"
 -- a log that had taken `before` has taken `after`: the text, or a front of it where the log has failed; one that had failed takes no more
 pub record Logs (before : Option (List ℕ)) (had_failed : Bool) (after : Option (List ℕ)) (has_failed : Bool) (text : List ℕ) : Type 0 where
   pub whole : has_failed ≡ false → after ≡ appended before text
-  pub front : AppendsFront before after text
+  pub front : AppendsPrefix before after text
   pub silent : had_failed ≡ true → (after ≡ before) × (has_failed ≡ true)

@@ -1,6 +1,6 @@
 -- What was printed of a text, and how a run ends after it. (This project's own.)
 use Rattle.std.specs.Prelude.{◌≡◌, ◌≢◌, ℕ, List, [], Bool, true, false, if◌then◌else◌, Option, Some, None, Result, Ok, Err, MatchResult}
-use Rattle.cdf_types.specs.Device.{appended, AppendsFront}
+use Rattle.cdf_types.specs.Device.{appended, AppendsPrefix}
 use Rattle.cvr_report.specs.declared.fault.WriteFault.{WriteFault}
 use Rattle.cvr_report.specs.declared.fault.WriteFault.TheVariants as write
 use Rattle.cvr_report.specs.declared.heading.HeadFault.{HeadFault}
@@ -34,7 +34,7 @@ abbrev pub Prints : {T : Type 0} → Option (List ℕ) → Option (List ℕ) →
 Prints before after out_failed result fault text =
     MatchResult result
     (λ _. (after ≡ appended before text) × (out_failed ≡ false) × (fault ≡ None))
-    (λ e. AppendsFront before after text × (out_failed ≡ is_output e) × (e ≢ Memory → fault ≡ merge_part e))
+    (λ e. AppendsPrefix before after text × (out_failed ≡ is_output e) × (e ≢ Memory → fault ≡ merge_part e))
 
 -- ---- from what faults
 

@@ -1,6 +1,6 @@
 ghost use Rattle.std.specs.Prelude.{◌≡◌, ◌≢◌, ◌⊎◌, ◌++◌, ℕ, List, length, true, false, IfOk, IfErr, OnErr, string_bytes};
 ghost use Rattle.std.specs.List.{list_any};
-ghost use Rattle.cdf_types.specs.Device.{appended, AppendsFront};
+ghost use Rattle.cdf_types.specs.Device.{appended, AppendsPrefix};
 ghost use Rattle.cvr_cli.specs.Accepted.{is_refused};
 ghost use Rattle.cvr_cli.specs.Imported.{files_bytes};
 ghost use Rattle.cvr_cli.specs.Outcome.{held, check_lines, facts_text, task_text, run_text, task_fault, run_fault, files_refused, task_refused, any_refused, bytes_of, IsWhole};
@@ -226,7 +226,7 @@ pub fn run<W: Sink, L: Sink>(
     requires named { length request.now.paths ≡ length files.now }
     ensures text { IsWhole result → W.taken out.new
         ≡ appended (W.taken out.old) (run_text request.now.task def.now request.now.paths (bytes_of files.now)) }
-    ensures front { AppendsFront (W.taken out.old) (W.taken out.new)
+    ensures front { AppendsPrefix (W.taken out.old) (W.taken out.new)
         (run_text request.now.task def.now request.now.paths (bytes_of files.now)) }
     ensures done { result ≡ Done → any_refused request.now.task def.now (bytes_of files.now) ≡ false }
     ensures refused { result ≡ Refused → any_refused request.now.task def.now (bytes_of files.now) ≡ true }

@@ -3,7 +3,7 @@ use Rattle.std.proofs.Common.{◌≡◌, ℕ, ◌<◌, ◌||◌, Bool, true, fal
 use Rattle.std.specs.Result.{IsErrAnd}
 use Rattle.std.specs.Cmp.Lexicographic.{nat_list_cmp_total}
 use Rattle.serde_json.specs.Written.{comma_if}
-use Rattle.cdf_types.specs.Device.{appended, AppendsFront}
+use Rattle.cdf_types.specs.Device.{appended, AppendsPrefix}
 use Rattle.cdf_types.proofs.Lemmas.{appended_twice}
 use Rattle.cvr_facts.specs.declared.name.RecordName.{RecordName}
 use Rattle.cvr_facts.specs.Facts.{Facts, name_cmp, text_cmp}
@@ -46,7 +46,7 @@ module _ (before mid after : Option (List ℕ)) (was failed : Bool) (whole rest 
   ends r w = subst (Writes before after failed r) (sym p.whole_is) (goes_on before mid after failed r p.done rest p.taken w)
 
   pub stops : {T : Type 0} (r : Result T WriteFault) (e : WriteFault) (piece more : List ℕ) → rest ≡ piece ++ more → IsErrAnd r (λ x. x ≡ e)
-      → AppendsFront mid after piece × (failed ≡ is_device e) → Writes before after failed r whole
+      → AppendsPrefix mid after piece × (failed ≡ is_device e) → Writes before after failed r whole
   stops r e piece more is err w = ends r (subst (Writes mid after failed r) (sym is) (cut_short mid after failed r e piece more err w))
 
 pub all_written : {T : Type 0} (before after : Option (List ℕ)) (failed : Bool) (whole rest : List ℕ) (x : T) → Progress before after failed whole rest → rest ≡ [] → Writes before after failed (Ok x) whole

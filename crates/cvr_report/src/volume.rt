@@ -2,7 +2,7 @@
 ghost use Rattle.std.specs.Prelude.{◌≡◌, ◌<◌, ◌≤◌, ◌++◌, OnOk, OnErr, IfOk, IfErr, false, true, is_some};
 ghost use Rattle.std.specs.List.{Contains};
 ghost use Rattle.serde_json.specs.Written.{comma_if};
-ghost use Rattle.cdf_types.specs.Device.{appended, AppendsFront};
+ghost use Rattle.cdf_types.specs.Device.{appended, AppendsPrefix};
 ghost use Rattle.cvr_collect.specs.Names.{records, devices};
 ghost use Rattle.cvr_collect.specs.Readers.{device_list};
 ghost use Rattle.cvr_collect.specs.Keeps.{Keeps};
@@ -186,7 +186,7 @@ pub fn write_volume<O: Office, W: Sink>(
     ensures volume { OnOk result (W.taken out.new ≡ appended (W.taken out.old) (volume (O.defined office.now) heading.now (O.held office.now) i)) }
     ensures working { OnOk result (W.has_failed out.new ≡ false) }
     ensures fault { IfErr result (λ e. W.has_failed out.new ≡ is_device e) }
-    ensures front { OnErr result (AppendsFront (W.taken out.old) (W.taken out.new) (volume (O.defined office.now) heading.now (O.held office.now) i)) }
+    ensures front { OnErr result (AppendsPrefix (W.taken out.old) (W.taken out.new) (volume (O.defined office.now) heading.now (O.held office.now) i)) }
 {
     write_report(alloc, office, heading, i, out)
 }
