@@ -2,6 +2,8 @@
 use Rattle.std.specs.Prelude.{◌≡◌, ◌↔◌, ◌<◌, ℕ, List, [], length, map, get_or, true, Option, Some}
 use Rattle.std.specs.List.{All, slice_get}
 use Rattle.std.specs.FinSet.{contains, union, empty}
+use Rattle.serde_json.specs.Data.{Data}
+use Rattle.cdf_check.specs.Acceptance.{value_in}
 use Rattle.cdf_check.specs.Frame.{Frame, IsSame}
 use Rattle.cdf_check.specs.Same.{IsOne}
 use Rattle.cdf_check.specs.Sound.{IsFrame}
@@ -48,9 +50,21 @@ pub record ArePlayed {Office : Type 0} (held : Office → Facts) (defined : Offi
   pub outcomes : AreOutcomes (map held before) (map defined before) files past
   pub definitions : map defined after ≡ map defined before
 
--- the same files have reached both
-abbrev pub HaveSameFiles : History → ℕ → ℕ → Type 0
-HaveSameFiles past o p = (f : ℕ) → (contains (reached past o) (File f) ≡ true) ↔ (contains (reached past p) (File f) ≡ true)
+-- a file of this value has reached the office o
+abbrev pub HasReached : List (List ℕ) → History → ℕ → Data → Type 0
+HasReached files past o value = (f : ℕ) × (contains (reached past o) (File f) ≡ true) × (value_in (get_or files f []) ≡ value)
+
+-- the same files have reached both: a file means its value, wherever it stands and however it is spelled
+abbrev pub HaveSameFiles : List (List ℕ) → History → ℕ → ℕ → Type 0
+HaveSameFiles files past o p = (value : Data) → HasReached files past o value ↔ HasReached files past p value
+
+-- the files at the same places have reached both
+abbrev pub HaveSamePlaces : History → ℕ → ℕ → Type 0
+HaveSamePlaces past o p = (f : ℕ) → (contains (reached past o) (File f) ≡ true) ↔ (contains (reached past p) (File f) ≡ true)
+
+-- those are the same files
+abbrev pub SamePlacesLaw : Type 0
+SamePlacesLaw = (files : List (List ℕ)) (past : History) (o p : ℕ) → HaveSamePlaces past o p → HaveSameFiles files past o p
 
 -- two offices hold the same, and answer alike
 pub record AreAlike {Office : Type 0} (held : Office → Facts) (defined : Office → Frame) (one other : Office) : Type 0 where
@@ -58,20 +72,20 @@ pub record AreAlike {Office : Type 0} (held : Office → Facts) (defined : Offic
   pub answers : AnswerAlike (defined one) (defined other) (held one) (held other)
 
 -- any two of these offices that the same files have reached are alike
-abbrev pub AreAlikeByFiles : {Office : Type 0} → (Office → Facts) → (Office → Frame) → History → List Office → Type 0
-AreAlikeByFiles {Office} held defined past offices = (o p : ℕ) (one other : Office) → slice_get offices o ≡ Some one → slice_get offices p ≡ Some other
-    → HaveSameFiles past o p → AreAlike held defined one other
+abbrev pub AreAlikeByFiles : {Office : Type 0} → (Office → Facts) → (Office → Frame) → List (List ℕ) → History → List Office → Type 0
+AreAlikeByFiles {Office} held defined files past offices = (o p : ℕ) (one other : Office) → slice_get offices o ≡ Some one → slice_get offices p ≡ Some other
+    → HaveSameFiles files past o p → AreAlike held defined one other
 
 -- new offices of one definition, after any events: two that the same files have reached are alike
 abbrev pub SameFilesLaw : {Office : Type 0} → (Office → Facts) → (Office → Frame) → Type 0
 SameFilesLaw {Office} held defined = (before after : List Office) (files : List (List ℕ)) (past : History)
-    → AreNewOfOne held defined before → ArePlayed held defined before after files past → AreAlikeByFiles held defined past after
+    → AreNewOfOne held defined before → ArePlayed held defined before after files past → AreAlikeByFiles held defined files past after
 
 -- they hold the same, and all are of one definition
 abbrev pub SameContentLaw : {Office : Type 0} → (Office → Facts) → (Office → Frame) → Type 0
 SameContentLaw {Office} held defined = (before after : List Office) (files : List (List ℕ)) (past : History)
     → AreNewOfOne held defined before → ArePlayed held defined before after files past
-    → (o p : ℕ) (one other : Office) → slice_get after o ≡ Some one → slice_get after p ≡ Some other → HaveSameFiles past o p → held one ≡ held other
+    → (o p : ℕ) (one other : Office) → slice_get after o ≡ Some one → slice_get after p ≡ Some other → HaveSameFiles files past o p → held one ≡ held other
 
 abbrev pub SameDefinitionLaw : {Office : Type 0} → (Office → Facts) → (Office → Frame) → Type 0
 SameDefinitionLaw {Office} held defined = (before after : List Office) (files : List (List ℕ)) (past : History)
@@ -87,7 +101,7 @@ BeganAlike start starts past o = (k : ℕ) → contains (reached past o) (Start 
 -- where all began with the same, the same files give the same
 abbrev pub SameStartLaw : Type 0
 SameStartLaw = (start : Facts) (starts : List Facts) (files : List (List ℕ)) (past : History) (o p : ℕ)
-    → BeganAlike start starts past o → BeganAlike start starts past p → HaveSameFiles past o p → content starts files past o ≡ content starts files past p
+    → BeganAlike start starts past o → BeganAlike start starts past p → HaveSameFiles files past o p → content starts files past o ≡ content starts files past p
 
 -- before any event an office holds what it began with
 abbrev pub NoEventLaw : Type 0

@@ -1,5 +1,5 @@
 -- Worked examples: facts of a few records, their conflicts and their tally. (This project's own.)
-use Rattle.std.specs.Prelude.{◌≡◌, ℕ, List, [], ◌∷◌, ◌++◌, codes}
+use Rattle.std.specs.Prelude.{◌≡◌, ◌≢◌, ℕ, List, [], ◌∷◌, ◌++◌, codes}
 use Rattle.std.specs.FinSet.{from_list}
 use Rattle.cdf_form.specs.Places.{Contest}
 use Rattle.cvr_facts.specs.declared.name.RecordName.{RecordName}
@@ -8,7 +8,12 @@ use Rattle.cvr_tally.specs.Examples.{ballot_box, dot}
 use Rattle.cvr_collect.specs.declared.conflict.ConflictName.TheVariants as name
 use Rattle.cvr_collect.specs.declared.conflict.Conflict.{Conflict}
 use Rattle.cvr_collect.specs.Names.{conflicts}
+use Rattle.cdf_check.specs.Acceptance.{value_in}
 use Rattle.cvr_collect.specs.Tallied.{tally}
+use Rattle.cvr_collect.specs.declared.event.Event.TheVariants.{Import}
+use Rattle.cvr_collect.specs.declared.event.Outcome.TheVariants.{Accepted}
+use Rattle.cvr_collect.specs.Reach.{History}
+use Rattle.cvr_collect.specs.Alike.{HaveSameFiles}
 
 -- ---- conflicts
 
@@ -116,3 +121,17 @@ expected_tally =
 
 abbrev pub TallyOfFour : Type 0
 TallyOfFour = tally contests (from_list of_four) ≡ expected_tally
+
+-- ---- the same files
+
+-- the first file into the first office, then the second into the second
+abbrev pub one_each : History
+one_each = (Import 1 1, Accepted 7) ∷ (Import 0 0, Accepted 5) ∷ []
+
+-- where both have one value, as two spellings of one report, the same files have reached both offices
+abbrev pub SpelledTwice : Type 0
+SpelledTwice = (one other : List ℕ) → value_in one ≡ value_in other → HaveSameFiles (one ∷ other ∷ []) one_each 0 1
+
+-- where they have not, other files have
+abbrev pub OtherFiles : Type 0
+OtherFiles = (one other : List ℕ) → value_in one ≢ value_in other → ¬ HaveSameFiles (one ∷ other ∷ []) one_each 0 1

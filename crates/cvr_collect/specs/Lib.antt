@@ -15,6 +15,7 @@ pub mod Groups
 pub mod Tallied
 pub mod Adding
 pub mod Alike
+pub mod Lasting
 pub mod ListLaws
 pub mod SumLaws
 pub mod Counting
