@@ -4,6 +4,7 @@ pub use Rattle.cvr_collect.proofs.ConflictLists.{conflicts-is, greatest_count-is
 pub use Rattle.cvr_collect.proofs.CurrentSums.{currents_are_sums, facts_are_sums}
 pub use Rattle.cvr_collect.proofs.Included.{device_known, includes, known_device}
 pub use Rattle.cvr_collect.proofs.Keeping.{import_keeps, join_keeps}
+pub use Rattle.cvr_collect.proofs.Lasting.{held_lasts, import_lasts}
 pub use Rattle.cvr_collect.proofs.NameOrder.{conflict_exact, conflict_total, name_is}
 pub use Rattle.cvr_collect.proofs.NewOffices.{same_content, same_definition}
 pub use Rattle.cvr_collect.proofs.NextInFacts.{name_total}

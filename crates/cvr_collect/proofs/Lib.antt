@@ -4,6 +4,7 @@ pub mod SameFrames
 pub mod ToldBodies
 pub mod Starting
 pub mod Keeping
+pub mod Lasting
 pub mod Unions
 pub mod Slots
 pub mod Reached

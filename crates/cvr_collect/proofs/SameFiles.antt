@@ -1,11 +1,14 @@
 -- Offices that the same files have reached hold the same, where all began with the same.
-use Rattle.std.proofs.Common.{◌≡◌, ℕ, true, List, [], ◌∷◌, sym, ap, ◌∙◌}
+use Rattle.std.proofs.Common.{◌≡◌, ℕ, true, List, [], ◌∷◌, get_or, refl, sym, ap, ◌∙◌}
 use Rattle.std.specs.List.{list_any}
 use Rattle.std.specs.Cmp.{both_ways}
-use Rattle.std.specs.FinSet.{empty, contains, items, same_set, contains-insert}
-use Rattle.cvr_facts.specs.Facts.{Fact, Facts, fact_total, fact_exact}
+use Rattle.std.specs.FinSet.{empty, contains, items, same_set, contains-insert, from_list}
+use Rattle.serde_json.specs.Data.{Data}
+use Rattle.cdf_check.specs.Acceptance.{value_in}
+use Rattle.cvr_facts.specs.Facts.{Fact, Facts, fact_cmp, fact_total, fact_exact}
+use Rattle.cvr_facts.specs.Reports.{report_facts}
 use Rattle.cvr_collect.specs.Reach.{Origin, Start, File, History, reached, brought, content}
-use Rattle.cvr_collect.specs.Alike.{HaveSameFiles, BeganAlike}
+use Rattle.cvr_collect.specs.Alike.{HasReached, HaveSameFiles, BeganAlike, SamePlacesLaw}
 use Rattle.cvr_collect.proofs.Unions.{or_left, tie_itself, contains-union_over, member_that_passes, passes_by_member}
 use Rattle.cvr_collect.proofs.Reached.{origin_total, origin_exact}
 use Rattle.cvr_collect.proofs.Ways.{reached_after-stays}
@@ -18,7 +21,7 @@ own (e ∷ past) o = reached_after-stays (Start o) e.0 e.1 (reached past) o (own
 -- a fact of what has reached o is one of what has reached p
 one_way : (start : Facts) (starts : List Facts) (files : List (List ℕ)) (past : History) (o p : ℕ)
     → BeganAlike start starts past o → BeganAlike start starts past p
-    → ((f : ℕ) → contains (reached past o) (File f) ≡ true → contains (reached past p) (File f) ≡ true)
+    → ((value : Data) → HasReached files past o value → HasReached files past p value)
     → (q : Fact) → list_any (λ x. contains (brought starts files x) q) (items (reached past o)) ≡ true
     → list_any (λ x. contains (brought starts files x) q) (items (reached past p)) ≡ true
 one_way start starts files past o p a b same q any =
@@ -28,12 +31,21 @@ one_way start starts files past o p a b same q any =
       | Start k ↦ λ had here.
           passes_by_member origin_total origin_exact has (Start p) (reached past p) (own past p)
           (ap (λ t. contains t q) (b p (own past p) ∙ sym (a k had)) ∙ here)
-      | File f ↦ λ had here. passes_by_member origin_total origin_exact has (File f) (reached past p) (same f had) here
+      | File f ↦ λ had here.
+          let copy = same (value_in (get_or files f [])) (f, had, refl) in
+          passes_by_member origin_total origin_exact has (File copy.0) (reached past p) copy.1 (ap (λ value. contains (from_list {R = fact_cmp} (report_facts value)) q) copy.2 ∙ here)
     ] w.1 w.2
 
 pub same_files : (start : Facts) (starts : List Facts) (files : List (List ℕ)) (past : History) (o p : ℕ)
-    → BeganAlike start starts past o → BeganAlike start starts past p → HaveSameFiles past o p → content starts files past o ≡ content starts files past p
+    → BeganAlike start starts past o → BeganAlike start starts past p → HaveSameFiles files past o p → content starts files past o ≡ content starts files past p
 same_files start starts files past o p a b same = same_set fact_total fact_exact _ _ (λ q.
     contains-union_over (brought starts files) (items (reached past o)) q
-    ∙ (both_ways _ _ (one_way start starts files past o p a b (λ f. (same f).0) q) (one_way start starts files past p o b a (λ f. (same f).1) q)
+    ∙ (both_ways _ _ (one_way start starts files past o p a b (λ v. (same v).0) q) (one_way start starts files past p o b a (λ v. (same v).1) q)
     ∙ sym (contains-union_over (brought starts files) (items (reached past p)) q)))
+
+-- the files at the same places are the same
+pub same_places : SamePlacesLaw
+same_places files past o p same value = (
+  λ has. (has.0, (same has.0).0 has.1, has.2),
+  λ has. (has.0, (same has.0).1 has.1, has.2),
+)

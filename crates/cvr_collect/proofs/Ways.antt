@@ -32,7 +32,7 @@ longer e past f o c = record { later = e ∷ c.later; earlier = c.earlier; into 
 hopped : (e : Event × Outcome) (past : History) (f m o : ℕ) → IsHop e m o → Came past f m → Came (e ∷ past) f o
 hopped e past f m o hop c = record { later = e ∷ c.later; earlier = c.earlier; into = c.into; count = c.count; split = ap (λ xs. e ∷ xs) c.split; leads = inr (m, c.leads, hop) }
 
-not_start : (f o : ℕ) → contains (from_list {R = origin_cmp} (Start o ∷ [])) (File f) ≡ true → ⊥
+pub not_start : (f o : ℕ) → contains (from_list {R = origin_cmp} (Start o ∷ [])) (File f) ≡ true → ⊥
 not_start f o h =
     elim (or_cases (eq_by_cmp origin_cmp (File f) (Start o)) (contains (empty {R = origin_cmp}) (File f)) (sym (contains-insert origin_total empty (Start o) (File f)) ∙ h)) [
       | inl same ↦ let clash : File f ≡ Start o = tie_is origin_total origin_exact (File f) (Start o) same in Prim.cc clash
@@ -44,7 +44,7 @@ module _ (f : ℕ) where
   HasFile s = contains s (File f) ≡ true
 
   -- a way brings the file
-  brings : (later earlier : History) (p n o : ℕ) → Leads later p o → HasFile (reached (later ++ (Import p f, Accepted n) ∷ earlier) o)
+  pub brings : (later earlier : History) (p n o : ℕ) → Leads later p o → HasFile (reached (later ++ (Import p f, Accepted n) ∷ earlier) o)
   brings [] earlier p n o same =
       subst (λ b. HasFile (cond b (insert (reached earlier o) (File f)) (reached earlier o))) (sym (is_eq o p (sym same)))
       (contains-insert origin_total (reached earlier o) (File f) (File f) ∙ or_left _ _ (tie_itself origin_total origin_exact (File f)))

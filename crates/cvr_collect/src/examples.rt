@@ -1,5 +1,5 @@
 //! Worked examples: facts of a few records, their conflicts and their tally, whole and in parts.
-ghost use Rattle.cvr_collect.specs.Examples.{ConflictsOfMixed, TallyOfFour};
+ghost use Rattle.cvr_collect.specs.Examples.{ConflictsOfMixed, TallyOfFour, SpelledTwice, OtherFiles};
 ghost use Rattle.cvr_collect.specs.PartExamples.{RowsOfFirst, RowsOfSecond, RowsOfBoth, SumsOfRows};
 
 /// The conflicts among facts of two records and three devices, and the whole text of the tally of
@@ -16,4 +16,11 @@ pub fn rows_of_parts()
     ensures second { RowsOfSecond }
     ensures both { RowsOfBoth }
     ensures sums { SumsOfRows }
+{}
+
+/// Two offices import a file each, from two places of the list. The same files have reached both
+/// where the two have one value, and not where they have different ones.
+pub fn files_by_value()
+    ensures same { SpelledTwice }
+    ensures other { OtherFiles }
 {}

@@ -6,7 +6,8 @@ ghost use Rattle.cvr_collect.specs.Under.{RecordsInOrder, RecordsAreExact, Names
 ghost use Rattle.cvr_collect.specs.Own.{OwnAgreesLaw, SameAgreesLaw, EntryLaw};
 ghost use Rattle.cvr_collect.specs.Names.{record_of, records, device_in, devices};
 ghost use Rattle.cvr_collect.specs.Laws.{StartLaw, ImportLaw, JoinLaw, ListedLaw, NextLaw, NoNextLaw, RowsLaw, BallotsLaw};
-ghost use Rattle.cvr_collect.specs.Alike.{SameFilesLaw, SameContentLaw, SameDefinitionLaw, SameStartLaw, NoEventLaw, AnswerAlikeLaw, SameOfficesLaw, NewOfficeLaw};
+ghost use Rattle.cvr_collect.specs.Alike.{SameFilesLaw, SameContentLaw, SameDefinitionLaw, SamePlacesLaw, SameStartLaw, NoEventLaw, AnswerAlikeLaw, SameOfficesLaw, NewOfficeLaw};
+ghost use Rattle.cvr_collect.specs.Lasting.{HeldLastsLaw, ImportLastsLaw, ExchangeLastsLaw, PlayedLastsLaw};
 ghost use Rattle.cvr_collect.specs.Counting.{GrowthLaw, ConflictsLaw, AddUpLaw};
 ghost use Rattle.cvr_collect.specs.Parts.{RowsOfPartsLaw, CurrentsOfPartsLaw, HeadersOfPartsLaw, RecordsOfPartsLaw, RecordsRiseLaw};
 ghost use Rattle.cvr_collect.specs.Parts.{RowsOfManyLaw, CurrentsOfManyLaw, HeadersOfManyLaw, RecordsOfManyLaw};
@@ -19,9 +20,20 @@ pub fn reach()
     ensures { ReachLaw }
 {}
 
+/// Nothing that an office holds is ever missing afterwards: whatever events follow, it holds what it
+/// held; from an accepted import on it holds the facts of the file; from an accepted exchange on it
+/// holds what the other office held.
+pub fn nothing_is_lost<O: Office>()
+    ensures held { HeldLastsLaw }
+    ensures imported { ImportLastsLaw }
+    ensures exchanged { ExchangeLastsLaw }
+    ensures played { PlayedLastsLaw O.held O.defined }
+{}
+
 /// New offices of one definition play any events, refused ones among them. Then two of them that
 /// the same files have reached hold the same facts, and have the same current snapshots with their
-/// votes, the same headers, conflicts and rows, and the same text of the tally.
+/// votes, the same headers, conflicts and rows, and the same text of the tally. Files are the same
+/// where their values are, as `serde_json` reads them, wherever they stand in the list.
 pub fn same_files<O: Office>()
     ensures alike { SameFilesLaw O.held O.defined }
     ensures content { SameContentLaw O.held O.defined }
@@ -29,10 +41,11 @@ pub fn same_files<O: Office>()
 {}
 
 /// Before any event an office holds what it began with. Where all began with the same, two that the
-/// same files have reached hold the same.
+/// same files have reached hold the same. The files at the same places are the same files.
 pub fn same_starts()
     ensures no_event { NoEventLaw }
     ensures same { SameStartLaw }
+    ensures places { SamePlacesLaw }
 {}
 
 /// Offices that are the same have the same current snapshots with their votes, the same headers,

@@ -20,7 +20,8 @@ use std::alloc::Global;
 ///
 /// Where the offices were new and of one definition (devices included), any two that the same files
 /// have reached hold the same facts afterwards, whatever the events, and have the same current
-/// snapshots with their votes, headers, conflicts and rows, and the same text of the tally.
+/// snapshots with their votes, headers, conflicts and rows, and the same text of the tally. Files are
+/// the same where their values are, as `serde_json` reads them, wherever they stand in the list.
 ///
 /// # Errors
 /// `Memory` where there was no room for the outcomes. No event has then happened.
@@ -37,7 +38,8 @@ pub fn play<O: Office>(
         AreOutcomes (map O.held offices.old) (map O.defined offices.old) (map (λ f. f.items) files.now) (history events.now outcomes.items)) }
     ensures definitions { map O.defined offices.new ≡ map O.defined offices.old }
     ensures same_files { IfOk result (λ outcomes. AreNewOfOne O.held O.defined offices.old
-        → AreAlikeByFiles O.held O.defined (history events.now outcomes.items) offices.new) }
+        → AreAlikeByFiles O.held O.defined (map (λ f. f.items) files.now)
+        (history events.now outcomes.items) offices.new) }
     ensures unchanged { OnErr result (offices.new ≡ offices.old) }
 {
     let mut outcomes = Vec::with_capacity(alloc, events.len())?;
