@@ -4,7 +4,7 @@ use Rattle.serde_json.specs.Written.{compact_text}
 use Rattle.cdf_check.specs.Frame.{Frame}
 use Rattle.cdf_check.specs.Named.{texts_of}
 use Rattle.cvr_facts.specs.Facts.{Facts}
-use Rattle.cvr_collect.proofs.Laws.{same_content, same_definition}
+use Rattle.cvr_collect.proofs.Laws.{answer_alike, same_content, same_definition}
 use Rattle.cvr_report.specs.Page.{Shown, page, volumes}
 use Rattle.cvr_report.specs.Volume.{volume_of, values_of, records_data}
 use Rattle.cvr_report.specs.Laws.{SameVolumesLaw, SameFilesLaw}
@@ -25,6 +25,8 @@ same_volumes f g s t same is = record {
 pub same_files_law : {Office : Type 0} (held : Office → Facts) (defined : Office → Frame) → SameFilesLaw held defined
 same_files_law held defined before after files past o p one other new played same at also =
     let content = same_content held defined before after files past new played o p one other at also same in
-    let definition = same_definition held defined before after files past new played o p one other at also in
-    same_volumes (defined one) (defined other) (held one) (held other)
-    (record { elections = ap (λ f. texts_of f.elections) definition; units = ap (λ f. texts_of f.units) definition; parties = ap (λ f. texts_of f.parties) definition }) content
+    let definition = same_definition held defined before after files past new played o p one other at also in (
+      record { contents = content; answers = answer_alike (defined one) (defined other) (held one) (held other) (ap (λ f. f.contests) definition) content },
+      same_volumes (defined one) (defined other) (held one) (held other)
+          (record { elections = ap (λ f. texts_of f.elections) definition; units = ap (λ f. texts_of f.units) definition; parties = ap (λ f. texts_of f.parties) definition }) content,
+    )
