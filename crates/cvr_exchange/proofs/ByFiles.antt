@@ -160,7 +160,7 @@ module _ {Office : Type 0} (held : Office → Facts) (defined : Office → Frame
         let inside : k < length before = omega (arith, there, n) in
         get_or-map held before k one empty inside ∙ (new.new k one inside ∙ ap starting (of_one o one at k inside))
 
-    pub same_content : HaveSameFiles past o p → held one ≡ held other
+    pub same_content : HaveSameFiles files past o p → held one ≡ held other
     same_content same =
         held_is o one at
         ∙ (same_files (starting (defined one)) (map held before) files past o p (began o (within o one at)) (began p (within p other also)) same

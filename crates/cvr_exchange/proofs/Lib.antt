@@ -12,5 +12,6 @@ pub mod Back
 pub mod Numbers
 pub mod AllVolumes
 pub mod Histories
+pub mod Among
 pub mod Kept
 pub mod ByFiles

@@ -1,7 +1,7 @@
 -- Laws of volumes that are passed on as files: each is accepted, nothing is added and nothing lost, and offices that do so hold what exchanges would give. (This project's own.)
 use Rattle.std.specs.Prelude.{◌≡◌, ◌<◌, ◌≤◌, ◌⊎◌, ℕ, List, [], ◌∷◌, ◌++◌, length, map, get_or, true, Some}
 use Rattle.std.specs.List.{slice_get, range_with_len}
-use Rattle.std.specs.FinSet.{contains, empty}
+use Rattle.std.specs.FinSet.{contains, union, empty}
 use Rattle.cdf_types.specs.declared.fault.ReadFault.TheVariants as read
 use Rattle.cdf_form.specs.Reading.{max_file}
 use Rattle.cdf_check.specs.Frame.{Frame, IsSame}
@@ -22,7 +22,7 @@ use Rattle.cvr_report.specs.Head.{Head}
 use Rattle.cvr_report.specs.Laws.{WriteAlike}
 use Rattle.cvr_report.specs.Page.{volumes}
 use Rattle.cvr_report.specs.Volume.{volume}
-use Rattle.cvr_exchange.specs.Passing.{CanHead, facts_of_volumes, AreAllTo, AreImportsOfAll, IsByFiles}
+use Rattle.cvr_exchange.specs.Passing.{CanHead, facts_of_volumes, AreAllTo, AreImported, AreImportsOfAll, IsByFiles}
 
 -- ---- a volume as a file
 
@@ -69,6 +69,18 @@ ImportsLaw = (frame : Frame) (head : Head) (starts : List Facts) (files : List (
     → Keeps frame (content starts files past p) → CanHead frame head → AreImportsOfAll frame head (content starts files past p) files o imports
     → (k : ℕ) → content starts files (imports ++ past) k ≡ content starts files ((Exchange p o, Accepted n) ∷ past) k
 
+-- after imports into o of volumes of these numbers, among any other events, o holds what it held and their facts
+abbrev pub AmongLaw : Type 0
+AmongLaw = (frame : Frame) (head : Head) (s : Facts) (starts : List Facts) (files : List (List ℕ)) (later past : History) (o : ℕ) (numbers : List ℕ) (q : Fact)
+    → AreImported frame head s files o numbers later
+    → contains (union (content starts files past o) (facts_of_volumes frame head s numbers)) q ≡ true → contains (content starts files (later ++ past) o) q ≡ true
+
+-- after those of all volumes, it holds all that the giver held when it wrote them
+abbrev pub AllAmongLaw : Type 0
+AllAmongLaw = (frame : Frame) (head : Head) (s : Facts) (starts : List Facts) (files : List (List ℕ)) (later past : History) (o : ℕ) (numbers : List ℕ) (q : Fact)
+    → Keeps frame s → CanHead frame head → AreAllTo (volumes s) numbers → AreImported frame head s files o numbers later
+    → contains (union (content starts files past o) s) q ≡ true → contains (content starts files (later ++ past) o) q ≡ true
+
 -- ---- histories
 
 -- each office keeps what it holds at first
@@ -85,6 +97,6 @@ ByFilesLaw = (frames : List Frame) (starts : List Facts) (files : List (List ℕ
 abbrev pub SameFilesLaw : {Office : Type 0} → (Office → Facts) → (Office → Frame) → Type 0
 SameFilesLaw {Office} held defined = (before after : List Office) (files : List (List ℕ)) (by past : History) (o p : ℕ) (one other : Office)
     → AreNewOfOne held defined before → ArePlayed held defined before after files by
-    → IsByFiles (map defined before) (map held before) files by past → HaveSameFiles past o p
+    → IsByFiles (map defined before) (map held before) files by past → HaveSameFiles files past o p
     → slice_get after o ≡ Some one → slice_get after p ≡ Some other
     → AreAlike held defined one other × WriteAlike (defined one) (defined other) (held one) (held other)

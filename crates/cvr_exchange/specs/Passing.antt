@@ -48,6 +48,11 @@ pub record AreImportsOfAll (frame : Frame) (head : Head) (s : Facts) (files : Li
   pub only : (e : Event × Outcome) → Contains imports e → IsImportOfSome frame head s files o e
   pub all : (i : ℕ) → 0 < i → i ≤ volumes s → (e : Event × Outcome) × Contains imports e × IsImportOf files (volume frame head s i) o e
 
+-- each of the volumes of these numbers was imported into o
+abbrev pub AreImported : Frame → Head → Facts → List (List ℕ) → ℕ → List ℕ → History → Type 0
+AreImported frame head s files o numbers past =
+    (i : ℕ) → Contains numbers i → (e : Event × Outcome) × Contains past e × IsImportOf files (volume frame head s i) o e
+
 -- the first history does by files what the second does: in place of any exchange from p to o may stand imports into o of all volumes of what p then holds
 pub data IsByFiles (frames : List Frame) (starts : List Facts) (files : List (List ℕ)) : History → History → Type 0 where
   begun : IsByFiles frames starts files [] []
