@@ -2,7 +2,7 @@
 ghost use Rattle.std.specs.Prelude.{◌≡◌, ◌<◌, ◌≤◌, ◌++◌, OnOk, OnErr, IfOk, IfErr, false, true, is_some};
 ghost use Rattle.std.specs.List.{Contains};
 ghost use Rattle.serde_json.specs.Written.{comma_if};
-ghost use Rattle.cdf_types.specs.Device.{appended, AppendsPrefix};
+ghost use Rattle.cdf_types.specs.Device.{appended, AppendsProperPrefix};
 ghost use Rattle.cvr_collect.specs.Names.{records, devices};
 ghost use Rattle.cvr_collect.specs.Readers.{device_list};
 ghost use Rattle.cvr_collect.specs.Keeps.{Keeps};
@@ -10,7 +10,7 @@ ghost use Rattle.cvr_report.specs.Record.{joined};
 ghost use Rattle.cvr_report.specs.Head.{is_device_of};
 ghost use Rattle.cvr_report.specs.Page.{volumes, shown};
 ghost use Rattle.cvr_report.specs.Volume.{volume};
-ghost use Rattle.cvr_report.specs.Writes.{Writes, is_device, list_text, record_piece};
+ghost use Rattle.cvr_report.specs.Writes.{Writes, WritesOrLess, is_device, list_text, record_piece};
 ghost use Rattle.cvr_report.specs.Pieces.{head_text, middle_text, end_text, party_text, record_text, record_texts, device_texts};
 
 use crate::fault::WriteFault;
@@ -35,7 +35,7 @@ pub fn volumes<O: Office>(office: &O) -> usize
 // Writes a piece.
 fn write_piece<W: Sink>(out: &mut W, piece: &[u8]) -> Result<(), WriteFault>
     requires { W.has_failed out.old ≡ false }
-    ensures { Writes (W.taken out.old) (W.taken out.new) (W.has_failed out.new) result piece.now }
+    ensures { WritesOrLess (W.taken out.old) (W.taken out.new) (W.has_failed out.new) result piece.now }
 {
     write_all(out, piece)?;
     Ok(())
@@ -171,7 +171,7 @@ fn push_parties(buffer: &mut Vec<u8>, parties: &[Body]) -> Result<(), Memory>
 ///
 /// # Errors
 /// `Device` exactly where the output has failed; `Memory` where a growth was refused. The output has
-/// then taken a front of the volume.
+/// then taken a prefix of the volume, and not all of it.
 pub fn write_volume<O: Office, W: Sink>(
     alloc: Global,
     office: &O,
@@ -186,7 +186,7 @@ pub fn write_volume<O: Office, W: Sink>(
     ensures volume { OnOk result (W.taken out.new ≡ appended (W.taken out.old) (volume (O.defined office.now) heading.now (O.held office.now) i)) }
     ensures working { OnOk result (W.has_failed out.new ≡ false) }
     ensures fault { IfErr result (λ e. W.has_failed out.new ≡ is_device e) }
-    ensures front { OnErr result (AppendsPrefix (W.taken out.old) (W.taken out.new) (volume (O.defined office.now) heading.now (O.held office.now) i)) }
+    ensures front { OnErr result (AppendsProperPrefix (W.taken out.old) (W.taken out.new) (volume (O.defined office.now) heading.now (O.held office.now) i)) }
 {
     write_report(alloc, office, heading, i, out)
 }
@@ -201,7 +201,7 @@ fn write_report<O: Office, W: Sink>(
 ) -> Result<(), WriteFault>
     requires working { W.has_failed out.old ≡ false }
     requires number { 0 < i }
-    ensures { Writes (W.taken out.old) (W.taken out.new) (W.has_failed out.new) result (volume (O.defined office.now) heading.now (O.held office.now) i) }
+    ensures { WritesOrLess (W.taken out.old) (W.taken out.new) (W.has_failed out.new) result (volume (O.defined office.now) heading.now (O.held office.now) i) }
 {
     let definition = office.definition();
     let mut buffer = Vec::new(alloc);

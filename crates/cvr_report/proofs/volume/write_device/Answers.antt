@@ -6,7 +6,7 @@ use Rattle.cvr_report.proofs.Picking.{shown_is}
 use Rattle.cvr_collect.specs.Readers.{device_list}
 use Rattle.cvr_report.specs.Page.{shown}
 use Rattle.cvr_report.specs.Writes.{Writes}
-use Rattle.cvr_report.proofs.Pieces.{cut_short, goes_on}
+use Rattle.cvr_report.proofs.Pieces.{some_prefix, writes, cut_short, goes_on}
 use Rattle.cvr_report.proofs.volume.write_device.Goals as goal
 use Rattle.cvr_report.proofs.volume.write_device.Goals.{then-later, else-later}
 
@@ -19,7 +19,8 @@ returns-in_err-write_piece g c =
     ] in
     let body = shown c.args.i (device_list (g.O.Office.held c.args.office.now) c.args.id.now) in
     subst (λ t. Writes (g.W.Sink.taken c.args.out.now) (g.W.Sink.taken c.write_piece.new.out) (g.W.Sink.has_failed c.write_piece.new.out) c.from_residual.result (t ++ body)) lead
-    (cut_short (g.W.Sink.taken c.args.out.now) (g.W.Sink.taken c.write_piece.new.out) _ c.from_residual.result c.in_err-write_piece.field-0.0 c.as_bytes.result.now body c.from_residual.ensures.1 c.in_err-write_piece.ensures)
+    (cut_short (g.W.Sink.taken c.args.out.now) (g.W.Sink.taken c.write_piece.new.out) _ c.from_residual.result c.in_err-write_piece.field-0.0 c.as_bytes.result.now body c.from_residual.ensures.1
+    (some_prefix (g.W.Sink.taken c.args.out.now) (g.W.Sink.taken c.write_piece.new.out) c.as_bytes.result.now c.in_err-write_piece.ensures.0, c.in_err-write_piece.ensures.1))
 
 pub returns-in-Some : goal.returns-in-Some
 returns-in-Some g c =
@@ -35,4 +36,5 @@ returns-in-Some g c =
     c.min.ensures c.device_count.ensures (ap (option_map (λ b. b.now)) (sym c.in-Some.is) ∙ c.device_body.ensures)) in
     subst (λ t. Writes (g.W.Sink.taken c.args.out.now) (g.W.Sink.taken c.write_piece-in-Some.new.out) (g.W.Sink.has_failed c.write_piece-in-Some.new.out) c.write_piece-in-Some.result (t ++ body)) lead
     (goes_on (g.W.Sink.taken c.args.out.now) (g.W.Sink.taken c.write_piece.new.out) (g.W.Sink.taken c.write_piece-in-Some.new.out) _ c.write_piece-in-Some.result c.as_bytes.result.now body c.in_ok-write_piece.ensures.0
-    (subst (Writes (g.W.Sink.taken c.write_piece.new.out) (g.W.Sink.taken c.write_piece-in-Some.new.out) (g.W.Sink.has_failed c.write_piece-in-Some.new.out) c.write_piece-in-Some.result) is c.write_piece-in-Some.ensures))
+    (subst (Writes (g.W.Sink.taken c.write_piece.new.out) (g.W.Sink.taken c.write_piece-in-Some.new.out) (g.W.Sink.has_failed c.write_piece-in-Some.new.out) c.write_piece-in-Some.result) is
+    (writes (g.W.Sink.taken c.write_piece.new.out) (g.W.Sink.taken c.write_piece-in-Some.new.out) _ c.write_piece-in-Some.result c.as_bytes-in-Some.result.now c.write_piece-in-Some.ensures)))

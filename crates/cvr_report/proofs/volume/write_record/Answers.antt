@@ -7,7 +7,7 @@ use Rattle.cvr_report.specs.Volume.{record_data}
 use Rattle.cvr_report.specs.Writes.{Writes, record_piece}
 use Rattle.cvr_report.specs.Pieces.{record_text}
 use Rattle.cvr_report.proofs.Kept.{headed}
-use Rattle.cvr_report.proofs.Pieces.{cut_short}
+use Rattle.cvr_report.proofs.Pieces.{some_prefix, cut_short}
 use Rattle.cvr_report.proofs.Progress.{appended_none}
 use Rattle.cvr_report.proofs.Shows.{can_show, stands_is, no_text, some_text}
 use Rattle.cvr_report.proofs.volume.write_record.Goals as goal
@@ -62,7 +62,8 @@ returns-in_err-write_piece-clause-written g c =
     ∙ (ap (λ b. b ++ text) (c.in_ok-extend_from_slice.ensures.items ∙ (ap (λ b. b ++ c.as_bytes.result.now) c.clear.ensures.items ∙ lead))
     ∙ (lead_piece c.args.later text ∙ ap (record_piece c.args.later) (sym (some_text s c.args.i key is))))) in
     subst (Writes (g.W.Sink.taken c.args.out.now) (g.W.Sink.taken c.write_piece.new.out) (g.W.Sink.has_failed c.write_piece.new.out) c.from_residual-in_err-write_piece.result) (append-nil _ ∙ piece)
-    (cut_short (g.W.Sink.taken c.args.out.now) (g.W.Sink.taken c.write_piece.new.out) _ c.from_residual-in_err-write_piece.result c.in_err-write_piece.field-0.0 c.as_slice.result.now [] c.from_residual-in_err-write_piece.ensures.1 c.in_err-write_piece.ensures)
+    (cut_short (g.W.Sink.taken c.args.out.now) (g.W.Sink.taken c.write_piece.new.out) _ c.from_residual-in_err-write_piece.result c.in_err-write_piece.field-0.0 c.as_slice.result.now [] c.from_residual-in_err-write_piece.ensures.1
+    (some_prefix (g.W.Sink.taken c.args.out.now) (g.W.Sink.taken c.write_piece.new.out) c.as_slice.result.now c.in_err-write_piece.ensures.0, c.in_err-write_piece.ensures.1))
 
 pub returns-clause-stands : goal.returns-clause-stands
 returns-clause-stands g c =

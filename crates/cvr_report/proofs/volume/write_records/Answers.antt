@@ -4,6 +4,7 @@ use Rattle.cvr_collect.specs.Names.{records}
 use Rattle.cvr_collect.specs.Readers.{next}
 use Rattle.cvr_report.specs.Writes.{Writes, list_text, record_piece, list_end}
 use Rattle.cvr_report.specs.Pieces.{record_text, record_texts}
+use Rattle.cvr_report.proofs.Pieces.{writes}
 use Rattle.cvr_report.proofs.Progress.{Progress, starts, writes_on, stops, ends, record_there, records_begin, records_fewer, record_next, records_end, records_rest}
 use Rattle.cvr_report.proofs.volume.write_records.Goals as goal
 use Rattle.cvr_report.proofs.volume.write_records.Goals.{then-later, else-later, then-later-2, else-later-2}
@@ -74,4 +75,5 @@ returns g c =
     ends (g.W.Sink.taken c.args.out.now) (g.W.Sink.taken c.records.out) (g.W.Sink.taken c.write_piece.new.out) (g.W.Sink.has_failed c.records.out) (g.W.Sink.has_failed c.write_piece.new.out)
     (list_text false (record_texts s i (records s))) (records_rest s i c.records.later here) c.records.invariant.progress c.write_piece.result
     (subst (Writes (g.W.Sink.taken c.records.out) (g.W.Sink.taken c.write_piece.new.out) (g.W.Sink.has_failed c.write_piece.new.out) c.write_piece.result)
-    (last ∙ sym (records_end s i here (ap (option_map (λ k. k.now)) c.in_default.is) c.records.later)) c.write_piece.ensures)
+    (last ∙ sym (records_end s i here (ap (option_map (λ k. k.now)) c.in_default.is) c.records.later))
+    (writes (g.W.Sink.taken c.records.out) (g.W.Sink.taken c.write_piece.new.out) (g.W.Sink.has_failed c.write_piece.new.out) c.write_piece.result c.as_bytes.result.now c.write_piece.ensures))

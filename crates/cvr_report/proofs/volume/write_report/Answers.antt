@@ -1,12 +1,25 @@
-use Rattle.std.proofs.Common.{◌≡◌, ◌++◌, false, sym, ap, ◌∙◌, subst}
+use Rattle.std.proofs.Common.{◌≡◌, ◌≢◌, ◌++◌, List, [], ℕ, false, sym, ap, ◌∙◌, subst}
 use Rattle.cdf_types.specs.Device.{appended}
 use Rattle.cvr_collect.specs.Names.{records, devices}
 use Rattle.cvr_report.specs.Record.{joined}
-use Rattle.cvr_report.specs.Writes.{Writes, list_text}
+use Rattle.cvr_report.specs.Writes.{WritesOrLess, list_text}
 use Rattle.cvr_report.specs.Pieces.{head_text, middle_text, end_text, record_texts, device_texts}
-use Rattle.cvr_report.proofs.Pieces.{cut_short, goes_on, no_memory}
+use Rattle.cvr_report.proofs.Pieces.{some_prefix, not_empty, cut_before, then_less, no_memory}
 use Rattle.cvr_report.proofs.Whole.{whole_text}
 use Rattle.cvr_report.proofs.volume.write_report.Goals as goal
+
+-- something is left before each piece
+end_left : end_text ≢ []
+end_left is = absurd (Prim.cc is)
+
+devices_left : (D : List ℕ) → D ++ end_text ≢ []
+devices_left D = not_empty D end_text end_left
+
+middle_left : (M D : List ℕ) → M ++ (D ++ end_text) ≢ []
+middle_left M D = not_empty M (D ++ end_text) (devices_left D)
+
+records_left : (R M D : List ℕ) → R ++ (M ++ (D ++ end_text)) ≢ []
+records_left R M D = not_empty R (M ++ (D ++ end_text)) (middle_left M D)
 
 pub returns-in_err-write_piece : goal.returns-in_err-write_piece
 returns-in_err-write_piece g c =
@@ -20,8 +33,9 @@ returns-in_err-write_piece g c =
     let b = g.W.Sink.taken c.args.out.now in
     let a1 = g.W.Sink.taken c.write_piece.new.out in
     let r = c.from_residual.result in
-    subst (Writes b a1 (g.W.Sink.has_failed c.write_piece.new.out) r) (sym (whole_text frame h.date h.device s i c.definition-definition.ensures.keeps c.requires.number))
-    (cut_short b a1 (g.W.Sink.has_failed c.write_piece.new.out) r c.in_err-write_piece.field-0.0 head_text (R ++ (M ++ (D ++ end_text))) c.from_residual.ensures.1 c.in_err-write_piece.ensures)
+    subst (WritesOrLess b a1 (g.W.Sink.has_failed c.write_piece.new.out) r) (sym (whole_text frame h.date h.device s i c.definition-definition.ensures.keeps c.requires.number))
+    (cut_before b a1 (g.W.Sink.has_failed c.write_piece.new.out) r c.in_err-write_piece.field-0.0 head_text (R ++ (M ++ (D ++ end_text))) (records_left R M D) c.from_residual.ensures.1
+    (some_prefix b a1 head_text c.in_err-write_piece.ensures.0, c.in_err-write_piece.ensures.1))
 
 pub returns-in_err-write_records : goal.returns-in_err-write_records
 returns-in_err-write_records g c =
@@ -37,9 +51,9 @@ returns-in_err-write_records g c =
     let a2 = g.W.Sink.taken c.write_records.new.out in
     let f2 = g.W.Sink.has_failed c.write_records.new.out in
     let r = c.from_residual-in_err-write_records.result in
-    subst (Writes b a2 f2 r) (sym (whole_text frame h.date h.device s i c.definition-definition.ensures.keeps c.requires.number))
-    (goes_on b a1 a2 f2 r head_text (R ++ (M ++ (D ++ end_text))) c.in_ok-write_piece.ensures.0
-    (cut_short a1 a2 f2 r c.in_err-write_records.field-0.0 R (M ++ (D ++ end_text)) c.from_residual-in_err-write_records.ensures.1 c.in_err-write_records.ensures))
+    subst (WritesOrLess b a2 f2 r) (sym (whole_text frame h.date h.device s i c.definition-definition.ensures.keeps c.requires.number))
+    (then_less b a1 a2 f2 r head_text (R ++ (M ++ (D ++ end_text))) c.in_ok-write_piece.ensures.0
+    (cut_before a1 a2 f2 r c.in_err-write_records.field-0.0 R (M ++ (D ++ end_text)) (middle_left M D) c.from_residual-in_err-write_records.ensures.1 c.in_err-write_records.ensures))
 
 pub returns-in_err-push_middle : goal.returns-in_err-push_middle
 returns-in_err-push_middle g c =
@@ -55,10 +69,10 @@ returns-in_err-push_middle g c =
     let a2 = g.W.Sink.taken c.write_records.new.out in
     let f2 = g.W.Sink.has_failed c.write_records.new.out in
     let r = c.from_residual-in_err-push_middle.result in
-    subst (Writes b a2 f2 r) (sym (whole_text frame h.date h.device s i c.definition-definition.ensures.keeps c.requires.number))
-    (goes_on b a1 a2 f2 r head_text (R ++ (M ++ (D ++ end_text))) c.in_ok-write_piece.ensures.0
-    (goes_on a1 a2 a2 f2 r R (M ++ (D ++ end_text)) c.in_ok-write_records.ensures.0
-    (no_memory a2 f2 r (M ++ (D ++ end_text)) c.from_residual-in_err-push_middle.ensures.1 c.in_ok-write_records.ensures.1)))
+    subst (WritesOrLess b a2 f2 r) (sym (whole_text frame h.date h.device s i c.definition-definition.ensures.keeps c.requires.number))
+    (then_less b a1 a2 f2 r head_text (R ++ (M ++ (D ++ end_text))) c.in_ok-write_piece.ensures.0
+    (then_less a1 a2 a2 f2 r R (M ++ (D ++ end_text)) c.in_ok-write_records.ensures.0
+    (no_memory a2 f2 r (M ++ (D ++ end_text)) (middle_left M D) c.from_residual-in_err-push_middle.ensures.1 c.in_ok-write_records.ensures.1)))
 
 pub returns-in_err-write_piece-2 : goal.returns-in_err-write_piece-2
 returns-in_err-write_piece-2 g c =
@@ -76,11 +90,12 @@ returns-in_err-write_piece-2 g c =
     let f3 = g.W.Sink.has_failed c.write_piece-2.new.out in
     let r = c.from_residual-in_err-write_piece-2.result in
     let middle : c.as_slice.result.now ≡ M = c.as_slice.ensures.value ∙ (c.in_ok-push_middle.ensures ∙ (ap (λ o. o ++ middle_text c.definition-definition.result.now h.date h.device) c.clear.ensures.items ∙ ap (λ d. middle_text d h.date h.device) c.definition-definition.ensures.is)) in
-    subst (Writes b a3 f3 r) (sym (whole_text frame h.date h.device s i c.definition-definition.ensures.keeps c.requires.number))
-    (goes_on b a1 a3 f3 r head_text (R ++ (M ++ (D ++ end_text))) c.in_ok-write_piece.ensures.0
-    (goes_on a1 a2 a3 f3 r R (M ++ (D ++ end_text)) c.in_ok-write_records.ensures.0
-    (subst (λ m. Writes a2 a3 f3 r (m ++ (D ++ end_text))) middle
-    (cut_short a2 a3 f3 r c.in_err-write_piece-2.field-0.0 c.as_slice.result.now (D ++ end_text) c.from_residual-in_err-write_piece-2.ensures.1 c.in_err-write_piece-2.ensures))))
+    subst (WritesOrLess b a3 f3 r) (sym (whole_text frame h.date h.device s i c.definition-definition.ensures.keeps c.requires.number))
+    (then_less b a1 a3 f3 r head_text (R ++ (M ++ (D ++ end_text))) c.in_ok-write_piece.ensures.0
+    (then_less a1 a2 a3 f3 r R (M ++ (D ++ end_text)) c.in_ok-write_records.ensures.0
+    (subst (λ m. WritesOrLess a2 a3 f3 r (m ++ (D ++ end_text))) middle
+    (cut_before a2 a3 f3 r c.in_err-write_piece-2.field-0.0 c.as_slice.result.now (D ++ end_text) (devices_left D) c.from_residual-in_err-write_piece-2.ensures.1
+    (some_prefix a2 a3 c.as_slice.result.now c.in_err-write_piece-2.ensures.0, c.in_err-write_piece-2.ensures.1)))))
 
 pub returns-in_err-write_devices : goal.returns-in_err-write_devices
 returns-in_err-write_devices g c =
@@ -99,11 +114,11 @@ returns-in_err-write_devices g c =
     let f4 = g.W.Sink.has_failed c.write_devices.new.out in
     let r = c.from_residual-in_err-write_devices.result in
     let middle : c.as_slice.result.now ≡ M = c.as_slice.ensures.value ∙ (c.in_ok-push_middle.ensures ∙ (ap (λ o. o ++ middle_text c.definition-definition.result.now h.date h.device) c.clear.ensures.items ∙ ap (λ d. middle_text d h.date h.device) c.definition-definition.ensures.is)) in
-    subst (Writes b a4 f4 r) (sym (whole_text frame h.date h.device s i c.definition-definition.ensures.keeps c.requires.number))
-    (goes_on b a1 a4 f4 r head_text (R ++ (M ++ (D ++ end_text))) c.in_ok-write_piece.ensures.0
-    (goes_on a1 a2 a4 f4 r R (M ++ (D ++ end_text)) c.in_ok-write_records.ensures.0
-    (goes_on a2 a3 a4 f4 r M (D ++ end_text) (c.in_ok-write_piece-2.ensures.0 ∙ ap (appended a2) middle)
-    (cut_short a3 a4 f4 r c.in_err-write_devices.field-0.0 D end_text c.from_residual-in_err-write_devices.ensures.1 c.in_err-write_devices.ensures))))
+    subst (WritesOrLess b a4 f4 r) (sym (whole_text frame h.date h.device s i c.definition-definition.ensures.keeps c.requires.number))
+    (then_less b a1 a4 f4 r head_text (R ++ (M ++ (D ++ end_text))) c.in_ok-write_piece.ensures.0
+    (then_less a1 a2 a4 f4 r R (M ++ (D ++ end_text)) c.in_ok-write_records.ensures.0
+    (then_less a2 a3 a4 f4 r M (D ++ end_text) (c.in_ok-write_piece-2.ensures.0 ∙ ap (appended a2) middle)
+    (cut_before a3 a4 f4 r c.in_err-write_devices.field-0.0 D end_text end_left c.from_residual-in_err-write_devices.ensures.1 c.in_err-write_devices.ensures))))
 
 pub returns : goal.returns
 returns g c =
@@ -123,8 +138,8 @@ returns g c =
     let f5 = g.W.Sink.has_failed c.write_piece-3.new.out in
     let r = c.write_piece-3.result in
     let middle : c.as_slice.result.now ≡ M = c.as_slice.ensures.value ∙ (c.in_ok-push_middle.ensures ∙ (ap (λ o. o ++ middle_text c.definition-definition.result.now h.date h.device) c.clear.ensures.items ∙ ap (λ d. middle_text d h.date h.device) c.definition-definition.ensures.is)) in
-    subst (Writes b a5 f5 r) (sym (whole_text frame h.date h.device s i c.definition-definition.ensures.keeps c.requires.number))
-    (goes_on b a1 a5 f5 r head_text (R ++ (M ++ (D ++ end_text))) c.in_ok-write_piece.ensures.0
-    (goes_on a1 a2 a5 f5 r R (M ++ (D ++ end_text)) c.in_ok-write_records.ensures.0
-    (goes_on a2 a3 a5 f5 r M (D ++ end_text) (c.in_ok-write_piece-2.ensures.0 ∙ ap (appended a2) middle)
-    (goes_on a3 a4 a5 f5 r D end_text c.in_ok-write_devices.ensures.0 c.write_piece-3.ensures))))
+    subst (WritesOrLess b a5 f5 r) (sym (whole_text frame h.date h.device s i c.definition-definition.ensures.keeps c.requires.number))
+    (then_less b a1 a5 f5 r head_text (R ++ (M ++ (D ++ end_text))) c.in_ok-write_piece.ensures.0
+    (then_less a1 a2 a5 f5 r R (M ++ (D ++ end_text)) c.in_ok-write_records.ensures.0
+    (then_less a2 a3 a5 f5 r M (D ++ end_text) (c.in_ok-write_piece-2.ensures.0 ∙ ap (appended a2) middle)
+    (then_less a3 a4 a5 f5 r D end_text c.in_ok-write_devices.ensures.0 c.write_piece-3.ensures))))
