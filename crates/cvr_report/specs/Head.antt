@@ -1,6 +1,7 @@
 -- A heading, or why there is none. (This project's own.)
 use Rattle.std.specs.Prelude.{◌≡◌, ℕ, List, Bool, true, false, bytes_eq}
 use Rattle.std.specs.List.{list_any}
+use Rattle.std.specs.Str.{IsUtf8}
 use Rattle.std.specs.Coded.{Coded, code_by, coded×, coded_list, coded_ℕ}
 use Rattle.std.proofs.Common.{refl}
 use Rattle.cdf_form.specs.Form.{is_moment}
@@ -16,6 +17,11 @@ pub record Head : Type 0 where
 
 abbrev pub coded_head : Coded Head
 coded_head = code_by (List ℕ × List ℕ) (coded× (coded_list coded_ℕ) (coded_list coded_ℕ)) (λ h. (h.date, h.device)) (λ p. record { date = p.0; device = p.1 }) (λ _. refl)
+
+-- what every heading keeps: its date is a moment, in UTF-8
+pub record IsHeading (h : Head) : Type 0 where
+  pub moment : is_moment h.date ≡ true
+  pub text : IsUtf8 h.date
 
 -- whether the definition has a device of this id
 abbrev pub is_device_of : Frame → List ℕ → Bool

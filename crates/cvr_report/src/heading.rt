@@ -31,7 +31,8 @@ impl From<AllocError> for HeadFault {
 }
 
 /// What stands at the head of a volume (NIST SP 1500-103, class CastVoteRecordReport, members
-/// GeneratedDate and ReportGeneratingDeviceIds). Contracts see it as its two texts.
+/// GeneratedDate and ReportGeneratingDeviceIds). Its date is a moment. Contracts see it as its two
+/// texts.
 #[derive(Drop)]
 pub struct Heading {
     date: String,
@@ -40,16 +41,18 @@ pub struct Heading {
 
 impl Model for Heading {
     ghost use Rattle.std.specs.String.{string_bytes};
-    ghost use Rattle.cvr_report.specs.Head.{Head};
+    ghost use Rattle.cvr_report.specs.Head.{Head, IsHeading};
 
     ghost Value = { Head };
 
     ghost view = { λ h. record { date = string_bytes h.date; device = string_bytes h.device } };
+
+    ghost invariant = { λ h. IsHeading (record { date = string_bytes h.date; device = string_bytes h.device }) };
 }
 
 impl Heading {
     ghost use Rattle.std.specs.Prelude.{◌≡◌, IfOk, IfErr};
-    ghost use Rattle.cvr_report.specs.Head.{IsHead, IsFault};
+    ghost use Rattle.cvr_report.specs.Head.{IsHead, IsFault, IsHeading};
 
     /// The heading of a date and of a device that the definition lists. The date is a date-time
     /// with an offset, as `2024-11-06T08:00:00Z` (RFC 3339, as `jiff` reads it), with no name of a
@@ -79,9 +82,10 @@ impl Heading {
         })
     }
 
-    /// The date, as it was handed in. Takes no memory.
+    /// The date, as it was handed in: a moment, as each heading has one. Takes no memory.
     pub fn date(&self) -> &str
-        ensures { result.now ≡ self.now.date }
+        ensures date { result.now ≡ self.now.date }
+        ensures heading { IsHeading self.now }
     {
         self.date.as_str()
     }

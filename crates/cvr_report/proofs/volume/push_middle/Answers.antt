@@ -34,7 +34,7 @@ returns c =
     ∙ ap (λ s. s ++ b) (c.in_ok-extend_from_slice-2.ensures.items
     ∙ ap (λ s. s ++ t) c.in_ok-extend_from_slice.ensures.items))))))))) in
     let one : t ≡ joined false (texts_of def.elections) = c.as_bytes.ensures.value ∙ (c.as_str.ensures ∙ (sym (append-nil c.election.result.now) ∙ ap (joined false) (sym c.election.ensures))) in
-    let date = ap quoted c.date.ensures in
+    let date = ap quoted c.date.ensures.date in
     let device = ap quoted c.device.ensures in
     all ∙ (regroup o a t b (quoted c.date.result.now) d (joined false c.units.result.now) e (party_text c.parties.result.now) f (quoted c.device.result.now) h
     ∙ (λ i. o ++ (a ++ (one i ++ (b ++ (date i ++ (d ++ (joined false (c.units.ensures i) ++ (e ++ (party_text (c.parties.ensures i) ++ (f ++ (device i ++ h))))))))))))
