@@ -138,7 +138,7 @@ module _ (frame : Frame) (head : Head) (s : Facts) (i : ℕ) (keeps : Keeps fram
 
   volume_clean : IsClean 127 V
   volume_clean =
-      made_clean E U head.date head.device D P R can.date (keeps.utf8 (Device head.device device_held.0) device_held.1).0
+      made_clean E U head.date head.device D P R can.heading.text (keeps.utf8 (Device head.device device_held.0) device_held.1).0
       (clean_array 125 (values frame.elections) known.elections.clean) (clean_array 125 (values frame.units) known.units.clean)
       (clean_array 125 (device_values frame s keeps i pos) (devices_clean frame s keeps i pos)) (clean_array 125 (values frame.parties) known.parties.clean)
       (clean_array 125 rs records_clean)
@@ -254,7 +254,7 @@ module _ (frame : Frame) (head : Head) (s : Facts) (i : ℕ) (keeps : Keeps fram
         has (required (codes "Election") (Array (leaf.Object group.Elections) 1 1 key.Free)) (array E) (at_elections E U head.date head.device D P R)
             (values_form (leaf.Object group.Elections) 1 1 (values frame.elections) election_form one_there.0 one_there.1),
         (
-          has (required (codes "GeneratedDate") (One leaf.Moment)) (string head.date) (at_date E U head.date head.device D P R) (moment {s = head.date} refl can.moment),
+          has (required (codes "GeneratedDate") (One leaf.Moment)) (string head.date) (at_date E U head.date head.device D P R) (moment {s = head.date} refl can.heading.moment),
           (
             has (required (codes "GpUnit") (Array (leaf.Object group.GpUnits) 0 any key.Id)) (array U) (at_units E U head.date head.device D P R)
                 (objects_form group.GpUnits 0 (values frame.units) (refl, tt) unit_form (subst IsRising (sym known.units.ids) known.units.rises) (omega arith) (few (codes "GpUnit") U (at_units E U head.date head.device D P R))),

@@ -1,8 +1,6 @@
 -- Volumes that offices pass on as files, in place of exchanges. (This project's own.)
 use Rattle.std.specs.Prelude.{◌≡◌, ◌↔◌, ◌<◌, ◌≤◌, ℕ, List, [], ◌∷◌, ◌++◌, length, get_or, true}
 use Rattle.std.specs.List.{Contains}
-use Rattle.std.specs.Str.{IsUtf8}
-use Rattle.cdf_form.specs.Form.{is_moment}
 use Rattle.cdf_check.specs.Frame.{Frame}
 use Rattle.cvr_facts.specs.Facts.{Facts}
 use Rattle.cvr_facts.specs.Reports.{facts}
@@ -12,14 +10,13 @@ use Rattle.cvr_collect.specs.declared.event.Outcome.{Outcome}
 use Rattle.cvr_collect.specs.declared.event.Outcome.TheVariants.{Accepted}
 use Rattle.cvr_collect.specs.Outcomes.{no_frame}
 use Rattle.cvr_collect.specs.Reach.{History, union_over, content}
-use Rattle.cvr_report.specs.Head.{Head, is_device_of}
+use Rattle.cvr_report.specs.Head.{Head, IsHeading, is_device_of}
 use Rattle.cvr_report.specs.Page.{volumes}
 use Rattle.cvr_report.specs.Volume.{volume}
 
--- what a heading is, beside its definition: its date is a moment, and the definition has its device
+-- a heading of a device that the definition has
 pub record CanHead (frame : Frame) (head : Head) : Type 0 where
-  pub moment : is_moment head.date ≡ true
-  pub date : IsUtf8 head.date
+  pub heading : IsHeading head
   pub device : is_device_of frame head.device ≡ true
 
 -- the facts of all volumes of these numbers

@@ -1,7 +1,6 @@
 // That a volume can be read.
 ghost use Rattle.std.specs.Prelude.{◌≡◌, ◌<◌, ◌≤◌, length, true};
 ghost use Rattle.std.specs.FinSet.{contains};
-ghost use Rattle.cdf_form.specs.Form.{is_moment};
 ghost use Rattle.cdf_form.specs.Reading.{max_file};
 ghost use Rattle.cdf_check.specs.Acceptance.{Valid};
 ghost use Rattle.cvr_facts.specs.Facts.{Fact};
@@ -17,7 +16,6 @@ use cvr_report::Heading;
 /// memory.
 pub fn can_be_read<O: Office>(office: &O, heading: &Heading, i: usize)
     requires number { 0 < i }
-    requires moment { is_moment heading.now.date ≡ true }
     requires device { is_device_of (O.defined office.now) heading.now.device ≡ true }
     ensures valid { length (volume (O.defined office.now) heading.now (O.held office.now) i) ≤ max_file
         → Valid (O.defined office.now) (volume (O.defined office.now) heading.now (O.held office.now) i) }
