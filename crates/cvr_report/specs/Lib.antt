@@ -9,3 +9,5 @@ pub mod Pieces
 pub mod Head
 pub mod Found
 pub mod Laws
+pub mod Examples
+pub mod DeviceExamples
