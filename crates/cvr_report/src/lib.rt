@@ -1,6 +1,7 @@
 //! Headings, and volumes of what an office holds as reports.
 #![tactic(auto)]
 
+pub mod examples;
 mod fault;
 mod heading;
 mod ids;
