@@ -31,3 +31,4 @@ pub mod Apart
 pub mod SameContents
 pub mod Bounds
 pub mod NextOver
+pub mod GivenMoves

@@ -5,6 +5,7 @@ mod cached;
 mod change;
 mod commit;
 mod content;
+pub mod examples;
 pub mod law;
 mod listing;
 mod names;

@@ -1,0 +1,23 @@
+-- How often the rows of a tally are changed where an office takes in facts. (This project's own.)
+use Rattle.std.specs.Prelude.{◌+◌, ℕ, List, [], length}
+use Rattle.std.specs.List.{sum_by}
+use Rattle.std.specs.Option.{option_map_or}
+use Rattle.std.specs.FinSet.{difference}
+use Rattle.cdf_form.specs.Places.{Contest}
+use Rattle.cvr_facts.specs.declared.name.RecordName.{RecordName}
+use Rattle.cvr_facts.specs.Facts.{Facts}
+use Rattle.cvr_facts.specs.Choosing.{current}
+use Rattle.cvr_collect.specs.Names.{records}
+use Rattle.cvr_collect.specs.Tallied.{sums_of_body}
+
+-- how many contests the current snapshot of a record has, 0 where the record has none
+abbrev pub contests_at : List Contest → Facts → RecordName → ℕ
+contests_at contests s r = length (option_map_or (sums_of_body contests) (current s r) [])
+
+-- the records that gain a fact from s to t: each has one in t that isn't in s
+abbrev pub gaining : Facts → Facts → List RecordName
+gaining s t = records (difference t s)
+
+-- each of these is taken out once for each contest of its current snapshot in s, and added once for each of that in t
+abbrev pub moved : List Contest → Facts → Facts → ℕ
+moved contests s t = sum_by (λ r. contests_at contests s r + contests_at contests t r) (gaining s t)
