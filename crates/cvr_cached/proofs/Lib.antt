@@ -32,3 +32,4 @@ pub mod SameContents
 pub mod Bounds
 pub mod NextOver
 pub mod GivenMoves
+pub mod Moved

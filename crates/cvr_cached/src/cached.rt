@@ -75,6 +75,7 @@ impl Office for CachedOffice {
     ghost use Rattle.cvr_facts.specs.Reports.{facts};
     ghost use Rattle.cvr_collect.specs.Readers.{growth};
     ghost use Rattle.cvr_collect.specs.declared.fault.JoinFault.TheVariants as join_fault;
+    ghost use Rattle.cvr_cached.specs.Moves.{moved};
 
     ghost held = { λ o. o.content.facts };
 
@@ -107,6 +108,8 @@ impl Office for CachedOffice {
         ensures first { IfErr result (λ e. ¬ IsMemory e → first_refusal self.old.content.frame bytes.now ≡ Some e) }
         ensures unchanged { OnErr result (self.new.content.facts ≡ self.old.content.facts) }
         ensures definition { self.new.content.frame ≡ self.old.content.frame }
+        ensures moves { OnOk result (self.new.moves ≡ self.old.moves
+            + moved self.old.content.frame.contests self.old.content.facts self.new.content.facts) }
         ensures moves_rise { self.old.moves ≤ self.new.moves }
         ensures moves_few { IfOk result (λ r. self.new.moves ≤ self.old.moves + 2 * length self.old.content.frame.contests * r.new_facts) }
         ensures moves_stay { OnErr result (self.new.moves ≡ self.old.moves) }
@@ -138,6 +141,8 @@ impl Office for CachedOffice {
             ⊎ ((e ≡ join_fault.Memory) × IsSame self.old.content.frame other.now.content.frame)) }
         ensures unchanged { OnErr result (self.new.content.facts ≡ self.old.content.facts) }
         ensures definition { self.new.content.frame ≡ self.old.content.frame }
+        ensures moves { OnOk result (self.new.moves ≡ self.old.moves
+            + moved self.old.content.frame.contests self.old.content.facts self.new.content.facts) }
         ensures moves_rise { self.old.moves ≤ self.new.moves }
         ensures moves_few { IfOk result (λ n. self.new.moves ≤ self.old.moves + 2 * length self.old.content.frame.contests * n) }
         ensures moves_stay { OnErr result (self.new.moves ≡ self.old.moves) }

@@ -17,6 +17,7 @@ ghost use Rattle.cvr_cached.specs.Contents.{facts_at, listed, standing};
 ghost use Rattle.cvr_cached.specs.Cells.{total, Agrees};
 ghost use Rattle.cvr_cached.specs.Plans.{IsPlan, laid, all_moves};
 ghost use Rattle.cvr_cached.specs.Held.{AreOwn, IsHeld, IsTold, IsRoomy};
+ghost use Rattle.cvr_cached.specs.Moves.{moved};
 
 use crate::change::Plan;
 use crate::commit::commit_all;
@@ -53,6 +54,7 @@ pub(crate) fn take_in(
     ensures unchanged { OnErr result (listed devices.new.items records.new.entries ≡ listed devices.old.items records.old.entries) }
     ensures rows { OnErr result (totals.new.rows ≡ totals.old.rows) }
     ensures contests { totals.new.contests ≡ totals.old.contests }
+    ensures moves { OnOk result (totals.new.moves ≡ totals.old.moves + moved totals.old.contests (set_of (listed devices.old.items records.old.entries)) (set_of (listed devices.new.items records.new.entries))) }
     ensures moves_rise { totals.old.moves ≤ totals.new.moves }
     ensures moves_few { IfOk result (λ n. totals.new.moves ≤ totals.old.moves + 2 * length totals.old.contests * n) }
     ensures moves_stay { OnErr result (totals.new.moves ≡ totals.old.moves) }
@@ -83,6 +85,7 @@ pub(crate) fn take_contents(
     ensures unchanged { OnErr result (listed devices.new.items records.new.entries ≡ listed devices.old.items records.old.entries) }
     ensures rows { OnErr result (totals.new.rows ≡ totals.old.rows) }
     ensures contests { totals.new.contests ≡ totals.old.contests }
+    ensures moves { OnOk result (totals.new.moves ≡ totals.old.moves + moved totals.old.contests (set_of (listed devices.old.items records.old.entries)) (set_of (listed devices.new.items records.new.entries))) }
     ensures moves_rise { totals.old.moves ≤ totals.new.moves }
     ensures moves_few { IfOk result (λ n. totals.new.moves ≤ totals.old.moves + 2 * length totals.old.contests * n) }
     ensures moves_stay { OnErr result (totals.new.moves ≡ totals.old.moves) }

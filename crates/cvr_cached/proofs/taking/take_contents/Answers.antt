@@ -6,6 +6,7 @@ use Rattle.cvr_collect.proofs.Laws.{name_exact, name_total}
 use Rattle.cvr_cached.specs.Contents.{listed, facts_at}
 use Rattle.cvr_cached.specs.Plans.{all_moves}
 use Rattle.cvr_cached.proofs.Joined.{own_joined, put_joined}
+use Rattle.cvr_cached.proofs.Moved.{moved_is, moved_told}
 use Rattle.cvr_cached.proofs.Taken.{agrees_before, counted_before, full_before, rise_before, room_before, held_after, held_still, growth_after, own_runs, both_ok, both_err, told_ok, either_way, moves_before, moves_told, moves_up, moves_still}
 use Rattle.cvr_cached.proofs.taking.take_contents.Goals as goal
 
@@ -83,6 +84,22 @@ returns-clause-unchanged c =
     both_err c.settle-new_facts.result c.settle-new_facts.ensures.err_devices c.settle-new_facts.ensures.err_records (λ devices same.
     let entries = btree_map_from_get name_total c.settle-new_facts.new.records c.args.records.now c.names_rise.ensures c.requires.held.own.names_rise same name_exact in
     λ i. listed (devices i) (entries i))
+
+pub returns-clause-moves : goal.returns-clause-moves
+returns-clause-moves c =
+    let d = c.args.devices.now.items in
+    let d' = c.settle-new_facts.new.devices.items in
+    let es = c.args.records.now.entries in
+    let fs = c.settle-new_facts.new.records.entries in
+    let theirs = c.args.their_devices.now in
+    let ts = c.args.their_records.now.entries in
+    let p = c.in_ok-plan.plan in
+    let s = c.settle-new_facts.ensures in
+    moved_told c.settle-new_facts.result _ _ _ _ s.moves s.devices s.records (λ devices done.
+    moved_is c.args.totals.now.contests d es c.args.totals.now.rows c.args.count.now (listed theirs ts) c.requires.held c.requires.told d' fs
+    (put_joined d d' es fs c.requires.held.own c.names_rise.ensures theirs ts c.requires.theirs devices p.contents.items p.keys.items p.new_facts c.in_ok-plan.ensures done)
+    (own_joined d d' es fs c.requires.held.own c.names_rise.ensures theirs ts c.requires.theirs devices p.contents.items p.keys.items p.new_facts c.in_ok-plan.ensures done)
+    (λ k. facts_at (get name_cmp c.args.their_records.now k)) (own_runs theirs ts c.requires.theirs) p.contents.items p.keys.items p.new_facts c.in_ok-plan.ensures done)
 
 pub returns-clause-moves_rise : goal.returns-clause-moves_rise
 returns-clause-moves_rise c = moves_up c.settle-new_facts.result c.args.totals.now.moves c.settle-new_facts.new.totals.moves _ c.settle-new_facts.ensures.moves

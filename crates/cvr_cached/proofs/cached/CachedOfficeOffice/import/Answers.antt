@@ -1,10 +1,11 @@
-use Rattle.std.proofs.Common.{ap, ◌∙◌, subst, List, length, ◌≤◌, ◌+◌, ◌*◌}
+use Rattle.std.proofs.Common.{ap, ◌∙◌, subst, List, length, ◌≡◌, ◌≤◌, ◌+◌, ◌*◌}
 use Rattle.std.specs.FinSet.{union}
 use Rattle.cdf_form.specs.Places.{Contest}
 use Rattle.cvr_collect.specs.Readers.{growth}
 use Rattle.cvr_collect.specs.Plain.{set_of}
 use Rattle.cvr_collect.proofs.Laws.{of_file}
 use Rattle.cvr_cached.specs.Contents.{listed}
+use Rattle.cvr_cached.specs.Moves.{moved}
 use Rattle.cvr_cached.proofs.Importing.{theirs_none, more_named, set_is, import_told, import_plain}
 use Rattle.cvr_cached.proofs.Listed.{rises_none}
 use Rattle.cvr_cached.proofs.cached.CachedOfficeOffice.import.Goals as goal
@@ -50,6 +51,13 @@ returns-clause-new_facts c =
     let is = set_is c.in_ok-list.list c.in_ok-theirs.theirs.items c.new-more.result.items c.in_ok-of_records.field-0.items c.put_in.new.facts.items c.in_ok-theirs.ensures c.new-more.ensures.items c.in_ok-of_records.ensures c.in_ok-put_in.ensures.put c.self.inside.definition c.args.bytes.now files in
     let new = rw c.deref.ensures.value at c.in_ok-new_facts.ensures.new in
     rw (← c.self.view_is) (new ∙ ap (growth (set_of (listed c.self.inside.devices.items c.self.inside.records.entries))) is)
+
+pub returns-clause-moves : goal.returns-clause-moves
+returns-clause-moves c =
+    let before = set_of (listed c.self.inside.devices.items c.self.inside.records.entries) in
+    let after = set_of (listed c.take_in.new.devices.items c.take_in.new.records.entries) in
+    rw (← c.self.view_is)
+    (subst (λ (cs : List Contest). c.take_in.new.totals.moves ≡ c.self.inside.totals.moves + moved cs before after) c.self.invariant.contests_are c.in_ok-new_facts.ensures.moves)
 
 pub returns-clause-moves_few : goal.returns-clause-moves_few
 returns-clause-moves_few c =

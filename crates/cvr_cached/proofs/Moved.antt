@@ -1,0 +1,246 @@
+-- A plan that is carried out changes rows as often as the facts before and after tell.
+use Rattle.std.proofs.Common.{◌≡◌, ℕ, ◌+◌, ◌<◌, Bool, true, false, not, cond, ◌&&◌, ◌||◌, List, [], ◌∷◌, length, map, Contains, inl, inr, Option, Some, None, Less, refl, sym, ap, ◌∙◌, subst, arith, is_ok}
+use Rattle.std.specs.Prelude.{◌⊎◌, ◌↔◌, OnOk}
+use Rattle.std.specs.declared.result.Result.{Result}
+use Rattle.std.specs.declared.result.Result.TheVariants.{Ok, Err}
+use Rattle.std.specs.List.{sum_by, filter_map}
+use Rattle.std.specs.List.Sorted.{IsStrictlySortedBy}
+use Rattle.std.specs.FinSet.{contains, difference, items, len, contains-difference}
+use Rattle.std.specs.Option.{option_map_or}
+use Rattle.std.proofs.lemmas.Bool.{false≢true}
+use Rattle.std.proofs.lemmas.List.{length-map}
+use Rattle.std.proofs.lemmas.List.Sums.{sum_by-cons}
+use Rattle.std.proofs.lemmas.Map.Keys.{sorted_head, sorted_tail}
+use Rattle.cdf_check.specs.Frame.{Frame}
+use Rattle.cdf_form.specs.Places.{Contest}
+use Rattle.cvr_facts.specs.declared.name.RecordName.{RecordName}
+use Rattle.cvr_facts.specs.declared.header.HeaderFact.{HeaderFact}
+use Rattle.cvr_facts.specs.declared.snapshot.SnapshotFact.{SnapshotFact}
+use Rattle.cvr_facts.specs.declared.sums.VoteSums.{VoteSums}
+use Rattle.cvr_facts.specs.Facts.{Fact, Snapshot, Facts, name_cmp, fact_total, fact_exact}
+use Rattle.cvr_facts.specs.Choosing.{header, current, header_bodies, snapshot_bodies}
+use Rattle.cvr_facts.proofs.Laws.{text_total, text_exact, choice_total, contains_iff, Contains-header_bodies, Contains-snapshot_bodies}
+use Rattle.cvr_facts.proofs.Lemmas.{greatest_is, has_greatest, is_greatest, none_listed, at_head, at_tail, head_or_tail, in_map, from_map, in_set, from_set, Contains-filter_map, from-filter_map}
+use Rattle.cvr_tally.specs.declared.key.RowKey.{RowKey}
+use Rattle.cvr_tally.specs.Rows.{Rows}
+use Rattle.cvr_collect.specs.declared.any_fact.AnyFact.{AnyFact}
+use Rattle.cvr_collect.specs.Adding.{key_for}
+use Rattle.cvr_collect.specs.Names.{record_of}
+use Rattle.cvr_collect.specs.Place.{fact_of, any_cmp}
+use Rattle.cvr_collect.specs.Plain.{set_of, IsPlain, IsPut}
+use Rattle.cvr_collect.specs.Readers.{IsHeader, IsCurrent}
+use Rattle.cvr_collect.specs.Tallied.{sums_of_body}
+use Rattle.cvr_collect.proofs.Laws.{name_total, name_exact}
+use Rattle.cvr_collect.proofs.Lemmas.{ordered-members, in_union, from_union}
+use Rattle.cvr_cached.specs.declared.change.Keys.{Keys}
+use Rattle.cvr_cached.specs.Contents.{Entries, facts_at, listed, header_in, current_in, keys_in}
+use Rattle.cvr_cached.specs.Held.{AreOwn, IsHeld, IsTold}
+use Rattle.cvr_cached.specs.Moves.{contests_at, moved}
+use Rattle.cvr_cached.specs.Plans.{is_named, is_name_of, laid, all_moves, AreChanges, IsChange, IsPlan}
+use Rattle.cvr_cached.proofs.KeyTests.{own_name, same_name}
+use Rattle.cvr_cached.proofs.Listed.{at_name, each_of, len-set_of, less_other}
+use Rattle.cvr_cached.proofs.Pairs.{pairs_are}
+use Rattle.cvr_cached.proofs.Passing.{laid_none}
+use Rattle.cvr_cached.proofs.Reading.{header_read, current_read}
+use Rattle.cvr_cached.proofs.Searched.{AreThere, put_none}
+use Rattle.cvr_cached.proofs.Taken.{own_runs, plain_after, rise_before}
+
+-- ---- lists and their sets
+
+in_set_of : (xs : List AnyFact) (x : AnyFact) → Contains xs x → contains (set_of xs) (fact_of x) ≡ true
+in_set_of xs x at = in_set fact_total fact_exact (map fact_of xs) (fact_of x) (in_map fact_of x xs at)
+
+from_set_of : (xs : List AnyFact) (f : Fact) → contains (set_of xs) f ≡ true → (x : AnyFact) × Contains xs x × (fact_of x ≡ f)
+from_set_of xs f is = from_map fact_of f xs (from_set fact_total fact_exact (map fact_of xs) f is)
+
+-- of a group either one is new, or all are there
+find_new : (old group : List AnyFact) → ((x : AnyFact) × Contains group x × (contains (set_of old) (fact_of x) ≡ false)) ⊎ AreThere old group
+find_new old [] = inr (λ x at. absurd (none_listed x at))
+find_new old (x ∷ xs) =
+    elim (contains (set_of old) (fact_of x)) as (λ b. contains (set_of old) (fact_of x) ≡ b → ((y : AnyFact) × Contains (x ∷ xs) y × (contains (set_of old) (fact_of y) ≡ false)) ⊎ AreThere old (x ∷ xs)) [
+      | true ↦ λ e. elim (find_new old xs) [
+        | inl new ↦ inl (new.0, at_tail x new.0 xs new.1, new.2)
+        | inr all ↦ inr (λ y at. elim (head_or_tail x y xs at) [
+          | inl is ↦ subst (λ z. contains (set_of old) (fact_of z) ≡ true) is e
+          | inr more ↦ all y more
+        ])
+      ]
+      | false ↦ λ e. inl (x, at_head x xs, e)
+    ] refl
+
+-- what makes a list longer brings a new fact
+brings_new : (old group new : List AnyFact) → IsStrictlySortedBy any_cmp old → IsPut old group new → length old < length new → (x : AnyFact) × Contains group x × (contains (set_of old) (fact_of x) ≡ false)
+brings_new old group new rises put less = elim (find_new old group) [
+  | inl fresh ↦ fresh
+  | inr all ↦
+      let same : set_of old ≡ set_of new = (put_none old group rises all).set ∙ sym put.set in
+      absurd (omega (arith, less, len-set_of old rises, len-set_of new put.rises, ap len same))
+]
+
+not_held : (b : Bool) → (b ≡ true → ⊥) → b ≡ false
+not_held true never = absurd (never refl)
+not_held false never = refl
+
+new_alone : (a b : Bool) → (a && not b) ≡ true → (a ≡ true) × (b ≡ false)
+new_alone true true e = absurd (false≢true e)
+new_alone true false e = (refl, refl)
+new_alone false b e = absurd (false≢true e)
+
+-- ---- the keys of a content are as many as the contests of the record's current snapshot
+
+module _ (frame : Frame) (d : List AnyFact) (es : Entries) (plain : IsPlain frame (listed d es)) (own : AreOwn d es) (k : RecordName) where
+  abbrev s : Facts
+  s = set_of (listed d es)
+
+  abbrev facts : List AnyFact
+  facts = facts_at (at_name k es)
+
+  abbrev many : Option (List ℕ) → ℕ
+  many o = length (option_map_or (sums_of_body frame.contests) o [])
+
+  heads : (h : Option HeaderFact) → h ≡ header_in facts → IsHeader s k h
+  heads h is = header_read frame d es plain own k (at_name k es) refl h is
+
+  nows : (n : Option SnapshotFact) → n ≡ current_in facts → IsCurrent frame.contests s k n
+  nows n is = current_read frame d es plain own k (at_name k es) refl n is
+
+  -- a record with a snapshot has a header
+  headed : (body : List ℕ) → current s k ≡ Some body → header s k ≡ None → ⊥
+  headed body is none =
+      let at = (greatest_is choice_total (snapshot_bodies s k) body is).listed in
+      let fact = (Contains-snapshot_bodies s k body).0 at in
+      let head = (plain.keeps.whole (Snapshot k.device k.unique fact.0 body) fact.1).header in
+      let there = (Contains-header_bodies s k head.0).1 head.1 in
+      let top = has_greatest text_total (header_bodies s k) (λ empty. none_listed head.0 (subst (λ bs. Contains bs head.0) empty there)) in
+      let clash : None ≡ Some top.0 = sym none ∙ is_greatest text_total text_exact (header_bodies s k) top.0 top.1 in
+      Prim.cc clash
+
+  keys_of_parts : (h : Option HeaderFact) (n : Option SnapshotFact) → h ≡ header_in facts → n ≡ current_in facts → length (keys_in facts) ≡ contests_at frame.contests s k
+  keys_of_parts None None a b = ap (λ ps. length (map (λ (p : RowKey × VoteSums). p.0) ps)) (pairs_are facts None None (sym a) (sym b)) ∙ ap many (nows None b).body
+  keys_of_parts None (Some n) a b = absurd (headed n.body (sym (nows (Some n) b).body) (sym (heads None a).body))
+  keys_of_parts (Some h) None a b = ap (λ ps. length (map (λ (p : RowKey × VoteSums). p.0) ps)) (pairs_are facts (Some h) None (sym a) (sym b)) ∙ ap many (nows None b).body
+  keys_of_parts (Some h) (Some n) a b =
+      let now = nows (Some n) b in
+      let pair : VoteSums → RowKey × VoteSums = λ v. (key_for h.unit h.batch v, v) in
+      ap (λ ps. length (map (λ (p : RowKey × VoteSums). p.0) ps)) (pairs_are facts (Some h) (Some n) (sym a) (sym b))
+      ∙ (length-map (map pair n.votes) (λ (p : RowKey × VoteSums). p.0) ∙ (length-map n.votes pair ∙ (ap length (now.typed n refl).spelled.votes ∙ ap many now.body)))
+
+  keys_are_contests : length (keys_in facts) ≡ contests_at frame.contests s k
+  keys_are_contests = keys_of_parts (header_in facts) (current_in facts) refl refl
+
+-- ---- a plan
+
+abbrev name_in : RecordName × List AnyFact → RecordName
+name_in c = c.0
+
+-- what is laid over a name that is planned
+laid_own : (f : RecordName → Option (List AnyFact)) (cs : Entries) → IsStrictlySortedBy name_cmp (map name_in cs) → (c : RecordName × List AnyFact) → Contains cs c → laid cs f c.0 ≡ Some c.1
+laid_own f [] rises c at = absurd (none_listed c at)
+laid_own f (x ∷ xs) rises c at = elim (head_or_tail x c xs at) [
+  | inl is ↦ ap (λ b. cond b (Some x.1) (laid xs f c.0)) (own_name x.0 c.0 (ap name_in is)) ∙ ap (λ (p : RecordName × List AnyFact). Some p.1) is
+  | inr more ↦
+      let less = each_of (λ n. name_cmp x.0 n ≡ Less) (map name_in xs) c.0 (sorted_head name_cmp x.0 (map name_in xs) rises) (in_map name_in c xs more) in
+      ap (λ b. cond b (Some x.1) (laid xs f c.0)) (less_other (name_cmp x.0 c.0) less) ∙ laid_own f xs (sorted_tail name_cmp x.0 (map name_in xs) rises) c more
+]
+
+named_listed : (cs : Entries) (q : RecordName) → is_named cs q ≡ true → Contains (map name_in cs) q
+named_listed [] q e = absurd (false≢true e)
+named_listed (c ∷ cs) q e = elim (is_name_of c.0 q) as (λ b. is_name_of c.0 q ≡ b → (b || is_named cs q) ≡ true → Contains (map name_in (c ∷ cs)) q) [
+  | true ↦ λ is _. subst (Contains (c.0 ∷ map name_in cs)) (same_name c.0 q is) (at_head c.0 (map name_in cs))
+  | false ↦ λ _ later. at_tail c.0 q (map name_in cs) (named_listed cs q later)
+] refl e
+
+module _ (f : RecordName → Option (List AnyFact)) (g : RecordName → List AnyFact) where
+  change_of : (cs : Entries) (ks : List Keys) → AreChanges f g cs ks → (c : RecordName × List AnyFact) → Contains cs c → (k : Keys) × IsChange f g c k
+  change_of [] ks h c at = absurd (none_listed c at)
+  change_of (x ∷ xs) [] h c at = absurd h
+  change_of (x ∷ xs) (k ∷ ks) h c at = elim (head_or_tail x c xs at) [
+    | inl is ↦ (k, subst (λ (y : RecordName × List AnyFact). IsChange f g y k) is h.0)
+    | inr more ↦ change_of xs ks h.1 c more
+  ]
+
+  sum_moves : (w : RecordName → ℕ) (cs : Entries) (ks : List Keys) → AreChanges f g cs ks → ((c : RecordName × List AnyFact) → Contains cs c → length (keys_in (facts_at (f c.0))) + length (keys_in c.1) ≡ w c.0)
+      → all_moves ks ≡ sum_by w (map name_in cs)
+  sum_moves w [] [] h is = refl
+  sum_moves w [] (k ∷ ks) h is = absurd h
+  sum_moves w (c ∷ cs) [] h is = absurd h
+  sum_moves w (c ∷ cs) (k ∷ ks) h is =
+      let one = sum_by-cons (λ (k : Keys). length k.old.items + length k.new.items) k ks in
+      let two = sum_by-cons w c.0 (map name_in cs) in
+      let old = ap length h.0.old in
+      let new = ap length h.0.new in
+      let here = is c (at_head c cs) in
+      let rest = sum_moves w cs ks h.1 (λ d at. is d (at_tail c d cs at)) in
+      omega (arith, one, two, old, new, here, rest)
+
+-- ---- the plan is carried out
+
+module _ (contests : List Contest) (d : List AnyFact) (es : Entries) (m : Rows) (count : ℕ) (more : List AnyFact) (held : IsHeld contests d es m count) (told : IsTold contests (listed d es) more)
+    (d' : List AnyFact) (fs : Entries) (put : IsPut (listed d es) more (listed d' fs)) (own : AreOwn d' fs)
+    (g : RecordName → List AnyFact) (group_is : (k : RecordName) (f : AnyFact) → Contains (g k) f ↔ (Contains more f × (record_of (fact_of f) ≡ Some k)))
+    (cs : Entries) (ks : List Keys) (n : ℕ) (plan : IsPlan (λ k. at_name k es) g cs ks n) (done : (k : RecordName) → at_name k fs ≡ laid cs (λ k. at_name k es) k) where
+  abbrev before : Facts
+  before = set_of (listed d es)
+
+  abbrev after : Facts
+  after = set_of (listed d' fs)
+
+  -- a fact of a record stands exactly where it is in its content
+  in_content : (k : RecordName) (f : Fact) → record_of f ≡ Some k → contains before f ≡ true → contains (set_of (facts_at (at_name k es))) f ≡ true
+  in_content k f of is =
+      let x = from_set_of (listed d es) f is in
+      subst (λ q. contains (set_of (facts_at (at_name k es))) q ≡ true) x.2 (in_set_of (facts_at (at_name k es)) x.0 ((own_runs d es held.own k x.0).1 (x.1, ap record_of x.2 ∙ of)))
+
+  from_content : (k : RecordName) (f : Fact) → contains (set_of (facts_at (at_name k es))) f ≡ true → contains before f ≡ true
+  from_content k f is =
+      let x = from_set_of (facts_at (at_name k es)) f is in
+      subst (λ q. contains before q ≡ true) x.2 (in_set_of (listed d es) x.0 ((own_runs d es held.own k x.0).0 x.1).0)
+
+  -- what is planned gains a fact
+  planned_gains : (c : RecordName × List AnyFact) → Contains cs c → Contains (filter_map record_of (items (difference after before))) c.0
+  planned_gains c at =
+      let change = (change_of (λ k. at_name k es) g cs ks plan.changes c at).1 in
+      let x = brings_new (facts_at (at_name c.0 es)) (g c.0) c.1 (rise_before contests d es m count more held told c.0) change.put change.more in
+      let came = (group_is c.0 x.0).0 x.1 in
+      let now : contains after (fact_of x.0) ≡ true = subst (λ u. contains u (fact_of x.0) ≡ true) (sym put.set) (in_union fact_total fact_exact before (set_of more) (fact_of x.0) (inr (in_set_of more x.0 came.0))) in
+      let then : contains before (fact_of x.0) ≡ false = not_held (contains before (fact_of x.0)) (λ e. false≢true (sym x.2 ∙ in_content c.0 (fact_of x.0) came.1 e)) in
+      let new : contains (difference after before) (fact_of x.0) ≡ true = contains-difference fact_total after before (fact_of x.0) ∙ (λ i. now i && not (then i)) in
+      Contains-filter_map record_of (items (difference after before)) (fact_of x.0) c.0 ((contains_iff (difference after before) (fact_of x.0)).0 new) came.1
+
+  -- what gains a fact is planned
+  gaining_planned : (k : RecordName) → Contains (filter_map record_of (items (difference after before))) k → Contains (map name_in cs) k
+  gaining_planned k at =
+      let f = from-filter_map record_of (items (difference after before)) k at in
+      let new = new_alone (contains after f.0) (contains before f.0) (sym (contains-difference fact_total after before f.0) ∙ (contains_iff (difference after before) f.0).1 f.1) in
+      let came : contains (set_of more) f.0 ≡ true = elim (from_union fact_total fact_exact before (set_of more) f.0 (subst (λ u. contains u f.0 ≡ true) put.set new.0)) [
+        | inl was ↦ absurd (false≢true (sym new.1 ∙ was))
+        | inr is ↦ is
+      ] in
+      let x = from_set_of more f.0 came in
+      let grouped : contains (set_of (g k)) f.0 ≡ true = subst (λ q. contains (set_of (g k)) q ≡ true) x.2 (in_set_of (g k) x.0 ((group_is k x.0).1 (x.1, ap record_of x.2 ∙ f.2))) in
+      let there = subst (λ u. contains u f.0 ≡ true) (sym (plan.put k).set) (in_union fact_total fact_exact (set_of (facts_at (at_name k es))) (set_of (g k)) f.0 (inr grouped)) in
+      elim (is_named cs k) as (λ b. is_named cs k ≡ b → Contains (map name_in cs) k) [
+        | true ↦ λ e. named_listed cs k e
+        | false ↦ λ e. absurd (false≢true (sym new.1 ∙ from_content k f.0 (subst (λ o. contains (set_of (facts_at o)) f.0 ≡ true) (laid_none (λ k. at_name k es) cs k e) there)))
+      ] refl
+
+  -- and each key that it moves is of a contest
+  moved_at : (c : RecordName × List AnyFact) → Contains cs c → length (keys_in (facts_at (at_name c.0 es))) + length (keys_in c.1) ≡ contests_at contests before c.0 + contests_at contests after c.0
+  moved_at c at =
+      let out = keys_are_contests told.frame d es told.before held.own c.0 ∙ ap (λ l. contests_at l before c.0) (sym told.contests_are) in
+      let back = ap (λ o. length (keys_in (facts_at o))) (sym (done c.0 ∙ laid_own (λ k. at_name k es) cs plan.names_rise c at))
+      ∙ (keys_are_contests told.frame d' fs (plain_after contests d es m count more held told d' fs m contests count n put own) own c.0 ∙ ap (λ l. contests_at l after c.0) (sym told.contests_are)) in
+      λ i. out i + back i
+
+  pub moved_is : all_moves ks ≡ moved contests before after
+  moved_is =
+      let w : RecordName → ℕ = λ r. contests_at contests before r + contests_at contests after r in
+      sum_moves (λ k. at_name k es) g w cs ks plan.changes moved_at
+      ∙ ap (sum_by w) (sym (ordered-members name_total name_exact (filter_map record_of (items (difference after before))) (map name_in cs) plan.names_rise
+      (λ k at. let c = from_map name_in k cs at in subst (Contains (filter_map record_of (items (difference after before)))) c.2 (planned_gains c.0 c.1))
+      gaining_planned))
+
+-- the moves of a plan that was carried out
+pub moved_told : {T E A B : Type 0} (r : Result T E) (old new k w : ℕ) → new ≡ old + cond (is_ok r) k 0 → OnOk r A → OnOk r B → (A → B → k ≡ w) → OnOk r (new ≡ old + w)
+moved_told (Ok x) old new k w is a b f = is ∙ ap (λ n. old + n) (f a b)
+moved_told (Err e) old new k w is a b f = tt
