@@ -32,4 +32,5 @@ pub mod SameContents
 pub mod Bounds
 pub mod NextOver
 pub mod GivenMoves
+pub mod Moving
 pub mod Moved

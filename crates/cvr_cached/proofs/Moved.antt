@@ -17,10 +17,9 @@ use Rattle.cvr_facts.specs.declared.name.RecordName.{RecordName}
 use Rattle.cvr_facts.specs.declared.header.HeaderFact.{HeaderFact}
 use Rattle.cvr_facts.specs.declared.snapshot.SnapshotFact.{SnapshotFact}
 use Rattle.cvr_facts.specs.declared.sums.VoteSums.{VoteSums}
-use Rattle.cvr_facts.specs.Facts.{Fact, Snapshot, Facts, name_cmp, fact_total, fact_exact}
-use Rattle.cvr_facts.specs.Choosing.{header, current, header_bodies, snapshot_bodies}
-use Rattle.cvr_facts.proofs.Laws.{text_total, text_exact, choice_total, contains_iff, Contains-header_bodies, Contains-snapshot_bodies}
-use Rattle.cvr_facts.proofs.Lemmas.{greatest_is, has_greatest, is_greatest, none_listed, at_head, at_tail, head_or_tail, in_map, from_map, in_set, from_set, Contains-filter_map, from-filter_map}
+use Rattle.cvr_facts.specs.Facts.{Fact, Facts, name_cmp, fact_total, fact_exact}
+use Rattle.cvr_facts.proofs.Laws.{contains_iff}
+use Rattle.cvr_facts.proofs.Lemmas.{none_listed, at_head, at_tail, head_or_tail, in_map, from_map, in_set, from_set, Contains-filter_map, from-filter_map}
 use Rattle.cvr_tally.specs.declared.key.RowKey.{RowKey}
 use Rattle.cvr_tally.specs.Rows.{Rows}
 use Rattle.cvr_collect.specs.declared.any_fact.AnyFact.{AnyFact}
@@ -39,6 +38,7 @@ use Rattle.cvr_cached.specs.Moves.{contests_at, moved}
 use Rattle.cvr_cached.specs.Plans.{is_named, is_name_of, laid, all_moves, AreChanges, IsChange, IsPlan}
 use Rattle.cvr_cached.proofs.KeyTests.{own_name, same_name}
 use Rattle.cvr_cached.proofs.Listed.{at_name, each_of, len-set_of, less_other}
+use Rattle.cvr_cached.proofs.Moving.{headed}
 use Rattle.cvr_cached.proofs.Pairs.{pairs_are}
 use Rattle.cvr_cached.proofs.Passing.{laid_none}
 use Rattle.cvr_cached.proofs.Reading.{header_read, current_read}
@@ -104,20 +104,9 @@ module _ (frame : Frame) (d : List AnyFact) (es : Entries) (plain : IsPlain fram
   nows : (n : Option SnapshotFact) → n ≡ current_in facts → IsCurrent frame.contests s k n
   nows n is = current_read frame d es plain own k (at_name k es) refl n is
 
-  -- a record with a snapshot has a header
-  headed : (body : List ℕ) → current s k ≡ Some body → header s k ≡ None → ⊥
-  headed body is none =
-      let at = (greatest_is choice_total (snapshot_bodies s k) body is).listed in
-      let fact = (Contains-snapshot_bodies s k body).0 at in
-      let head = (plain.keeps.whole (Snapshot k.device k.unique fact.0 body) fact.1).header in
-      let there = (Contains-header_bodies s k head.0).1 head.1 in
-      let top = has_greatest text_total (header_bodies s k) (λ empty. none_listed head.0 (subst (λ bs. Contains bs head.0) empty there)) in
-      let clash : None ≡ Some top.0 = sym none ∙ is_greatest text_total text_exact (header_bodies s k) top.0 top.1 in
-      Prim.cc clash
-
   keys_of_parts : (h : Option HeaderFact) (n : Option SnapshotFact) → h ≡ header_in facts → n ≡ current_in facts → length (keys_in facts) ≡ contests_at frame.contests s k
   keys_of_parts None None a b = ap (λ ps. length (map (λ (p : RowKey × VoteSums). p.0) ps)) (pairs_are facts None None (sym a) (sym b)) ∙ ap many (nows None b).body
-  keys_of_parts None (Some n) a b = absurd (headed n.body (sym (nows (Some n) b).body) (sym (heads None a).body))
+  keys_of_parts None (Some n) a b = absurd (headed frame s plain.keeps k n.body (sym (nows (Some n) b).body) (sym (heads None a).body))
   keys_of_parts (Some h) None a b = ap (λ ps. length (map (λ (p : RowKey × VoteSums). p.0) ps)) (pairs_are facts (Some h) None (sym a) (sym b)) ∙ ap many (nows None b).body
   keys_of_parts (Some h) (Some n) a b =
       let now = nows (Some n) b in

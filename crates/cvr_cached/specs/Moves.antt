@@ -1,14 +1,16 @@
 -- How often the rows of a tally are changed where an office takes in facts. (This project's own.)
-use Rattle.std.specs.Prelude.{◌+◌, ℕ, List, [], length}
+use Rattle.std.specs.Prelude.{◌≡◌, ◌+◌, ℕ, List, [], length}
 use Rattle.std.specs.List.{sum_by}
 use Rattle.std.specs.Option.{option_map_or}
 use Rattle.std.specs.FinSet.{difference}
 use Rattle.cdf_form.specs.Places.{Contest}
+use Rattle.cdf_check.specs.Frame.{Frame}
 use Rattle.cvr_facts.specs.declared.name.RecordName.{RecordName}
 use Rattle.cvr_facts.specs.Facts.{Facts}
 use Rattle.cvr_facts.specs.Choosing.{current}
+use Rattle.cvr_collect.specs.Keeps.{Keeps}
 use Rattle.cvr_collect.specs.Names.{records}
-use Rattle.cvr_collect.specs.Tallied.{sums_of_body}
+use Rattle.cvr_collect.specs.Tallied.{sums_of_body, keys_at}
 
 -- how many contests the current snapshot of a record has, 0 where the record has none
 abbrev pub contests_at : List Contest → Facts → RecordName → ℕ
@@ -21,3 +23,13 @@ gaining s t = records (difference t s)
 -- each of these is taken out once for each contest of its current snapshot in s, and added once for each of that in t
 abbrev pub moved : List Contest → Facts → Facts → ℕ
 moved contests s t = sum_by (λ r. contests_at contests s r + contests_at contests t r) (gaining s t)
+
+-- ---- laws
+
+-- of what an office keeps, these contests are as many as the rows that the record stands in
+abbrev pub RowsOfRecordLaw : Type 0
+RowsOfRecordLaw = (frame : Frame) (s : Facts) (r : RecordName) → Keeps frame s → contests_at frame.contests s r ≡ length (keys_at frame.contests s r)
+
+-- where no fact is new, no row is changed
+abbrev pub NothingMovesLaw : Type 0
+NothingMovesLaw = (contests : List Contest) (s : Facts) → moved contests s s ≡ 0

@@ -1,5 +1,6 @@
-//! Laws of parts that are joined, and of offices of two kinds.
+//! Laws of parts that are joined, of offices of two kinds, and of how often rows are changed.
 ghost use Rattle.cvr_cached.specs.Kinds.{KindsLaw};
+ghost use Rattle.cvr_cached.specs.Moves.{NothingMovesLaw, RowsOfRecordLaw};
 ghost use Rattle.cvr_cached.specs.Wholes.{WholesLaw};
 
 use cvr_collect::Office;
@@ -16,4 +17,11 @@ pub fn wholes_are_joined<J: Join>()
 /// an equal definition, and its running totals are the rows that the plain one computes.
 pub fn kinds_hold_the_same<One: Office, Other: Office>()
     ensures { KindsLaw One.held One.defined Other.held Other.defined }
+{}
+
+/// The contests of a record's current snapshot, by which moves are told, are as many as the rows that
+/// the record stands in. Where no fact is new, no row is changed.
+pub fn moving()
+    ensures rows { RowsOfRecordLaw }
+    ensures none { NothingMovesLaw }
 {}
