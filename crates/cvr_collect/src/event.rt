@@ -1,5 +1,6 @@
 use crate::fault::JoinFault;
 use cdf_types::ReadFault;
+use thiserror::Error;
 
 /// Something that happens among offices and files, all told by their places, from 0.
 #[derive(Clone, Copy, Debug, PartialEq, Eq)]
@@ -21,15 +22,19 @@ pub enum Event {
 }
 
 /// Why an event was refused.
-#[derive(Drop)]
+#[derive(Debug, Drop, Error)]
 pub enum Cause {
     /// The file isn't accepted.
+    #[error(transparent)]
     Read(ReadFault),
     /// The facts couldn't be joined.
+    #[error(transparent)]
     Join(JoinFault),
     /// There is no such office.
+    #[error("there is no such office")]
     NoOffice,
     /// There is no such file.
+    #[error("there is no such file")]
     NoFile,
 }
 

@@ -24,15 +24,19 @@ pub enum WordFault {
 }
 
 /// The same, with all that is told of it.
-#[derive(Drop)]
+#[derive(Debug, Drop, Error)]
 pub enum LineFault {
     /// No command takes the words. The text says what is wrong with them.
+    #[error("{text}")]
     Refused { text: String },
     /// The words ask for help. The text is the help.
+    #[error("{text}")]
     Help { text: String },
     /// The step at the place, from 0, has no form of a step. It is as given.
+    #[error("step {place} has no form of a step")]
     BadStep { place: usize, step: Body },
     /// Want of memory; it stands in place of any other answer.
+    #[error("out of memory")]
     Memory,
 }
 
