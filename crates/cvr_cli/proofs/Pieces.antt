@@ -3,7 +3,7 @@ use Rattle.std.proofs.Common.{◌≡◌, ℕ, ◌+◌, ◌<◌, List, [], ◌∷
 use Rattle.std.specs.List.{flat_map}
 use Rattle.std.specs.Result.{is_err}
 use Rattle.std.proofs.lemmas.List.{at_drop_more}
-use Rattle.cdf_types.specs.Device.{appended, AppendsPrefix}
+use Rattle.cdf_types.specs.Device.{appended, AppendsPrefix, AppendsProperPrefix}
 use Rattle.cdf_types.proofs.Lemmas.{appended_twice}
 
 -- the bytes of pieces
@@ -13,6 +13,10 @@ bytes_of pieces = flat_map (λ p. p.now) pieces
 pub next_piece : (pieces : List (Bor (List ℕ))) (i : ℕ) (d : Bor (List ℕ)) (front : List ℕ) → i < length pieces → bytes_of pieces ≡ front ++ bytes_of (drop i pieces) → bytes_of pieces ≡ (front ++ (slice_index_or pieces i d).now) ++ bytes_of (drop (i + 1) pieces)
 next_piece pieces i d front within e =
     e ∙ ap (λ r. front ++ r) (at_drop_more bytes_of pieces i d within) ∙ sym (append_assoc front (slice_index_or pieces i d).now _)
+
+-- a proper prefix is a prefix
+pub proper_prefix : (before after : Option (List ℕ)) (bytes : List ℕ) → AppendsProperPrefix before after bytes → AppendsPrefix before after bytes
+proper_prefix before after bytes (front, rest, cut, more, told) = (front, rest, cut, told)
 
 pub front_of_piece : (before mid after : Option (List ℕ)) (front piece rest line : List ℕ) → line ≡ (front ++ piece) ++ rest → mid ≡ appended before front → AppendsPrefix mid after piece → AppendsPrefix before after line
 front_of_piece before mid after front piece rest line e taken (some, more, cut, told) = (

@@ -1,12 +1,12 @@
 use Rattle.std.proofs.Common.{sym, ◌∙◌}
-use Rattle.cvr_cli.proofs.Pieces.{next_piece, front_of_piece, piece_taken, failed_works, where_err, where_ok}
+use Rattle.cvr_cli.proofs.Pieces.{next_piece, proper_prefix, front_of_piece, piece_taken, failed_works, where_err, where_ok}
 use Rattle.cvr_cli.proofs.log.say.Goals as goal
 
 -- the log failed at this piece
 pub returns-then-is_err : goal.returns-then-is_err
 returns-then-is_err g c =
     let err = sym c.is_err.ensures.value ∙ c.if-is_err.true in
-    let told = where_err _ c.write_all.result err c.write_all.ensures.front in record {
+    let told = proper_prefix _ _ _ (where_err _ c.write_all.result err c.write_all.ensures.front) in record {
       whole = failed_works _ _ (where_err _ c.write_all.result err c.write_all.ensures.failed);
       silent = λ had. failed_works _ _ had (sym c.failed.ensures ∙ c.if-failed.false);
       front = front_of_piece _ _ _ _ _ _ _ (next_piece c.args.pieces.now c.loop-piece.piece-index _ c.loop-piece.invariant.1 c.loop-piece-test.true c.loop-piece.invariant.2) c.loop-piece.invariant.3 told;
