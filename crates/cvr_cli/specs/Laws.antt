@@ -1,5 +1,5 @@
 -- What is held of files is what an office holds after their imports, in a drill too; neither their order nor a file that comes again changes it. (This project's own.)
-use Rattle.std.specs.Prelude.{◌≡◌, ◌≢◌, ◌↔◌, ◌⊎◌, ◌<◌, ◌≤◌, ◌+◌, ◌-◌, ℕ, zero, suc, length, get_or, map, List, [], ◌∷◌, ◌++◌, replicate, codes, decimal, Some, None}
+use Rattle.std.specs.Prelude.{◌≡◌, ◌≢◌, ◌↔◌, ◌⊎◌, ◌<◌, ◌≤◌, ◌+◌, ◌-◌, ℕ, zero, suc, length, get_or, map, List, [], ◌∷◌, ◌++◌, replicate, codes, decimal, Bool, true, false, Option, Some, None}
 use Rattle.std.specs.List.{Contains, flat_map}
 use Rattle.std.specs.FinSet.{empty, union, len}
 use Rattle.cdf_check.specs.Frame.{Frame}
@@ -23,8 +23,11 @@ use Rattle.cvr_cli.specs.declared.merge.MergeFault.{MergeFault}
 use Rattle.cvr_cli.specs.declared.merge.MergeFault.TheVariants.{NoVolume}
 use Rattle.cvr_cli.specs.Currents.{currents, conflict_line, conflict_text}
 use Rattle.cvr_cli.specs.Drill.{new_offices, past_of, drilled, least_same, drill_text}
+use Rattle.cvr_cli.specs.Log.{memory_line}
 use Rattle.cvr_cli.specs.Merge.{merge_fault, merge_text}
 use Rattle.cvr_cli.specs.Outcome.{accepted_facts, held}
+use Rattle.cvr_cli.specs.Refusals.{Due}
+use Rattle.cvr_cli.specs.Told.{Telling, told_lines, can_all, IsCutShort}
 
 -- the imports of the first n files into one new office, each with the outcome that is due, the newest first
 abbrev pub imports : Frame → List (List ℕ) → ℕ → History
@@ -161,3 +164,12 @@ abbrev pub TwoLinesLaw : Type 0
 TwoLinesLaw = (definition : Frame) (files : List (List ℕ)) (steps : List Step) (first : List Act)
     → acts steps ≡ first ++ act.Exchange 1 2 ∷ act.Exchange 2 1 ∷ [] → ImportEach files first 0 1
     → drill_text definition 2 files steps ≡ same_line 1 (held definition files) ++ same_line 2 (held definition files)
+
+-- ---- want of memory
+
+-- but for `check`, a run that ends for want of memory tells `memory` alone, or each of its files or steps
+abbrev pub AloneOrEachLaw : Type 0
+AloneOrEachLaw =
+    (texts : List (List ℕ)) (dues : List Due) (fault : Option MergeFault) (out_failed : Bool) (text : List ℕ) → IsCutShort false texts dues fault out_failed text
+    → (text ≡ memory_line)
+    ⊎ ((tellings : List Telling) × (rest : List ℕ) × (length tellings ≡ length dues) × (can_all tellings dues ≡ true) × (text ≡ told_lines tellings texts dues ++ rest))

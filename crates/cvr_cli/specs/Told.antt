@@ -1,5 +1,5 @@
 -- What a run tells to its log: a line for each refused file or step, and what stands in its place where memory was wanting. (This project's own.)
-use Rattle.std.specs.Prelude.{◌≡◌, ◌⊎◌, ◌&&◌, ◌||◌, ℕ, List, [], ◌∷◌, ◌++◌, length, map, codes, Bool, true, false, if◌then◌else◌, Option, Some, None, is_some}
+use Rattle.std.specs.Prelude.{◌≡◌, ◌⊎◌, ◌&&◌, ◌||◌, ◌<◌, ℕ, List, [], ◌∷◌, ◌++◌, length, map, get_or, codes, Bool, true, false, if◌then◌else◌, Option, Some, None, is_some}
 use Rattle.std.specs.List.{list_any}
 use Rattle.std.specs.Option.{option_map_or}
 use Rattle.cdf_check.specs.Frame.{Frame}
@@ -7,13 +7,13 @@ use Rattle.cdf_check.specs.Acceptance.{frame_in, first_refusal, first_unsound}
 use Rattle.cvr_collect.specs.declared.event.Cause.{Cause}
 use Rattle.cvr_cli.specs.declared.refusals.Refusals.{Refusals}
 use Rattle.cvr_words.specs.declared.request.Task.{Task}
-use Rattle.cvr_words.specs.declared.request.Task.TheVariants.{Drill}
+use Rattle.cvr_words.specs.declared.request.Task.TheVariants.{Check, Drill}
 use Rattle.cvr_cli.specs.Accepted.{is_unsound}
 use Rattle.cvr_cli.specs.declared.merge.MergeFault.{MergeFault}
 use Rattle.cvr_cli.specs.Drill.{step_texts, step_dues}
 use Rattle.cvr_cli.specs.Log.{cause_line, memory_line, has_path_in, Logs}
 use Rattle.cvr_cli.specs.Merge.{merge_lines}
-use Rattle.cvr_cli.specs.Refusals.{Due, file_due}
+use Rattle.cvr_cli.specs.Refusals.{Due, no_due, file_due}
 
 -- ---- where memory was not wanting
 
@@ -36,6 +36,11 @@ file_dues definition files = map (λ file. file_due (first_refusal definition fi
 abbrev pub texts_of : Task → List (List ℕ) → List (List ℕ)
 texts_of (Drill n steps) paths = step_texts steps
 texts_of task paths = paths
+
+-- whether it is `check`, which goes file by file
+abbrev pub is_check : Task → Bool
+is_check Check = true
+is_check task = false
 
 -- what is due to each of them
 abbrev pub dues_of : Frame → Task → List (List ℕ) → List Due
@@ -112,26 +117,31 @@ pub record Tells (texts : List (List ℕ)) (dues : List Due) (n : ℕ) (refusals
   pub path_unspelled : refusals.path_unspelled ≡ list_any is_unspelled tellings
   pub logs : Logs before had_failed after has_failed (told_lines tellings texts dues)
 
--- what is told of files or steps in a run that ends for want of memory: of the first ones, and then `memory`; or of all, one of them lacking; or of all, none lacking but one unspelled, and then the rest
-pub record IsCutShort (texts : List (List ℕ)) (dues : List Due) (rest text : List ℕ) : Type 0 where
+-- where a run may end by `memory`, once this many files or steps were told: `check` before a file that is accepted, since its line had no room; any other task before all of them, or after all
+abbrev pub CanEndAfter : Bool → ℕ → List Due → Type 0
+CanEndAfter true n dues = (n < length dues) × ((get_or dues n no_due).cause ≡ None)
+CanEndAfter false n dues = (n ≡ 0) ⊎ (n ≡ length dues)
+
+-- what is told of files or steps in a run that ends for want of memory: of all, one of them lacking; of all, none lacking but one unspelled, and then the last lines; or of as many as `memory` may end it after, none lacking, and then `memory`, where the output has not failed
+pub record IsCutShort (check : Bool) (texts : List (List ℕ)) (dues : List Due) (fault : Option MergeFault) (out_failed : Bool) (text : List ℕ) : Type 0 where
   pub tellings : List Telling
   pub possible : can_all tellings dues ≡ true
-  pub ends : (text ≡ told_lines tellings texts dues ++ memory_line)
-      ⊎ ((length tellings ≡ length dues) × (list_any is_lacking tellings ≡ true) × (text ≡ told_lines tellings texts dues))
-      ⊎ ((length tellings ≡ length dues) × (list_any is_lacking tellings ≡ false) × (list_any is_unspelled tellings ≡ true) × (text ≡ told_lines tellings texts dues ++ rest))
+  pub ends : ((length tellings ≡ length dues) × (list_any is_lacking tellings ≡ true) × (text ≡ told_lines tellings texts dues))
+      ⊎ ((length tellings ≡ length dues) × (list_any is_lacking tellings ≡ false) × (list_any is_unspelled tellings ≡ true) × (text ≡ told_lines tellings texts dues ++ last_lines fault out_failed))
+      ⊎ (CanEndAfter check (length tellings) dues × (list_any is_lacking tellings ≡ false) × (out_failed ≡ false) × (text ≡ told_lines tellings texts dues ++ memory_line))
 
 -- the same of a whole run, that of the definition included
-abbrev pub IsRunCutShort : Task → List ℕ → List ℕ → List (List ℕ) → List (List ℕ) → List ℕ → List ℕ → Type 0
-IsRunCutShort task what def paths files rest text =
+abbrev pub IsRunCutShort : Task → List ℕ → List ℕ → List (List ℕ) → List (List ℕ) → Option MergeFault → Bool → List ℕ → Type 0
+IsRunCutShort task what def paths files fault out_failed text =
     ((telling : Telling) × (can_be telling (file_due (first_unsound def)) ≡ true) × (is_short telling ≡ true) × (text ≡ told_line telling what (file_due (first_unsound def))))
-    ⊎ ((is_unsound def ≡ false) × IsCutShort (texts_of task paths) (dues_of (frame_in def) task files) rest text)
+    ⊎ ((is_unsound def ≡ false) × IsCutShort (is_check task) (texts_of task paths) (dues_of (frame_in def) task files) fault out_failed text)
 
 -- the log took the text that one of these is
 abbrev pub LogsSome : (List ℕ → Type 0) → Option (List ℕ) → Bool → Option (List ℕ) → Bool → Type 0
 LogsSome P before had_failed after has_failed = (text : List ℕ) × P text × Logs before had_failed after has_failed text
 
--- of the files or steps of a run: whether memory was wanting for it, and what the log then took; after their lines comes the rest
-pub record TellsRun (texts : List (List ℕ)) (dues : List Due) (wanting : Type 0) (rest : List ℕ)
+-- of the files or steps of a run: whether memory was wanting for it, and what the log then took; the fault of a merge and a failed output come last
+pub record TellsRun (check : Bool) (texts : List (List ℕ)) (dues : List Due) (wanting : Type 0) (fault : Option MergeFault) (out_failed : Bool)
     (before : Option (List ℕ)) (had_failed : Bool) (after : Option (List ℕ)) (has_failed : Bool) : Type 0 where
-  pub log : ¬ wanting → Logs before had_failed after has_failed (refusal_lines texts dues ++ rest)
-  pub cut_short : wanting → LogsSome (IsCutShort texts dues rest) before had_failed after has_failed
+  pub log : ¬ wanting → Logs before had_failed after has_failed (refusal_lines texts dues ++ last_lines fault out_failed)
+  pub cut_short : wanting → LogsSome (IsCutShort check texts dues fault out_failed) before had_failed after has_failed

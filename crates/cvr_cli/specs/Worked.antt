@@ -1,5 +1,5 @@
 -- How a run over an opener goes: the definition and the files are read, in order, and it runs over them; or it stops at the first that is not read. (This project's own.)
-use Rattle.std.specs.Prelude.{◌≡◌, ◌≢◌, ℕ, List, ◌∷◌, ◌++◌, codes, Bool, true, Option}
+use Rattle.std.specs.Prelude.{◌≡◌, ◌≢◌, ℕ, List, [], ◌∷◌, ◌++◌, codes, Bool, true, Option}
 use Rattle.cvr_cli.specs.declared.file.FileFault.{FileFault}
 use Rattle.cvr_cli.specs.declared.file.FileFault.TheVariants.{Device, Memory}
 use Rattle.cvr_words.specs.declared.request.Task.{Task}
@@ -35,14 +35,23 @@ pub record IsUnread (file_at : List ℕ → At) (may_fail : List ℕ → Bool) (
 
 -- ---- a run that stops
 
--- why it stops: a file was not read; or the list of the files had no room
+-- of these paths the first ones, one or more, were read
+pub record AreSomeRead (file_at : List ℕ → At) (paths : List (List ℕ)) : Type 0 where
+  pub before : List (List ℕ)
+  pub path : List ℕ
+  pub after : List (List ℕ)
+  pub split : paths ≡ before ++ path ∷ after
+  pub files : List (List ℕ)
+  pub read : AreRead file_at (before ++ path ∷ []) files
+
+-- why it stops: a file was not read; or, once one was read, the list of the files had no room for it
 pub data Stop : Type 0 where
   Unread : (path : List ℕ) → (cause : FileFault) → Stop
   NoRoom : Stop
 
 abbrev pub CanStop : (List ℕ → At) → (List ℕ → Bool) → List (List ℕ) → Stop → Type 0
 CanStop file_at may_fail paths (Unread path cause) = IsUnread file_at may_fail paths path cause
-CanStop file_at may_fail paths NoRoom = Unit {0}
+CanStop file_at may_fail paths NoRoom = AreSomeRead file_at paths
 
 abbrev pub stop_status : Stop → Status
 stop_status (Unread path cause) = unread_status cause
@@ -70,4 +79,4 @@ pub record Runs (file_at : List ℕ → At) (task : Task) (what : List ℕ) (pat
   pub read : AreRead file_at (what ∷ paths) (def ∷ files)
   pub ends : Ends out_before out_after out_failed (run_text task def paths files) (any_refused task def files) answer
   pub log : answer ≢ status.Memory → Logs before had_failed after has_failed (run_lines task what def paths files ++ last_lines (run_fault task def files) out_failed)
-  pub cut_short : answer ≡ status.Memory → LogsSome (IsRunCutShort task what def paths files (last_lines (run_fault task def files) out_failed)) before had_failed after has_failed
+  pub cut_short : answer ≡ status.Memory → LogsSome (IsRunCutShort task what def paths files (run_fault task def files) out_failed) before had_failed after has_failed
