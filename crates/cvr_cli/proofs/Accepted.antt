@@ -27,9 +27,8 @@ pub lines_beside : (task : Task) (what def : List ℕ) (definition : Frame) (pat
 lines_beside task what def definition paths files out_failed s is =
     ap (λ d. refusal_lines (texts_of task paths) (dues_of d task files) ++ last_lines (task_fault d task files) out_failed) is ∙ rw (is_sound def s) refl
 
-pub last_beside : (task : Task) (def : List ℕ) (definition : Frame) (files : List (List ℕ)) (out_failed : Bool) → Sound def → definition ≡ frame_in def
-    → last_lines (task_fault definition task files) out_failed ≡ last_lines (run_fault task def files) out_failed
-last_beside task def definition files out_failed s is = ap (λ d. last_lines (task_fault d task files) out_failed) is ∙ rw (is_sound def s) refl
+pub fault_beside : (task : Task) (def : List ℕ) (files : List (List ℕ)) → Sound def → task_fault (frame_in def) task files ≡ run_fault task def files
+fault_beside task def files s = rw (is_sound def s) refl
 
 pub refused_beside : (task : Task) (def : List ℕ) (definition : Frame) (files : List (List ℕ)) → Sound def → definition ≡ frame_in def → task_refused definition task files ≡ any_refused task def files
 refused_beside task def definition files s is = ap (λ d. task_refused d task files) is ∙ rw (is_sound def s) refl

@@ -81,9 +81,22 @@ module _ (file_at : List ℕ → At) (may_fail : List ℕ → Bool) (paths : Lis
     log = log;
   }
 
-  -- where the list has no room
-  pub stops_full : answer ≡ Memory → Logs b f a h memory_line → Stops file_at may_fail paths answer b f a h
-  stops_full is log = record { stop = NoRoom; possible = tt; status = is; log = log }
+  -- where the list has no room for the file at the nth
+  pub stops_full : (n : ℕ) (path : List ℕ) (files : List (List ℕ)) (file : List ℕ) → n < length paths → path ≡ get_or paths n [] → AreRead file_at (take n paths) files → IsRead (file_at path) file
+      → answer ≡ Memory → Logs b f a h memory_line → Stops file_at may_fail paths answer b f a h
+  stops_full n path files file lt named before here is log = record {
+    stop = NoRoom;
+    possible = record {
+      before = take n paths;
+      path = path;
+      after = drop (n + 1) paths;
+      split = among_at n path lt named;
+      files = files ++ file ∷ [];
+      read = read_last file_at (take n paths) files path file before here;
+    };
+    status = is;
+    log = log;
+  }
 
   -- at a path before these
   pub stops_first : (path : List ℕ) (cause : FileFault) → (is_device cause ≡ true → FailedAt (file_at path) (may_fail path)) → answer ≡ unread_status cause → Logs b f a h (unread_line path cause)
@@ -97,7 +110,7 @@ module _ (file_at : List ℕ → At) (may_fail : List ℕ → Bool) (paths : Lis
 
   can_stop_later : (path file : List ℕ) (stop : Stop) → IsRead (file_at path) file → CanStop file_at may_fail paths stop → CanStop file_at may_fail (path ∷ paths) stop
   can_stop_later path file (Unread at cause) read u = record { before = path ∷ u.before; after = u.after; split = ap (λ ps. path ∷ ps) u.split; files = file ∷ u.files; read = (read, u.read); device = u.device }
-  can_stop_later path file NoRoom read u = tt
+  can_stop_later path file NoRoom read u = record { before = path ∷ u.before; path = u.path; after = u.after; split = ap (λ ps. path ∷ ps) u.split; files = file ∷ u.files; read = (read, u.read) }
 
   -- after a path before these was read
   pub stops_later : (path file : List ℕ) → IsRead (file_at path) file → Stops file_at may_fail paths answer b f a h → Stops file_at may_fail (path ∷ paths) answer b f a h

@@ -1,5 +1,5 @@
 -- A run that ends after a text was printed, or not printed.
-use Rattle.std.proofs.Common.{◌≡◌, ◌≢◌, ℕ, List, [], ◌∷◌, ◌++◌, length, Bool, true, false, ◌||◌, Option, Some, None, Result, Ok, Err, inl, inr, refl, sym, ap, ◌∙◌, subst, append-nil}
+use Rattle.std.proofs.Common.{◌≡◌, ◌≢◌, ℕ, List, [], ◌∷◌, ◌++◌, length, Bool, true, false, ◌||◌, Option, Some, None, Result, Ok, Err, IfErr, inl, inr, refl, sym, ap, ◌∙◌, subst, append-nil}
 use Rattle.std.specs.Prelude.{is_some, if◌then◌else◌}
 use Rattle.std.specs.Result.{IsErrAnd}
 use Rattle.cdf_types.specs.Device.{appended, AppendsPrefix}
@@ -168,23 +168,29 @@ status_in_memory : (unspelled : Bool) → (if unspelled then status.Memory else 
 status_in_memory true = refl
 status_in_memory false = refl
 
+-- a fault of the output is no want of memory
+pub by_device : {T : Type 0} (result : Result T PrintFault) → IfErr result (λ e. e ≡ Device) → IsErrAnd result (λ e. e ≡ Memory) → ⊥
+by_device (Ok x) only is = is
+by_device (Err e) only is = device_is_not (sym only ∙ is)
+
 module _ (texts : List (List ℕ)) (dues : List Due) (n : ℕ) (r : Refusals) (b m a : Option (List ℕ)) (f g h : Bool) (so_far : Tells texts dues n r b f m g)
     (all : n ≡ length dues) (working : r.file_lacking ≡ false) where
-  tells_whole : {T : Type 0} (before after : Option (List ℕ)) (failed : Bool) (result : Result T PrintFault) (fault : Option MergeFault) (text : List ℕ) (s : Status)
+  -- where memory was not refused for the text
+  pub tells_whole : {T : Type 0} (check : Bool) (before after : Option (List ℕ)) (failed : Bool) (result : Result T PrintFault) (fault : Option MergeFault) (text : List ℕ) (s : Status)
       → Prints before after failed result fault text → (IsErrAnd result (λ e. e ≡ Memory) → ⊥) → s ≡ status_after result r → Logs m g a h (end_line result)
-      → TellsRun texts dues (s ≡ status.Memory) (last_lines fault failed) b f a h
-  tells_whole before after failed result fault text s prints other is logs =
-      told_whole texts dues n r b m a f g h so_far (s ≡ status.Memory) (last_lines fault failed) all working
+      → TellsRun check texts dues (s ≡ status.Memory) fault failed b f a h
+  tells_whole check before after failed result fault text s prints other is logs =
+      told_whole check texts dues n r b m a f g h so_far fault failed (s ≡ status.Memory) all working
       (λ want. wanting_is result r working other (sym is ∙ want))
       (λ unspelled. is ∙ wanting_where result r unspelled)
       (subst (Logs m g a h) (rest_is before after failed result fault text prints other) logs)
 
   pub tells_after : {T : Type 0} (before after : Option (List ℕ)) (failed : Bool) (result : Result T PrintFault) (fault : Option MergeFault) (text : List ℕ) (s : Status)
       → Prints before after failed result fault text → s ≡ status_after result r → Logs m g a h (end_line result)
-      → TellsRun texts dues (s ≡ status.Memory) (last_lines fault failed) b f a h
-  tells_after {T} before after failed (Ok x) fault text s prints is logs = tells_whole {T = T} before after failed (Ok x) fault text s prints (λ e. e) is logs
-  tells_after {T} before after failed (Err (Merge u)) fault text s prints is logs = tells_whole {T = T} before after failed (Err (Merge u)) fault text s prints (merge_is_not u) is logs
-  tells_after {T} before after failed (Err Device) fault text s prints is logs = tells_whole {T = T} before after failed (Err Device) fault text s prints device_is_not is logs
-  tells_after {T} before after failed (Err Memory) fault text s prints is logs =
-      wanted texts dues (s ≡ status.Memory) (last_lines fault failed) b a f h (is ∙ status_in_memory r.path_unspelled)
-      (cut_by_memory texts dues n r b m a f g h so_far (last_lines fault failed) logs)
+      → TellsRun false texts dues (s ≡ status.Memory) fault failed b f a h
+  tells_after {T} before after failed (Ok x) fault text s prints is logs = tells_whole {T = T} false before after failed (Ok x) fault text s prints (λ e. e) is logs
+  tells_after {T} before after failed (Err (Merge u)) fault text s prints is logs = tells_whole {T = T} false before after failed (Err (Merge u)) fault text s prints (merge_is_not u) is logs
+  tells_after {T} before after failed (Err Device) fault text s prints is logs = tells_whole {T = T} false before after failed (Err Device) fault text s prints device_is_not is logs
+  tells_after {T} before after failed (Err Memory) fault text s (front, works, part) is logs =
+      wanted false texts dues (s ≡ status.Memory) fault failed b a f h (is ∙ status_in_memory r.path_unspelled)
+      (cut_by_memory false texts dues n r b m a f g h so_far fault failed (inr all) working works logs)

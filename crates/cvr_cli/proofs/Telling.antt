@@ -1,5 +1,5 @@
 -- A log that is told of files, one after the other.
-use Rattle.std.proofs.Common.{◌≡◌, ℕ, ◌+◌, ◌<◌, List, [], ◌∷◌, ◌++◌, length, get_or, Bool, true, false, ◌||◌, ◌&&◌, Option, Some, None, ◌⊎◌, inl, inr, refl, sym, ap, ◌∙◌, subst, append_assoc, append-nil, arith, true≢false}
+use Rattle.std.proofs.Common.{◌≡◌, ℕ, ◌+◌, ◌<◌, List, [], ◌∷◌, ◌++◌, length, get_or, Bool, true, false, ◌||◌, ◌&&◌, Option, Some, None, Result, Ok, Err, OnErr, ◌⊎◌, inl, inr, refl, sym, ap, ◌∙◌, subst, append_assoc, append-nil, arith, true≢false}
 use Rattle.std.specs.Prelude.{is_some, option_map, if◌then◌else◌}
 use Rattle.std.specs.Option.{option_map_or}
 use Rattle.std.specs.Global.{Vec}
@@ -16,12 +16,14 @@ use Rattle.cdf_check.specs.Acceptance.{frame_in, first_refusal, first_unsound}
 use Rattle.cvr_collect.specs.declared.event.Cause.{Cause}
 use Rattle.cvr_collect.specs.declared.event.Cause.TheVariants.{Read, Join, NoOffice, NoFile}
 use Rattle.cvr_words.specs.declared.request.Task.{Task}
+use Rattle.cvr_cli.specs.declared.merge.MergeFault.{MergeFault}
 use Rattle.cvr_cli.specs.declared.status.Status.TheVariants as status
 use Rattle.cvr_cli.specs.declared.refusals.Refusals.{Refusals}
 use Rattle.cvr_cli.specs.Refusals.{is_memory, wants_memory, status_of, Due, no_due, file_due, IsDue}
 use Rattle.cvr_cli.specs.Outcome.{bytes_of}
 use Rattle.cvr_cli.specs.Log.{cause_line, memory_line, has_path_in, Logs}
-use Rattle.cvr_cli.specs.Told.{Telling, AsDue, Lacking, Unspelled, refusal_line, refusal_lines, told_line, told_lines, can_be, can_all, is_lacking, is_unspelled, is_short, file_dues, texts_of, dues_of, run_lines, Tells, TellsRun, IsCutShort, IsRunCutShort, LogsSome}
+use Rattle.cvr_cli.specs.Laws.{AloneOrEachLaw}
+use Rattle.cvr_cli.specs.Told.{Telling, AsDue, Lacking, Unspelled, refusal_line, refusal_lines, told_line, told_lines, can_be, can_all, is_lacking, is_unspelled, is_short, file_dues, texts_of, dues_of, run_lines, last_lines, Tells, TellsRun, CanEndAfter, IsCutShort, IsRunCutShort, LogsSome}
 
 -- ---- logs, one after the other
 
@@ -97,6 +99,11 @@ can_all-more (s ∷ ts) t (f ∷ fs) all lt can =
 
 any-push : (test : Telling → Bool) (ts : List Telling) (t : Telling) → list_any test (ts ++ t ∷ []) ≡ (list_any test ts || test t)
 any-push test ts t = list_any-append test ts (t ∷ []) ∙ ap (λ b. list_any test ts || b) (or-false (test t))
+
+-- what holds anyway holds on an Err
+pub on_err : {T E : Type 0} (P : Type 0) (r : Result T E) → P → OnErr r P
+on_err P (Ok x) p = tt
+on_err P (Err e) p = p
 
 -- ---- a run so far
 
@@ -227,58 +234,92 @@ bool_false : (x : Bool) → (x ≡ true → ⊥) → x ≡ false
 bool_false true h = absurd (h refl)
 bool_false false h = refl
 
-module _ (texts : List (List ℕ)) (dues : List Due) (n : ℕ) (r : Refusals) (b m a : Option (List ℕ)) (f g h : Bool) (so_far : Tells texts dues n r b f m g) where
-  -- with `memory` after what was told
-  pub cut_by_memory : (rest : List ℕ) → Logs m g a h memory_line → LogsSome (IsCutShort texts dues rest) b f a h
-  cut_by_memory rest logs = (
+module _ (check : Bool) (texts : List (List ℕ)) (dues : List Due) (n : ℕ) (r : Refusals) (b m a : Option (List ℕ)) (f g h : Bool) (so_far : Tells texts dues n r b f m g)
+    (fault : Option MergeFault) (failed : Bool) where
+  -- with `memory` after what was told, none lacking
+  pub cut_by_memory : CanEndAfter check n dues → r.file_lacking ≡ false → failed ≡ false → Logs m g a h memory_line → LogsSome (IsCutShort check texts dues fault failed) b f a h
+  cut_by_memory can working works logs = (
     told_lines so_far.tellings texts dues ++ memory_line,
-    record { tellings = so_far.tellings; possible = so_far.possible; ends = inl refl },
-    logs_then b m a f g h _ _ so_far.logs logs,
-  )
-
-  -- with all told, none lacking, and the path of one unspelled
-  cut_in_files : (rest : List ℕ) → n ≡ length dues → r.file_lacking ≡ false → r.path_unspelled ≡ true → Logs m g a h rest → LogsSome (IsCutShort texts dues rest) b f a h
-  cut_in_files rest all working unspelled logs = (
-    told_lines so_far.tellings texts dues ++ rest,
     record {
       tellings = so_far.tellings;
       possible = so_far.possible;
-      ends = inr (inr (so_far.count ∙ all, sym so_far.file_lacking ∙ working, sym so_far.path_unspelled ∙ unspelled, refl));
+      ends = inr (inr (subst (λ k. CanEndAfter check k dues) (sym so_far.count) can, sym so_far.file_lacking ∙ working, works, refl));
     },
     logs_then b m a f g h _ _ so_far.logs logs,
   )
 
-  -- with the rest after all, none of them lacking
-  pub told_whole : (wanting : Type 0) (rest : List ℕ) → n ≡ length dues → r.file_lacking ≡ false → (wanting → r.path_unspelled ≡ true) → (r.path_unspelled ≡ true → wanting)
-      → Logs m g a h rest → TellsRun texts dues wanting rest b f a h
-  told_whole wanting rest all working is not logs = record {
+  -- with all told, none lacking, and the path of one unspelled
+  cut_in_files : n ≡ length dues → r.file_lacking ≡ false → r.path_unspelled ≡ true → Logs m g a h (last_lines fault failed) → LogsSome (IsCutShort check texts dues fault failed) b f a h
+  cut_in_files all working unspelled logs = (
+    told_lines so_far.tellings texts dues ++ last_lines fault failed,
+    record {
+      tellings = so_far.tellings;
+      possible = so_far.possible;
+      ends = inr (inl (so_far.count ∙ all, sym so_far.file_lacking ∙ working, sym so_far.path_unspelled ∙ unspelled, refl));
+    },
+    logs_then b m a f g h _ _ so_far.logs logs,
+  )
+
+  -- with the last lines after all, none of them lacking
+  pub told_whole : (wanting : Type 0) → n ≡ length dues → r.file_lacking ≡ false → (wanting → r.path_unspelled ≡ true) → (r.path_unspelled ≡ true → wanting)
+      → Logs m g a h (last_lines fault failed) → TellsRun check texts dues wanting fault failed b f a h
+  told_whole wanting all working is not logs = record {
     log = λ no.
         let spelled = bool_false r.path_unspelled (λ e. no (not e)) in
-        subst (λ l. Logs b f a h (l ++ rest)) (as_due so_far.tellings texts dues (sym so_far.file_lacking ∙ working) (sym so_far.path_unspelled ∙ spelled) (so_far.count ∙ all))
+        subst (λ l. Logs b f a h (l ++ last_lines fault failed)) (as_due so_far.tellings texts dues (sym so_far.file_lacking ∙ working) (sym so_far.path_unspelled ∙ spelled) (so_far.count ∙ all))
         (logs_then b m a f g h _ _ so_far.logs logs);
-    cut_short = λ want. cut_in_files rest all working (is want) logs;
+    cut_short = λ want. cut_in_files all working (is want) logs;
   }
 
+-- with `memory` before any was told
+pub cut_at_once : (texts : List (List ℕ)) (dues : List Due) (b a : Option (List ℕ)) (f h : Bool) (fault : Option MergeFault) → Logs b f a h memory_line → LogsSome (IsCutShort false texts dues fault false) b f a h
+cut_at_once texts dues b a f h fault logs = (memory_line, record { tellings = []; possible = refl; ends = inr (inr (inl refl, refl, refl, refl)) }, logs)
+
 -- with one lacking
-pub lacks : (texts : List (List ℕ)) (dues : List Due) (n : ℕ) (r : Refusals) (b m : Option (List ℕ)) (f g : Bool) → Tells texts dues n r b f m g → n ≡ length dues → r.file_lacking ≡ true
-    → (rest : List ℕ) → LogsSome (IsCutShort texts dues rest) b f m g
-lacks texts dues n r b m f g so_far all lacking rest = (
+pub lacks : (check : Bool) (texts : List (List ℕ)) (dues : List Due) (n : ℕ) (r : Refusals) (b m : Option (List ℕ)) (f g : Bool) → Tells texts dues n r b f m g → n ≡ length dues → r.file_lacking ≡ true
+    → (fault : Option MergeFault) (failed : Bool) → LogsSome (IsCutShort check texts dues fault failed) b f m g
+lacks check texts dues n r b m f g so_far all lacking fault failed = (
   told_lines so_far.tellings texts dues,
   record {
     tellings = so_far.tellings;
     possible = so_far.possible;
-    ends = inr (inl (so_far.count ∙ all, sym so_far.file_lacking ∙ lacking, refl));
+    ends = inl (so_far.count ∙ all, sym so_far.file_lacking ∙ lacking, refl);
   },
   so_far.logs,
 )
 
 -- a run that ended for want of memory, before it has printed anything
-pub wanted : (texts : List (List ℕ)) (dues : List Due) (wanting : Type 0) (rest : List ℕ) (b a : Option (List ℕ)) (f h : Bool) → wanting
-    → LogsSome (IsCutShort texts dues rest) b f a h → TellsRun texts dues wanting rest b f a h
-wanted texts dues wanting rest b a f h want some = record {
+pub wanted : (check : Bool) (texts : List (List ℕ)) (dues : List Due) (wanting : Type 0) (fault : Option MergeFault) (failed : Bool) (b a : Option (List ℕ)) (f h : Bool) → wanting
+    → LogsSome (IsCutShort check texts dues fault failed) b f a h → TellsRun check texts dues wanting fault failed b f a h
+wanted check texts dues wanting fault failed b a f h want some = record {
   log = λ no. absurd (no want);
   cut_short = λ _. some;
 }
+
+-- the same while the output works
+pub wanted_unprinted : (check : Bool) (texts : List (List ℕ)) (dues : List Due) (wanting : Type 0) (fault : Option MergeFault) (failed : Bool) (b a : Option (List ℕ)) (f h : Bool) → wanting → failed ≡ false
+    → LogsSome (IsCutShort check texts dues fault false) b f a h → TellsRun check texts dues wanting fault failed b f a h
+wanted_unprinted check texts dues wanting fault failed b a f h want works some =
+    wanted check texts dues wanting fault failed b a f h want (subst (λ x. LogsSome (IsCutShort check texts dues fault x) b f a h) (sym works) some)
+
+no_tellings : (ts : List Telling) → length ts ≡ 0 → ts ≡ []
+no_tellings [] none = refl
+no_tellings (t ∷ ts) none = absurd (omega (arith, none))
+
+-- but for `check`, `memory` alone, or each of them
+pub alone_or_each : AloneOrEachLaw
+alone_or_each texts dues fault failed text cut =
+    let ts = cut.tellings in
+    elim cut.ends [
+      | inl e ↦ inr (ts, [], e.0, cut.possible, e.2 ∙ sym (append-nil (told_lines ts texts dues)))
+      | inr other ↦ elim other [
+        | inl e ↦ inr (ts, last_lines fault failed, e.0, cut.possible, e.3)
+        | inr e ↦ elim e.0 [
+          | inl none ↦ inl (e.3 ∙ ap (λ us. told_lines us texts dues ++ memory_line) (no_tellings ts none))
+          | inr all ↦ inr (ts, memory_line, all, cut.possible, e.3)
+        ]
+      ]
+    ]
 
 -- as much is due as there are files
 pub all_due : (definition : Frame) (files : List (List ℕ)) → length files ≡ length (file_dues definition files)
@@ -329,8 +370,8 @@ module _ (task : Task) (what def : List ℕ) (paths files : List (List ℕ)) (fa
   definition_log last (inr (path, unspelled, logs)) whole =
       absurd (true≢false (sym unspelled ∙ (status_whole r.file_lacking r.path_unspelled r.any_refusal whole).1))
 
-  pub definition_cut_short : Noted none r b f a h told (Read fault) → status_of r ≡ status.Memory → LogsSome (IsRunCutShort task what def paths files rest) b f a h
-  definition_cut_short (inl (same, logs)) want =
+  pub definition_cut_short : (last : Option MergeFault) (failed : Bool) → Noted none r b f a h told (Read fault) → status_of r ≡ status.Memory → LogsSome (IsRunCutShort task what def paths files last failed) b f a h
+  definition_cut_short last failed (inl (same, logs)) want =
       let due = file_due (first_unsound def) in
       let by = wants_memory (Read fault) in
       let short : (r.file_lacking || r.path_unspelled) ≡ true = status_wanting r.file_lacking r.path_unspelled r.any_refusal want in
@@ -339,7 +380,7 @@ module _ (task : Task) (what def : List ℕ) (paths files : List (List ℕ)) (fa
         inl (telling_by by, can_be-telling_by by due (Read fault) own_due, sym is ∙ short, refl),
         subst (λ w. Logs b f a h (told_line (telling_by by) w due)) named (subst (Logs b f a h) (line_by by told due (Read fault) own_due) logs),
       )
-  definition_cut_short (inr (path, unspelled, logs)) want = (
+  definition_cut_short last failed (inr (path, unspelled, logs)) want = (
     memory_line,
     inl (Unspelled, ap (λ c. option_map_or has_path_in c false) (path_due (file_due (first_unsound def)) (Read fault) own_due path) ∙ path, refl, refl),
     logs,

@@ -1,10 +1,11 @@
-ghost use Rattle.std.specs.Prelude.{◌≡◌, ℕ, List, false, length, map, replicate, IfOk, IfErr, OnErr};
+ghost use Rattle.std.specs.Prelude.{◌≡◌, false, length, map, replicate, Option, None, IfOk, IfErr, OnErr};
 ghost use Rattle.cvr_collect.specs.declared.event.Event.{Event};
 ghost use Rattle.cvr_cli.specs.Drill.{place_of, event_of, events_of, new_offices, step_texts, step_dues, drill_refused, drill_text, drilled, AreOfOne};
 ghost use Rattle.cvr_cli.specs.declared.status.Status.TheVariants.{Memory as NoMemory};
+ghost use Rattle.cvr_cli.specs.declared.merge.MergeFault.{MergeFault};
 ghost use Rattle.cvr_cli.specs.Ends.{Ends};
 ghost use Rattle.cvr_cli.specs.Outcome.{bytes_of};
-ghost use Rattle.cvr_cli.specs.Told.{out_line, Tells, TellsRun, IsCutShort, LogsSome};
+ghost use Rattle.cvr_cli.specs.Told.{Tells, TellsRun, IsCutShort, LogsSome};
 
 use crate::collecting::note_refused;
 use crate::ending::{end_in_memory, end_with};
@@ -115,7 +116,7 @@ fn drill_all<O: Office + Drop, L: Sink>(
     ensures status { IfErr result (λ s. s ≡ NoMemory) }
     ensures log { IfOk result (λ r. Tells (step_texts steps.now) (step_dues definition.now count (bytes_of files.now) steps.now) (length steps.now) r.1
         (L.taken log.old) (L.has_failed log.old) (L.taken log.new) (L.has_failed log.new)) }
-    ensures cut_short { OnErr result ((rest : List ℕ) → LogsSome (IsCutShort (step_texts steps.now) (step_dues definition.now count (bytes_of files.now) steps.now) rest)
+    ensures cut_short { OnErr result ((fault : Option MergeFault) → LogsSome (IsCutShort false (step_texts steps.now) (step_dues definition.now count (bytes_of files.now) steps.now) fault false)
         (L.taken log.old) (L.has_failed log.old) (L.taken log.new) (L.has_failed log.new)) }
 {
     let Ok((offices, refusals)) = drill::<O, L>(alloc, definition, count, steps, files, log) else {
@@ -140,7 +141,7 @@ pub fn run_drill<O: Office + Drop, W: Sink, L: Sink>(
     requires { W.has_failed out.old ≡ false }
     ensures ends { Ends (W.taken out.old) (W.taken out.new) (W.has_failed out.new)
         (drill_text definition.now count (bytes_of files.now) steps.now) (drill_refused definition.now count (bytes_of files.now) steps.now) result }
-    ensures log { TellsRun (step_texts steps.now) (step_dues definition.now count (bytes_of files.now) steps.now) (result ≡ NoMemory) (out_line (W.has_failed out.new))
+    ensures log { TellsRun false (step_texts steps.now) (step_dues definition.now count (bytes_of files.now) steps.now) (result ≡ NoMemory) None (W.has_failed out.new)
         (L.taken log.old) (L.has_failed log.old) (L.taken log.new) (L.has_failed log.new) }
 {
     match drill_all::<O, L>(alloc, definition, count, steps, files, log) {

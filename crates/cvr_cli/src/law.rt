@@ -2,7 +2,7 @@ ghost use Rattle.std.specs.Prelude.{◌≡◌, ◌+◌};
 ghost use Rattle.cdf_form.specs.Reading.{max_file};
 ghost use Rattle.cvr_cli.specs.File.{held_bytes};
 ghost use Rattle.cvr_cli.specs.HeldBytes.{HeldTextLaw, HeldLinesLaw, HeldFaultLaw, HeldRefusedLaw};
-ghost use Rattle.cvr_cli.specs.Laws.{HeldLaw, SameFactsLaw, SameCurrentsLaw, SameConflictsLaw, SameTallyLaw, SameMergeFaultLaw, SameVolumeLaw, NoFaultLaw, NoTextLaw, ToldNumberLaw, LastNumberLaw, DueLaw, LeastSameLaw, StartLaw, ImportLaw, ExchangeLaw, AllImportedLaw, BothWaysLaw, OneLineLaw, TwoLinesLaw};
+ghost use Rattle.cvr_cli.specs.Laws.{HeldLaw, SameFactsLaw, SameCurrentsLaw, SameConflictsLaw, SameTallyLaw, SameMergeFaultLaw, SameVolumeLaw, NoFaultLaw, NoTextLaw, ToldNumberLaw, LastNumberLaw, DueLaw, LeastSameLaw, StartLaw, ImportLaw, ExchangeLaw, AllImportedLaw, BothWaysLaw, OneLineLaw, TwoLinesLaw, AloneOrEachLaw};
 
 /// What a run holds, the devices of the definition and the facts of the accepted files, is the content
 /// of one new office after the import of each file.
@@ -70,4 +70,9 @@ pub fn offices_of_a_drill_hold_what_a_run_holds()
     ensures both_ways { BothWaysLaw }
     ensures one_line { OneLineLaw }
     ensures two_lines { TwoLinesLaw }
+{}
+
+/// Where memory ends a run of any task but `check`, it tells `memory` alone, or each file or step.
+pub fn want_of_memory_is_told_alone_or_after_each_file()
+    ensures { AloneOrEachLaw }
 {}

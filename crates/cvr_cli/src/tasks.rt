@@ -1,4 +1,4 @@
-ghost use Rattle.std.specs.Prelude.{◌≡◌, ◌≢◌, ◌⊎◌, ◌++◌, ℕ, List, length, true, false, IfOk, IfErr, OnErr, string_bytes};
+ghost use Rattle.std.specs.Prelude.{◌≡◌, ◌≢◌, ◌⊎◌, ◌++◌, ℕ, length, true, false, Option, None, IfOk, IfErr, OnErr, string_bytes};
 ghost use Rattle.std.specs.List.{list_any};
 ghost use Rattle.cdf_types.specs.Device.{appended, AppendsPrefix};
 ghost use Rattle.cvr_cli.specs.Accepted.{is_refused};
@@ -6,9 +6,10 @@ ghost use Rattle.cvr_cli.specs.Imported.{files_bytes};
 ghost use Rattle.cvr_cli.specs.Outcome.{held, check_lines, facts_text, task_text, run_text, task_fault, run_fault, files_refused, task_refused, any_refused, bytes_of, IsWhole};
 ghost use Rattle.cvr_cli.specs.declared.status.Status.TheVariants.{Done, Refused, CommandLine, Device, Memory as NoMemory};
 ghost use Rattle.cvr_cli.specs.declared.refusals.Refusals.{Refusals};
+ghost use Rattle.cvr_cli.specs.declared.merge.MergeFault.{MergeFault};
 ghost use Rattle.cvr_cli.specs.Ends.{Ends};
 ghost use Rattle.cvr_cli.specs.Log.{Logs};
-ghost use Rattle.cvr_cli.specs.Told.{file_dues, texts_of, dues_of, run_lines, out_line, last_lines, Tells, TellsRun, IsCutShort, IsRunCutShort, LogsSome};
+ghost use Rattle.cvr_cli.specs.Told.{file_dues, texts_of, dues_of, is_check, run_lines, last_lines, Tells, TellsRun, CanEndAfter, IsCutShort, IsRunCutShort, LogsSome};
 
 use crate::check::push_count;
 use crate::collecting::collect;
@@ -41,14 +42,16 @@ fn count_files<L: Sink>(
         → string_bytes text.new ≡ string_bytes text.old ++ check_lines definition.now paths.now (bytes_of files.now)) }
     ensures log { IfOk result (λ r. Tells paths.now (file_dues definition.now (bytes_of files.now)) (length files.now) r
         (L.taken log.old) (L.has_failed log.old) (L.taken log.new) (L.has_failed log.new)) }
-    ensures cut_short { OnErr result ((n : ℕ) × (r : Refusals) × Tells paths.now (file_dues definition.now (bytes_of files.now)) n r
-        (L.taken log.old) (L.has_failed log.old) (L.taken log.new) (L.has_failed log.new)) }
+    ensures cut_short { OnErr result ((n : ℕ) × (r : Refusals) × (r.file_lacking ≡ false) × CanEndAfter true n (file_dues definition.now (bytes_of files.now))
+        × Tells paths.now (file_dues definition.now (bytes_of files.now)) n r (L.taken log.old) (L.has_failed log.old) (L.taken log.new) (L.has_failed log.new)) }
 {
     let mut refusals = Refusals::none();
     for (place, file) in files.iter().enumerate() {
         let path = paths[place].as_str();
         match count_records(alloc, definition, file.as_slice()) {
-            Ok(records) => push_count(text, path, records)?,
+            Ok(records) => if !refusals.file_lacking {
+                push_count(text, path, records)?;
+            },
             Err(fault) => refusals.note_file(alloc, log, path, fault),
         }
     }
@@ -71,7 +74,7 @@ fn collect_all<O: Office + Drop, L: Sink>(
     ensures status { IfErr result (λ s. s ≡ NoMemory) }
     ensures log { IfOk result (λ r. Tells paths.now (file_dues definition (files_bytes files.entry)) (length (files_bytes files.entry)) r.1
         (L.taken log.old) (L.has_failed log.old) (L.taken log.new) (L.has_failed log.new)) }
-    ensures cut_short { OnErr result ((rest : List ℕ) → LogsSome (IsCutShort paths.now (file_dues definition (files_bytes files.entry)) rest)
+    ensures cut_short { OnErr result ((fault : Option MergeFault) → LogsSome (IsCutShort false paths.now (file_dues definition (files_bytes files.entry)) fault false)
         (L.taken log.old) (L.has_failed log.old) (L.taken log.new) (L.has_failed log.new)) }
 {
     let Ok((office, refusals)) = collect::<O, L>(alloc, definition, paths, files, log) else {
@@ -97,8 +100,8 @@ fn run_office<O: Office + Drop, W: Sink, L: Sink>(
     requires named { length paths.now ≡ length (files_bytes files) }
     ensures ends { Ends (W.taken out.old) (W.taken out.new) (W.has_failed out.new)
         (facts_text definition task.now (held definition (files_bytes files.entry))) (files_refused definition task.now (files_bytes files.entry)) result }
-    ensures log { TellsRun paths.now (file_dues definition (files_bytes files.entry)) (result ≡ NoMemory)
-        (last_lines (task_fault definition task.now (files_bytes files.entry)) (W.has_failed out.new))
+    ensures log { TellsRun false paths.now (file_dues definition (files_bytes files.entry)) (result ≡ NoMemory)
+        (task_fault definition task.now (files_bytes files.entry)) (W.has_failed out.new)
         (L.taken log.old) (L.has_failed log.old) (L.taken log.new) (L.has_failed log.new) }
 {
     match collect_all::<O, L>(alloc, definition, paths, files, log) {
@@ -123,7 +126,7 @@ fn run_check<W: Sink, L: Sink>(
     requires named { length paths.now ≡ length files.now }
     ensures ends { Ends (W.taken out.old) (W.taken out.new) (W.has_failed out.new)
         (check_lines definition.now paths.now (bytes_of files.now)) (list_any (is_refused definition.now) (bytes_of files.now)) result }
-    ensures log { TellsRun paths.now (file_dues definition.now (bytes_of files.now)) (result ≡ NoMemory) (out_line (W.has_failed out.new))
+    ensures log { TellsRun true paths.now (file_dues definition.now (bytes_of files.now)) (result ≡ NoMemory) None (W.has_failed out.new)
         (L.taken log.old) (L.has_failed log.old) (L.taken log.new) (L.has_failed log.new) }
 {
     let mut text = String::new(alloc);
@@ -151,8 +154,8 @@ fn run_task<O: Office + Drop, W: Sink, L: Sink>(
     ensures ends { Ends (W.taken out.old) (W.taken out.new) (W.has_failed out.new)
         (task_text definition request.now.task request.now.paths (files_bytes files.entry))
         (task_refused definition request.now.task (files_bytes files.entry)) result }
-    ensures log { TellsRun (texts_of request.now.task request.now.paths) (dues_of definition request.now.task (files_bytes files.entry)) (result ≡ NoMemory)
-        (last_lines (task_fault definition request.now.task (files_bytes files.entry)) (W.has_failed out.new))
+    ensures log { TellsRun (is_check request.now.task) (texts_of request.now.task request.now.paths) (dues_of definition request.now.task (files_bytes files.entry))
+        (result ≡ NoMemory) (task_fault definition request.now.task (files_bytes files.entry)) (W.has_failed out.new)
         (L.taken log.old) (L.has_failed log.old) (L.taken log.new) (L.has_failed log.new) }
 {
     let paths = request.paths.as_slice();
@@ -193,7 +196,7 @@ pub fn run_files<W: Sink, L: Sink>(
         ++ last_lines (run_fault request.now.task def.now (files_bytes files.entry)) (W.has_failed out.new)) }
     ensures cut_short { result ≡ NoMemory
         → LogsSome (IsRunCutShort request.now.task request.now.def def.now request.now.paths (files_bytes files.entry)
-        (last_lines (run_fault request.now.task def.now (files_bytes files.entry)) (W.has_failed out.new)))
+        (run_fault request.now.task def.now (files_bytes files.entry)) (W.has_failed out.new))
         (L.taken log.old) (L.has_failed log.old) (L.taken log.new) (L.has_failed log.new) }
 {
     match Definition::read(alloc, def) {
@@ -238,7 +241,7 @@ pub fn run<W: Sink, L: Sink>(
         ++ last_lines (run_fault request.now.task def.now (bytes_of files.now)) (W.has_failed out.new)) }
     ensures cut_short { result ≡ NoMemory
         → LogsSome (IsRunCutShort request.now.task request.now.def def.now request.now.paths (bytes_of files.now)
-        (last_lines (run_fault request.now.task def.now (bytes_of files.now)) (W.has_failed out.new)))
+        (run_fault request.now.task def.now (bytes_of files.now)) (W.has_failed out.new))
         (L.taken log.old) (L.has_failed log.old) (L.taken log.new) (L.has_failed log.new) }
 {
     run_files(alloc, request, def, Files::Lent(files), out, log)

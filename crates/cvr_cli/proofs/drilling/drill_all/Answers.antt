@@ -1,4 +1,4 @@
-use Rattle.std.proofs.Common.{length, sym}
+use Rattle.std.proofs.Common.{false, length, sym}
 use Rattle.std.proofs.lemmas.List.{length-map}
 use Rattle.cvr_cli.specs.Drill.{step_texts, step_due, step_dues}
 use Rattle.cvr_cli.specs.Outcome.{bytes_of}
@@ -6,9 +6,9 @@ use Rattle.cvr_cli.proofs.Telling.{lacks}
 use Rattle.cvr_cli.proofs.drilling.drill_all.Goals as goal
 
 pub returns-then-refusals-clause-cut_short : goal.returns-then-refusals-clause-cut_short
-returns-then-refusals-clause-cut_short g c =
+returns-then-refusals-clause-cut_short g c = λ fault.
     let definition = c.args.definition.now in
     let steps = c.args.steps.now in
     let files = bytes_of c.args.files.now in
-    lacks (step_texts steps) (step_dues definition c.args.count files steps) (length steps) c.in-Ok.refusals _ _ _ _ c.in-Ok.ensures.log
-    (sym (length-map steps (step_due definition c.args.count files))) c.if-refusals.true
+    lacks false (step_texts steps) (step_dues definition c.args.count files steps) (length steps) c.in-Ok.refusals _ _ _ _ c.in-Ok.ensures.log
+    (sym (length-map steps (step_due definition c.args.count files))) c.if-refusals.true fault false

@@ -1,13 +1,12 @@
-use Rattle.std.proofs.Common.{◌≡◌, None, length, sym, rules}
+use Rattle.std.proofs.Common.{◌≡◌, false, None, length, sym, rules}
 use Rattle.std.proofs.lemmas.List.{length-map}
 use Rattle.cvr_cli.specs.declared.status.Status.TheVariants.{Memory}
 use Rattle.cvr_cli.specs.Drill.{step_texts, step_due, step_dues, drill_text, drill_refused}
 use Rattle.cvr_cli.specs.Outcome.{bytes_of}
 use Rattle.cvr_cli.specs.Printing.{Prints}
-use Rattle.cvr_cli.specs.Told.{out_line}
 use Rattle.cvr_cli.proofs.Endings.{ends_in_memory}
 use Rattle.cvr_cli.proofs.Printed.{ends_after, tells_after}
-use Rattle.cvr_cli.proofs.Telling.{wanted}
+use Rattle.cvr_cli.proofs.Telling.{wanted_unprinted}
 use Rattle.cvr_cli.proofs.drilling.run_drill.Goals as goal
 
 pub returns-in-Ok-clause-ends : goal.returns-in-Ok-clause-ends
@@ -40,5 +39,4 @@ returns-in-Err-clause-log g c =
     let definition = c.args.definition.now in
     let steps = c.args.steps.now in
     let dues = step_dues definition c.args.count (bytes_of c.args.files.now) steps in
-    let rest = out_line (g.W.Sink.has_failed c.args.out.now) in
-    wanted (step_texts steps) dues (c.in-Err.status ≡ Memory) rest _ _ _ _ c.in-Err.ensures.status (c.in-Err.ensures.cut_short rest)
+    wanted_unprinted false (step_texts steps) dues (c.in-Err.status ≡ Memory) None _ _ _ _ _ c.in-Err.ensures.status c.requires (c.in-Err.ensures.cut_short None)

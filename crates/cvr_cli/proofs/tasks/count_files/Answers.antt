@@ -7,9 +7,9 @@ use Rattle.cvr_collect.specs.declared.event.Cause.TheVariants.{Read}
 use Rattle.cvr_cli.specs.Outcome.{bytes_of}
 use Rattle.cvr_cli.specs.Refusals.{file_due, IsDue}
 use Rattle.cvr_cli.specs.Told.{file_dues, Tells}
-use Rattle.cvr_cli.proofs.Telling.{tells_none, tells_noted, tells_accepted, read_due, due_at, dues_count}
+use Rattle.cvr_cli.proofs.Telling.{on_err, tells_none, tells_noted, tells_accepted, read_due, due_at, dues_count}
 use Rattle.cvr_cli.proofs.tasks.count_files.Goals as goal
-use Rattle.cvr_cli.proofs.tasks.count_files.Goals.{in-Ok+in_ok-push_count-in-Ok, in-Err}
+use Rattle.cvr_cli.proofs.tasks.count_files.Goals.{in-Ok+then-not-refusals+in_ok-push_count-in-Ok, in-Ok+else-not-refusals, in-Err}
 
 pub loop-place-init : goal.loop-place-init
 loop-place-init g c = record {
@@ -33,7 +33,13 @@ loop-place-preserved g c =
     let named = c.as_str-path.ensures ∙ (c.index-paths-place.is ∙ get_or_default paths n c.index-paths-place.result [] also) in
     let told = λ (r : Refusals) (l : g.row.L.Denot). Tells paths dues (n + 1) r (g.L.Sink.taken c.args.log.now) (g.L.Sink.has_failed c.args.log.now) (g.L.Sink.taken l) (g.L.Sink.has_failed l) in
     elim c.match-count_records.branch [
-      | in-Ok+in_ok-push_count-in-Ok w ↦ record {
+      | in-Ok+else-not-refusals w ↦ record {
+        any_refusal = grind (arith, common_steps);
+        text = grind (arith, common_steps);
+        log = subst (λ r. told r c.match-count_records.log) (sym w.refusals-is) (subst (told before) (sym w.log-is)
+            (tells_accepted paths dues _ _ _ _ n before was.log also within (ap (λ d. d.cause) here ∙ ap (option_map Read) w.in-Ok.ensures.accepted)));
+      }
+      | in-Ok+then-not-refusals+in_ok-push_count-in-Ok w ↦ record {
         any_refusal = grind (arith, common_steps);
         text = grind (arith, common_steps);
         log = subst (λ r. told r c.match-count_records.log) (sym w.refusals-is) (subst (told before) (sym w.log-is)
@@ -47,3 +53,14 @@ loop-place-preserved g c =
             (subst (λ d. IsDue d (Some (Read w.in-Err.fault))) (sym here) (read_due (first_refusal definition c.as_slice.result.now) w.in-Err.fault w.in-Err.ensures.fault)) w.note_file.ensures.file_lacking w.note_file.ensures.told));
       }
     ]
+
+pub returns-in_err-push_count-in-Ok-clause-cut_short : goal.returns-in_err-push_count-in-Ok-clause-cut_short
+returns-in_err-push_count-in-Ok-clause-cut_short g c =
+    let definition = c.args.definition.now in
+    let files = c.args.files.now in
+    let n = c.loop-place.place in
+    let lt : n < length files = omega arith in
+    let within : n < length (file_dues definition (bytes_of files)) = omega (arith, dues_count definition files) in
+    let here = due_at definition files n c.index-files-place.result lt c.index-files-place.is ∙ ap (λ file. file_due (first_refusal definition file)) (sym c.as_slice.ensures.value) in
+    let accepted = ap (λ d. d.cause) here ∙ ap (option_map Read) c.in-Ok.ensures.accepted in
+    on_err _ c.from_residual.result (n, c.loop-place.refusals, search rules, (within, accepted), c.loop-place.invariant.log)

@@ -1,19 +1,19 @@
-use Rattle.std.proofs.Common.{◌≡◌, None, refl, length, rules, subst}
+use Rattle.std.proofs.Common.{◌≡◌, true, None, refl, length, rules, subst}
 use Rattle.std.specs.List.{list_any}
 use Rattle.cvr_cli.specs.Accepted.{is_refused}
 use Rattle.cvr_cli.specs.Outcome.{check_lines, bytes_of}
 use Rattle.cvr_cli.specs.Printing.{Prints}
-use Rattle.cvr_cli.specs.Told.{file_dues, out_line}
-use Rattle.cvr_cli.proofs.Printed.{ends_after, tells_after}
+use Rattle.cvr_cli.specs.Told.{file_dues}
+use Rattle.cvr_cli.proofs.Printed.{ends_after, tells_whole, by_device}
 use Rattle.cvr_cli.proofs.Telling.{lacks, wanted, cut_by_memory, dues_count}
 use Rattle.cvr_cli.proofs.tasks.run_check.Goals as goal
 
 pub returns-then-refusals-clause-log : goal.returns-then-refusals-clause-log
 returns-then-refusals-clause-log g c =
     let dues = file_dues c.args.definition.now (bytes_of c.args.files.now) in
-    let rest = out_line (g.W.Sink.has_failed c.args.out.now) in
-    wanted c.args.paths.now dues _ rest _ _ _ _ refl
-    (lacks c.args.paths.now dues (length c.args.files.now) c.in-Ok.refusals _ _ _ _ c.in-Ok.ensures.log (dues_count c.args.definition.now c.args.files.now) c.if-refusals.true rest)
+    let failed = g.W.Sink.has_failed c.args.out.now in
+    wanted true c.args.paths.now dues _ None failed _ _ _ _ refl
+    (lacks true c.args.paths.now dues (length c.args.files.now) c.in-Ok.refusals _ _ _ _ c.in-Ok.ensures.log (dues_count c.args.definition.now c.args.files.now) c.if-refusals.true None failed)
 
 pub returns-in-Ok-clause-ends : goal.returns-in-Ok-clause-ends
 returns-in-Ok-clause-ends g c =
@@ -29,13 +29,12 @@ pub returns-in-Ok-clause-log : goal.returns-in-Ok-clause-log
 returns-in-Ok-clause-log g c =
     let definition = c.args.definition.now in
     let dues = file_dues definition (bytes_of c.args.files.now) in
-    tells_after c.args.paths.now dues (length c.args.files.now) c.in-Ok.refusals _ _ _ _ _ _ c.in-Ok.ensures.log (dues_count definition c.args.files.now) c.if-refusals.false
-    _ _ _ c.print_text.result None c.as_str.result.now _ c.print_text.ensures.printed c.end_with.ensures.status c.end_with.ensures.log
+    tells_whole c.args.paths.now dues (length c.args.files.now) c.in-Ok.refusals _ _ _ _ _ _ c.in-Ok.ensures.log (dues_count definition c.args.files.now) c.if-refusals.false
+    true _ _ _ c.print_text.result None c.as_str.result.now _ c.print_text.ensures.printed (by_device c.print_text.result c.print_text.ensures.fault) c.end_with.ensures.status c.end_with.ensures.log
 
 pub returns-clause-log : goal.returns-clause-log
 returns-clause-log g c =
     let dues = file_dues c.args.definition.now (bytes_of c.args.files.now) in
     let cut = c.in-Err.ensures.cut_short in
-    let rest = out_line (g.W.Sink.has_failed c.args.out.now) in
-    wanted c.args.paths.now dues _ rest _ _ _ _ c.end_in_memory.ensures.status
-    (cut_by_memory c.args.paths.now dues cut.0 cut.1 _ _ _ _ _ _ cut.2 rest c.end_in_memory.ensures.log)
+    wanted true c.args.paths.now dues _ None _ _ _ _ _ c.end_in_memory.ensures.status
+    (cut_by_memory true c.args.paths.now dues cut.0 cut.1 _ _ _ _ _ _ cut.4 None _ cut.3 cut.2 c.requires.working c.end_in_memory.ensures.log)

@@ -1,11 +1,11 @@
-use Rattle.std.proofs.Common.{ℕ, List, Bool, inr, sym, ◌∙◌, subst}
+use Rattle.std.proofs.Common.{ℕ, List, [], Bool, inr, sym, ◌∙◌, subst}
 use Rattle.cdf_check.specs.Acceptance.{frame_in}
 use Rattle.cvr_cli.specs.Ends.{Ends}
 use Rattle.cvr_cli.specs.Imported.{files_bytes}
 use Rattle.cvr_cli.specs.Outcome.{task_text, task_fault, run_fault, any_refused}
 use Rattle.cvr_cli.specs.Log.{Logs}
-use Rattle.cvr_cli.specs.Told.{texts_of, dues_of, last_lines, IsCutShort}
-use Rattle.cvr_cli.proofs.Accepted.{text_beside, refused_beside, is_sound, lines_beside, last_beside, none_last}
+use Rattle.cvr_cli.specs.Told.{texts_of, dues_of, is_check, last_lines, IsCutShort}
+use Rattle.cvr_cli.proofs.Accepted.{text_beside, refused_beside, is_sound, lines_beside, fault_beside, none_last}
 use Rattle.cvr_cli.proofs.Telling.{definition_log, definition_cut_short}
 use Rattle.cvr_cli.proofs.tasks.run_files.Goals as goal
 
@@ -30,8 +30,10 @@ returns-in-Err-clause-log g c = λ whole.
 pub returns-in-Err-clause-cut_short : goal.returns-in-Err-clause-cut_short
 returns-in-Err-clause-cut_short g c = λ want.
     definition_cut_short c.args.request.now.task c.args.request.now.def c.args.def.now c.args.request.now.paths (files_bytes c.args.files) c.in-Err.fault c.none-refusals.result c.note_file.new.self _ _ _ _ c.as_str.result.now
-    (last_lines (run_fault c.args.request.now.task c.args.def.now (files_bytes c.args.files)) (g.W.Sink.has_failed c.args.out.now))
-    c.as_str.ensures c.in-Err.ensures.first c.none-refusals.ensures.file_lacking c.none-refusals.ensures.path_unspelled c.note_file.ensures.file_lacking c.note_file.ensures.told (sym c.status.ensures ∙ want)
+    []
+    c.as_str.ensures c.in-Err.ensures.first c.none-refusals.ensures.file_lacking c.none-refusals.ensures.path_unspelled c.note_file.ensures.file_lacking
+    (run_fault c.args.request.now.task c.args.def.now (files_bytes c.args.files)) (g.W.Sink.has_failed c.args.out.now)
+    c.note_file.ensures.told (sym c.status.ensures ∙ want)
 
 pub returns-in-Ok-clause-log : goal.returns-in-Ok-clause-log
 returns-in-Ok-clause-log g c = λ whole.
@@ -42,17 +44,16 @@ returns-in-Ok-clause-log g c = λ whole.
 pub returns-in-Ok-clause-cut_short : goal.returns-in-Ok-clause-cut_short
 returns-in-Ok-clause-cut_short g c = λ want.
     let some = c.run_task.ensures.log.cut_short want in
-    let paths = c.args.request.now.paths in
+    let def = c.args.def.now in
+    let task = c.args.request.now.task in
+    let texts = texts_of task c.args.request.now.paths in
     let files = files_bytes c.args.files in
-    let failed = g.W.Sink.has_failed c.run_task.new.out in
-    let sound = c.in-Ok.ensures.sound in
-    let frame = c.in-Ok.ensures.frame in
-    let task = c.args.request.now.task in (
+    let failed = g.W.Sink.has_failed c.run_task.new.out in (
       some.0,
       inr (
-        is_sound c.args.def.now sound,
-        subst (λ rest. IsCutShort (texts_of task paths) (dues_of (frame_in c.args.def.now) task files) rest some.0) (last_beside task c.args.def.now c.in-Ok.definition files failed sound frame)
-            (subst (λ d. IsCutShort (texts_of task paths) (dues_of d task files) (last_lines (task_fault c.in-Ok.definition task files) failed) some.0) frame some.1),
+        is_sound def c.in-Ok.ensures.sound,
+        subst (λ fault. IsCutShort (is_check task) texts (dues_of (frame_in def) task files) fault failed some.0) (fault_beside task def files c.in-Ok.ensures.sound)
+            (subst (λ d. IsCutShort (is_check task) texts (dues_of d task files) (task_fault d task files) failed some.0) c.in-Ok.ensures.frame some.1),
       ),
       some.2,
     )

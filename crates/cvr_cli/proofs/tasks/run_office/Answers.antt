@@ -1,15 +1,15 @@
-use Rattle.std.proofs.Common.{◌≡◌, length, subst}
+use Rattle.std.proofs.Common.{◌≡◌, false, length, subst}
 use Rattle.std.specs.List.{list_any}
 use Rattle.cvr_cli.specs.declared.status.Status.TheVariants.{Memory}
 use Rattle.cvr_cli.specs.Accepted.{is_refused}
 use Rattle.cvr_cli.specs.Imported.{files_bytes}
 use Rattle.cvr_cli.specs.Outcome.{held, facts_fault, facts_text, task_fault}
 use Rattle.cvr_cli.specs.Printing.{Prints}
-use Rattle.cvr_cli.specs.Told.{file_dues, last_lines}
+use Rattle.cvr_cli.specs.Told.{file_dues}
 use Rattle.cvr_cli.proofs.Endings.{ends_in_memory}
 use Rattle.cvr_cli.proofs.Merging.{no_facts_text}
 use Rattle.cvr_cli.proofs.Printed.{ends_after, tells_after}
-use Rattle.cvr_cli.proofs.Telling.{wanted, all_due}
+use Rattle.cvr_cli.proofs.Telling.{wanted_unprinted, all_due}
 use Rattle.cvr_cli.proofs.tasks.run_office.Goals as goal
 
 pub returns-in-Ok-clause-ends : goal.returns-in-Ok-clause-ends
@@ -48,5 +48,5 @@ returns-in-Err-clause-ends g c = ends_in_memory _ _ _ _ _ c.requires.working c.i
 pub returns-in-Err-clause-log : goal.returns-in-Err-clause-log
 returns-in-Err-clause-log g c =
     let definition = c.args.definition in
-    let rest = last_lines (task_fault definition c.args.task.now (files_bytes c.args.files)) (g.W.Sink.has_failed c.args.out.now) in
-    wanted c.args.paths.now (file_dues definition (files_bytes c.args.files)) (c.in-Err.status ≡ Memory) rest _ _ _ _ c.in-Err.ensures.status (c.in-Err.ensures.cut_short rest)
+    let fault = task_fault definition c.args.task.now (files_bytes c.args.files) in
+    wanted_unprinted false c.args.paths.now (file_dues definition (files_bytes c.args.files)) (c.in-Err.status ≡ Memory) fault _ _ _ _ _ c.in-Err.ensures.status c.requires.working (c.in-Err.ensures.cut_short fault)
