@@ -3,6 +3,7 @@ ghost use Rattle.std.specs.List.{flat_map};
 ghost use Rattle.cvr_facts.specs.Text.{word};
 ghost use Rattle.cvr_cli.specs.Currents.{words_of, conflict_line, volumes_of, conflict_text};
 
+use crate::number::push_number;
 use cdf_types::Memory;
 use cvr_collect::{Conflict, ConflictList, ConflictName};
 use cvr_facts::RecordName;
@@ -45,8 +46,7 @@ fn push_conflict(alloc: Global, text: &mut String, conflict: &Conflict) -> Resul
     ensures { OnOk result (string_bytes text.new ≡ string_bytes text.old ++ conflict_line conflict.now) }
 {
     push_name(alloc, text, &conflict.name)?;
-    let bodies = conflict.bodies;
-    write!(text, "{bodies}")?;
+    push_number(text, conflict.bodies)?;
     text.push_str("\n")?;
     Ok(())
 }
@@ -82,7 +82,8 @@ pub fn conflicts_text(alloc: Global, list: &ConflictList) -> Result<String, Memo
     let list = list.as_slice();
     let mut text = String::new(alloc);
     push_conflicts(alloc, &mut text, list)?;
-    let volumes = volumes_of(list);
-    write!(&mut text, "volumes {volumes}\n")?;
+    text.push_str("volumes ")?;
+    push_number(&mut text, volumes_of(list))?;
+    text.push_str("\n")?;
     Ok(text)
 }

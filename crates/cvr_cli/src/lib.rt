@@ -16,6 +16,7 @@ mod log;
 mod memory_files;
 mod merge;
 mod named;
+mod number;
 mod offices;
 mod opening;
 mod over;

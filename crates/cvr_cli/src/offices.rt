@@ -1,9 +1,10 @@
-ghost use Rattle.std.specs.Prelude.{◌≡◌, ◌<◌, ◌≤◌, ◌++◌, length, map, get_or, OnOk, IfOk, string_bytes, false, None};
+ghost use Rattle.std.specs.Prelude.{◌≡◌, ◌<◌, ◌≤◌, ◌++◌, length, map, get_or, decimal, OnOk, IfOk, string_bytes, false, None};
 ghost use Rattle.std.specs.FinSet.{empty};
 ghost use Rattle.std.specs.List.{position_or_len};
 ghost use Rattle.cvr_cli.specs.Drill.{are_same, office_line, office_lines, AreOfOne};
 ghost use Rattle.cvr_cli.specs.Printing.{Prints};
 
+use crate::number::push_number;
 use crate::printing::{PrintFault, print_text};
 use cdf_types::{Memory, Sink};
 use cvr_collect::Office;
@@ -33,20 +34,26 @@ fn same_place<O: Office>(offices: &[O], place: usize) -> usize
     place
 }
 
+// Adds a label and a number.
+fn push_field(text: &mut String, label: &str, number: usize) -> Result<(), Memory>
+    ensures { OnOk result (string_bytes text.new ≡ string_bytes text.old ++ (label.now ++ decimal number)) }
+{
+    text.push_str(label)?;
+    push_number(text, number)?;
+    Ok(())
+}
+
 // Adds the line of the office at a place.
 fn push_office<O: Office>(text: &mut String, offices: &[O], place: usize) -> Result<(), Memory>
     requires there { place < length offices.now }
     requires of_one { AreOfOne (map O.defined offices.now) }
     ensures { OnOk result (string_bytes text.new ≡ string_bytes text.old ++ office_line (map O.held offices.now) place) }
 {
-    let number = place + 1;
-    let records = offices[place].record_count();
-    let facts = offices[place].fact_count();
-    let same = same_place(offices, place) + 1;
-    write!(
-        text,
-        "office {number} records {records} facts {facts} same {same}\n"
-    )?;
+    push_field(text, "office ", place + 1)?;
+    push_field(text, " records ", offices[place].record_count())?;
+    push_field(text, " facts ", offices[place].fact_count())?;
+    push_field(text, " same ", same_place(offices, place) + 1)?;
+    text.push_str("\n")?;
     Ok(())
 }
 
