@@ -1,16 +1,17 @@
--- What is held of files is what an office holds after their imports, in a drill too; neither their order nor a file that comes again changes it. (This project's own.)
-use Rattle.std.specs.Prelude.{◌≡◌, ◌≢◌, ◌↔◌, ◌⊎◌, ◌<◌, ◌≤◌, ◌+◌, ◌-◌, ℕ, zero, suc, length, get_or, map, List, [], ◌∷◌, ◌++◌, replicate, codes, decimal, Bool, true, false, Option, Some, None}
-use Rattle.std.specs.List.{Contains, flat_map}
-use Rattle.std.specs.FinSet.{empty, union, len}
+-- What is held of files is what an office holds after their imports, in a drill too; the values of the accepted ones alone count, and neither their order nor a value that comes again. (This project's own.)
+use Rattle.std.specs.Prelude.{◌≡◌, ◌≢◌, ◌↔◌, ◌⊎◌, ◌<◌, ◌≤◌, ◌+◌, ◌-◌, ℕ, zero, suc, length, get_or, map, reverse, List, [], ◌∷◌, ◌++◌, replicate, codes, decimal, Bool, true, false, Option, Some, None}
+use Rattle.std.specs.List.{Contains, filter, flat_map, range_with_len}
+use Rattle.std.specs.FinSet.{contains, empty, union, len}
+use Rattle.serde_json.specs.Data.{Data}
 use Rattle.cdf_check.specs.Frame.{Frame}
-use Rattle.cdf_check.specs.Acceptance.{first_refusal}
+use Rattle.cdf_check.specs.Acceptance.{Valid, first_refusal, value_in}
 use Rattle.cvr_facts.specs.Facts.{Facts}
 use Rattle.cvr_facts.specs.Reports.{facts}
 use Rattle.cvr_collect.specs.declared.event.Event.{Event}
 use Rattle.cvr_collect.specs.declared.event.Event.TheVariants.{Import}
 use Rattle.cvr_collect.specs.Keeps.{starting}
 use Rattle.cvr_collect.specs.Readers.{growth}
-use Rattle.cvr_collect.specs.Reach.{History, content}
+use Rattle.cvr_collect.specs.Reach.{History, File, reached, content}
 use Rattle.cvr_collect.specs.Outcomes.{due, AreOutcomes}
 use Rattle.cvr_collect.specs.Names.{records, conflicts}
 use Rattle.cvr_collect.specs.Tallied.{tally}
@@ -22,7 +23,7 @@ use Rattle.cvr_words.specs.declared.request.Step.{Step}
 use Rattle.cvr_cli.specs.declared.merge.MergeFault.{MergeFault}
 use Rattle.cvr_cli.specs.declared.merge.MergeFault.TheVariants.{NoVolume}
 use Rattle.cvr_cli.specs.Currents.{currents, conflict_line, conflict_text}
-use Rattle.cvr_cli.specs.Drill.{new_offices, past_of, drilled, least_same, drill_text}
+use Rattle.cvr_cli.specs.Drill.{events_of, new_offices, past_of, drilled, least_same, drill_text}
 use Rattle.cvr_cli.specs.Log.{memory_line}
 use Rattle.cvr_cli.specs.Merge.{merge_fault, merge_text}
 use Rattle.cvr_cli.specs.Outcome.{accepted_facts, held}
@@ -41,34 +42,51 @@ imports definition files (suc n) =
 abbrev pub HeldLaw : Type 0
 HeldLaw = (definition : Frame) (files : List (List ℕ)) → content (starting definition ∷ []) files (imports definition files (length files)) 0 ≡ held definition files
 
--- the two lists have the same files, in any order and however often
+-- ---- files of the same values
+
+-- an accepted file of this value is among them
+abbrev pub HasAccepted : Frame → List (List ℕ) → Data → Type 0
+HasAccepted definition files v = (file : List ℕ) × Contains files file × Valid definition file × (value_in file ≡ v)
+
+-- the accepted files of both lists have the same values, in any order and however often
+abbrev pub HaveSameValues : Frame → List (List ℕ) → List (List ℕ) → Type 0
+HaveSameValues definition files others = (v : Data) → HasAccepted definition files v ↔ HasAccepted definition others v
+
+-- the two lists have the same files, byte by byte, in any order and however often
 abbrev pub HaveSameFiles : List (List ℕ) → List (List ℕ) → Type 0
 HaveSameFiles files others = (file : List ℕ) → Contains files file ↔ Contains others file
 
--- beside one definition they hold the same facts
+-- then they have the same values, beside any definition
+abbrev pub ByBytesLaw : Type 0
+ByBytesLaw = (definition : Frame) (files others : List (List ℕ)) → HaveSameFiles files others → HaveSameValues definition files others
+
+-- lists of the same values hold the same facts
 abbrev pub SameFactsLaw : Type 0
-SameFactsLaw = (definition : Frame) (files others : List (List ℕ)) → HaveSameFiles files others → held definition files ≡ held definition others
+SameFactsLaw = (definition : Frame) (files others : List (List ℕ)) → HaveSameValues definition files others → held definition files ≡ held definition others
 
 -- and have the same current snapshots
 abbrev pub SameCurrentsLaw : Type 0
-SameCurrentsLaw = (definition : Frame) (files others : List (List ℕ)) → HaveSameFiles files others → currents (held definition files) ≡ currents (held definition others)
+SameCurrentsLaw = (definition : Frame) (files others : List (List ℕ)) → HaveSameValues definition files others
+    → currents (held definition files) ≡ currents (held definition others)
 
 -- and the same conflicts
 abbrev pub SameConflictsLaw : Type 0
-SameConflictsLaw = (definition : Frame) (files others : List (List ℕ)) → HaveSameFiles files others → conflicts (held definition files) ≡ conflicts (held definition others)
+SameConflictsLaw = (definition : Frame) (files others : List (List ℕ)) → HaveSameValues definition files others
+    → conflicts (held definition files) ≡ conflicts (held definition others)
 
 -- and the same tally
 abbrev pub SameTallyLaw : Type 0
-SameTallyLaw = (definition : Frame) (files others : List (List ℕ)) → HaveSameFiles files others → tally definition.contests (held definition files) ≡ tally definition.contests (held definition others)
+SameTallyLaw = (definition : Frame) (files others : List (List ℕ)) → HaveSameValues definition files others
+    → tally definition.contests (held definition files) ≡ tally definition.contests (held definition others)
 
 -- and a merge of them has the same fault, or none
 abbrev pub SameMergeFaultLaw : Type 0
-SameMergeFaultLaw = (definition : Frame) (date device : List ℕ) (i : ℕ) (files others : List (List ℕ)) → HaveSameFiles files others
+SameMergeFaultLaw = (definition : Frame) (date device : List ℕ) (i : ℕ) (files others : List (List ℕ)) → HaveSameValues definition files others
     → merge_fault definition date device i (held definition files) ≡ merge_fault definition date device i (held definition others)
 
 -- and prints the same volume
 abbrev pub SameVolumeLaw : Type 0
-SameVolumeLaw = (definition : Frame) (date device : List ℕ) (i : ℕ) (files others : List (List ℕ)) → HaveSameFiles files others
+SameVolumeLaw = (definition : Frame) (date device : List ℕ) (i : ℕ) (files others : List (List ℕ)) → HaveSameValues definition files others
     → merge_text definition date device i (held definition files) ≡ merge_text definition date device i (held definition others)
 
 -- ---- a merge
@@ -134,35 +152,83 @@ ExchangeLaw = (definition : Frame) (n : ℕ) (files : List (List ℕ)) (steps mo
     → (held_by definition n files more o ≡ union (held_by definition n files steps o) (held_by definition n files steps p))
     × ((k : ℕ) → k < n → k ≢ o → held_by definition n files more k ≡ held_by definition n files steps k)
 
--- an office that imports each file, in any order and among any other steps, holds what the other commands hold of the files
+-- the events of the steps with their outcomes, the newest first
+abbrev pub past_after : Frame → ℕ → List (List ℕ) → List Step → History
+past_after definition n files steps = past_of definition n files (reverse (events_of n steps))
+
+-- a file of this value has reached the office o
+abbrev pub HasReached : List (List ℕ) → History → ℕ → Data → Type 0
+HasReached files past o v = (f : ℕ) × (contains (reached past o) (File f) ≡ true) × (value_in (get_or files f []) ≡ v)
+
+-- the files that have reached the office o
+abbrev pub files_reached : List (List ℕ) → History → ℕ → List (List ℕ)
+files_reached files past o = map (λ f. get_or files f []) (filter (λ f. contains (reached past o) (File f)) (range_with_len 0 (length files)))
+
+-- an office holds what the other commands hold of the files that have reached it, by imports or exchanges
+abbrev pub FilesReachedLaw : Type 0
+FilesReachedLaw = (definition : Frame) (n : ℕ) (files : List (List ℕ)) (steps : List Step) (o : ℕ) → o < n
+    → held_by definition n files steps o ≡ held definition (files_reached files (past_after definition n files steps) o)
+
+-- and of any files whose accepted values are those that have reached it
+abbrev pub ReachedLaw : Type 0
+ReachedLaw = (definition : Frame) (n : ℕ) (files others : List (List ℕ)) (steps : List Step) (o : ℕ) → o < n
+    → ((v : Data) → HasReached files (past_after definition n files steps) o v ↔ HasAccepted definition others v)
+    → held_by definition n files steps o ≡ held definition others
+
+-- two offices that files of the same values have reached hold the same
+abbrev pub SameReachedLaw : Type 0
+SameReachedLaw = (definition : Frame) (n : ℕ) (files : List (List ℕ)) (steps : List Step) (p o : ℕ) → p < n → o < n
+    → ((v : Data) → HasReached files (past_after definition n files steps) p v ↔ HasReached files (past_after definition n files steps) o v)
+    → held_by definition n files steps p ≡ held_by definition n files steps o
+
+-- among these an accepted file of this value is imported into the office o
+abbrev pub ImportsAccepted : Frame → List (List ℕ) → List Act → ℕ → Data → Type 0
+ImportsAccepted definition files done o v =
+    (f : ℕ) × (f < length files) × Contains done (act.Import (suc o) f) × Valid definition (get_or files f []) × (value_in (get_or files f []) ≡ v)
+
+-- an office that imports each accepted value, in any order and among any other steps, holds what the other commands hold of the files
 abbrev pub AllImportedLaw : Type 0
 AllImportedLaw = (definition : Frame) (n : ℕ) (files : List (List ℕ)) (steps : List Step) (o : ℕ) → o < n
-    → ((f : ℕ) → f < length files → Contains (acts steps) (act.Import (suc o) f)) → held_by definition n files steps o ≡ held definition files
+    → ((v : Data) → HasAccepted definition files v → ImportsAccepted definition files (acts steps) o v)
+    → held_by definition n files steps o ≡ held definition files
 
--- each file is imported by one of these two offices
-abbrev pub ImportEach : List (List ℕ) → List Act → ℕ → ℕ → Type 0
-ImportEach files first p o = (f : ℕ) → f < length files → Contains first (act.Import (suc p) f) ⊎ Contains first (act.Import (suc o) f)
+-- each accepted value is imported by one of these two offices
+abbrev pub ImportEach : Frame → List (List ℕ) → List Act → ℕ → ℕ → Type 0
+ImportEach definition files first p o =
+    (v : Data) → HasAccepted definition files v → ImportsAccepted definition files first p v ⊎ ImportsAccepted definition files first o v
 
--- two offices that between them import each file, and at last exchange both ways, hold what the other commands hold of the files
+-- so it is where each place among the files is imported by one of them
+abbrev pub ByPlacesLaw : Type 0
+ByPlacesLaw = (definition : Frame) (files : List (List ℕ)) (first : List Act) (p o : ℕ)
+    → ((f : ℕ) → f < length files → Contains first (act.Import (suc p) f) ⊎ Contains first (act.Import (suc o) f)) → ImportEach definition files first p o
+
+-- two offices that between them import each accepted value, and at last exchange both ways, hold what the other commands hold of the files
 abbrev pub BothWaysLaw : Type 0
 BothWaysLaw = (definition : Frame) (n : ℕ) (files : List (List ℕ)) (steps : List Step) (first : List Act) (p o : ℕ) → p < n → o < n
-    → acts steps ≡ first ++ act.Exchange (suc p) (suc o) ∷ act.Exchange (suc o) (suc p) ∷ [] → ImportEach files first p o
+    → acts steps ≡ first ++ act.Exchange (suc p) (suc o) ∷ act.Exchange (suc o) (suc p) ∷ [] → ImportEach definition files first p o
     → (held_by definition n files steps p ≡ held definition files) × (held_by definition n files steps o ≡ held definition files)
+
+-- two offices that each import the same two files, each time from a place of its own, hold what the other commands hold of the two
+abbrev pub EachImportsBothLaw : Type 0
+EachImportsBothLaw = (definition : Frame) (one other : List ℕ) (steps : List Step) (o : ℕ) → o < 2
+    → acts steps ≡ act.Import 1 0 ∷ act.Import 1 1 ∷ act.Import 2 2 ∷ act.Import 2 3 ∷ []
+    → held_by definition 2 (one ∷ other ∷ one ∷ other ∷ []) steps o ≡ held definition (one ∷ other ∷ [])
 
 -- the line of an office that holds what the first holds
 abbrev pub same_line : ℕ → Facts → List ℕ
 same_line number facts =
     codes "office " ++ (decimal number ++ (codes " records " ++ (decimal (length (records facts)) ++ (codes " facts " ++ (decimal (len facts) ++ codes " same 1\n")))))
 
--- so a drill of one office that imports each file prints how many records and facts the other commands hold
+-- so a drill of one office that imports each accepted value prints how many records and facts the other commands hold
 abbrev pub OneLineLaw : Type 0
-OneLineLaw = (definition : Frame) (files : List (List ℕ)) (steps : List Step) → ((f : ℕ) → f < length files → Contains (acts steps) (act.Import 1 f))
+OneLineLaw = (definition : Frame) (files : List (List ℕ)) (steps : List Step)
+    → ((v : Data) → HasAccepted definition files v → ImportsAccepted definition files (acts steps) 0 v)
     → drill_text definition 1 files steps ≡ same_line 1 (held definition files)
 
 -- and one of two that exchange both ways prints it of both, and that they are the same
 abbrev pub TwoLinesLaw : Type 0
 TwoLinesLaw = (definition : Frame) (files : List (List ℕ)) (steps : List Step) (first : List Act)
-    → acts steps ≡ first ++ act.Exchange 1 2 ∷ act.Exchange 2 1 ∷ [] → ImportEach files first 0 1
+    → acts steps ≡ first ++ act.Exchange 1 2 ∷ act.Exchange 2 1 ∷ [] → ImportEach definition files first 0 1
     → drill_text definition 2 files steps ≡ same_line 1 (held definition files) ++ same_line 2 (held definition files)
 
 -- ---- want of memory
