@@ -1,36 +1,37 @@
--- What the offices of a drill hold after events: what each event brings to them, and where that is all that the other commands hold.
+-- What the offices of a drill hold after events: what each event brings to them, which files reach them, and where that is all that the other commands hold.
 use Rattle.std.proofs.Common.{◌≡◌, ◌≢◌, ℕ, zero, suc, ◌==◌, ◌<◌, List, [], ◌∷◌, length, get_or, Bool, true, false, cond, true≢false, ◌||◌, ◌⊎◌, inl, inr, Option, Some, None, Contains, refl, sym, ap, ◌∙◌, subst}
 use Rattle.std.specs.Prelude.{nat_le, replicate, is_some, if◌then◌else◌}
-use Rattle.std.specs.FinSet.{contains, union, insert, empty, items, same_set, contains-union, contains-empty}
-use Rattle.std.specs.Cmp.{both_ways}
+use Rattle.std.specs.List.{list_any}
+use Rattle.std.specs.Ordering.{eq_by_cmp}
+use Rattle.std.specs.Cmp.{eq_by_cmp_equiv}
+use Rattle.std.specs.FinSet.{contains, union, insert, empty, items, contains-union, contains-empty, contains-insert, contains-items}
 use Rattle.std.proofs.lemmas.Bool.{cases_lt, lt-leb, le-leb, or_from, false≢true}
 use Rattle.std.proofs.lemmas.List.{get_or-replicate}
+use Rattle.std.proofs.lemmas.Map.Views.{Contains-from_any, list_any-from_Contains}
+use Rattle.serde_json.specs.Data.{Data}
 use Rattle.cdf_types.specs.declared.fault.ReadFault.{ReadFault}
 use Rattle.cdf_check.specs.Frame.{Frame}
-use Rattle.cdf_check.specs.Acceptance.{first_refusal}
+use Rattle.cdf_check.specs.Acceptance.{first_refusal, value_in}
+use Rattle.cdf_check.proofs.Laws.{valid_file}
 use Rattle.cvr_facts.specs.Facts.{Fact, Facts, fact_cmp, fact_total, fact_exact}
 use Rattle.cvr_facts.specs.Reports.{facts}
 use Rattle.cvr_facts.specs.Unions.{union_empty}
-use Rattle.cvr_facts.proofs.Lemmas.{none_listed, head_or_tail}
+use Rattle.cvr_facts.proofs.Lemmas.{none_listed, head_or_tail, tie_itself}
 use Rattle.cvr_collect.specs.declared.event.Cause.{Cause}
 use Rattle.cvr_collect.specs.declared.event.Cause.TheVariants.{NoOffice, NoFile}
 use Rattle.cvr_collect.specs.declared.event.Event.{Event}
 use Rattle.cvr_collect.specs.declared.event.Event.TheVariants.{Import, Exchange}
 use Rattle.cvr_collect.specs.Keeps.{starting}
-use Rattle.cvr_collect.specs.Reach.{History, File, reached, brought, union_over, content}
-use Rattle.cvr_collect.proofs.Lemmas.{over_insert, over_union, or_cases, or_left, or_right, at_eq, is_eq, origin_total, origin_exact}
+use Rattle.cvr_collect.specs.Reach.{Origin, Start, File, Origins, origin_cmp, History, reached_after, reached, brought, union_over, content}
+use Rattle.cvr_collect.proofs.Lemmas.{contains-union_over, over_insert, over_union, or_cases, or_left, or_right, at_eq, is_eq, origin_total, origin_exact, tie_is}
 use Rattle.cvr_collect.proofs.Laws.{content-none}
 use Rattle.cvr_cli.specs.Drill.{certain, exchange_due, event_due, brings, outcome_by, new_offices, past_of}
+use Rattle.cvr_cli.specs.Laws.{HasAccepted, HasReached}
 use Rattle.cvr_cli.specs.Outcome.{accepted_facts, held}
 use Rattle.cvr_cli.specs.Refusals.{no_due, file_due}
-use Rattle.cvr_cli.proofs.Members.{Has, held_from, from_union}
+use Rattle.cvr_cli.proofs.Members.{value_facts, AreFactsOf, same_by_values, one_that_passes, passes_by, placed, from_place, held_of}
 
 -- ---- one event
-
--- a fact that is chosen is one of the set
-of_chosen : (b : Bool) (s : Facts) (q : Fact) → contains (cond b s empty) q ≡ true → contains s q ≡ true
-of_chosen true s q h = h
-of_chosen false s q h = absurd (false≢true (sym (contains-empty fact_cmp q) ∙ h))
 
 -- an import that isn't refused is of a file that is there, and accepted
 there_of : (a b : Bool) (first : Option ReadFault) → (if a then certain NoOffice else (if b then certain NoFile else file_due first)).cause ≡ None → b ≡ false
@@ -63,6 +64,26 @@ only_start : (s : Facts) (n o : ℕ) (q : Fact) → contains (get_or (replicate 
 only_start s zero o q h = absurd (false≢true (sym (contains-empty fact_cmp q) ∙ h))
 only_start s (suc n) zero q h = h
 only_start s (suc n) (suc o) q h = only_start s n o q h
+
+-- of two sets of origins one is chosen
+of_both : (b : Bool) (s t : Origins) (x : Origin) → contains s x ≡ true → contains t x ≡ true → contains (cond b s t) x ≡ true
+of_both true s t x h other = h
+of_both false s t x h other = other
+
+of_either : (b : Bool) (s t : Origins) (x : Origin) → contains (cond b s t) x ≡ true → (contains s x ≡ true) ⊎ (contains t x ≡ true)
+of_either true s t x h = inl h
+of_either false s t x h = inr h
+
+one_file : (f g : ℕ) → File f ≡ File g → f ≡ g
+one_file f g same = Prim.cc same
+
+-- before any event no file has reached an office
+no_file : (o f : ℕ) → contains (reached [] o) (File f) ≡ true → ⊥
+no_file o f h =
+    elim (or_cases (eq_by_cmp origin_cmp (File f) (Start o)) _ (sym (contains-insert origin_total empty (Start o) (File f)) ∙ h)) [
+      | inl ties ↦ let same : File f ≡ Start o = tie_is origin_total origin_exact (File f) (Start o) ties in absurd (Prim.cc same)
+      | inr other ↦ absurd (false≢true (sym (contains-empty origin_cmp (File f)) ∙ other))
+    ]
 
 module _ (definition : Frame) (n : ℕ) (files : List (List ℕ)) where
   abbrev starts : List Facts
@@ -105,9 +126,6 @@ module _ (definition : Frame) (n : ℕ) (files : List (List ℕ)) where
       → contains (held_at (e ∷ es) o) q ≡ (contains (held_at es o) q || contains (gained (event_due definition n files e).cause e (held_at es) o) q)
   has_more e es o q = ap (λ s. contains s q) (held_more e es o) ∙ contains-union fact_total (held_at es o) (gained (event_due definition n files e).cause e (held_at es) o) q
 
-  stays : (e : Event) (es : List Event) (o : ℕ) (q : Fact) → contains (held_at es o) q ≡ true → contains (held_at (e ∷ es) o) q ≡ true
-  stays e es o q h = has_more e es o q ∙ or_left _ _ h
-
   -- ---- an import, and an exchange
 
   pub import_due : (o f : ℕ) → o < n → f < length files → event_due definition n files (Import o f) ≡ file_due (first_refusal definition (get_or files f []))
@@ -120,15 +138,6 @@ module _ (definition : Frame) (n : ℕ) (files : List (List ℕ)) where
   exchange_is p o lp lo =
       ap (λ b. (if b then certain NoOffice else (if p == o then no_due else exchange_due)).cause) (or_from (nat_le n p) (nat_le n o) (lt-leb n p lp) (lt-leb n o lo))
       ∙ accepted_way (p == o)
-
-  -- an accepted file comes to the office that imports it
-  comes : (o f : ℕ) (es : List Event) (q : Fact) → o < n → f < length files → first_refusal definition (get_or files f []) ≡ None → contains (facts (get_or files f [])) q ≡ true
-      → contains (held_at (Import o f ∷ es) o) q ≡ true
-  comes o f es q lo lf accepted h =
-      let none : (event_due definition n files (Import o f)).cause ≡ None = ap (λ d. d.cause) (import_due o f lo lf) ∙ ap (λ first. (file_due first).cause) accepted in
-      has_more (Import o f) es o q
-      ∙ or_right (contains (held_at es o) q) _
-      (ap (λ cause. contains (gained cause (Import o f) (held_at es) o) q) none ∙ (ap (λ b. contains (cond b (facts (get_or files f [])) empty) q) (is_eq o o refl) ∙ h))
 
   -- one that imports a file holds its facts besides, where it is accepted
   gained_here : (first : Option ReadFault) (o f : ℕ) (before : ℕ → Facts) → gained (file_due first).cause (Import o f) before o ≡ (if is_some first then empty else facts (get_or files f []))
@@ -166,69 +175,153 @@ module _ (definition : Frame) (n : ℕ) (files : List (List ℕ)) where
       ∙ (ap (λ b. union (held_at es k) (cond b (held_at es p) empty)) (not_eq k o apart (k == o) refl)
       ∙ union_empty fact_total fact_exact (held_at es k)))
 
-  gives : (p o : ℕ) (es : List Event) (q : Fact) → p < n → o < n → contains (held_at es p) q ≡ true → contains (held_at (Exchange p o ∷ es) o) q ≡ true
-  gives p o es q lp lo h = ap (λ s. contains s q) (taken p o es lp lo) ∙ (contains-union fact_total (held_at es o) (held_at es p) q ∙ or_right (contains (held_at es o) q) _ h)
-
-  -- ---- all events
-
+  -- what it began with stays
   started : (es : List Event) (o : ℕ) (q : Fact) → o < n → contains (starting definition) q ≡ true → contains (held_at es o) q ≡ true
   started [] o q lt h = ap (λ s. contains s q) (content-none starts files o ∙ get_or-replicate n o (starting definition) empty lt) ∙ h
-  started (e ∷ es) o q lt h = stays e es o q (started es o q lt h)
+  started (e ∷ es) o q lt h = has_more e es o q ∙ or_left _ _ (started es o q lt h)
 
-  came : (es : List Event) (o f : ℕ) (q : Fact) → o < n → f < length files → first_refusal definition (get_or files f []) ≡ None → contains (facts (get_or files f [])) q ≡ true
-      → Contains es (Import o f) → contains (held_at es o) q ≡ true
-  came [] o f q lo lf accepted h at = absurd (none_listed (Import o f) at)
-  came (e ∷ es) o f q lo lf accepted h at =
+  -- ---- the files that have reached an office
+
+  abbrev reached_at : List Event → ℕ → Origins
+  reached_at es = reached (past_of definition n files es)
+
+  abbrev HasCome : List Event → ℕ → ℕ → Type 0
+  HasCome es o f = contains (reached_at es o) (File f) ≡ true
+
+  -- one that has come stays
+  kept : (e : Event) (cause : Option Cause) (k o f : ℕ) (before : ℕ → Origins) → contains (before o) (File f) ≡ true → contains (reached_after e (outcome_by cause k) before o) (File f) ≡ true
+  kept (Import p g) None k o f before h =
+      of_both (o == p) (insert (before o) (File g)) (before o) (File f) (contains-insert origin_total (before o) (File g) (File f) ∙ or_right (eq_by_cmp origin_cmp (File f) (File g)) _ h) h
+  kept (Exchange p m) None k o f before h =
+      of_both (o == m) (union (before o) (before p)) (before o) (File f) (contains-union origin_total (before o) (before p) (File f) ∙ or_left _ _ h) h
+  kept (Import p g) (Some cause) k o f before h = h
+  kept (Exchange p m) (Some cause) k o f before h = h
+
+  stays : (e : Event) (es : List Event) (o f : ℕ) → HasCome es o f → HasCome (e ∷ es) o f
+  stays e es o f h = kept e (event_due definition n files e).cause (brings files (held_at es) e) o f (reached_at es) h
+
+  -- an accepted file comes to the office that imports it
+  abbrev IsThere : ℕ → Type 0
+  IsThere f = (f < length files) × (first_refusal definition (get_or files f []) ≡ None)
+
+  comes : (o f : ℕ) (es : List Event) → o < n → IsThere f → HasCome (Import o f ∷ es) o f
+  comes o f es lt there =
+      let before = reached_at es in
+      let none : (event_due definition n files (Import o f)).cause ≡ None = ap (λ d. d.cause) (import_due o f lt there.0) ∙ ap (λ first. (file_due first).cause) there.1 in
+      ap (λ cause. contains (reached_after (Import o f) (outcome_by cause (brings files (held_at es) (Import o f))) before o) (File f)) none
+      ∙ (ap (λ b. contains (cond b (insert (before o) (File f)) (before o)) (File f)) (is_eq o o refl)
+      ∙ (contains-insert origin_total (before o) (File f) (File f) ∙ or_left _ _ (tie_itself origin_total (File f) (File f) refl)))
+
+  came : (es : List Event) (o f : ℕ) → o < n → IsThere f → Contains es (Import o f) → HasCome es o f
+  came [] o f lt there at = absurd (none_listed (Import o f) at)
+  came (e ∷ es) o f lt there at =
       elim (head_or_tail e (Import o f) es at) [
-        | inl is ↦ subst (λ x. contains (held_at (x ∷ es) o) q ≡ true) (sym is) (comes o f es q lo lf accepted h)
-        | inr more ↦ stays e es o q (came es o f q lo lf accepted h more)
+        | inl is ↦ subst (λ x. HasCome (x ∷ es) o f) (sym is) (comes o f es lt there)
+        | inr more ↦ stays e es o f (came es o f lt there more)
       ]
 
-  -- nothing else is held than what the other commands hold
-  from_gained : (q : Fact) (before : ℕ → Facts) → ((o : ℕ) → contains (before o) q ≡ true → Has definition files q)
-      → (e : Event) (cause : Option Cause) (o : ℕ) → (event_due definition n files e).cause ≡ cause → contains (gained cause e before o) q ≡ true → Has definition files q
-  from_gained q before all (Import p f) None o is h = inr (record {
-    place = f;
-    below = below_of (length files) f (there_of (nat_le n p) (nat_le (length files) f) (first_refusal definition (get_or files f [])) is);
-    accepted = accepted_of (nat_le n p) (nat_le (length files) f) (first_refusal definition (get_or files f [])) is;
-    there = of_chosen (o == p) (facts (get_or files f [])) q h;
-  })
-  from_gained q before all (Exchange p k) None o is h = all p (of_chosen (o == k) (before p) q h)
-  from_gained q before all (Import p f) (Some cause) o is h = absurd (false≢true (sym (contains-empty fact_cmp q) ∙ h))
-  from_gained q before all (Exchange p k) (Some cause) o is h = absurd (false≢true (sym (contains-empty fact_cmp q) ∙ h))
+  -- and from an office to that which takes in what it holds
+  passed : (p o f : ℕ) (es : List Event) → p < n → o < n → HasCome es p f → HasCome (Exchange p o ∷ es) o f
+  passed p o f es lp lo h =
+      let before = reached_at es in
+      ap (λ cause. contains (reached_after (Exchange p o) (outcome_by cause (brings files (held_at es) (Exchange p o))) before o) (File f)) (exchange_is p o lp lo)
+      ∙ (ap (λ b. contains (cond b (union (before o) (before p)) (before o)) (File f)) (is_eq o o refl)
+      ∙ (contains-union origin_total (before o) (before p) (File f) ∙ or_right (contains (before o) (File f)) _ h))
 
-  only_held : (es : List Event) (o : ℕ) (q : Fact) → contains (held_at es o) q ≡ true → Has definition files q
-  only_held [] o q h = inl (only_start (starting definition) n o q (ap (λ s. contains s q) (sym (content-none starts files o)) ∙ h))
-  only_held (e ∷ es) o q h =
-      elim (or_cases _ _ (sym (has_more e es o q) ∙ h)) [
-        | inl before ↦ only_held es o q before
-        | inr now ↦ from_gained q (held_at es) (λ k at. only_held es k q at) e (event_due definition n files e).cause o refl now
+  -- each that has come is there, and accepted
+  from_more : (e : Event) (cause : Option Cause) (k o f : ℕ) (before : ℕ → Origins) → (event_due definition n files e).cause ≡ cause
+      → ((m : ℕ) → contains (before m) (File f) ≡ true → IsThere f) → contains (reached_after e (outcome_by cause k) before o) (File f) ≡ true → IsThere f
+  from_more (Import p g) None k o f before is all h =
+      elim (of_either (o == p) (insert (before o) (File g)) (before o) (File f) h) [
+        | inl now ↦ elim (or_cases (eq_by_cmp origin_cmp (File f) (File g)) _ (sym (contains-insert origin_total (before o) (File g) (File f)) ∙ now)) [
+          | inl ties ↦ subst IsThere (sym (one_file f g (tie_is origin_total origin_exact (File f) (File g) ties))) (
+            below_of (length files) g (there_of (nat_le n p) (nat_le (length files) g) (first_refusal definition (get_or files g [])) is),
+            accepted_of (nat_le n p) (nat_le (length files) g) (first_refusal definition (get_or files g [])) is,
+          )
+          | inr earlier ↦ all o earlier
+        ]
+        | inr earlier ↦ all o earlier
       ]
+  from_more (Exchange p m) None k o f before is all h =
+      elim (of_either (o == m) (union (before o) (before p)) (before o) (File f) h) [
+        | inl now ↦ elim (or_cases (contains (before o) (File f)) _ (sym (contains-union origin_total (before o) (before p) (File f)) ∙ now)) [
+          | inl own ↦ all o own
+          | inr taken ↦ all p taken
+        ]
+        | inr earlier ↦ all o earlier
+      ]
+  from_more (Import p g) (Some cause) k o f before is all h = all o h
+  from_more (Exchange p m) (Some cause) k o f before is all h = all o h
 
-  pub is_held : (es : List Event) (o : ℕ) → ((q : Fact) → Has definition files q → contains (held_at es o) q ≡ true) → held_at es o ≡ held definition files
-  is_held es o all =
-      same_set fact_total fact_exact (held_at es o) (held definition files)
-      (λ q. both_ways (contains (held_at es o) q) (contains (held definition files) q)
-      (λ h. held_from definition files q (only_held es o q h))
-      (λ h. all q (from_union definition files q h)))
+  pub is_there : (es : List Event) (o f : ℕ) → HasCome es o f → IsThere f
+  is_there [] o f h = absurd (no_file o f h)
+  is_there (e ∷ es) o f h =
+      from_more e (event_due definition n files e).cause (brings files (held_at es) e) o f (reached_at es) refl (λ m. is_there es m f) h
 
-  pub all_here : (es : List Event) (o : ℕ) → o < n → ((f : ℕ) → f < length files → Contains es (Import o f)) → (q : Fact) → Has definition files q → contains (held_at es o) q ≡ true
-  all_here es o lt each q (inl at_first) = started es o q lt at_first
-  all_here es o lt each q (inr from) = came es o from.place q lt from.below from.accepted from.there (each from.place from.below)
+  -- ---- what an office holds is of the values that have reached it
+
+  of_origin : (es : List Event) (o : ℕ) (q : Fact) (x : Origin) → contains (reached_at es o) x ≡ true → contains (brought starts files x) q ≡ true
+      → (contains (starting definition) q ≡ true) ⊎ ((v : Data) × HasReached files (past_of definition n files es) o v × (contains (value_facts v) q ≡ true))
+  of_origin es o q (Start k) had h = inl (only_start (starting definition) n k q h)
+  of_origin es o q (File f) had h = inr (value_in (get_or files f []), (f, had, refl), h)
+
+  pub reached_of : (es : List Event) (o : ℕ) → o < n → AreFactsOf definition (HasReached files (past_of definition n files es) o) (held_at es o)
+  reached_of es o lt q =
+      let has = λ (x : Origin). contains (brought starts files x) q in
+      let all = reached_at es o in
+      let is : contains (held_at es o) q ≡ list_any has (items all) = contains-union_over (brought starts files) (items all) q in (
+        λ h. let one = one_that_passes has (items all) (sym is ∙ h) in
+            of_origin es o q one.0 (contains-items all one.0 ∙ list_any-from_Contains (eq_by_cmp_equiv origin_total) one.0 (items all) one.1) one.2,
+        λ from. elim from [
+          | inl at_first ↦ started es o q lt at_first
+          | inr more ↦
+              let file = more.1 in
+              let listed = Contains-from_any (tie_is origin_total origin_exact) (File file.0) (items all) (sym (contains-items all (File file.0)) ∙ file.1) in
+              is ∙ passes_by has (items all) (File file.0) listed (ap (λ (v : Data). contains (value_facts v) q) file.2 ∙ more.2)
+        ],
+      )
+
+  -- those of the files that are there are all
+  only_accepted : (es : List Event) (o : ℕ) (v : Data) → HasReached files (past_of definition n files es) o v → HasAccepted definition files v
+  only_accepted es o v has =
+      let there = is_there es o has.0 has.1 in
+      from_place definition files v (has.0, there.0, (valid_file definition (get_or files has.0 [])).0 there.1, has.2)
+
+  all_held : (es : List Event) (o : ℕ) → o < n → ((v : Data) → HasAccepted definition files v → HasReached files (past_of definition n files es) o v) → held_at es o ≡ held definition files
+  all_held es o lt all =
+      same_by_values definition (HasReached files (past_of definition n files es) o) (HasAccepted definition files) (held_at es o) (held definition files)
+      (reached_of es o lt) (held_of definition files) (λ v. (only_accepted es o v, all v))
+
+  -- ---- imports of each value
+
+  -- an accepted file of this value is imported into the office o
+  abbrev pub TakesIn : List Event → ℕ → Data → Type 0
+  TakesIn es o v = (f : ℕ) × IsThere f × Contains es (Import o f) × (value_in (get_or files f []) ≡ v)
+
+  came_by : (es : List Event) (o : ℕ) (v : Data) → o < n → TakesIn es o v → HasReached files (past_of definition n files es) o v
+  came_by es o v lt takes = (takes.0, came es o takes.0 lt takes.1 takes.2, takes.3)
+
+  pub all_here : (es : List Event) (o : ℕ) → o < n → ((v : Data) → HasAccepted definition files v → TakesIn es o v) → held_at es o ≡ held definition files
+  all_here es o lt each = all_held es o lt (λ v has. came_by es o v lt (each v has))
+
+  -- where each place is
+  pub each_here : (es : List Event) (o : ℕ) → o < n → ((f : ℕ) → f < length files → Contains es (Import o f)) → held_at es o ≡ held definition files
+  each_here es o lt each = all_here es o lt (λ v has.
+      let at = placed definition files v has in
+      (at.0, (at.1, (valid_file definition (get_or files at.0 [])).1 at.2), each at.0 at.1, at.3))
 
   -- ---- both ways
 
-  module _ (p o : ℕ) (lp : p < n) (lo : o < n) (es : List Event) (each : (f : ℕ) → f < length files → Contains es (Import p f) ⊎ Contains es (Import o f)) where
-    all_there : (q : Fact) → Has definition files q → contains (held_at (Exchange p o ∷ es) o) q ≡ true
-    all_there q (inl at_first) = started (Exchange p o ∷ es) o q lo at_first
-    all_there q (inr from) =
-        elim (each from.place from.below) [
-          | inl with_p ↦ gives p o es q lp lo (came es p from.place q lp from.below from.accepted from.there with_p)
-          | inr with_o ↦ stays (Exchange p o) es o q (came es o from.place q lo from.below from.accepted from.there with_o)
+  module _ (p o : ℕ) (lp : p < n) (lo : o < n) (es : List Event) (each : (v : Data) → HasAccepted definition files v → TakesIn es p v ⊎ TakesIn es o v) where
+    all_there : (v : Data) → HasAccepted definition files v → HasReached files (past_of definition n files (Exchange p o ∷ es)) o v
+    all_there v has =
+        elim (each v has) [
+          | inl with_p ↦ let had = came_by es p v lp with_p in (had.0, passed p o had.0 es lp lo had.1, had.2)
+          | inr with_o ↦ let had = came_by es o v lo with_o in (had.0, stays (Exchange p o) es o had.0 had.1, had.2)
         ]
 
     pub first_of_both : held_at (Exchange o p ∷ Exchange p o ∷ es) p ≡ held definition files
-    first_of_both = is_held (Exchange o p ∷ Exchange p o ∷ es) p (λ q has. gives o p (Exchange p o ∷ es) q lo lp (all_there q has))
+    first_of_both = all_held (Exchange o p ∷ Exchange p o ∷ es) p lp (λ v has. let had = all_there v has in (had.0, passed o p had.0 (Exchange p o ∷ es) lo lp had.1, had.2))
 
     pub second_of_both : held_at (Exchange o p ∷ Exchange p o ∷ es) o ≡ held definition files
-    second_of_both = is_held (Exchange o p ∷ Exchange p o ∷ es) o (λ q has. stays (Exchange o p) (Exchange p o ∷ es) o q (all_there q has))
+    second_of_both = all_held (Exchange o p ∷ Exchange p o ∷ es) o lo (λ v has. let had = all_there v has in (had.0, stays (Exchange o p) (Exchange p o ∷ es) o had.0 had.1, had.2))

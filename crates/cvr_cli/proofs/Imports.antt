@@ -21,7 +21,7 @@ use Rattle.cvr_cli.specs.Refusals.{no_due, file_due, AreDue, is_refusal, is_want
 use Rattle.cvr_cli.specs.Told.{file_dues}
 use Rattle.cvr_cli.specs.Laws.{imports}
 use Rattle.cvr_cli.specs.Outcome.{held}
-use Rattle.cvr_cli.proofs.Drilled.{import_due, is_held, all_here}
+use Rattle.cvr_cli.proofs.Drilled.{import_due, each_here}
 use Rattle.cvr_cli.proofs.Steps.{due_by, refused_as_due, events_due, past_is}
 
 -- what is told of the only office
@@ -77,7 +77,7 @@ module _ (definition : Frame) (files : List (List ℕ)) (es : List Event) (rs : 
     pub content_held : content (starting definition ∷ []) files (history es rs) 0 ≡ held definition files
     content_held =
         ap (λ past. content (starting definition ∷ []) files past 0) (past_is definition 1 files es rs count out working)
-        ∙ is_held definition 1 files (reverse es) 0 (all_here definition 1 files (reverse es) 0 (omega arith) among)
+        ∙ each_here definition 1 files (reverse es) 0 (omega arith) among
 
 -- ---- the law
 
@@ -108,4 +108,4 @@ module _ (definition : Frame) (files : List (List ℕ)) where
   pub content_is_held : content (starting definition ∷ []) files (imports definition files (length files)) 0 ≡ held definition files
   content_is_held =
       ap (λ past. content (starting definition ∷ []) files past 0) (imports_are (length files) (omega arith))
-      ∙ is_held definition 1 files (down_from (length files)) 0 (all_here definition 1 files (down_from (length files)) 0 (omega arith) (listed_below (length files)))
+      ∙ each_here definition 1 files (down_from (length files)) 0 (omega arith) (listed_below (length files))

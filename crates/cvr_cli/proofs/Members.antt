@@ -1,44 +1,63 @@
--- The facts that are held of files.
-use Rattle.std.proofs.Common.{◌≡◌, ℕ, suc, ◌<◌, List, [], ◌∷◌, length, get_or, true, ◌⊎◌, inl, inr, Option, Some, None, refl, sym, ap, ◌∙◌, arith}
+-- The facts that are held of files: those of the definition's devices, and those of the values of the accepted files.
+use Rattle.std.proofs.Common.{◌≡◌, ℕ, ◌<◌, List, [], ◌∷◌, length, get_or, true, ◌⊎◌, inl, inr, Option, Some, None, refl, sym, ap, ◌∙◌, subst}
 use Rattle.std.proofs.lemmas.Bool.{false≢true}
 use Rattle.std.proofs.lemmas.List.Folds.{list_any_at}
 use Rattle.std.proofs.lemmas.List.{get_or_default}
-use Rattle.std.specs.Prelude.{Bool, ◌||◌, is_some, if◌then◌else◌}
+use Rattle.std.specs.Prelude.{Bool, ◌||◌, ◌↔◌, is_some, if◌then◌else◌}
 use Rattle.std.specs.List.{Contains, list_any}
 use Rattle.std.specs.Cmp.{both_ways}
-use Rattle.std.specs.FinSet.{contains, empty, same_set, contains-union, contains-empty}
+use Rattle.std.specs.FinSet.{contains, empty, from_list, same_set, contains-union, contains-empty}
+use Rattle.serde_json.specs.Data.{Data}
 use Rattle.cdf_types.specs.declared.fault.ReadFault.{ReadFault}
 use Rattle.cdf_check.specs.Frame.{Frame}
-use Rattle.cdf_check.specs.Acceptance.{first_refusal}
+use Rattle.cdf_check.specs.Acceptance.{Valid, first_refusal, value_in}
+use Rattle.cdf_check.proofs.Laws.{valid_file}
 use Rattle.cvr_facts.specs.Facts.{Fact, Facts, fact_cmp, fact_total, fact_exact}
-use Rattle.cvr_facts.specs.Reports.{facts}
+use Rattle.cvr_facts.specs.Reports.{report_facts, facts}
+use Rattle.cvr_facts.proofs.Lemmas.{at_head, at_tail}
 use Rattle.cvr_collect.specs.Keeps.{starting}
 use Rattle.cvr_collect.specs.Reach.{union_over}
 use Rattle.cvr_collect.proofs.Lemmas.{or_cases, or_left, or_right, contains-union_over}
-use Rattle.cvr_cli.specs.Laws.{HaveSameFiles}
+use Rattle.cvr_cli.specs.Laws.{HasAccepted, HaveSameFiles, HaveSameValues}
 use Rattle.cvr_cli.specs.Outcome.{accepted_facts, held}
 
-module _ (definition : Frame) (files : List (List ℕ)) (q : Fact) where
-  -- it is one of an accepted file
-  pub record IsBrought : Type 0 where
-    pub place : ℕ
-    pub below : place < length files
-    pub accepted : first_refusal definition (get_or files place []) ≡ None
-    pub there : contains (facts (get_or files place [])) q ≡ true
+-- ---- sets by values
 
-  abbrev pub Has : Type 0
-  Has = (contains (starting definition) q ≡ true) ⊎ IsBrought
+-- the facts of a value
+abbrev pub value_facts : Data → Facts
+value_facts v = from_list (report_facts v)
+
+-- these are the definition's devices, and the facts of these values
+abbrev pub AreFactsOf : Frame → (Data → Type 0) → Facts → Type 0
+AreFactsOf definition among s = (q : Fact) → (contains s q ≡ true) ↔ ((contains (starting definition) q ≡ true) ⊎ ((v : Data) × among v × (contains (value_facts v) q ≡ true)))
+
+module _ (definition : Frame) where
+  also_there : (P Q : Data → Type 0) (s t : Facts) → AreFactsOf definition P s → AreFactsOf definition Q t → ((v : Data) → P v → Q v) → (q : Fact) → contains s q ≡ true → contains t q ≡ true
+  also_there P Q s t of_s of_t more q h =
+      elim ((of_s q).0 h) [
+        | inl at_first ↦ (of_t q).1 (inl at_first)
+        | inr from ↦ (of_t q).1 (inr (from.0, more from.0 from.1, from.2))
+      ]
+
+  -- those of the same values are the same
+  pub same_by_values : (P Q : Data → Type 0) (s t : Facts) → AreFactsOf definition P s → AreFactsOf definition Q t → ((v : Data) → P v ↔ Q v) → s ≡ t
+  same_by_values P Q s t of_s of_t same =
+      same_set fact_total fact_exact s t
+      (λ q. both_ways (contains s q) (contains t q) (also_there P Q s t of_s of_t (λ v. (same v).0) q) (also_there Q P t s of_t of_s (λ v. (same v).1) q))
 
 -- ---- what is held
 
--- the first that passes a test
-any_place : (test : List ℕ → Bool) (files : List (List ℕ)) → list_any test files ≡ true → (k : ℕ) × (k < length files) × (test (get_or files k []) ≡ true)
-any_place test [] h = absurd (false≢true h)
-any_place test (file ∷ files) h =
-    elim (or_cases (test file) (list_any test files) h) [
-      | inl here ↦ (0, omega arith, here)
-      | inr rest ↦ let at = any_place test files rest in (suc at.0, omega (arith, at.1), at.2)
+-- a member that passes a test
+pub one_that_passes : {X : Type 0} (test : X → Bool) (xs : List X) → list_any test xs ≡ true → (x : X) × Contains xs x × (test x ≡ true)
+one_that_passes test [] h = absurd (false≢true h)
+one_that_passes test (x ∷ xs) h =
+    elim (or_cases (test x) (list_any test xs) h) [
+      | inl here ↦ (x, at_head x xs, here)
+      | inr rest ↦ let w = one_that_passes test xs rest in (w.0, at_tail x w.0 xs w.1, w.2)
     ]
+
+pub passes_by : {X : Type 0} (test : X → Bool) (xs : List X) (x : X) → Contains xs x → test x ≡ true → list_any test xs ≡ true
+passes_by test xs x at h = list_any_at test xs at.0 x at.1 (ap test at.2 ∙ h)
 
 -- a fact of the accepted file is one of the file, which is accepted
 of_accepted : (first : Option ReadFault) (some : Facts) (q : Fact) → contains (if is_some first then empty else some) q ≡ true → (first ≡ None) × (contains some q ≡ true)
@@ -49,45 +68,56 @@ in_accepted : (first : Option ReadFault) (some : Facts) (q : Fact) → first ≡
 in_accepted None some q is h = h
 in_accepted (Some fault) some q is h = absurd (Prim.cc is)
 
-module _ (definition : Frame) (files : List (List ℕ)) (q : Fact) where
-  abbrev gives : List ℕ → Bool
-  gives file = contains (accepted_facts definition file) q
+module _ (definition : Frame) (files : List (List ℕ)) where
+  -- an accepted file of a value, by its place
+  abbrev pub HasPlace : Data → Type 0
+  HasPlace v = (f : ℕ) × (f < length files) × Valid definition (get_or files f []) × (value_in (get_or files f []) ≡ v)
 
-  in_held : contains (held definition files) q ≡ (contains (starting definition) q || list_any gives files)
-  in_held =
+  pub placed : (v : Data) → HasAccepted definition files v → HasPlace v
+  placed v has =
+      let at = has.1 in
+      let is : has.0 ≡ get_or files at.0 [] = sym (get_or_default files at.0 [] has.0 at.1 ∙ at.2) in
+      (at.0, at.1, subst (Valid definition) is has.2, ap value_in (sym is) ∙ has.3)
+
+  pub from_place : (v : Data) → HasPlace v → HasAccepted definition files v
+  from_place v has = let file = get_or files has.0 [] in (file, (has.0, has.1, get_or_default files has.0 file [] has.1), has.2, has.3)
+
+  abbrev gives : Fact → List ℕ → Bool
+  gives q file = contains (accepted_facts definition file) q
+
+  in_held : (q : Fact) → contains (held definition files) q ≡ (contains (starting definition) q || list_any (gives q) files)
+  in_held q =
       contains-union fact_total (starting definition) (union_over (accepted_facts definition) files) q
       ∙ ap (λ b. contains (starting definition) q || b) (contains-union_over (accepted_facts definition) files q)
 
-  pub held_from : Has definition files q → contains (held definition files) q ≡ true
-  held_from (inl at_first) = in_held ∙ or_left _ _ at_first
-  held_from (inr from) =
-      in_held
-      ∙ or_right (contains (starting definition) q) _ (list_any_at gives files from.place [] from.below (in_accepted (first_refusal definition (get_or files from.place [])) _ q from.accepted from.there))
+  held_from : (q : Fact) (file : List ℕ) → Contains files file → Valid definition file → contains (facts file) q ≡ true → contains (held definition files) q ≡ true
+  held_from q file at valid h =
+      in_held q
+      ∙ or_right (contains (starting definition) q) _ (passes_by (gives q) files file at (in_accepted (first_refusal definition file) (facts file) q ((valid_file definition file).1 valid) h))
 
-  pub from_union : contains (held definition files) q ≡ true → Has definition files q
-  from_union h =
-      elim (or_cases _ _ (sym in_held ∙ h)) [
-        | inl at_first ↦ inl at_first
-        | inr some ↦
-            let at = any_place gives files some in
-            let parts = of_accepted (first_refusal definition (get_or files at.0 [])) (facts (get_or files at.0 [])) q at.2 in
-            inr (record { place = at.0; below = at.1; accepted = parts.0; there = parts.1 })
-      ]
+  pub held_of : AreFactsOf definition (HasAccepted definition files) (held definition files)
+  held_of q = (
+    λ h. elim (or_cases _ _ (sym (in_held q) ∙ h)) [
+      | inl at_first ↦ inl at_first
+      | inr some ↦
+          let one = one_that_passes (gives q) files some in
+          let parts = of_accepted (first_refusal definition one.0) (facts one.0) q one.2 in
+          inr (value_in one.0, (one.0, one.1, (valid_file definition one.0).0 parts.0, refl), parts.1)
+    ],
+    λ has. elim has [
+      | inl at_first ↦ in_held q ∙ or_left _ _ at_first
+      | inr from ↦ let file = from.1 in held_from q file.0 file.1 file.2 (ap (λ (v : Data). contains (value_facts v) q) file.3 ∙ from.2)
+    ],
+  )
 
--- ---- the same files
+-- ---- the same values
 
-also_held : (definition : Frame) (files others : List (List ℕ)) → HaveSameFiles files others → (q : Fact) → contains (held definition files) q ≡ true → contains (held definition others) q ≡ true
-also_held definition files others same q h =
-    elim (from_union definition files q h) [
-      | inl at_first ↦ held_from definition others q (inl at_first)
-      | inr from ↦
-          let file = get_or files from.place [] in
-          let there : Contains others file = (same file).0 (from.place, from.below, get_or_default files from.place file [] from.below) in
-          let is : get_or others there.0 [] ≡ file = get_or_default others there.0 [] file there.1 ∙ there.2 in
-          held_from definition others q (inr (record { place = there.0; below = there.1; accepted = ap (first_refusal definition) is ∙ from.accepted; there = ap (λ b. contains (facts b) q) is ∙ from.there }))
-    ]
-
-pub same_held : (definition : Frame) (files others : List (List ℕ)) → HaveSameFiles files others → held definition files ≡ held definition others
+pub same_held : (definition : Frame) (files others : List (List ℕ)) → HaveSameValues definition files others → held definition files ≡ held definition others
 same_held definition files others same =
-    same_set fact_total fact_exact (held definition files) (held definition others)
-    (λ q. both_ways (contains (held definition files) q) (contains (held definition others) q) (also_held definition files others same q) (also_held definition others files (λ f. ((same f).1, (same f).0)) q))
+    same_by_values definition (HasAccepted definition files) (HasAccepted definition others) (held definition files) (held definition others) (held_of definition files) (held_of definition others) same
+
+pub by_bytes : (definition : Frame) (files others : List (List ℕ)) → HaveSameFiles files others → HaveSameValues definition files others
+by_bytes definition files others same v = (
+  λ has. (has.0, (same has.0).0 has.1, has.2, has.3),
+  λ has. (has.0, (same has.0).1 has.1, has.2, has.3),
+)

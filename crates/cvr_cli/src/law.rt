@@ -2,7 +2,7 @@ ghost use Rattle.std.specs.Prelude.{◌≡◌, ◌+◌};
 ghost use Rattle.cdf_form.specs.Reading.{max_file};
 ghost use Rattle.cvr_cli.specs.File.{held_bytes};
 ghost use Rattle.cvr_cli.specs.HeldBytes.{HeldTextLaw, HeldLinesLaw, HeldFaultLaw, HeldRefusedLaw};
-ghost use Rattle.cvr_cli.specs.Laws.{HeldLaw, SameFactsLaw, SameCurrentsLaw, SameConflictsLaw, SameTallyLaw, SameMergeFaultLaw, SameVolumeLaw, NoFaultLaw, NoTextLaw, ToldNumberLaw, LastNumberLaw, DueLaw, LeastSameLaw, StartLaw, ImportLaw, ExchangeLaw, AllImportedLaw, BothWaysLaw, OneLineLaw, TwoLinesLaw, AloneOrEachLaw};
+ghost use Rattle.cvr_cli.specs.Laws.{HeldLaw, ByBytesLaw, SameFactsLaw, SameCurrentsLaw, SameConflictsLaw, SameTallyLaw, SameMergeFaultLaw, SameVolumeLaw, NoFaultLaw, NoTextLaw, ToldNumberLaw, LastNumberLaw, DueLaw, LeastSameLaw, StartLaw, ImportLaw, ExchangeLaw, FilesReachedLaw, ReachedLaw, SameReachedLaw, AllImportedLaw, ByPlacesLaw, BothWaysLaw, EachImportsBothLaw, OneLineLaw, TwoLinesLaw, AloneOrEachLaw};
 
 /// What a run holds, the devices of the definition and the facts of the accepted files, is the content
 /// of one new office after the import of each file.
@@ -10,8 +10,9 @@ pub fn held_is_the_content_after_imports()
     ensures { HeldLaw }
 {}
 
-/// Lists of the same files, in any order and however often each comes, hold the same facts and have
-/// the same current snapshots, the same conflicts, the same tally and the same volumes.
+/// Lists whose accepted files have the same values, in any order and however often each comes, hold the
+/// same facts and have the same current snapshots, the same conflicts, the same tally and the same
+/// volumes. Lists of the same files, byte by byte, have the same values.
 pub fn order_and_repeats_change_nothing()
     ensures facts { SameFactsLaw }
     ensures currents { SameCurrentsLaw }
@@ -19,6 +20,7 @@ pub fn order_and_repeats_change_nothing()
     ensures tally { SameTallyLaw }
     ensures merge_fault { SameMergeFaultLaw }
     ensures volume { SameVolumeLaw }
+    ensures by_bytes { ByBytesLaw }
 {}
 
 /// A merge has a fault or prints a volume, and never both. A fault of a volume that is not there tells
@@ -59,15 +61,22 @@ pub fn the_least_office_that_is_the_same_is_told()
 {}
 
 /// An import adds to an office of a drill what the other commands hold of the file; after an exchange the
-/// office that takes holds what both held. So one that imports each file, in any order and among any
-/// other steps, holds what they hold of all files; and so do two that between them import each, and at
-/// last exchange both ways. The text tells that.
+/// office that takes holds what both held. So an office holds what they hold of the files that have
+/// reached it, and of any whose accepted values are the same; and two that the same values have reached
+/// hold the same. One that imports each accepted value, in any order and among any other steps, holds what
+/// they hold of all files; and so do two that between them import each, and at last exchange both ways.
+/// The text tells that.
 pub fn offices_of_a_drill_hold_what_a_run_holds()
     ensures start { StartLaw }
     ensures import { ImportLaw }
     ensures exchange { ExchangeLaw }
+    ensures files_reached { FilesReachedLaw }
+    ensures reached { ReachedLaw }
+    ensures same_reached { SameReachedLaw }
     ensures all_imported { AllImportedLaw }
+    ensures by_places { ByPlacesLaw }
     ensures both_ways { BothWaysLaw }
+    ensures each_imports_both { EachImportsBothLaw }
     ensures one_line { OneLineLaw }
     ensures two_lines { TwoLinesLaw }
 {}

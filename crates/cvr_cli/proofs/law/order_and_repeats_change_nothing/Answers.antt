@@ -3,7 +3,7 @@ use Rattle.cvr_collect.specs.Names.{conflicts}
 use Rattle.cvr_collect.specs.Tallied.{tally}
 use Rattle.cvr_cli.specs.Currents.{currents}
 use Rattle.cvr_cli.specs.Merge.{merge_fault, merge_text}
-use Rattle.cvr_cli.proofs.Members.{same_held}
+use Rattle.cvr_cli.proofs.Members.{same_held, by_bytes}
 use Rattle.cvr_cli.proofs.law.order_and_repeats_change_nothing.Goals as goal
 
 pub returns : goal.returns
@@ -14,4 +14,5 @@ returns c = record {
   tally = λ definition files others same. ap (tally definition.contests) (same_held definition files others same);
   merge_fault = λ definition date device i files others same. ap (merge_fault definition date device i) (same_held definition files others same);
   volume = λ definition date device i files others same. ap (merge_text definition date device i) (same_held definition files others same);
+  by_bytes = by_bytes;
 }
