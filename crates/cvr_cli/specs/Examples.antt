@@ -1,12 +1,15 @@
 -- Worked examples: the whole text of each task over the facts of a few records. (This project's own.)
-use Rattle.std.specs.Prelude.{◌≡◌, ℕ, List, [], ◌∷◌, ◌++◌, map, codes}
+use Rattle.std.specs.Prelude.{◌≡◌, ℕ, List, [], ◌∷◌, ◌++◌, map, codes, Option, Some, None}
 use Rattle.std.specs.FinSet.{from_list}
 use Rattle.cdf_check.specs.Frame.{Frame}
 use Rattle.cvr_facts.specs.Facts.{Fact, Device, Header, Snapshot}
 use Rattle.cvr_tally.specs.Examples.{ballot_box, dot}
 use Rattle.cvr_collect.specs.Examples.{contests, position, selection, choice, contest, snapshot}
 use Rattle.cvr_words.specs.declared.request.Task.TheVariants.{Currents, Conflicts, Tally}
+use Rattle.cvr_cli.specs.declared.merge.MergeFault.{MergeFault}
+use Rattle.cvr_cli.specs.declared.merge.MergeFault.TheVariants.{NotMoment, NoDevice, NoVolume}
 use Rattle.cvr_cli.specs.Drill.{office_lines}
+use Rattle.cvr_cli.specs.Merge.{merge_fault, merge_lines}
 use Rattle.cvr_cli.specs.Outcome.{facts_text}
 
 -- a definition of three contests: for mayor Ann and Bob, the second with the dot, the third with no selection
@@ -160,6 +163,42 @@ one_body_each =
 
 abbrev pub NoConflict : Type 0
 NoConflict = facts_text election Conflicts (from_list one_body_each) ≡ codes "volumes 1\n"
+
+-- ---- merges of the facts with one body to twelve
+
+-- the election with a desk and a scanner
+abbrev pub with_devices : Frame
+with_devices = record { elections = []; units = []; parties = []; devices = (codes "desk", codes "1") ∷ (codes "s1", codes "2") ∷ []; contests = contests }
+
+-- under a date and a device, the volume of a number has this fault, or none, and these lines are told
+abbrev pub MergeTells : List ℕ → List ℕ → ℕ → Option MergeFault → List ℕ → Type 0
+MergeTells date device i fault lines = (merge_fault with_devices date device i (from_list several_bodies) ≡ fault) × (merge_lines fault ≡ lines)
+
+abbrev pub at_eight : List ℕ
+at_eight = codes "2024-11-06T08:00:00Z"
+
+-- a date without a time is no moment
+abbrev pub DateAlone : Type 0
+DateAlone = MergeTells (codes "2024-11-06") (codes "s1") 12 (Some NotMoment) (codes "merge: H1\n")
+
+-- it is told before a device that isn't listed and a number above the volumes
+abbrev pub DateFirst : Type 0
+DateFirst = MergeTells (codes "2024-11-06") (codes "s2") 13 (Some NotMoment) (codes "merge: H1\n")
+
+abbrev pub DeviceAlone : Type 0
+DeviceAlone = MergeTells at_eight (codes "s2") 12 (Some NoDevice) (codes "merge: H2\n")
+
+-- and such a device before such a number
+abbrev pub DeviceBeforeNumber : Type 0
+DeviceBeforeNumber = MergeTells at_eight (codes "s2") 13 (Some NoDevice) (codes "merge: H2\n")
+
+-- of a number above the volumes it is told how many there are
+abbrev pub NumberAlone : Type 0
+NumberAlone = MergeTells at_eight (codes "s1") 14 (Some (NoVolume 12)) (codes "merge: V1 12\n")
+
+-- of the last volume nothing
+abbrev pub LastVolume : Type 0
+LastVolume = MergeTells at_eight (codes "s1") 12 None []
 
 -- ---- a drill
 

@@ -1,9 +1,11 @@
 -- Worked examples: what a run tells of refused files, and what a drill prints. (This project's own.)
 use Rattle.std.specs.Prelude.{◌≡◌, ℕ, List, [], ◌∷◌, ◌++◌, codes}
+use Rattle.cdf_check.specs.Acceptance.{frame_in}
 use Rattle.cdf_check.specs.Rows as file
-use Rattle.cvr_words.specs.declared.request.Task.TheVariants.{Currents, Drill}
+use Rattle.cvr_words.specs.declared.request.Task.TheVariants.{Currents, Check, Drill}
 use Rattle.cvr_words.specs.declared.request.Act.TheVariants.{Import, Exchange}
 use Rattle.cvr_words.specs.declared.request.Step.{Step}
+use Rattle.cvr_cli.specs.Laws.{HaveSameValues}
 use Rattle.cvr_cli.specs.Outcome.{run_text}
 use Rattle.cvr_cli.specs.Told.{run_lines}
 
@@ -27,6 +29,31 @@ OtherElection = run_lines Currents (codes "def.json") file.definition_file (code
 -- of a definition that is refused its line alone, under its own path
 abbrev pub DefinitionRefused : Type 0
 DefinitionRefused = run_lines Currents (codes "def.json") file.two_faults_file three_paths three_files ≡ codes "def.json: E3 /CVR/0/UniqueId 2\n"
+
+-- ---- the lines of `check`
+
+-- a mark for Ann in the record of this name
+abbrev pub scan_of : List ℕ → List ℕ
+scan_of unique = file.cvr (file.snapshot (codes "original") (codes "")) (codes ",\"UniqueId\":\"" ++ unique ++ codes "\"")
+
+abbrev pub three_records_file : List ℕ
+three_records_file = file.report (scan_of (codes "u7") ++ codes "," ++ scan_of (codes "u8") ++ codes "," ++ scan_of (codes "u9")) (codes "")
+
+-- of one record, of two that are refused, and of three: a line for each of the two that are accepted
+abbrev pub CheckOfThree : Type 0
+CheckOfThree =
+    run_text Check file.definition_file three_paths (file.one_file ∷ file.two_faults_file ∷ three_records_file ∷ [])
+    ≡ codes "a.json 1\n" ++ codes "c.json 3\n"
+
+-- ---- files of one value
+
+-- the one that is accepted, with other bytes: a line feed before it, and a space behind it
+abbrev pub spelled_anew : List ℕ
+spelled_anew = codes "\n" ++ file.one_file ++ codes " "
+
+-- beside one that is refused it has the same values as the other, given twice
+abbrev pub OneValue : Type 0
+OneValue = HaveSameValues (frame_in file.definition_file) (spelled_anew ∷ file.two_faults_file ∷ []) (file.one_file ∷ file.one_file ∷ [])
 
 -- ---- a drill of three offices
 
