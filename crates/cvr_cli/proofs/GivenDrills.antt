@@ -36,14 +36,14 @@ abbrev pub all_ascii : List ℕ → Bool
 all_ascii [] = true
 all_ascii (b ∷ bs) = nat_lt b 128 && all_ascii bs
 
-ascii : (bs : List ℕ) → all_ascii bs ≡ true → IsAscii bs
+pub ascii : (bs : List ℕ) → all_ascii bs ≡ true → IsAscii bs
 ascii [] h = IsAscii-nil
 ascii (b ∷ bs) h = let both = and_parts (nat_lt b 128) (all_ascii bs) h in IsAscii-cons b bs (below b both.0) (ascii bs both.1)
   where
     below : (b : ℕ) → nat_lt b 128 ≡ true → b < 128
     below b e = grind (arith, nat_tests)
 
-value-ascii : (bytes : List ℕ) → all_ascii bytes ≡ true → value_in bytes ≡ data_of bytes
+pub value-ascii : (bytes : List ℕ) → all_ascii bytes ≡ true → value_in bytes ≡ data_of bytes
 value-ascii bytes a = rw (is_utf8-from_IsUtf8 bytes (IsUtf8-from_ascii bytes (ascii bytes a))) refl
 
 -- ---- what offices hold

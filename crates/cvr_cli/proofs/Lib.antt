@@ -27,3 +27,6 @@ pub mod GivenOffices
 pub mod Drilled
 pub mod DrillLaws
 pub mod GivenDrills
+pub mod GivenChecks
+pub mod GivenMerges
+pub mod GivenValues

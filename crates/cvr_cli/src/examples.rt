@@ -2,7 +2,7 @@
 ghost use Rattle.std.specs.Prelude.{codes};
 ghost use Rattle.cvr_cli.specs.declared.memory_files.MemoryFile.{MemoryFile};
 ghost use Rattle.cvr_cli.specs.MemoryFiles.{IsTold, FailAsTold};
-ghost use Rattle.cvr_cli.specs.Examples.{CurrentsOfFive, TallyOfFive, ConflictsOfTwo, NoConflict, LinesOfTen};
+ghost use Rattle.cvr_cli.specs.Examples.{CurrentsOfFive, TallyOfFive, ConflictsOfTwo, NoConflict, LinesOfTen, DateAlone, DateFirst, DeviceAlone, DeviceBeforeNumber, NumberAlone, LastVolume};
 
 /// The current snapshots and the tally of five records in three contests, the conflicts among facts
 /// of two records and three devices, what is told where there is none, and the lines of ten offices.
@@ -12,6 +12,17 @@ pub fn worked_examples()
     ensures conflicts { ConflictsOfTwo }
     ensures no_conflict { NoConflict }
     ensures drill { LinesOfTen }
+{}
+
+/// The fault of merges of facts with twelve volumes, and its line: the date is no moment, the device
+/// isn't listed, or the number is above the volumes; which of several is told; and none of the last volume.
+pub fn merges()
+    ensures date { DateAlone }
+    ensures date_first { DateFirst }
+    ensures device { DeviceAlone }
+    ensures device_before_number { DeviceBeforeNumber }
+    ensures number { NumberAlone }
+    ensures none { LastVolume }
 {}
 
 /// Worked example of files in memory: one that was told no call, one at another path that was told its fifth, and

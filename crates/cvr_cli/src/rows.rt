@@ -1,4 +1,4 @@
-ghost use Rattle.cvr_cli.specs.Rows.{TwoRefused, OtherElection, DefinitionRefused, FiveStepsRefused, LinesOfThree};
+ghost use Rattle.cvr_cli.specs.Rows.{TwoRefused, OtherElection, DefinitionRefused, CheckOfThree, OneValue, FiveStepsRefused, LinesOfThree};
 
 /// Worked examples: the lines of runs with refused files, and of a drill with refused steps; and the
 /// text of a drill in which one file is accepted.
@@ -8,4 +8,14 @@ pub fn worked_rows()
     ensures definition_refused { DefinitionRefused }
     ensures five_steps_refused { FiveStepsRefused }
     ensures drill { LinesOfThree }
+{}
+
+/// Worked example: the lines of `check` over three files, of which the second is refused.
+pub fn lines_of_check()
+    ensures { CheckOfThree }
+{}
+
+/// Worked example: a file and another spelling of it, beside a refused one, have the same values.
+pub fn files_of_one_value()
+    ensures { OneValue }
 {}
