@@ -35,7 +35,8 @@ pub fn volumes<O: Office>(office: &O) -> usize
 // Writes a piece.
 fn write_piece<W: Sink>(out: &mut W, piece: &[u8]) -> Result<(), WriteFault>
     requires { W.has_failed out.old ≡ false }
-    ensures { WritesOrLess (W.taken out.old) (W.taken out.new) (W.has_failed out.new) result piece.now }
+    ensures { WritesOrLess (W.taken out.old) (W.taken out.new) (W.has_failed out.new) result
+        piece.now }
 {
     write_all(out, piece)?;
     Ok(())
@@ -186,7 +187,8 @@ pub fn write_volume<O: Office, W: Sink>(
     ensures volume { OnOk result (W.taken out.new ≡ appended (W.taken out.old) (volume (O.defined office.now) heading.now (O.held office.now) i)) }
     ensures working { OnOk result (W.has_failed out.new ≡ false) }
     ensures fault { IfErr result (λ e. W.has_failed out.new ≡ is_device e) }
-    ensures front { OnErr result (AppendsProperPrefix (W.taken out.old) (W.taken out.new) (volume (O.defined office.now) heading.now (O.held office.now) i)) }
+    ensures front { OnErr result (AppendsProperPrefix (W.taken out.old) (W.taken out.new)
+        (volume (O.defined office.now) heading.now (O.held office.now) i)) }
 {
     write_report(alloc, office, heading, i, out)
 }
@@ -201,7 +203,8 @@ fn write_report<O: Office, W: Sink>(
 ) -> Result<(), WriteFault>
     requires working { W.has_failed out.old ≡ false }
     requires number { 0 < i }
-    ensures { WritesOrLess (W.taken out.old) (W.taken out.new) (W.has_failed out.new) result (volume (O.defined office.now) heading.now (O.held office.now) i) }
+    ensures { WritesOrLess (W.taken out.old) (W.taken out.new) (W.has_failed out.new) result
+        (volume (O.defined office.now) heading.now (O.held office.now) i) }
 {
     let definition = office.definition();
     let mut buffer = Vec::new(alloc);
