@@ -14,6 +14,7 @@ use Rattle.cdf_check.proofs.Laws.{valid_file}
 use Rattle.cvr_facts.specs.Facts.{Facts, fact_total, fact_exact}
 use Rattle.cvr_facts.specs.Unions.{union_empty}
 use Rattle.cvr_facts.proofs.Lemmas.{in_map, from_map}
+use Rattle.cvr_collect.specs.Alike.{HasReached}
 use Rattle.cvr_collect.specs.declared.event.Event.{Event}
 use Rattle.cvr_collect.specs.Keeps.{starting}
 use Rattle.cvr_collect.specs.Names.{records}
@@ -24,7 +25,7 @@ use Rattle.cvr_words.specs.declared.request.Act.{Act}
 use Rattle.cvr_words.specs.declared.request.Act.TheVariants as act
 use Rattle.cvr_words.specs.declared.request.Step.{Step}
 use Rattle.cvr_cli.specs.Drill.{event_of, events_of, new_offices, drilled, are_same, least_same, office_line, office_lines}
-use Rattle.cvr_cli.specs.Laws.{HasAccepted, HaveSameValues, acts, held_by, past_after, HasReached, files_reached, ImportsAccepted, StartLaw, ImportLaw, ExchangeLaw, FilesReachedLaw, ReachedLaw, SameReachedLaw, AllImportedLaw, ByPlacesLaw, BothWaysLaw, EachImportsBothLaw, same_line, OneLineLaw, TwoLinesLaw}
+use Rattle.cvr_cli.specs.Laws.{HasAccepted, HaveSameValues, acts, held_by, past_after, files_reached, ImportsAccepted, StartLaw, ImportLaw, ExchangeLaw, FilesReachedLaw, ReachedLaw, SameReachedLaw, AllImportedLaw, ByPlacesLaw, BothWaysLaw, EachImportsBothLaw, same_line, OneLineLaw, TwoLinesLaw}
 use Rattle.cvr_cli.specs.Outcome.{accepted_facts, held}
 use Rattle.cvr_cli.proofs.Members.{AreFactsOf, same_by_values, HasPlace, placed, held_of, same_held, by_bytes}
 use Rattle.cvr_cli.proofs.SameOffices.{same_itself}

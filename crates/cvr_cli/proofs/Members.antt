@@ -18,7 +18,7 @@ use Rattle.cvr_facts.proofs.Lemmas.{at_head, at_tail}
 use Rattle.cvr_collect.specs.Keeps.{starting}
 use Rattle.cvr_collect.specs.Reach.{union_over}
 use Rattle.cvr_collect.proofs.Lemmas.{or_cases, or_left, or_right, contains-union_over}
-use Rattle.cvr_cli.specs.Laws.{HasAccepted, HaveSameFiles, HaveSameValues}
+use Rattle.cvr_cli.specs.Laws.{HasAccepted, HaveSameBytes, HaveSameValues}
 use Rattle.cvr_cli.specs.Outcome.{accepted_facts, held}
 
 -- ---- sets by values
@@ -116,7 +116,7 @@ pub same_held : (definition : Frame) (files others : List (List ℕ)) → HaveSa
 same_held definition files others same =
     same_by_values definition (HasAccepted definition files) (HasAccepted definition others) (held definition files) (held definition others) (held_of definition files) (held_of definition others) same
 
-pub by_bytes : (definition : Frame) (files others : List (List ℕ)) → HaveSameFiles files others → HaveSameValues definition files others
+pub by_bytes : (definition : Frame) (files others : List (List ℕ)) → HaveSameBytes files others → HaveSameValues definition files others
 by_bytes definition files others same v = (
   λ has. (has.0, (same has.0).0 has.1, has.2, has.3),
   λ has. (has.0, (same has.0).1 has.1, has.2, has.3),

@@ -9,6 +9,7 @@ use Rattle.cvr_facts.specs.Facts.{Facts}
 use Rattle.cvr_facts.specs.Reports.{facts}
 use Rattle.cvr_collect.specs.declared.event.Event.{Event}
 use Rattle.cvr_collect.specs.declared.event.Event.TheVariants.{Import}
+use Rattle.cvr_collect.specs.Alike.{HasReached, HaveSameFiles}
 use Rattle.cvr_collect.specs.Keeps.{starting}
 use Rattle.cvr_collect.specs.Readers.{growth}
 use Rattle.cvr_collect.specs.Reach.{History, File, reached, content}
@@ -52,13 +53,13 @@ HasAccepted definition files v = (file : List ℕ) × Contains files file × Val
 abbrev pub HaveSameValues : Frame → List (List ℕ) → List (List ℕ) → Type 0
 HaveSameValues definition files others = (v : Data) → HasAccepted definition files v ↔ HasAccepted definition others v
 
--- the two lists have the same files, byte by byte, in any order and however often
-abbrev pub HaveSameFiles : List (List ℕ) → List (List ℕ) → Type 0
-HaveSameFiles files others = (file : List ℕ) → Contains files file ↔ Contains others file
+-- the two lists have the same texts, byte by byte, in any order and however often
+abbrev pub HaveSameBytes : List (List ℕ) → List (List ℕ) → Type 0
+HaveSameBytes files others = (file : List ℕ) → Contains files file ↔ Contains others file
 
 -- then they have the same values, beside any definition
 abbrev pub ByBytesLaw : Type 0
-ByBytesLaw = (definition : Frame) (files others : List (List ℕ)) → HaveSameFiles files others → HaveSameValues definition files others
+ByBytesLaw = (definition : Frame) (files others : List (List ℕ)) → HaveSameBytes files others → HaveSameValues definition files others
 
 -- lists of the same values hold the same facts
 abbrev pub SameFactsLaw : Type 0
@@ -156,10 +157,6 @@ ExchangeLaw = (definition : Frame) (n : ℕ) (files : List (List ℕ)) (steps mo
 abbrev pub past_after : Frame → ℕ → List (List ℕ) → List Step → History
 past_after definition n files steps = past_of definition n files (reverse (events_of n steps))
 
--- a file of this value has reached the office o
-abbrev pub HasReached : List (List ℕ) → History → ℕ → Data → Type 0
-HasReached files past o v = (f : ℕ) × (contains (reached past o) (File f) ≡ true) × (value_in (get_or files f []) ≡ v)
-
 -- the files that have reached the office o
 abbrev pub files_reached : List (List ℕ) → History → ℕ → List (List ℕ)
 files_reached files past o = map (λ f. get_or files f []) (filter (λ f. contains (reached past o) (File f)) (range_with_len 0 (length files)))
@@ -175,10 +172,10 @@ ReachedLaw = (definition : Frame) (n : ℕ) (files others : List (List ℕ)) (st
     → ((v : Data) → HasReached files (past_after definition n files steps) o v ↔ HasAccepted definition others v)
     → held_by definition n files steps o ≡ held definition others
 
--- two offices that files of the same values have reached hold the same
+-- two offices that the same files have reached hold the same
 abbrev pub SameReachedLaw : Type 0
 SameReachedLaw = (definition : Frame) (n : ℕ) (files : List (List ℕ)) (steps : List Step) (p o : ℕ) → p < n → o < n
-    → ((v : Data) → HasReached files (past_after definition n files steps) p v ↔ HasReached files (past_after definition n files steps) o v)
+    → HaveSameFiles files (past_after definition n files steps) p o
     → held_by definition n files steps p ≡ held_by definition n files steps o
 
 -- among these an accepted file of this value is imported into the office o
