@@ -30,3 +30,4 @@ pub mod GivenDrills
 pub mod GivenChecks
 pub mod GivenMerges
 pub mod GivenValues
+pub mod ThreeFiles

@@ -8,6 +8,7 @@ pub mod Log
 pub mod Merge
 pub mod Status
 pub mod Told
+pub mod CutShort
 pub mod Imported
 pub mod Printing
 pub mod Ends

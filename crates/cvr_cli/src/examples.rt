@@ -2,6 +2,7 @@
 ghost use Rattle.std.specs.Prelude.{codes};
 ghost use Rattle.cvr_cli.specs.declared.memory_files.MemoryFile.{MemoryFile};
 ghost use Rattle.cvr_cli.specs.MemoryFiles.{IsTold, FailAsTold};
+ghost use Rattle.cvr_cli.specs.CutShort.{AtOnce, AfterOne, AfterAll, AfterLacking};
 ghost use Rattle.cvr_cli.specs.Examples.{CurrentsOfFive, TallyOfFive, ConflictsOfTwo, NoConflict, LinesOfTen, DateAlone, DateFirst, DeviceAlone, DeviceBeforeNumber, NumberAlone, LastVolume};
 
 /// The current snapshots and the tally of five records in three contests, the conflicts among facts
@@ -29,4 +30,13 @@ pub fn merges()
 /// one at the first path again, told its sixth.
 pub fn files_fail_as_told()
     ensures { (x y z : MemoryFile) → IsTold x (codes "a") 0 → IsTold y (codes "b") 5 → IsTold z (codes "a") 6 → FailAsTold x y z }
+{}
+
+/// Worked examples of three files, the second one accepted: how the log ends where memory was wanting, and how
+/// it doesn't.
+pub fn memory_ends_a_log_as_told()
+    ensures at_once { AtOnce }
+    ensures after_one { AfterOne }
+    ensures after_all { AfterAll }
+    ensures after_lacking { AfterLacking }
 {}

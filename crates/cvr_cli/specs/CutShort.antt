@@ -1,0 +1,34 @@
+-- Worked examples: what the log of a run that ended for want of memory may be. (This project's own.)
+use Rattle.std.specs.Prelude.{List, [], ◌∷◌, ℕ, codes, Bool, true, false, Some, None}
+use Rattle.cdf_types.specs.declared.fault.ReadFault.TheVariants.{TooLong, NotJson}
+use Rattle.cvr_cli.specs.Refusals.{Due, file_due}
+use Rattle.cvr_cli.specs.Told.{IsCutShort}
+
+-- three files: the first is no JSON text, the second is accepted, the third is too long
+abbrev pub three_texts : List (List ℕ)
+three_texts = codes "a" ∷ codes "b" ∷ codes "c" ∷ []
+
+abbrev pub three_dues : List Due
+three_dues = file_due (Some NotJson) ∷ file_due None ∷ file_due (Some TooLong) ∷ []
+
+-- a run over them, of `check` or not, whose output works may end so
+abbrev pub MayTell : Bool → List ℕ → Type 0
+MayTell check text = IsCutShort check three_texts three_dues None false text
+
+-- by `memory` before any file: not `check`, which has no line to make for the first
+abbrev pub AtOnce : Type 0
+AtOnce = MayTell false (codes "memory\n") × (¬ MayTell true (codes "memory\n"))
+
+-- after the first: `check` alone, which makes the line of the second
+abbrev pub AfterOne : Type 0
+AfterOne = MayTell true (codes "a: E2\nmemory\n") × (¬ MayTell false (codes "a: E2\nmemory\n"))
+
+-- after all: any but `check`
+abbrev pub AfterAll : Type 0
+AfterAll = MayTell false (codes "a: E2\nc: E1\nmemory\n") × (¬ MayTell true (codes "a: E2\nc: E1\nmemory\n"))
+
+-- where the second was lacking, the third is told and nothing else
+abbrev pub AfterLacking : Type 0
+AfterLacking =
+    (check : Bool) → MayTell check (codes "a: E2\nb: E6\nc: E1\n")
+    × (¬ MayTell check (codes "a: E2\nb: E6\nmemory\n")) × (¬ MayTell check (codes "a: E2\nb: E6\nc: E1\nmemory\n"))
