@@ -4,6 +4,7 @@ ghost use Rattle.cdf_form.specs.Path.{escape, step_text, path_text};
 ghost use Rattle.cdf_form.specs.Found.{step_of};
 
 use crate::found::Step;
+use itoa::Buffer;
 use std::alloc::{AllocError, Global};
 
 fn push_char(text: &mut String, c: char) -> Result<(), AllocError>
@@ -31,7 +32,10 @@ fn push_step(text: &mut String, step: Step<'_>) -> Result<(), AllocError>
     text.push_str("/")?;
     match step {
         Step::Member(name) => push_escaped(text, name),
-        Step::Item(place) => write!(text, "{place}"),
+        Step::Item(place) => {
+            let mut buffer = Buffer::new();
+            text.push_str(buffer.format(place))
+        }
     }
 }
 
