@@ -9,10 +9,8 @@ pub mod Sound
 pub mod Same
 pub mod Acceptance
 pub mod Apart
-pub mod Taken
-pub mod Looked
-pub mod Fractional
-pub mod Followed
+pub mod Within
+pub mod Seen
 pub mod Bodies
 pub mod Wider
 pub mod Depths

@@ -1,18 +1,12 @@
 -- Paths of texts and objects in a report, in lists. (Paths: RFC 6901.)
-use Rattle.std.specs.Prelude.{ℕ, ◌+◌, List, [], ◌∷◌, ◌++◌, map, reverse, Bool, if◌then◌else◌, Option, Some, None}
+use Rattle.std.specs.Prelude.{ℕ, ◌+◌, List, [], ◌∷◌, ◌++◌, map, Bool, if◌then◌else◌, Option, Some, None}
 use Rattle.serde_json.specs.Data.{Data}
 use Rattle.cdf_form.specs.Form.{Step, at_member, at_item}
-use Rattle.cdf_form.specs.Found.{step_of}
 use Rattle.cdf_form.specs.Parts.{array_at}
-use Rattle.cdf_check.specs.declared.path.Path.{Path as Kept}
 
 -- the steps from a value, outermost first
 abbrev pub Path : Type 0
 Path = List Step
-
--- the path that was found and is kept with its innermost step first
-abbrev pub path_of : Kept → Path
-path_of p = reverse (map step_of p.steps.items)
 
 -- the first of a list, if there is one
 abbrev pub first : List Path → Option Path

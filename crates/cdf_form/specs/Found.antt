@@ -1,7 +1,8 @@
--- What a fault that was found stands for.
-use Rattle.std.specs.Prelude.{◌≡◌, map, reverse, Option, Some}
+-- What a path and a fault that were found stand for.
+use Rattle.std.specs.Prelude.{◌≡◌, List, map, reverse, Option, Some}
 use Rattle.cdf_form.specs.declared.found.Step.{Step as Kept}
 use Rattle.cdf_form.specs.declared.found.Step.TheVariants.{Member, Item}
+use Rattle.cdf_form.specs.declared.found.Path.{Path}
 use Rattle.cdf_form.specs.declared.found.Found.{Found}
 use Rattle.cdf_form.specs.declared.found.Stop.{Stop}
 use Rattle.cdf_form.specs.declared.found.Stop.TheVariants as stop
@@ -12,9 +13,12 @@ abbrev pub step_of : Kept → Step
 step_of (Member name) = at_member name.now
 step_of (Item i) = at_item i
 
--- the fault, its outermost step first
+-- the steps from a value, the outermost first
+abbrev pub path_of : Path → List Step
+path_of p = reverse (map step_of p.steps.items)
+
 abbrev pub fault_of : Found → Fault
-fault_of f = record { path = reverse (map step_of f.steps.items); rule = f.rule }
+fault_of f = record { path = path_of f.path; rule = f.rule }
 
 -- the walk stopped at this fault; where it stopped for want of memory, nothing is said
 abbrev pub Tells : Stop → Option Fault → Type 0

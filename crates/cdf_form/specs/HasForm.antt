@@ -4,10 +4,8 @@ use Rattle.std.specs.List.{list_any}
 use Rattle.serde_json.specs.Data.{Num, Data, Items}
 use Rattle.serde_json.specs.Find.{get, get_item, as_str, as_number, as_bool, as_array}
 use Rattle.serde_json.specs.Events.{items_len}
-use Rattle.serde_json.specs.Written.{has_float}
 use Rattle.cdf_form.specs.declared.table.Class.{Class}
 use Rattle.cdf_form.specs.declared.table.Group.{Group}
-use Rattle.cdf_form.specs.declared.table.Group.TheVariants as group
 use Rattle.cdf_form.specs.declared.table.Listing.{Listing}
 use Rattle.cdf_form.specs.declared.table.Leaf.{Leaf}
 use Rattle.cdf_form.specs.declared.table.Leaf.TheVariants as leaf
@@ -45,8 +43,3 @@ pub data HasForm : Kind → Data → Type 0 where
       → least ≤ items_len ds → items_len ds ≤ most
       → ((i : ℕ) (e : Data) → get_item i ds ≡ Some e → HasForm (One l) e) → AreApart k ds
       → HasForm (Array l least most k) d
-
--- a cast vote record by itself: it has the form of one, and no number is fractional
-pub record IsCvr (d : Data) : Type 0 where
-  pub form : HasForm (One (leaf.Object group.Cvrs)) d
-  pub whole : has_float d ≡ false

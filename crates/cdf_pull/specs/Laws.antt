@@ -1,9 +1,19 @@
--- What stands in an object whose array was filled in.
-use Rattle.std.specs.Prelude.{◌≡◌, ℕ, List, option_map, bytes_eq, false}
-use Rattle.serde_json.specs.Data.{array, Items, Members}
-use Rattle.serde_json.specs.Find.{get_member}
+-- What a value is, by what is left of it and by its items; and what stands in an object whose array was filled in.
+use Rattle.std.specs.Prelude.{◌≡◌, ◌⊎◌, ℕ, List, [], Some, option_map, bytes_eq, false}
+use Rattle.serde_json.specs.Data.{Data, array, object, Items, no_items, Members}
+use Rattle.serde_json.specs.Find.{get, get_member}
+use Rattle.serde_json.specs.View.{items_of}
 use Rattle.serde_json.specs.Written.{items_have_float, members_have_float}
-use Rattle.cdf_pull.specs.Apart.{filled}
+use Rattle.cdf_pull.specs.Fold.{filled, items_under, left_beside, IsOrdered}
+
+-- no array stands at the name, and nothing was taken; or what is left is an object with an empty one there, and the value has the items in it
+abbrev pub IsBeside : List ℕ → Data → List Data → Data → Type 0
+IsBeside name whole items left =
+    ((left ≡ whole) × (items ≡ []) × ((ds : Items) → get name whole ≡ Some (array ds) → ⊥))
+    ⊎ ((ms : Members) × (left ≡ object ms) × (get_member name ms ≡ Some (array no_items)) × (filled name no_items ms ≡ ms) × (whole ≡ object (filled name (items_of items) ms)))
+
+abbrev pub BesideLaw : Type 0
+BesideLaw = (name : List ℕ) (d : Data) → IsOrdered d → IsBeside name d (items_under name d) (left_beside name d)
 
 -- the other names have what they had
 abbrev pub OthersLaw : Type 0

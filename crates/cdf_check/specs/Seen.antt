@@ -1,0 +1,142 @@
+-- What is seen of the records of a file as it is read, and why the file is refused, by that and by what is left beside them. (This project's own.)
+use Rattle.std.specs.Prelude.{◌≡◌, ◌↔◌, ◌≤◌, ℕ, List, [], ◌∷◌, length, map, Option, None, Some, option_map, option_and_then, Result, IfOk, IfErr, IsSome, codes, if◌then◌else◌, bytes_eq, Bool, true, false}
+use Rattle.std.specs.List.{list_all, All}
+use Rattle.std.specs.Option.{option_or}
+use Rattle.serde_json.specs.Data.{Data, null, boolean, number, string, array, object, no_items, Members, no_members, member}
+use Rattle.serde_json.specs.Find.{as_object, get_member}
+use Rattle.serde_json.specs.Read.{read}
+use Rattle.serde_json.specs.View.{items_of}
+use Rattle.cdf_pull.specs.Fold.{filled}
+use Rattle.cdf_types.specs.declared.fault.ReadFault.{ReadFault}
+use Rattle.cdf_types.specs.declared.fault.ReadFault.TheVariants.{Schema}
+use Rattle.cdf_types.specs.declared.report.Report.{Report}
+use Rattle.cdf_types.specs.declared.rule.Rule.TheVariants as rule
+use Rattle.cdf_form.specs.declared.table.Group.TheVariants as group
+use Rattle.cdf_form.specs.declared.table.Leaf.TheVariants as leaf
+use Rattle.cdf_form.specs.Form as form
+use Rattle.cdf_form.specs.Form.{Fault, at_member, deeper, first, float_faults, leaf_faults}
+use Rattle.cdf_form.specs.Found.{fault_of, path_of}
+use Rattle.cdf_form.specs.Tables.{any}
+use Rattle.cdf_form.specs.Parts.{ids_at}
+use Rattle.cdf_form.specs.Path.{path_text}
+use Rattle.cdf_form.specs.Reading.{refusal_of, IsMemory, document_faults}
+use Rattle.cdf_form.specs.Records.{cvrs_faults}
+use Rattle.cdf_typed.specs.Typed.{cvr_of, report_of}
+use Rattle.cdf_check.specs.declared.seen.Kept.{Kept}
+use Rattle.cdf_check.specs.declared.seen.Seen.{Seen}
+use Rattle.cdf_check.specs.declared.unnamed.Unnamed.{Unnamed}
+use Rattle.cdf_check.specs.Paths as paths
+use Rattle.cdf_check.specs.Paths.{places}
+use Rattle.cdf_check.specs.References.{Scope, in_cvr}
+use Rattle.cdf_check.specs.Frame.{Frame}
+use Rattle.cdf_check.specs.Named.{ids_of}
+use Rattle.cdf_check.specs.Sound.{IsSound}
+use Rattle.cdf_check.specs.Agreement.{disagreements}
+use Rattle.cdf_check.specs.Acceptance.{value_refusal}
+use Rattle.cdf_check.specs.Apart.{with_records}
+use Rattle.cdf_check.specs.Within.{NamesWithin, AddsPlaces, named_in, texts_at, lists, is_placed}
+
+-- ---- numbers and form
+
+-- the path from a file of a fault of its records, which is told from their array
+abbrev pub in_file : Fault → List ℕ
+in_file f = path_text (at_member (codes "CVR") ∷ f.path)
+
+-- the path of the first number of a member that isn't whole
+abbrev pub member_fraction : List ℕ → Data → Option (List ℕ)
+member_fraction name d = option_map (λ f. path_text (at_member name ∷ f.path)) (first (float_faults d))
+
+-- that of a file, by the members of what is left beside its records, and that of these
+abbrev pub file_fraction : Members → Option (List ℕ) → Option (List ℕ)
+file_fraction no_members fraction = None
+file_fraction (member name d ms) fraction = option_or (if bytes_eq name (codes "CVR") then fraction else member_fraction name d) (file_fraction ms fraction)
+
+-- the first fault of a file whose numbers are whole in its records, by what is left beside them and their first fault of form: of its numbers, else of the report's class, else of the records, else of all else
+abbrev pub first_of_file : Data → Option Fault → Option Fault
+first_of_file left fault =
+    option_or (form.first (float_faults left))
+    (option_or (form.first (leaf_faults (leaf.Object group.Reports) left))
+    (option_or (option_map (deeper (at_member (codes "CVR"))) fault)
+    (form.first (document_faults left))))
+
+-- the refusal for the first fault of numbers, or else of form, by what is left beside the records and theirs
+abbrev pub form_refusal : Data → Option (List ℕ) → Option Fault → Option ReadFault
+form_refusal left fraction fault =
+    option_and_then (λ ms. option_or (option_map (λ path. Schema path rule.NotWhole) (file_fraction ms fraction)) (option_map refusal_of (first_of_file left fault))) (as_object left)
+
+-- ---- what is kept of right records
+
+-- the typed records; whether what each names, but for its device and its unit, is the definition's or its own; and where it is, the places of the parties that they name
+pub record AreKept (frame : Frame) (ds : List Data) (kept : Kept) : Type 0 where
+  pub typed : kept.cvrs.items ≡ map (cvr_of frame.contests) ds
+  pub settled : (kept.settled ≡ true) ↔ All (NamesWithin frame) ds
+  pub named : kept.settled ≡ true → AddsPlaces (ids_of frame.parties) [] (named_in ds) kept.named.items
+
+-- of records whose numbers are whole: the typed records and their first fault of form, and what is kept where they have none
+pub record AreWhole (frame : Frame) (ds : List Data) (seen : Seen) : Type 0 where
+  pub few : length ds ≤ any
+  pub typed : seen.kept.cvrs.items ≡ map (cvr_of frame.contests) ds
+  pub form : option_map fault_of seen.form ≡ first (cvrs_faults (items_of ds))
+  pub kept : seen.form ≡ None → AreKept frame ds seen.kept
+
+-- the path of the records' first number that isn't whole, and where there is none, all this
+pub record IsSeen (frame : Frame) (ds : List Data) (seen : Seen) : Type 0 where
+  pub fraction : seen.fraction ≡ option_map in_file (first (float_faults (array (items_of ds))))
+  pub whole : seen.fraction ≡ None → AreWhole frame ds seen
+
+-- ---- what they name
+
+-- of so many records at most, this is the first text that names nothing, from their array, or else the place of the record after them
+pub record IsUnnamed (scope : Scope) (count : ℕ) (ds : List Data) (seen : Unnamed) : Type 0 where
+  pub place : length ds ≤ count → seen.first ≡ None → seen.place ≡ length ds
+  pub first : length ds ≤ count → option_map path_of seen.first ≡ paths.first (places (in_cvr scope) ds 0)
+
+-- ---- the answer
+
+-- it is the report of the value, which nothing refuses, or why it is refused, or out of memory
+pub record IsJudged (frame : Frame) (d : Data) (answer : Result Report ReadFault) : Type 0 where
+  pub ok : IfOk answer (λ r. (value_refusal frame d ≡ None) × (r ≡ report_of frame.contests d))
+  pub err : IfErr answer (λ e. ¬ IsMemory e → value_refusal frame d ≡ Some e)
+
+-- the text is what is left with so many records in it; it has no fault of numbers or form, nor has what is left
+abbrev pub HasForms : List ℕ → Data → ℕ → Type 0
+HasForms text left count = record {
+  records : List Data;
+  members : Members;
+  whole : read text ≡ Some (with_records records members);
+  left_is : left ≡ object members;
+  emptied : filled (codes "CVR") no_items members ≡ members;
+  some : IsSome (get_member (codes "CVR") members);
+  number : count ≡ length records;
+  sound : document_faults (with_records records members) ≡ [];
+  rest : document_faults (object members) ≡ [];
+}
+
+-- and this is kept of its records
+abbrev pub HasKept : Frame → List ℕ → Data → Kept → Type 0
+HasKept frame text left kept = (h : HasForms text left (length kept.cvrs.items)) × AreKept frame h.records kept
+
+-- what is left is sound and agrees, lists the parties that are named, and has each record's device and unit
+pub record Settles (frame : Frame) (left : Data) (kept : Kept) : Type 0 where
+  pub settled : kept.settled ≡ true
+  pub sound : IsSound left
+  pub agrees : disagreements frame left ≡ []
+  pub listed : lists (ids_at (codes "Party") left) (texts_at (ids_of frame.parties) kept.named.items) ≡ true
+  pub placed : list_all (is_placed (ids_at (codes "ReportingDevice") left) (ids_at (codes "GpUnit") left)) kept.cvrs.items ≡ true
+
+-- the value is refused
+abbrev pub Refuses : Frame → List ℕ → Type 0
+Refuses frame text = (d : Data) → read text ≡ Some d → value_refusal frame d ≡ None → ⊥
+
+-- this is why
+abbrev pub IsRefusedFor : Frame → List ℕ → ReadFault → Type 0
+IsRefusedFor frame text fault = (d : Data) → read text ≡ Some d → value_refusal frame d ≡ Some fault
+
+abbrev pub is_array : Option Data → Bool
+is_array None = false
+is_array (Some null) = false
+is_array (Some (boolean b)) = false
+is_array (Some (number n)) = false
+is_array (Some (string s)) = false
+is_array (Some (array ds)) = true
+is_array (Some (object ms)) = false
