@@ -10,13 +10,20 @@ pub enum Step<'a> {
     Item(usize),
 }
 
-/// A fault that was found, with the steps to it, the innermost first.
+/// The way from a value to one of its parts.
+#[derive(Drop)]
+pub struct Path<'a> {
+    /// The steps, the innermost first.
+    pub steps: Vec<Step<'a>>,
+}
+
+/// A fault that was found.
 #[derive(Drop)]
 pub struct Found<'a> {
     /// The rule that is broken.
     pub rule: Rule,
-    /// The steps to the place, the innermost first.
-    pub steps: Vec<Step<'a>>,
+    /// Where it is broken.
+    pub path: Path<'a>,
 }
 
 /// Why a walk stops: at a fault, or for want of memory.
@@ -39,18 +46,29 @@ impl<'a> From<AllocError> for Stop<'a> {
     }
 }
 
-impl<'a> Found<'a> {
-    ghost use Rattle.std.specs.Prelude.{◌≡◌, IfOk};
-    ghost use Rattle.cdf_form.specs.Form.{deeper};
-    ghost use Rattle.cdf_form.specs.Found.{fault_of, step_of};
+impl<'a> Path<'a> {
+    ghost use Rattle.std.specs.Prelude.{◌≡◌, ◌∷◌, [], IfOk};
+    ghost use Rattle.cdf_form.specs.Found.{path_of, step_of};
 
-    // The same fault, told from the value that the step leads out of.
-    fn under(self, step: Step<'a>) -> Result<Found<'a>, AllocError>
-        ensures { IfOk result (λ f. fault_of f ≡ deeper (step_of step.entry) (fault_of self.entry)) }
+    /// The value itself. Takes no memory.
+    pub fn here(alloc: Global) -> Path<'a>
+        ensures { path_of result ≡ [] }
     {
-        let Found { rule, mut steps } = self;
+        Path {
+            steps: Vec::new(alloc),
+        }
+    }
+
+    /// The same path, told from the value that the step leads out of.
+    ///
+    /// # Errors
+    /// An `AllocError` where a growth was refused.
+    pub fn under(self, step: Step<'a>) -> Result<Path<'a>, AllocError>
+        ensures { IfOk result (λ p. path_of p ≡ step_of step.entry ∷ path_of self.entry) }
+    {
+        let Path { mut steps } = self;
         steps.push(step)?;
-        Ok(Found { rule, steps })
+        Ok(Path { steps })
     }
 }
 
@@ -65,7 +83,7 @@ impl<'a> Stop<'a> {
     {
         Stop::Fault(Found {
             rule,
-            steps: Vec::new(alloc),
+            path: Path::here(alloc),
         })
     }
 
@@ -77,8 +95,8 @@ impl<'a> Stop<'a> {
     {
         match self {
             Stop::Memory => Stop::Memory,
-            Stop::Fault(found) => match found.under(step) {
-                Ok(found) => Stop::Fault(found),
+            Stop::Fault(Found { rule, path }) => match path.under(step) {
+                Ok(path) => Stop::Fault(Found { rule, path }),
                 Err(_) => Stop::Memory,
             },
         }

@@ -33,16 +33,6 @@ impl Ids {
     ghost use Rattle.cdf_form.specs.Places.{place_in};
     ghost use Rattle.cdf_form.specs.Kept.{bytes_of};
 
-    /// No ids. Takes no memory.
-    pub fn empty(alloc: Global) -> Ids
-        ensures { result ≡ [] }
-    {
-        Ids {
-            ids: Vec::new(alloc),
-            places: BTreeMap::new(alloc),
-        }
-    }
-
     /// The ids in the order that is given.
     ///
     /// # Errors

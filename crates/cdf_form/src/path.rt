@@ -1,9 +1,10 @@
 ghost use Rattle.std.specs.Prelude.{◌≡◌, ◌++◌, IfOk, OnOk, map, reverse, string_bytes};
 ghost use Rattle.std.specs.Char.{encode_utf8};
 ghost use Rattle.cdf_form.specs.Path.{escape, step_text, path_text};
-ghost use Rattle.cdf_form.specs.Found.{step_of};
+ghost use Rattle.cdf_form.specs.Found.{step_of, path_of};
 
-use crate::found::Step;
+use crate::found::{Path, Step};
+use cdf_types::Body;
 use itoa::Buffer;
 use std::alloc::{AllocError, Global};
 
@@ -39,11 +40,8 @@ fn push_step(text: &mut String, step: Step<'_>) -> Result<(), AllocError>
     }
 }
 
-/// The JSON Pointer (RFC 6901) of a path whose innermost step comes first.
-///
-/// # Errors
-/// An `AllocError` where a growth was refused.
-pub fn path_text(alloc: Global, steps: &[Step<'_>]) -> Result<String, AllocError>
+// The text of a path whose innermost step comes first.
+fn path_text(alloc: Global, steps: &[Step<'_>]) -> Result<String, AllocError>
     ensures { IfOk result (λ s. string_bytes s ≡ path_text (reverse (map step_of steps.now))) }
 {
     let mut text = String::new(alloc);
@@ -53,4 +51,14 @@ pub fn path_text(alloc: Global, steps: &[Step<'_>]) -> Result<String, AllocError
         push_step(&mut text, steps[left])?;
     }
     Ok(text)
+}
+
+/// The JSON Pointer (RFC 6901) of a path.
+///
+/// # Errors
+/// An `AllocError` where a growth was refused.
+pub fn pointer(alloc: Global, path: &Path<'_>) -> Result<Body, AllocError>
+    ensures { IfOk result (λ text. text ≡ path_text (path_of path.now)) }
+{
+    Ok(Body::new(path_text(alloc, &path.steps)?))
 }

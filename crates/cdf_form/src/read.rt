@@ -1,17 +1,17 @@
-ghost use Rattle.std.specs.Prelude.{◌≡◌, ◌↔◌, None, Some, option_map, IfOk, IfErr, OnOk, IsTrue};
+ghost use Rattle.std.specs.Prelude.{◌≡◌, None, Some, IfOk, IfErr, OnOk};
 ghost use Rattle.serde_json.specs.View.{view};
+ghost use Rattle.serde_json.specs.Written.{has_float};
 ghost use Rattle.cdf_types.specs.declared.fault.ReadFault.TheVariants.{NotJson};
 ghost use Rattle.cdf_form.specs.Form.{first};
-ghost use Rattle.cdf_form.specs.Found.{Tells, fault_of};
-ghost use Rattle.cdf_form.specs.HasForm.{IsCvr};
+ghost use Rattle.cdf_form.specs.Found.{Tells};
 ghost use Rattle.cdf_form.specs.Records.{cvr_faults};
 ghost use Rattle.cdf_form.specs.Reading.{IsMemory, document_faults, value_of};
 
 use crate::float::find_float;
-use crate::found::{Found, Stop};
+use crate::found::Stop;
 use crate::table::{Group, Key, Kind, Leaf};
 use crate::walk::walk;
-use cdf_types::{Memory, ReadFault};
+use cdf_types::ReadFault;
 use serde_json::{Category, Value};
 use std::alloc::Global;
 
@@ -58,33 +58,16 @@ pub fn document_fault<'a>(alloc: Global, value: &'a Value) -> Result<(), Stop<'a
     }
 }
 
-/// Whether a value is a cast vote record by itself (class CVR): it has the form, and each number is
-/// whole.
+/// Looks for the first fault of the form of a cast vote record by itself (class CVR). Where there is
+/// none, tells whether a number that isn't whole stands in it.
 ///
 /// # Errors
-/// `Memory` where a growth was refused.
-pub fn is_cvr(alloc: Global, value: &Value) -> Result<bool, Memory>
-    ensures { IfOk result (λ is. IsTrue is ↔ IsCvr (view value.now)) }
+/// `Fault` at the first fault of form; `Memory` where a growth was refused.
+pub fn cvr_fault(alloc: Global, value: &Value) -> Result<bool, Stop<'static>>
+    ensures none { OnOk result (first (cvr_faults (view value.now)) ≡ None) }
+    ensures fraction { IfOk result (λ told. told ≡ has_float (view value.now)) }
+    ensures fault { IfErr result (λ s. Tells s (first (cvr_faults (view value.now)))) }
 {
     let record = Kind::One(Leaf::Object(Group::Cvrs));
-    match walk(alloc, value, record, Key::Free) {
-        Ok(fraction) => Ok(!fraction),
-        Err(Stop::Memory) => Err(Memory),
-        Err(Stop::Fault(_)) => Ok(false),
-    }
-}
-
-/// The first fault of the form of a cast vote record by itself (class CVR), if it has one.
-///
-/// # Errors
-/// `Memory` where a growth was refused.
-pub fn cvr_fault(alloc: Global, value: &Value) -> Result<Option<Found<'static>>, Memory>
-    ensures { IfOk result (λ told. option_map fault_of told ≡ first (cvr_faults (view value.now))) }
-{
-    let record = Kind::One(Leaf::Object(Group::Cvrs));
-    match walk(alloc, value, record, Key::Free) {
-        Ok(_) => Ok(None),
-        Err(Stop::Memory) => Err(Memory),
-        Err(Stop::Fault(found)) => Ok(Some(found)),
-    }
+    walk(alloc, value, record, Key::Free)
 }
