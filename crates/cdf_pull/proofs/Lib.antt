@@ -1,6 +1,5 @@
 pub mod Numbers
-pub mod Scalars
-pub mod Next
-pub mod Taking
-pub mod Looking
+pub mod Loops
+pub mod Folding
+pub mod Beside
 pub mod Laws

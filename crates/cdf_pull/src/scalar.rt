@@ -1,8 +1,9 @@
-ghost use Rattle.std.specs.Prelude.{◌≡◌, false, true, option_map, IfOk};
+ghost use Rattle.std.specs.Prelude.{◌≡◌, ◌≢◌, false, true, Err, IfOk, option_map};
 ghost use Rattle.json.specs.Reads.{token_of};
 ghost use Rattle.serde_json.specs.Read.{number_of, number_from};
-ghost use Rattle.serde_json.specs.View.{view, number_view};
-ghost use Rattle.cdf_pull.specs.Next.{IsAlone};
+ghost use Rattle.serde_json.specs.View.{number_view, view};
+ghost use Rattle.cdf_pull.specs.Next.{IsAlone, IsRefused};
+ghost use Rattle.cdf_pull.specs.Fold.{IsScalar};
 
 use crate::stop::Stop;
 use fast_float::Numeral;
@@ -42,13 +43,17 @@ fn number(text: &str) -> Option<Number>
     }
 }
 
-/// The value that a token is by itself: a text, a number, a truth value or null.
+/// The value that a token is by itself, as serde_json reads it.
 ///
 /// # Errors
-/// `Unread` at any other token, and at a number too large for a float; `Memory` where a growth was
-/// refused.
+/// `Unread` where it is none; `Memory` where a growth was refused.
+#[tactic(auto, using(json::proofs::Grammar::value_is, serde_json::specs::declared::value::Value::the_lemmas))]
 pub fn scalar(alloc: Global, token: Token<'_>) -> Result<Value, Stop>
-    ensures { IfOk result (λ v. IsAlone (token_of token.entry) (view v)) }
+    requires no_array { token ≢ Token.BeginArray }
+    requires no_object { token ≢ Token.BeginObject }
+    ensures value { IfOk result (λ v. IsAlone (token_of token.entry) (view v)) }
+    ensures scalar { IfOk result (λ v. IsScalar (view v)) }
+    ensures unread { result ≡ Err Stop.Unread → IsRefused (token_of token.entry) }
 {
     match token {
         Token::Null => Ok(Value::Null),

@@ -1,19 +1,13 @@
 use json::Invalid;
 use std::alloc::{AllocError, AllocFailed};
 
-/// Why nothing was read. No cause says that the text is refused: another reader may take it.
+/// Why nothing was read.
 #[derive(Clone, Copy, Debug, PartialEq, Eq, Drop)]
 pub enum Stop {
     /// Want of memory.
     Memory,
-    /// The tokens aren't what is read here.
+    /// There is no such value.
     Unread,
-    /// An item is left to another reader.
-    Deferred,
-    /// An item isn't what is taken here.
-    Untaken,
-    /// An item is what is taken here, but names something that isn't known.
-    Unresolved,
 }
 
 impl From<AllocError> for Stop {

@@ -1,0 +1,22 @@
+use Rattle.std.proofs.Common.{[], ◌∷◌, ◌++◌, arith}
+use Rattle.serde_json.specs.View.{view}
+use Rattle.cdf_pull.proofs.Loops.{array_begun, array_next, array_over, array_none}
+use Rattle.cdf_pull.proofs.fold.fold_items.Goals as goal
+
+pub items-init : goal.items-init
+items-init g c = record { ds = []; read = array_begun c.args.depth c.args.reader.now (omega arith); keeps = c.none-kept.ensures }
+
+pub items-preserved : goal.items-preserved
+items-preserved g c =
+    let done = c.in_ok-item.ensures in
+    record {
+      ds = c.items.invariant.ds ++ view c.in_ok-item.item ∷ [];
+      read = array_next c.items.invariant.read (grind arith) done.value done.shorter;
+      keeps = c.in_ok-take.ensures c.items.invariant.ds c.items.invariant.keeps;
+    }
+
+pub returns-clause-items : goal.returns-clause-items
+returns-clause-items g c = (c.items.invariant.ds, array_over c.items.invariant.read (grind arith), c.items.invariant.keeps)
+
+pub returns-in_err-item-clause-unread : goal.returns-in_err-item-clause-unread
+returns-in_err-item-clause-unread g c unread = array_none c.items.invariant.read {t = c.take_end_array.new.self} (grind arith) (grind arith)

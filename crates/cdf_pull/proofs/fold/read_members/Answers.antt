@@ -1,0 +1,44 @@
+use Rattle.std.proofs.Common.{◌≡◌, bytes_eq, ap, ap₂, subst, ◌∙◌, arith, rules}
+use Rattle.serde_json.specs.Data.{no_members, put}
+use Rattle.serde_json.specs.View.{members_view}
+use Rattle.cdf_pull.specs.Fold.{emptied, Rises}
+use Rattle.cdf_pull.proofs.Loops.{object_begun, object_next, object_over, object_none, object_no_key}
+use Rattle.cdf_pull.proofs.Folding.{inserted, items_found-put, put-changed, Rises-changed, Rises-members_view}
+use Rattle.cdf_pull.proofs.fold.read_members.Goals as goal
+
+pub members-init : goal.members-init
+members-init g c = record {
+  ms = no_members;
+  read = object_begun c.args.depth c.args.reader.now (omega arith);
+  left = ap members_view c.new-found.ensures.empty;
+  ordered = c.new-found.ensures.ordered;
+  keeps = c.none-kept.ensures;
+}
+
+pub members-preserved : goal.members-preserved
+members-preserved g c =
+    let l = c.members.invariant in
+    let name = c.args.name.now in
+    let k = c.in-Some.key.now in
+    let is_folded : c.eq.result ≡ bytes_eq k name = grind arith in
+    let member = rw is_folded at c.in_ok-member.ensures.value in
+    let d = member.0 in
+    record {
+      ms = put k d l.ms;
+      read = object_next l.read {k = k} (grind arith) member.1 c.in_ok-member.ensures.shorter;
+      left = inserted k c.members.found.entries c.in_ok-text.text c.in_ok-member.member c.in_ok-insert.ensures.entries (search rules) ∙ ap₂ (put k) member.2 l.left ∙ put-changed name emptied k d l.ms;
+      ordered = c.in_ok-insert.ensures.ordered;
+      keeps = rw (← items_found-put name k d l.ms) (member.3 _ l.keeps);
+    }
+
+pub returns-clause-members : goal.returns-clause-members
+returns-clause-members g c =
+    let l = c.members.invariant in
+    let rises = subst Rises l.left (Rises-members_view c.members.found.entries l.ordered) in
+    (l.ms, object_over l.read (grind arith), l.left, l.keeps, subst (λ T. T) (Rises-changed c.args.name.now emptied l.ms) rises)
+
+pub returns-in_err-key-clause-unread : goal.returns-in_err-key-clause-unread
+returns-in_err-key-clause-unread g c unread = object_no_key c.members.invariant.read c.in_err-key.ensures.value
+
+pub returns-in_err-member-clause-unread : goal.returns-in_err-member-clause-unread
+returns-in_err-member-clause-unread g c unread = object_none c.members.invariant.read {k = c.in-Some.key.now} {s = c.next_key.new.self} (grind arith) (grind arith)

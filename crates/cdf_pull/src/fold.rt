@@ -1,0 +1,243 @@
+ghost use Rattle.std.specs.Prelude.{◌≡◌, ◌<◌, ◌∷◌, ◌++◌, [], length, List, Err, None, Some, IfOk, OnOk, MatchOption, if◌then◌else◌};
+ghost use Rattle.json.specs.Token as spec;
+ghost use Rattle.serde_json.specs.Data.{Data, Members, array, object};
+ghost use Rattle.serde_json.specs.Find.{get_member};
+ghost use Rattle.serde_json.specs.Read.{read as read_data};
+ghost use Rattle.serde_json.specs.View.{view, items_of, members_view};
+ghost use Rattle.cdf_pull.specs.Next.{next_value, next_last};
+ghost use Rattle.cdf_pull.specs.Fold.{items_in, emptied, emptied_at, items_found, items_under, left_beside, Rises, IsOrdered, IsFolded};
+
+use crate::scalar::scalar;
+use crate::stop::Stop;
+use crate::value::{read, read_array, read_object};
+use json::{Reader, Scratch, Token};
+use serde_json::{Map, Value};
+use std::alloc::{AllocError, Global};
+
+/// What is kept of the items of an array, which are handed over one at a time.
+pub trait Fold {
+    type Kept;
+
+    ghost keeps: { Self → List Data → Self.Kept → Type 0 };
+
+    /// What is kept of no items.
+    fn none(&self, alloc: Global) -> Self::Kept
+        ensures { keeps self.now [] result };
+
+    /// Takes the next item.
+    ///
+    /// # Errors
+    /// An `AllocError` where a growth was refused.
+    fn take(&self, alloc: Global, kept: &mut Self::Kept, item: Value) -> Result<(), AllocError>
+        ensures { OnOk result ((ds : List Data) → keeps self.now ds kept.old
+            → keeps self.now (ds ++ view item ∷ []) kept.new) };
+}
+
+// What is kept of the items of the array whose first bracket was read, each taken before the next one
+// is read.
+#[tactic(auto, using(crate::proofs::Loops::array_flat, crate::proofs::Loops::array_shorter))]
+fn fold_items<F: Fold>(
+    alloc: Global,
+    reader: &mut Reader<'_>,
+    depth: usize,
+    fold: &F,
+) -> Result<F::Kept, Stop>
+where
+    F::Kept: Drop,
+    ensures items { IfOk result (λ kept. (ds : List Data)
+        × (next_value depth (spec.Token.begin_array ∷ reader.old)
+        ≡ Some (array (items_of ds), reader.new))
+        × F.keeps fold.now ds kept) }
+    ensures unread { result ≡ Err Stop.Unread
+        → next_value depth (spec.Token.begin_array ∷ reader.old) ≡ None }
+    ensures shorter { OnOk result (length reader.new < length reader.old) }
+{
+    if depth == 0 {
+        return Err(Stop::Unread);
+    }
+    let mut kept = fold.none(alloc);
+    'items: while !reader.take_end_array() {
+        let item = read(alloc, reader, depth - 1)?;
+        fold.take(alloc, &mut kept, item)?;
+    }
+    Ok(kept)
+}
+
+// The next value, and what is kept of its items, of which it has none any more.
+#[tactic(auto, using(crate::proofs::Loops::next_value_nothing))]
+fn read_emptied<F: Fold>(
+    alloc: Global,
+    reader: &mut Reader<'_>,
+    depth: usize,
+    fold: &F,
+) -> Result<(Value, F::Kept), Stop>
+where
+    F::Kept: Drop,
+    ensures value { IfOk result (λ p. (d : Data)
+        × (next_value depth reader.old ≡ Some (d, reader.new))
+        × (view p.0 ≡ emptied d)
+        × F.keeps fold.now (items_in d) p.1) }
+    ensures unread { result ≡ Err Stop.Unread → next_value depth reader.old ≡ None }
+    ensures shorter { OnOk result (length reader.new < length reader.old) }
+{
+    let token = reader.next().ok_or(Stop::Unread)?;
+    match token {
+        Token::BeginArray => {
+            let kept = fold_items(alloc, reader, depth, fold)?;
+            Ok((Value::Array(Vec::new(alloc)), kept))
+        }
+        Token::BeginObject => {
+            let found = read_object(alloc, reader, depth)?;
+            Ok((Value::Object(found), fold.none(alloc)))
+        }
+        _ => Ok((scalar(alloc, token)?, fold.none(alloc))),
+    }
+}
+
+// The next member's value, emptied if its name is the one that is folded, and what is kept then.
+fn read_member<F: Fold>(
+    alloc: Global,
+    reader: &mut Reader<'_>,
+    depth: usize,
+    is_folded: bool,
+    kept: F::Kept,
+    fold: &F,
+) -> Result<(Value, F::Kept), Stop>
+where
+    F::Kept: Drop,
+    ensures value { IfOk result (λ p. (d : Data)
+        × (next_value depth reader.old ≡ Some (d, reader.new))
+        × (view p.0 ≡ (if is_folded then emptied d else d))
+        × ((ds : List Data) → F.keeps fold.now ds kept
+        → F.keeps fold.now (if is_folded then items_in d else ds) p.1)) }
+    ensures unread { result ≡ Err Stop.Unread → next_value depth reader.old ≡ None }
+    ensures shorter { OnOk result (length reader.new < length reader.old) }
+{
+    if is_folded {
+        // What was kept of an array before this one of the same name is freed first.
+        drop(kept);
+        read_emptied(alloc, reader, depth, fold)
+    } else {
+        Ok((read(alloc, reader, depth)?, kept))
+    }
+}
+
+// The members of the object whose first brace was read, that under the name emptied, and what is kept
+// of its items.
+#[tactic(auto, using(crate::proofs::Loops::object_flat))]
+fn read_members<F: Fold>(
+    alloc: Global,
+    reader: &mut Reader<'_>,
+    depth: usize,
+    name: &str,
+    fold: &F,
+) -> Result<(Map<String, Value>, F::Kept), Stop>
+where
+    F::Kept: Drop,
+    ensures members { IfOk result (λ p. (ms : Members)
+        × (next_value depth (spec.Token.begin_object ∷ reader.old) ≡ Some (object ms, reader.new))
+        × (members_view p.0.entries ≡ emptied_at name.now ms)
+        × F.keeps fold.now (items_found (get_member name.now ms)) p.1
+        × Rises ms) }
+    ensures unread { result ≡ Err Stop.Unread
+        → next_value depth (spec.Token.begin_object ∷ reader.old) ≡ None }
+{
+    if depth == 0 {
+        return Err(Stop::Unread);
+    }
+    let mut found = Map::new(alloc);
+    let mut kept = fold.none(alloc);
+    'members: while let Some(key) = reader.next_key()? {
+        let text = String::from_str(alloc, key)?;
+        let (member, anew) = read_member(alloc, reader, depth - 1, key == name, kept, fold)?;
+        drop(found.insert(text, member)?);
+        kept = anew;
+    }
+    Ok((found, kept))
+}
+
+// The next value, with the array under the name of an object emptied, and what is kept of its items.
+#[tactic(auto, using(crate::proofs::Loops::next_value_nothing))]
+fn read_beside<F: Fold>(
+    alloc: Global,
+    reader: &mut Reader<'_>,
+    depth: usize,
+    name: &str,
+    fold: &F,
+) -> Result<(Value, F::Kept), Stop>
+where
+    F::Kept: Drop,
+    ensures value { IfOk result (λ p. (d : Data)
+        × (next_value depth reader.old ≡ Some (d, reader.new))
+        × (view p.0 ≡ left_beside name.now d)
+        × F.keeps fold.now (items_under name.now d) p.1
+        × IsOrdered d) }
+    ensures unread { result ≡ Err Stop.Unread → next_value depth reader.old ≡ None }
+{
+    let token = reader.next().ok_or(Stop::Unread)?;
+    match token {
+        Token::BeginArray => {
+            let items = read_array(alloc, reader, depth)?;
+            Ok((Value::Array(items), fold.none(alloc)))
+        }
+        Token::BeginObject => {
+            let (found, kept) = read_members(alloc, reader, depth, name, fold)?;
+            Ok((Value::Object(found), kept))
+        }
+        _ => Ok((scalar(alloc, token)?, fold.none(alloc))),
+    }
+}
+
+// The value that the tokens are, with nothing behind it.
+fn read_whole<F: Fold>(
+    alloc: Global,
+    reader: &mut Reader<'_>,
+    depth: usize,
+    name: &str,
+    fold: &F,
+) -> Result<(Value, F::Kept), Stop>
+where
+    F::Kept: Drop,
+    ensures value { IfOk result (λ p. (d : Data)
+        × (next_last depth reader.old ≡ Some d)
+        × (view p.0 ≡ left_beside name.now d)
+        × F.keeps fold.now (items_under name.now d) p.1
+        × IsOrdered d) }
+    ensures unread { result ≡ Err Stop.Unread → next_last depth reader.old ≡ None }
+{
+    let found = read_beside(alloc, reader, depth, name, fold)?;
+    if reader.next().is_some() {
+        return Err(Stop::Unread);
+    }
+    Ok(found)
+}
+
+// How deep serde_json lets arrays and objects nest.
+const MAX_DEPTH: usize = 127;
+
+/// What a text is as serde_json reads it, but for the items of the array under a name of its object,
+/// and what a fold keeps of those items, which were handed to it one by one. Of two members of one
+/// name the last counts, and what isn't there has no items. None where serde_json reads no value.
+/// `scratch` grows to the text's length.
+///
+/// # Errors
+/// An `AllocError` where a growth was refused.
+pub fn read_text_fold<F: Fold>(
+    alloc: Global,
+    text: &str,
+    scratch: &mut Scratch,
+    name: &str,
+    fold: &F,
+) -> Result<Option<(Value, F::Kept)>, AllocError>
+where
+    F::Kept: Drop,
+    ensures { IfOk result (λ found. MatchOption found (read_data text.now ≡ None)
+        (λ p. IsFolded (F.keeps fold.now) text.now name.now (view p.0) p.1)) }
+{
+    let mut reader = Reader::new(text, scratch)?;
+    match read_whole(alloc, &mut reader, MAX_DEPTH, name, fold) {
+        Ok(found) => Ok(Some(found)),
+        Err(Stop::Unread) => Ok(None),
+        Err(Stop::Memory) => Err(AllocError),
+    }
+}
