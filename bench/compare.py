@@ -4,8 +4,8 @@
 Times two builds of cvr on the same files, in turns, each run alone; without --before, one build. First reports of gen.py: as
 long as a file may be; short records; that long report with a fault in its first record, in the middle, in its last one, two
 of other kinds in its last one, one behind all records, cut off, and accepted with a number with a sign, and where records
-name a party; each of these beside the same file with another CVR before all (`tree`), which is read as one tree once its
-tokens were looked at; and one file of one record, named many times. Then each folder that is given (definition.json or
+name a party; each of these beside the same file with another CVR before all (`tree`), which programs until 2026-11-26
+read as one tree; and one file of one record, named many times. Then each folder that is given (definition.json or
 def.json, and reports), beside the peers: programs that take the words of cvr. Told are processor seconds (the median of the
 rounds, and the least), the peak memory, the ratio of the medians to the first program's, and whether the texts are the same.
 With --cpu all of it runs on one processor."""

@@ -1,14 +1,14 @@
 -- A report from its records and from what is left beside them.
-use Rattle.std.proofs.Common.{◌≡◌, ◌≤◌, ℕ, zero, suc, List, [], ◌∷◌, length, map, Contains, Bool, true, false, ◌||◌, bytes_eq, Option, Some, None, IsSome, option_map, option_and_then, unwrap_or, codes, inl, inr, true≢false, refl, sym, ap, subst, ◌∙◌, arith}
+use Rattle.std.proofs.Common.{◌≡◌, ◌≤◌, ℕ, zero, suc, List, [], ◌∷◌, length, Contains, Bool, true, false, bytes_eq, Option, Some, None, IsSome, option_map, option_and_then, unwrap_or, codes, refl, sym, ap, subst, ◌∙◌, arith}
+use Rattle.std.proofs.lemmas.Bool.{or_from}
 use Rattle.std.proofs.lemmas.Slice.Eq.{bytes_eq-Decides}
 use Rattle.serde_json.specs.Data.{Data, array, object, Items, Members}
 use Rattle.serde_json.specs.Find.{get_member, get_item, as_str, as_array}
 use Rattle.serde_json.specs.Events.{items_len}
 use Rattle.serde_json.specs.View.{items_of}
 use Rattle.serde_json.specs.Written.{has_float, items_have_float}
-use Rattle.cdf_pull.specs.Apart.{filled}
+use Rattle.cdf_pull.specs.Fold.{filled}
 use Rattle.cdf_pull.proofs.Laws.{found_other, found_here, filled_is_whole}
-use Rattle.cdf_types.specs.declared.report.Report.{Report}
 use Rattle.cdf_form.specs.declared.table.Class.{Class}
 use Rattle.cdf_form.specs.declared.table.Class.TheVariants as class_of
 use Rattle.cdf_form.specs.declared.table.Group.TheVariants as group
@@ -18,18 +18,16 @@ use Rattle.cdf_form.specs.declared.table.Kind.{Kind}
 use Rattle.cdf_form.specs.declared.table.Kind.TheVariants.{One, Array}
 use Rattle.cdf_form.specs.Tables.{Entry, table, any, classes_of}
 use Rattle.cdf_form.specs.Form.{find_class}
-use Rattle.cdf_form.specs.HasForm.{HasForm, class, items, IsRow, AreApart}
-use Rattle.cdf_form.specs.Parts.{array_at, list_of, id_of, first_or_null}
-use Rattle.cdf_form.specs.Places.{Contest, contest_of}
+use Rattle.cdf_form.specs.HasForm.{HasForm, class, items, IsRow}
+use Rattle.cdf_form.specs.Parts.{array_at, list_of}
 use Rattle.cdf_form.proofs.Laws.{list_of-items_of}
 use Rattle.cdf_form.proofs.Lemmas.{class_of_group}
-use Rattle.cdf_typed.specs.Typed.{cvr_of, device_of}
-use Rattle.cdf_check.specs.References.{Scope, scope_of}
-use Rattle.cdf_check.specs.Resolves.{Each, AllName, CvrResolves, ElectionResolves, Resolves}
+use Rattle.cdf_check.specs.References.{scope_of}
+use Rattle.cdf_check.specs.Resolves.{CvrResolves, Resolves}
 use Rattle.cdf_check.specs.Apart.{with_records, RecordsLaw, AgreesApartLaw, TypedApartLaw}
 use Rattle.cdf_check.proofs.Empty.{at_head, at_tail}
 
-abbrev records : List ℕ
+abbrev pub records : List ℕ
 records = codes "CVR"
 
 -- ---- lists of values
@@ -43,13 +41,9 @@ listed_item [] i e h = absurd (cc)
 listed_item (d ∷ ds) zero e h = let same : d ≡ e = cc in subst (λ x. Contains (d ∷ ds) x) same (at_head d ds)
 listed_item (d ∷ ds) (suc i) e h = at_tail d e ds (listed_item ds i e h)
 
-pub neither : (a b : Bool) → a ≡ false → b ≡ false → (a || b) ≡ false
-neither true b p q = p
-neither false b p q = q
-
-pub whole_items : (ds : List Data) → ((d : Data) → Contains ds d → has_float d ≡ false) → items_have_float (items_of ds) ≡ false
+whole_items : (ds : List Data) → ((d : Data) → Contains ds d → has_float d ≡ false) → items_have_float (items_of ds) ≡ false
 whole_items [] each = refl
-whole_items (d ∷ ds) each = neither (has_float d) (items_have_float (items_of ds)) (each d (at_head d ds)) (whole_items ds (λ e h. each e (at_tail d e ds h)))
+whole_items (d ∷ ds) each = or_from (has_float d) (items_have_float (items_of ds)) (each d (at_head d ds)) (whole_items ds (λ e h. each e (at_tail d e ds h)))
 
 -- ---- the arrays of a report
 
@@ -59,53 +53,30 @@ listed o = unwrap_or (option_map list_of (option_and_then as_array o)) []
 pub array_stays : (ds : Items) (ms : Members) (q : List ℕ) → bytes_eq q records ≡ false → array_at q (object (filled records ds ms)) ≡ array_at q (object ms)
 array_stays ds ms q other = ap listed (found_other records ds q ms other)
 
-array_there : (ds : Items) (o : Option Data) → IsSome o → listed (option_map (λ _. array ds) o) ≡ list_of ds
-array_there ds None h = absurd (cc)
-array_there ds (Some d) h = refl
+some_array : (ds : Items) (o : Option Data) → IsSome o → option_map (λ _. array ds) o ≡ Some (array ds)
+some_array ds None h = absurd (cc)
+some_array ds (Some d) h = refl
+
+pub found_records : (ds : Items) (ms : Members) → IsSome (get_member records ms) → get_member records (filled records ds ms) ≡ Some (array ds)
+found_records ds ms h = found_here records ds ms ∙ some_array ds (get_member records ms) h
 
 pub records_there : (ds : List Data) (ms : Members) → IsSome (get_member records ms) → array_at records (with_records ds ms) ≡ ds
-records_there ds ms h = ap listed (found_here records (items_of ds) ms) ∙ array_there (items_of ds) (get_member records ms) h ∙ list_of-items_of ds
-
-module _ (ds : List Data) (ms : Members) where
-  -- what holds of each item under another name still does
-  each_stays : (P : Data → Type 0) (q : List ℕ) → bytes_eq q records ≡ false → Each P q (object ms) → Each P q (with_records ds ms)
-  each_stays P q other each e h = each e (subst (λ xs. Contains xs e) (array_stays (items_of ds) ms q other) h)
+records_there ds ms h = ap listed (found_records (items_of ds) ms h) ∙ list_of-items_of ds
 
 -- ---- references
 
-abbrev scope_from : List Data → List Data → List Data → List Data → Scope
-scope_from es us ps vs = record {
-  elections = map id_of es;
-  units = map id_of us;
-  parties = map id_of ps;
-  devices = map id_of vs;
-  contests = map contest_of (array_at (codes "Contest") (first_or_null es));
-}
-
 pub scope_stays : (ds : List Data) (ms : Members) → scope_of (with_records ds ms) ≡ scope_of (object ms)
 scope_stays ds ms =
-    let all = with_records ds ms in
-    let left = object ms in
-    let election = array_stays (items_of ds) ms (codes "Election") refl in
-    let unit = array_stays (items_of ds) ms (codes "GpUnit") refl in
-    let party = array_stays (items_of ds) ms (codes "Party") refl in
-    let device = array_stays (items_of ds) ms (codes "ReportingDevice") refl in
-    ap (λ xs. scope_from xs (array_at (codes "GpUnit") all) (array_at (codes "Party") all) (array_at (codes "ReportingDevice") all)) election
-    ∙ ap (λ xs. scope_from (array_at (codes "Election") left) xs (array_at (codes "Party") all) (array_at (codes "ReportingDevice") all)) unit
-    ∙ ap (λ xs. scope_from (array_at (codes "Election") left) (array_at (codes "GpUnit") left) xs (array_at (codes "ReportingDevice") all)) party
-    ∙ ap (λ xs. scope_from (array_at (codes "Election") left) (array_at (codes "GpUnit") left) (array_at (codes "Party") left) xs) device
+    let stays = λ (q : List ℕ) (other : bytes_eq q records ≡ false). array_stays (items_of ds) ms q other in
+    cc (stays (codes "Election") refl, stays (codes "GpUnit") refl, stays (codes "Party") refl, stays (codes "ReportingDevice") refl)
 
 resolves : (ds : List Data) (ms : Members) → IsSome (get_member records ms) → Resolves (object ms)
     → ((d : Data) → Contains ds d → CvrResolves (scope_of (object ms)) d) → Resolves (with_records ds ms)
-resolves ds ms some left each =
-    let all = with_records ds ms in
-    let scope = sym (scope_stays ds ms) in
-    record {
-      cvrs = subst (λ s. Each (CvrResolves s) records all) scope (λ e h. each e (subst (λ xs. Contains xs e) (records_there ds ms some) h));
-      elections = subst (λ s. Each (ElectionResolves s) (codes "Election") all) scope (each_stays ds ms (ElectionResolves (scope_of (object ms))) (codes "Election") refl left.elections);
-      devices = subst (λ s. AllName s.devices (codes "ReportGeneratingDeviceIds") all) scope
-          (λ e s h. left.devices e s (subst (λ xs. Contains xs e) (array_stays (items_of ds) ms (codes "ReportGeneratingDeviceIds") refl) h));
-    }
+resolves ds ms some left each = record {
+  cvrs = rw (scope_stays ds ms, records_there ds ms some) each;
+  elections = rw (scope_stays ds ms, array_stays (items_of ds) ms (codes "Election") refl) left.elections;
+  devices = rw (array_stays (items_of ds) ms (codes "ReportingDevice") refl, array_stays (items_of ds) ms (codes "ReportGeneratingDeviceIds") refl) left.devices;
+}
 
 -- ---- the form
 
@@ -116,51 +87,30 @@ records_kind = Array (leaf.Object group.Cvrs) 0 any key.Free
 abbrev HasKind : Class → Type 0
 HasKind c = (r : Entry) → IsRow (table c) r → bytes_eq r.name records ≡ true → r.kind ≡ records_kind
 
-other_name : (x r : Entry) → x ≡ r → bytes_eq x.name records ≡ false → bytes_eq r.name records ≡ true → r.kind ≡ records_kind
-other_name x r e differs h = absurd (true≢false (sym h ∙ ap (λ y. bytes_eq y.name records) (sym e) ∙ differs))
-
 row_kind : HasKind class_of.CastVoteRecordReport
-row_kind r (inl e) h = sym (ap (λ x. x.kind) e)
-row_kind r (inr (inl e)) h = other_name _ r e refl h
-row_kind r (inr (inr (inl e))) h = other_name _ r e refl h
-row_kind r (inr (inr (inr (inl e)))) h = other_name _ r e refl h
-row_kind r (inr (inr (inr (inr (inl e))))) h = other_name _ r e refl h
-row_kind r (inr (inr (inr (inr (inr (inl e)))))) h = other_name _ r e refl h
-row_kind r (inr (inr (inr (inr (inr (inr (inl e))))))) h = other_name _ r e refl h
-row_kind r (inr (inr (inr (inr (inr (inr (inr (inl e)))))))) h = other_name _ r e refl h
-row_kind r (inr (inr (inr (inr (inr (inr (inr (inr (inl e))))))))) h = other_name _ r e refl h
-row_kind r (inr (inr (inr (inr (inr (inr (inr (inr (inr (inl e)))))))))) h = other_name _ r e refl h
-row_kind r (inr (inr (inr (inr (inr (inr (inr (inr (inr (inr (inl e))))))))))) h = other_name _ r e refl h
-row_kind r (inr (inr (inr (inr (inr (inr (inr (inr (inr (inr (inr none))))))))))) h = absurd none
-
-apart : (ds : Items) → AreApart key.Free ds
-apart ds i j d e s p q u v = absurd (cc)
+row_kind r row h = grind arith
 
 records_form : (ds : Items) → ((i : ℕ) (e : Data) → get_item i ds ≡ Some e → HasForm (One (leaf.Object group.Cvrs)) e) → items_len ds ≤ any → HasForm records_kind (array ds)
-records_form ds each few = items refl (omega arith) few each (apart ds)
+records_form ds each few = items refl (omega arith) few each (λ i j d e s p q u v. absurd (cc))
 
-some_array : (ds : Items) (o : Option Data) (e : Data) → option_map (λ _. array ds) o ≡ Some e → array ds ≡ e
-some_array ds None e h = absurd (cc)
-some_array ds (Some d) e h = cc
-
-some_still : (ds : Items) (o : Option Data) → IsSome o → IsSome (option_map (λ _. array ds) o)
-some_still ds None h = h
-some_still ds (Some d) h = refl
+same_array : (ds : Items) (o : Option Data) (e : Data) → option_map (λ _. array ds) o ≡ Some e → array ds ≡ e
+same_array ds None e h = absurd (cc)
+same_array ds (Some d) e h = cc
 
 module _ (ds : Items) (ms : Members) where
   there : (r : Entry) (b : Bool) → bytes_eq r.name records ≡ b → IsSome (get_member r.name ms) → IsSome (get_member r.name (filled records ds ms))
   there r true is h =
       let same : r.name ≡ records = (bytes_eq-Decides r.name records).0 is in
-      subst (λ n. IsSome (get_member n (filled records ds ms))) (sym same) (subst IsSome (sym (found_here records ds ms)) (some_still ds (get_member records ms) (subst (λ n. IsSome (get_member n ms)) same h)))
-  there r false is h = subst IsSome (sym (found_other records ds r.name ms is)) h
+      rw (same, found_records ds ms (rw same at h)) refl
+  there r false is h = rw (found_other records ds r.name ms is) h
 
   module _ (each : (i : ℕ) (e : Data) → get_item i ds ≡ Some e → HasForm (One (leaf.Object group.Cvrs)) e) (few : items_len ds ≤ any) where
     part : (r : Entry) (e : Data) (b : Bool) → bytes_eq r.name records ≡ b → (bytes_eq r.name records ≡ true → r.kind ≡ records_kind)
         → (get_member r.name ms ≡ Some e → HasForm r.kind e) → get_member r.name (filled records ds ms) ≡ Some e → HasForm r.kind e
     part r e true is kind old found =
         let same : r.name ≡ records = (bytes_eq-Decides r.name records).0 is in
-        let whole : array ds ≡ e = some_array ds (get_member records ms) e (sym (found_here records ds ms) ∙ ap (λ n. get_member n (filled records ds ms)) (sym same) ∙ found) in
-        subst (λ k. HasForm k e) (sym (kind is)) (subst (HasForm records_kind) whole (records_form ds each few))
+        let whole : array ds ≡ e = same_array ds (get_member records ms) e (sym (found_here records ds ms) ∙ ap (λ n. get_member n (filled records ds ms)) (sym same) ∙ found) in
+        rw (kind is, ← whole) (records_form ds each few)
     part r e false is kind old found = old (sym (found_other records ds r.name ms is) ∙ found)
 
     pub form_stays : HasForm (One (leaf.Object group.Reports)) (object ms) → HasForm (One (leaf.Object group.Reports)) (object (filled records ds ms))
@@ -181,15 +131,10 @@ records_law cvrs left some few report each = record {
 
 pub agrees_apart : AgreesApartLaw
 agrees_apart frame cvrs left h = record {
-  elections = λ e a. h.elections e (subst (λ xs. Contains xs e) (array_stays (items_of cvrs) left (codes "Election") refl) a);
-  units = λ e a. h.units e (subst (λ xs. Contains xs e) (array_stays (items_of cvrs) left (codes "GpUnit") refl) a);
-  parties = λ e a. h.parties e (subst (λ xs. Contains xs e) (array_stays (items_of cvrs) left (codes "Party") refl) a);
+  elections = rw (array_stays (items_of cvrs) left (codes "Election") refl) h.elections;
+  units = rw (array_stays (items_of cvrs) left (codes "GpUnit") refl) h.units;
+  parties = rw (array_stays (items_of cvrs) left (codes "Party") refl) h.parties;
 }
 
-abbrev made : List Contest → List Data → List Data → Report
-made contests devices cvrs = record { devices = map device_of devices; cvrs = map (cvr_of contests) cvrs }
-
 pub typed_apart : TypedApartLaw
-typed_apart contests cvrs left some =
-    ap (λ x. made contests x (array_at records (with_records cvrs left))) (array_stays (items_of cvrs) left (codes "ReportingDevice") refl)
-    ∙ ap (made contests (array_at (codes "ReportingDevice") (object left))) (records_there cvrs left some)
+typed_apart contests cvrs left some = cc (array_stays (items_of cvrs) left (codes "ReportingDevice") refl, records_there cvrs left some)

@@ -12,6 +12,7 @@ pub mod Ascii
 pub mod Gathered
 pub mod OneElection
 pub mod NoDefault
+pub mod Places
 pub mod Ranges
 pub mod Items
 pub mod Wider
@@ -21,9 +22,11 @@ pub mod Standing
 pub mod Spelling
 pub mod Utf8
 pub mod Apart
+pub mod NamedParties
 pub mod Joining
-pub mod FaultyRecords
-pub mod FractionalRecords
-pub mod FollowedRecords
+pub mod Numbers
+pub mod Faults
+pub mod OneMore
+pub mod Judging
 pub mod Laws
 pub mod Lemmas

@@ -1,17 +1,16 @@
 -- What an accepted file gives is in range.
-use Rattle.std.proofs.Common.{◌≡◌, ◌≤◌, ◌<◌, ◌+◌, ℕ, suc, List, [], ◌∷◌, length, map, slice_index_or, Contains}
-use Rattle.std.proofs.Common.{Bool, true, false, cond, Option, Some, None, bytes_eq, codes}
+use Rattle.std.proofs.Common.{◌≡◌, ◌<◌, ℕ, List, length, map, slice_index_or, Contains}
+use Rattle.std.proofs.Common.{Option, Some, None, codes}
 use Rattle.std.proofs.Common.{refl, sym, ap, ◌∙◌, subst, arith}
-use Rattle.std.specs.Prelude.{option_map, option_and_then, unwrap_or, ◌==◌}
-use Rattle.std.specs.List.{position_from, IsDistinct}
+use Rattle.std.specs.Prelude.{option_map, unwrap_or, ◌==◌}
+use Rattle.std.specs.List.{IsDistinct}
 use Rattle.std.proofs.lemmas.Bool.{ne_eqb}
-use Rattle.std.proofs.lemmas.Slice.Eq.{bytes_eq-Decides}
 use Rattle.std.proofs.lemmas.List.{get_or-map, length-map}
 use Rattle.std.proofs.lemmas.List.Elements.{All-map, All-contains, Contains-get_or}
+use Rattle.std.proofs.lemmas.Simd.{map-map}
 use Rattle.std.proofs.lemmas.Map.Keys.{IsDistinct-from_apart}
 use Rattle.serde_json.specs.Data.{Data, null}
-use Rattle.serde_json.specs.Find.{get, as_number, as_u64}
-use Rattle.cdf_types.specs.declared.report.SelectionVote.{SelectionVote}
+use Rattle.serde_json.specs.Find.{get}
 use Rattle.cdf_form.specs.declared.table.Group.TheVariants as group
 use Rattle.cdf_form.specs.declared.table.Leaf.TheVariants as leaf
 use Rattle.cdf_form.specs.declared.table.Key.TheVariants as key
@@ -19,7 +18,7 @@ use Rattle.cdf_form.specs.declared.table.Kind.TheVariants.{One, Array}
 use Rattle.cdf_form.specs.Tables.{required, optional, any}
 use Rattle.cdf_form.specs.HasForm.{HasForm}
 use Rattle.cdf_form.specs.Parts.{array_at, text_at, text_in}
-use Rattle.cdf_form.specs.Places.{Texts, place_in, Contest, contest_ids, selections_at, selections_of}
+use Rattle.cdf_form.specs.Places.{Texts, place_in, Contest, contest_ids, selections_at}
 use Rattle.cdf_form.proofs.Lemmas.{some_of}
 use Rattle.cdf_form.proofs.Laws.{row_of, items_have_form, items_are_apart}
 use Rattle.cdf_form.specs.ByRow.{ListApart}
@@ -30,6 +29,7 @@ use Rattle.cdf_check.specs.Defaults.{HasText, HasCount, MayHaveCount}
 use Rattle.cdf_check.specs.Defaults.{SelectionIsRead, ContestIsRead, SnapshotIsRead, CvrIsRead, ReportIsRead, InRangeLaw}
 use Rattle.cdf_check.specs.Laws.{SameElectionLaw}
 use Rattle.cdf_check.proofs.NoDefault.{no_default}
+use Rattle.cdf_check.proofs.Places.{placed_in, one_place}
 
 -- ---- lists
 
@@ -38,88 +38,44 @@ each_mapped : {A B : Type 0} (f : A → B) (P : B → Type 0) (xs : List A) → 
 each_mapped f P xs each y a =
     All-contains P (map f xs) y (All-map P f xs (λ k d h. each (slice_index_or xs k d) (Contains-get_or xs k d h))) a
 
-twice_mapped : {A B C : Type 0} (f : B → C) (g : A → B) (xs : List A) → map f (map g xs) ≡ map (λ x. f (g x)) xs
-twice_mapped f g [] = refl
-twice_mapped f g (x ∷ xs) = ap (λ ys. f (g x) ∷ ys) (twice_mapped f g xs)
-
--- ---- places
-
-below_at : (t : Bool) (i p n : ℕ) (rest : Option ℕ) → (rest ≡ Some p → (i + 1 ≤ p) × (p < (i + 1) + n)) → cond t (Some i) rest ≡ Some p → (i ≤ p) × (p < i + suc n)
-below_at true i p n rest later is = let same : i ≡ p = cc in (omega arith, omega arith)
-below_at false i p n rest later is = let h = later is in (omega (arith, h.0), omega (arith, h.1))
-
-place_from : (s : List ℕ) (ids : Texts) (i p : ℕ) → position_from (bytes_eq s) i ids ≡ Some p → (i ≤ p) × (p < i + length ids)
-place_from s [] i p is = absurd (cc)
-place_from s (x ∷ ids) i p is = below_at (bytes_eq s x) i p (length ids) _ (place_from s ids (i + 1) p) is
-
-pub place_below : (ids : Texts) (s : List ℕ) (p : ℕ) → place_in ids s ≡ Some p → p < length ids
-place_below ids s p is = let h = (place_from s ids 0 p is).1 in omega (arith, h)
-
-same_at : (a b : Bool) (s t x : List ℕ) (ids : Texts) (i p : ℕ) → bytes_eq s x ≡ a → bytes_eq t x ≡ b
-    → (position_from (bytes_eq s) (i + 1) ids ≡ Some p → position_from (bytes_eq t) (i + 1) ids ≡ Some p → s ≡ t)
-    → cond a (Some i) (position_from (bytes_eq s) (i + 1) ids) ≡ Some p → cond b (Some i) (position_from (bytes_eq t) (i + 1) ids) ≡ Some p → s ≡ t
-same_at true true s t x ids i p sx tx later u v = (bytes_eq-Decides s x).0 sx ∙ sym ((bytes_eq-Decides t x).0 tx)
-same_at true false s t x ids i p sx tx later u v = let same : i ≡ p = cc in let h = (place_from t ids (i + 1) p v).0 in absurd (omega (arith, same, h))
-same_at false true s t x ids i p sx tx later u v = let same : i ≡ p = cc in let h = (place_from s ids (i + 1) p u).0 in absurd (omega (arith, same, h))
-same_at false false s t x ids i p sx tx later u v = later u v
-
-same_from : (s t : List ℕ) (ids : Texts) (i p : ℕ) → position_from (bytes_eq s) i ids ≡ Some p → position_from (bytes_eq t) i ids ≡ Some p → s ≡ t
-same_from s t [] i p u v = absurd (cc)
-same_from s t (x ∷ ids) i p u v = same_at (bytes_eq s x) (bytes_eq t x) s t x ids i p refl refl (same_from s t ids (i + 1) p) u v
-
--- two texts with one place are one text
-pub one_place : (ids : Texts) (s t : List ℕ) (p : ℕ) → place_in ids s ≡ Some p → place_in ids t ≡ Some p → s ≡ t
-one_place ids s t p u v = same_from s t ids 0 p u v
-
 -- ---- counts
 
 count_is : (n : List ℕ) (d : Data) → HasCount n d → IsCount (count_at n d)
-count_is n d h = subst IsCount (sym (ap (λ o. unwrap_or o 0) h.1)) h.2
+count_is n d h = rw h.1 h.2
 
 count_may_be : (n : List ℕ) (d : Data) → MayHaveCount n d → IsCount (count_at n d)
 count_may_be n d h = go (get n d) refl
   where
     go : (o : Option Data) → get n d ≡ o → IsCount (count_at n d)
-    go None is =
-        let z : count_at n d ≡ 0 = ap (λ x. unwrap_or (option_and_then as_u64 (option_and_then as_number x)) 0) is in
-        omega (arith, z)
+    go None is = rw is (omega arith)
     go (Some e) is = count_is n d (h e is)
 
 -- ---- votes
 
 selection_below : (ids : Texts) (o : Option (List ℕ)) (i : ℕ) → selection_place (Some ids) o ≡ Some i → i < length ids
 selection_below ids None i is = absurd (cc)
-selection_below ids (Some s) i is = place_below ids s i is
+selection_below ids (Some s) i is = (placed_in ids s i is).0
 
 selection_in_range : (ids : Texts) (d : Data) → SelectionIsRead ids d → SelectionInRange (length ids) (selection_vote_of (Some ids) d)
 selection_in_range ids d h = record {
   place = λ i is. selection_below ids (text_in (codes "ContestSelectionId") d) i is;
-  few = subst (λ n. n ≤ 64) (sym (length-map (array_at (codes "SelectionPosition") d) position_of)) h.few;
+  few = rw length-map h.few;
   votes = each_mapped position_of (λ p. IsCount p.votes) (array_at (codes "SelectionPosition") d)
       (λ e a. count_is (codes "NumberVotes") e (h.positions.items e a).votes);
 }
 
--- the selections of a contest that has a place
-selections_there : (contests : List Contest) (id : List ℕ) (p : ℕ) → place_in (contest_ids contests) id ≡ Some p → selections_of contests id ≡ Some (selections_at contests p)
-selections_there contests id p is = ap (option_map (λ i. selections_at contests i)) is
-
 contest_in_range : (contests : List Contest) (d : Data) → ContestIsRead contests d → ContestInRange contests (contest_vote_of contests d)
 contest_in_range contests d h =
     let found = some_of (place_in (contest_ids contests) (text_at (codes "ContestId") d)) h.place in
-    let own : (contest_vote_of contests d).contest ≡ found.0 = ap (λ o. unwrap_or o 0) found.1 in
-    let below : found.0 < length (contest_ids contests) = place_below (contest_ids contests) (text_at (codes "ContestId") d) found.0 found.1 in
     let ids = selections_at contests found.0 in
-    let there : selections_of contests (text_at (codes "ContestId") d) ≡ Some ids = selections_there contests (text_at (codes "ContestId") d) found.0 found.1 in
     let votes = array_at (codes "CVRContestSelection") d in
     record {
-      place = let len : length (contest_ids contests) ≡ length contests = length-map contests (λ c. c.0) in omega (arith, own, below, len);
+      place = rw (found.1, ← length-map contests (λ c. c.0)) (placed_in (contest_ids contests) (text_at (codes "ContestId") d) found.0 found.1).0;
       overvotes = count_may_be (codes "Overvotes") d h.overvotes;
       undervotes = count_may_be (codes "Undervotes") d h.undervotes;
       write_ins = count_may_be (codes "WriteIns") d h.write_ins;
-      few = subst (λ n. n ≤ 65_536) (sym (length-map votes (selection_vote_of (selections_of contests (text_at (codes "ContestId") d))))) h.few;
-      selections = subst (λ o. (s : SelectionVote) → Contains (map (selection_vote_of o) votes) s → SelectionInRange (length (selections_at contests (contest_vote_of contests d).contest)) s) (sym there)
-          (subst (λ p. (s : SelectionVote) → Contains (map (selection_vote_of (Some ids)) votes) s → SelectionInRange (length (selections_at contests p)) s) (sym own)
-          (each_mapped (selection_vote_of (Some ids)) (SelectionInRange (length ids)) votes (λ e a. selection_in_range ids e ((h.selections ids there).items e a))));
+      few = rw length-map h.few;
+      selections = rw found.1 (each_mapped (selection_vote_of (Some ids)) (SelectionInRange (length ids)) votes (λ e a. selection_in_range ids e ((h.selections ids (ap (option_map (selections_at contests)) found.1)).items e a)));
     }
 
 -- ---- contests of a snapshot
@@ -129,7 +85,7 @@ abbrev vote_place : List Contest → Data → ℕ
 vote_place contests d = unwrap_or (place_in (contest_ids contests) (text_at (codes "ContestId") d)) 0
 
 own_text : (d : Data) → HasText (codes "ContestId") d → text_in (codes "ContestId") d ≡ Some (text_at (codes "ContestId") d)
-own_text d h = let p = some_of (text_in (codes "ContestId") d) h in p.1 ∙ ap Some (sym (ap (λ o. unwrap_or o []) p.1))
+own_text d h = let p = some_of (text_in (codes "ContestId") d) h in rw p.1
 
 -- two votes with one place name one contest
 same_contest : (contests : List Contest) (d e : Data) → ContestIsRead contests d → ContestIsRead contests e → vote_place contests d ≡ vote_place contests e
@@ -137,8 +93,8 @@ same_contest : (contests : List Contest) (d e : Data) → ContestIsRead contests
 same_contest contests d e h k same =
     let p = some_of (place_in (contest_ids contests) (text_at (codes "ContestId") d)) h.place in
     let q = some_of (place_in (contest_ids contests) (text_at (codes "ContestId") e)) k.place in
-    let one : q.0 ≡ p.0 = sym (ap (λ o. unwrap_or o 0) q.1) ∙ sym same ∙ ap (λ o. unwrap_or o 0) p.1 in
-    one_place (contest_ids contests) _ _ p.0 p.1 (q.1 ∙ ap Some one)
+    let one : p.0 ≡ q.0 = rw (p.1, q.1) at same in
+    one_place (contest_ids contests) _ _ q.0 (p.1 ∙ ap Some one) q.1
 
 places_differ : (contests : List Contest) (xs : List Data) → ListApart key.Contest xs → ((e : Data) → Contains xs e → ContestIsRead contests e)
     → (i j : ℕ) → i < j → j < length xs → (d : Data) → vote_place contests (slice_index_or xs i d) ≡ vote_place contests (slice_index_or xs j d) → ⊥
@@ -146,10 +102,9 @@ places_differ contests xs apart each i j lt h d same =
     let a = slice_index_or xs i d in
     let b = slice_index_or xs j d in
     let at : i < length xs = omega (arith, lt, h) in
-    let x : ContestIsRead contests a = each a (Contains-get_or xs i d at) in
-    let y : ContestIsRead contests b = each b (Contains-get_or xs j d h) in
-    let text = same_contest contests a b x y same in
-    let both : i ≡ j = apart i j d d (text_at (codes "ContestId") b) at h (own_text a x.id_text ∙ ap Some text) (own_text b y.id_text) in
+    let x = each a (Contains-get_or xs i d at) in
+    let y = each b (Contains-get_or xs j d h) in
+    let both : i ≡ j = apart i j d d _ at h (own_text a x.id_text ∙ ap Some (same_contest contests a b x y same)) (own_text b y.id_text) in
     omega (arith, both, lt)
 
 distinct_places : (contests : List Contest) (xs : List Data) → ListApart key.Contest xs → ((e : Data) → Contains xs e → ContestIsRead contests e)
@@ -167,7 +122,7 @@ snapshot_in_range contests d f h =
     let xs = array_at (codes "CVRContest") d in
     let row = row_of group.Snapshots (optional (codes "CVRContest") (Array (leaf.Object group.CvrContests) 0 any key.Contest)) d (refl, tt) f in
     record {
-      once = subst (λ ps. IsDistinct ◌==◌ ps) (sym (twice_mapped (λ c. c.contest) (contest_vote_of contests) xs)) (distinct_places contests xs (items_are_apart row) h.votes.items);
+      once = rw map-map (distinct_places contests xs (items_are_apart row) h.votes.items);
       votes = each_mapped (contest_vote_of contests) (ContestInRange contests) xs (λ e a. contest_in_range contests e (h.votes.items e a));
     }
 

@@ -1,12 +1,12 @@
 ghost use Rattle.std.specs.Prelude.{◌≡◌, option_map, IfOk, false};
 ghost use Rattle.serde_json.specs.View.{view};
 ghost use Rattle.serde_json.specs.Written.{has_float};
-ghost use Rattle.cdf_check.specs.Paths.{first, each, path_of};
+ghost use Rattle.cdf_form.specs.Found.{path_of};
+ghost use Rattle.cdf_check.specs.Paths.{first, each};
 ghost use Rattle.cdf_check.specs.Agreement.{agrees, differing};
 
 use crate::named::Named;
-use crate::path::Path;
-use cdf_form::found::Step;
+use cdf_form::found::{Path, Step};
 use cdf_form::{items_at, text_at};
 use cdf_types::Memory;
 use serde_json::Value;
@@ -35,7 +35,7 @@ pub fn first_differing(
     known: &Named,
     name: &'static str,
     value: &Value,
-) -> Result<Option<Path>, Memory>
+) -> Result<Option<Path<'static>>, Memory>
     requires { has_float (view value.now) ≡ false }
     ensures { IfOk result (λ o. option_map path_of o
         ≡ first (each (differing known.now) name.now (view value.now))) }

@@ -3,10 +3,10 @@ ghost use Rattle.serde_json.specs.View.{view};
 ghost use Rattle.serde_json.specs.Written.{has_float};
 ghost use Rattle.cdf_types.specs.declared.fault.ReadFault.TheVariants.{Reference, Disagrees};
 ghost use Rattle.cdf_form.specs.Form as form;
-ghost use Rattle.cdf_form.specs.Found.{fault_of};
+ghost use Rattle.cdf_form.specs.Found.{fault_of, path_of};
 ghost use Rattle.cdf_form.specs.Path.{path_text};
 ghost use Rattle.cdf_form.specs.Reading.{IsMemory, refusal_of, document_faults};
-ghost use Rattle.cdf_check.specs.Paths.{first, path_of};
+ghost use Rattle.cdf_check.specs.Paths.{first};
 ghost use Rattle.cdf_check.specs.References.{missing};
 ghost use Rattle.cdf_check.specs.Agreement.{disagreements};
 ghost use Rattle.cdf_check.specs.Sound.{IsSound};
@@ -14,12 +14,11 @@ ghost use Rattle.cdf_check.specs.Acceptance.{own_refusal, value_refusal};
 
 use crate::agreement::first_differing;
 use crate::definition::Definition;
-use crate::path::Path;
 use crate::references::first_missing;
-use cdf_form::found::{Found, Stop};
-use cdf_form::path::path_text;
+use cdf_form::found::{Found, Path, Stop};
+use cdf_form::path::pointer;
 use cdf_form::read::document_fault;
-use cdf_types::{Body, Memory, ReadFault};
+use cdf_types::{Memory, ReadFault};
 use serde_json::Value;
 use std::alloc::Global;
 
@@ -27,18 +26,10 @@ use std::alloc::Global;
 pub(crate) fn told_fault(alloc: Global, found: Found<'_>) -> Result<ReadFault, Memory>
     ensures { IfOk result (λ e. e ≡ refusal_of (fault_of found.entry)) }
 {
-    let path = Body::new(path_text(alloc, &found.steps)?);
     Ok(ReadFault::Schema {
-        path,
+        path: pointer(alloc, &found.path)?,
         rule: found.rule,
     })
-}
-
-// The JSON Pointer of a path.
-pub(crate) fn pointer(alloc: Global, path: &Path) -> Result<Body, Memory>
-    ensures { IfOk result (λ b. b ≡ path_text (path_of path.now)) }
-{
-    Ok(Body::new(path_text(alloc, &path.steps)?))
 }
 
 // Whether the numbers and the form of a report are right.
@@ -88,7 +79,7 @@ fn disagreement(
     alloc: Global,
     definition: &Definition,
     value: &Value,
-) -> Result<Option<Path>, Memory>
+) -> Result<Option<Path<'static>>, Memory>
     requires { has_float (view value.now) ≡ false }
     ensures { IfOk result (λ o. option_map path_of o
         ≡ first (disagreements definition.now (view value.now))) }

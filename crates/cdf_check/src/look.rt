@@ -3,11 +3,11 @@ ghost use Rattle.serde_json.specs.Data.{Data};
 ghost use Rattle.serde_json.specs.Find.{as_str};
 ghost use Rattle.serde_json.specs.View.{view};
 ghost use Rattle.cdf_check.specs.Paths as paths;
-ghost use Rattle.cdf_check.specs.Paths.{first, each, path_of};
+ghost use Rattle.cdf_form.specs.Found.{path_of};
+ghost use Rattle.cdf_check.specs.Paths.{first, each};
 ghost use Rattle.cdf_check.specs.References.{unknown, one, many};
 
-use crate::path::Path;
-use cdf_form::found::Step;
+use cdf_form::found::{Path, Step};
 use cdf_form::ids::Ids;
 use cdf_form::items_at;
 use cdf_types::Memory;
@@ -22,7 +22,7 @@ pub trait Look {
     ///
     /// # Errors
     /// `Memory` where a growth was refused.
-    fn look(&self, alloc: Global, value: &Value) -> Result<Option<Path>, Memory>
+    fn look(&self, alloc: Global, value: &Value) -> Result<Option<Path<'static>>, Memory>
         ensures { IfOk result (λ o. option_map path_of o ≡ first (missing self.now (view value.now))) };
 }
 
@@ -35,7 +35,7 @@ pub fn look_in_each<L: Look>(
     look: &L,
     name: &'static str,
     value: &Value,
-) -> Result<Option<Path>, Memory>
+) -> Result<Option<Path<'static>>, Memory>
     ensures { IfOk result (λ o. option_map path_of o
         ≡ first (each (L.missing look.now) name.now (view value.now))) }
 {
@@ -57,7 +57,7 @@ struct Reference<'a>(&'a Ids);
 impl Look for Reference<'_> {
     ghost missing = { λ s d. unknown s.0.now (as_str d) };
 
-    fn look(&self, alloc: Global, value: &Value) -> Result<Option<Path>, Memory> {
+    fn look(&self, alloc: Global, value: &Value) -> Result<Option<Path<'static>>, Memory> {
         match value.as_str() {
             None => Ok(None),
             Some(id) => {
@@ -81,7 +81,7 @@ pub fn look_at_one(
     ids: &Ids,
     name: &'static str,
     value: &Value,
-) -> Result<Option<Path>, Memory>
+) -> Result<Option<Path<'static>>, Memory>
     ensures { IfOk result (λ o. option_map path_of o ≡ first (one ids.now name.now (view value.now))) }
 {
     match value.get(name) {
@@ -102,7 +102,7 @@ pub fn look_at_many(
     ids: &Ids,
     name: &'static str,
     value: &Value,
-) -> Result<Option<Path>, Memory>
+) -> Result<Option<Path<'static>>, Memory>
     ensures { IfOk result (λ o. option_map path_of o ≡ first (many ids.now name.now (view value.now))) }
 {
     look_in_each(alloc, &Reference(ids), name, value)

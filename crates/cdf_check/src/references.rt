@@ -3,15 +3,15 @@ ghost use Rattle.std.specs.List.{list_any};
 ghost use Rattle.serde_json.specs.View.{view};
 ghost use Rattle.cdf_form.specs.Form.{class_in};
 ghost use Rattle.cdf_form.specs.Parts.{ids_at, id_of};
-ghost use Rattle.cdf_check.specs.Paths.{first, each, path_of};
+ghost use Rattle.cdf_form.specs.Found.{path_of};
+ghost use Rattle.cdf_check.specs.Paths.{first, each};
 ghost use Rattle.cdf_check.specs.Scoped.{scope_view, contests_alone};
 ghost use Rattle.cdf_check.specs.References.{in_selection_vote, in_votes, in_contest_vote, in_snapshot, in_cvr, in_selection, in_contest, in_candidate, in_election, in_report, one, missing};
 
 use crate::look::{Look, look_at_many, look_at_one, look_in_each};
-use crate::path::Path;
 use crate::scope::Scope;
 use cdf_form::contests::Contests;
-use cdf_form::found::Step;
+use cdf_form::found::{Path, Step};
 use cdf_form::ids::Ids;
 use cdf_form::leaf::find_class;
 use cdf_form::table::{Class, Group, classes};
@@ -29,7 +29,7 @@ struct InSelectionVote<'a>(Option<&'a Ids>);
 impl Look for InSelectionVote<'_> {
     ghost missing = { λ s d. in_selection_vote (option_map (λ i. i.now) s.0) d };
 
-    fn look(&self, alloc: Global, value: &Value) -> Result<Option<Path>, Memory> {
+    fn look(&self, alloc: Global, value: &Value) -> Result<Option<Path<'static>>, Memory> {
         match self.0 {
             None => Ok(None),
             Some(ids) => look_at_one(alloc, ids, "ContestSelectionId", value),
@@ -44,7 +44,7 @@ impl Look for InContestVote<'_> {
     ghost missing = { λ s d. in_contest_vote (contests_alone s.0.now) d };
 
     #[tactic(auto, using(crate::proofs::Items::first_or))]
-    fn look(&self, alloc: Global, value: &Value) -> Result<Option<Path>, Memory> {
+    fn look(&self, alloc: Global, value: &Value) -> Result<Option<Path<'static>>, Memory> {
         let contests = self.0;
         match look_in_votes(alloc, contests, value)? {
             None => {}
@@ -55,7 +55,11 @@ impl Look for InContestVote<'_> {
 }
 
 // The selections, where the contest that they stand in is one of the report's.
-fn look_in_votes(alloc: Global, contests: &Contests, value: &Value) -> Result<Option<Path>, Memory>
+fn look_in_votes(
+    alloc: Global,
+    contests: &Contests,
+    value: &Value,
+) -> Result<Option<Path<'static>>, Memory>
     ensures { IfOk result (λ o. option_map path_of o
         ≡ first (in_votes (contests_alone contests.now) (view value.now))) }
 {
@@ -69,7 +73,7 @@ struct InSnapshot<'a>(&'a Contests);
 impl Look for InSnapshot<'_> {
     ghost missing = { λ s d. in_snapshot (contests_alone s.0.now) d };
 
-    fn look(&self, alloc: Global, value: &Value) -> Result<Option<Path>, Memory> {
+    fn look(&self, alloc: Global, value: &Value) -> Result<Option<Path<'static>>, Memory> {
         look_in_each(alloc, &InContestVote(self.0), "CVRContest", value)
     }
 }
@@ -81,7 +85,7 @@ impl Look for InCvr<'_> {
     ghost missing = { λ s d. in_cvr (scope_view s.0.now) d };
 
     #[tactic(auto, using(crate::proofs::Items::first_or))]
-    fn look(&self, alloc: Global, value: &Value) -> Result<Option<Path>, Memory> {
+    fn look(&self, alloc: Global, value: &Value) -> Result<Option<Path<'static>>, Memory> {
         let scope = self.0;
         match look_at_one(alloc, &scope.units, "BallotStyleUnitId", value)? {
             None => {}
@@ -115,7 +119,7 @@ pub fn look_in_snapshots(
     alloc: Global,
     contests: &Contests,
     cvr: &Value,
-) -> Result<Option<Path>, Memory>
+) -> Result<Option<Path<'static>>, Memory>
     ensures { IfOk result (λ o. option_map path_of o
         ≡ first (each (in_snapshot (contests_alone contests.now)) (codes "CVRSnapshot") (view cvr.now))) }
 {
@@ -126,7 +130,7 @@ pub fn look_in_snapshots(
 ///
 /// # Errors
 /// `Memory` where a growth was refused.
-pub fn look_at_current(alloc: Global, cvr: &Value) -> Result<Option<Path>, Memory>
+pub fn look_at_current(alloc: Global, cvr: &Value) -> Result<Option<Path<'static>>, Memory>
     ensures { IfOk result (λ o. option_map path_of o
         ≡ first (one (ids_at (codes "CVRSnapshot") (view cvr.now)) (codes "CurrentSnapshotId") (view cvr.now))) }
 {
@@ -162,7 +166,7 @@ struct InCandidate<'a>(&'a Scope);
 impl Look for InCandidate<'_> {
     ghost missing = { λ s d. in_candidate (scope_view s.0.now) d };
 
-    fn look(&self, alloc: Global, value: &Value) -> Result<Option<Path>, Memory> {
+    fn look(&self, alloc: Global, value: &Value) -> Result<Option<Path<'static>>, Memory> {
         let scope = self.0;
         look_at_one(alloc, &scope.parties, "PartyId", value)
     }
@@ -184,7 +188,7 @@ struct InSelection<'a> {
 impl Look for InSelection<'_> {
     ghost missing = { λ s d. in_selection (scope_view s.scope.now) s.candidates.now d };
 
-    fn look(&self, alloc: Global, value: &Value) -> Result<Option<Path>, Memory> {
+    fn look(&self, alloc: Global, value: &Value) -> Result<Option<Path<'static>>, Memory> {
         let scope = self.scope;
         match class_in(Group::ContestSelections, value) {
             Some(Class::CandidateSelection) => {
@@ -205,7 +209,7 @@ struct InContest<'a> {
 impl Look for InContest<'_> {
     ghost missing = { λ s d. in_contest (scope_view s.scope.now) s.candidates.now d };
 
-    fn look(&self, alloc: Global, value: &Value) -> Result<Option<Path>, Memory> {
+    fn look(&self, alloc: Global, value: &Value) -> Result<Option<Path<'static>>, Memory> {
         let in_selection = InSelection {
             scope: self.scope,
             candidates: self.candidates,
@@ -221,7 +225,7 @@ impl Look for InElection<'_> {
     ghost missing = { λ s d. in_election (scope_view s.0.now) d };
 
     #[tactic(auto, using(crate::proofs::Items::first_or))]
-    fn look(&self, alloc: Global, value: &Value) -> Result<Option<Path>, Memory> {
+    fn look(&self, alloc: Global, value: &Value) -> Result<Option<Path<'static>>, Memory> {
         let scope = self.0;
         match look_in_each(alloc, &InCandidate(scope), "Candidate", value)? {
             None => {}
@@ -236,7 +240,11 @@ impl Look for InElection<'_> {
 }
 
 // The contests of an election, whose candidates are its own.
-fn look_in_contests(alloc: Global, scope: &Scope, election: &Value) -> Result<Option<Path>, Memory>
+fn look_in_contests(
+    alloc: Global,
+    scope: &Scope,
+    election: &Value,
+) -> Result<Option<Path<'static>>, Memory>
     ensures { IfOk result (λ o. option_map path_of o ≡ first (each
         (in_contest (scope_view scope.now) (ids_at (codes "Candidate") (view election.now)))
         (codes "Contest") (view election.now))) }
@@ -251,7 +259,11 @@ fn look_in_contests(alloc: Global, scope: &Scope, election: &Value) -> Result<Op
 
 // The first text of a report that is none of the ids.
 #[tactic(auto, using(crate::proofs::Items::first_or))]
-fn look_in_report(alloc: Global, scope: &Scope, report: &Value) -> Result<Option<Path>, Memory>
+fn look_in_report(
+    alloc: Global,
+    scope: &Scope,
+    report: &Value,
+) -> Result<Option<Path<'static>>, Memory>
     ensures { IfOk result (λ o. option_map path_of o
         ≡ first (in_report (scope_view scope.now) (view report.now))) }
 {
@@ -270,7 +282,7 @@ fn look_in_report(alloc: Global, scope: &Scope, report: &Value) -> Result<Option
 ///
 /// # Errors
 /// `Memory` where a growth was refused.
-pub fn first_missing(alloc: Global, report: &Value) -> Result<Option<Path>, Memory>
+pub fn first_missing(alloc: Global, report: &Value) -> Result<Option<Path<'static>>, Memory>
     ensures { IfOk result (λ o. option_map path_of o ≡ first (missing (view report.now))) }
 {
     let scope = Scope::of_report(alloc, report)?;

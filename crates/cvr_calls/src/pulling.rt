@@ -1,37 +1,42 @@
-use cdf_pull::{Stop, Take, read_text_apart};
+use cdf_pull::{Fold, read_text_fold};
 use cdf_types::ReadFault;
 use json::Scratch;
 use serde_json::Value;
-use std::alloc::Global;
+use std::alloc::{AllocError, Global};
 
 // Keeps each item as it is.
 #[derive(Drop)]
 struct Keeping;
 
-impl Take for Keeping {
-    type Taken = Value;
+impl Fold for Keeping {
+    type Kept = Vec<Value>;
 
-    ghost use Rattle.std.specs.Prelude.{◌≡◌};
-    ghost use Rattle.serde_json.specs.View.{view};
+    ghost use Rattle.std.specs.Prelude.{⊤};
 
-    ghost takes = { λ _ d item. view item ≡ d };
+    ghost keeps = { λ _ _ _. ⊤ };
 
-    fn take(&self, _alloc: Global, item: Value) -> Result<Value, Stop> {
-        Ok(item)
+    fn none(&self, alloc: Global) -> Vec<Value> {
+        Vec::new(alloc)
+    }
+
+    fn take(&self, _alloc: Global, items: &mut Vec<Value>, item: Value) -> Result<(), AllocError> {
+        items.push(item)?;
+        Ok(())
     }
 }
 
-/// Whether a file's records, read one at a time and put back into what is left, make the file's value.
+/// Whether a file's records, taken one at a time and put back into what is left, make the file's value,
+/// and whether the beginning of a file is read as none.
 pub fn is_read_apart(alloc: Global, bytes: &[u8]) -> Result<bool, ReadFault> {
     let Ok(text) = str::from_utf8(bytes) else {
         return Ok(false);
     };
     let mut scratch = Scratch::new(alloc);
-    match read_text_apart(alloc, text, &mut scratch, "CVR", &Keeping) {
-        Ok((left, records)) => Ok(with_records(alloc, left, records)? == value_of(alloc, text)?),
-        Err(Stop::Memory) => Err(ReadFault::Memory),
-        Err(_) => Ok(false),
-    }
+    let Some((left, records)) = read_text_fold(alloc, text, &mut scratch, "CVR", &Keeping)? else {
+        return Ok(false);
+    };
+    let is_whole = with_records(alloc, left, records)? == value_of(alloc, text)?;
+    Ok(is_whole && read_text_fold(alloc, "{", &mut scratch, "CVR", &Keeping)?.is_none())
 }
 
 // What is left of an object, with the records put back.

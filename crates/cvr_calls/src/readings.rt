@@ -10,8 +10,7 @@ use crate::same::{
 use crate::tellings::row_of;
 use crate::trying::Reading;
 use crate::writing::{DATE, DEVICE};
-use cdf_check::{Definition, quick_report, record_fault, reference_fault};
-use cdf_pull::{Stop, is_json};
+use cdf_check::{Definition, check_report};
 use cdf_types::{Body, Memory, ReadFault, Rule};
 use cvr_cached::CachedOffice;
 use cvr_collect::{Office, PlainOffice};
@@ -19,7 +18,6 @@ use cvr_facts::text::{push_quoted, push_word, quoted};
 use cvr_facts::{BodySet, DeviceFact, HeaderFact, RecordName, SnapshotFact, VoteSums, take_facts};
 use cvr_report::{HeadFault, Heading};
 use cvr_tally::{RowKey, tally_text};
-use json::Scratch;
 use std::alloc::Global;
 
 /// Copies.
@@ -120,9 +118,8 @@ fn is_definition_copied(alloc: Global, definition: &Definition) -> Result<bool, 
 pub enum Filing {
     ReadFile,
     Apart,
-    Json,
     Definition,
-    Quick,
+    Taken,
     OfAParty,
     Fault,
     Fraction,
@@ -135,12 +132,11 @@ impl Reading for Filing {
         match self {
             Filing::ReadFile => is_file_read(alloc, records.bytes),
             Filing::Apart => is_read_apart(alloc, records.bytes),
-            Filing::Json => is_json_seen(alloc, records.bytes),
             Filing::Definition => is_definition_read(alloc, records),
-            Filing::Quick => is_quickly_read(alloc, records),
+            Filing::Taken => is_report_taken(alloc, records),
             Filing::OfAParty => is_party_read(alloc, records.bytes),
-            Filing::Fault => is_fault_told(alloc, records.bytes),
-            Filing::Fraction => is_fraction_told(alloc, records.bytes),
+            Filing::Fault => is_fault_told(alloc, records),
+            Filing::Fraction => is_fraction_told(alloc, records),
             Filing::Reference => is_reference_told(alloc, records),
             Filing::Facts => are_facts_made(alloc, records),
         }
@@ -151,30 +147,15 @@ fn is_file_read(alloc: Global, bytes: &[u8]) -> Result<bool, ReadFault> {
     Ok(read_whole(alloc, bytes)?.as_slice() == bytes)
 }
 
-// Whether a file is told as JSON, and its beginning isn't.
-fn is_json_seen(alloc: Global, bytes: &[u8]) -> Result<bool, ReadFault> {
-    let Ok(text) = str::from_utf8(bytes) else {
-        return Ok(false);
-    };
-    let mut scratch = Scratch::new(alloc);
-    let is_seen = is_json(text, &mut scratch)?;
-    Ok(is_seen && !is_json("{", &mut scratch)?)
-}
-
 fn is_definition_read(alloc: Global, records: &Records<'_>) -> Result<bool, ReadFault> {
     let definition = Definition::read(alloc, records.bytes)?;
     Ok(are_same_definitions(&definition, records.definition))
 }
 
-fn is_quickly_read(alloc: Global, records: &Records<'_>) -> Result<bool, ReadFault> {
-    match quick_report(alloc, records.definition, records.bytes) {
-        Ok(report) => {
-            let facts = take_facts(alloc, records.definition, report)?;
-            Ok(are_same_facts(&facts, records.facts))
-        }
-        Err(Stop::Memory) => Err(ReadFault::Memory),
-        Err(_) => Ok(false),
-    }
+fn is_report_taken(alloc: Global, records: &Records<'_>) -> Result<bool, ReadFault> {
+    let report = check_report(alloc, records.definition, records.bytes)?;
+    let facts = take_facts(alloc, records.definition, report)?;
+    Ok(are_same_facts(&facts, records.facts))
 }
 
 // The text of a file with these parties.
@@ -185,7 +166,7 @@ fn with_parties(alloc: Global, bytes: &[u8], parties: &str) -> Result<String, Re
     Ok(text.replace(alloc, r#""Version""#, parties)?)
 }
 
-// Whether a file is read record by record whose record names a party, and the definition lists one more.
+// Whether a file is accepted whose record names a party, and the definition lists one more.
 fn is_party_read(alloc: Global, bytes: &[u8]) -> Result<bool, ReadFault> {
     let two =
         r#""Party":[{"@id":"a","@type":"CVR.Party"},{"@id":"b","@type":"CVR.Party"}],"Version""#;
@@ -194,20 +175,31 @@ fn is_party_read(alloc: Global, bytes: &[u8]) -> Result<bool, ReadFault> {
     let one = r#""Party":[{"@id":"b","@type":"CVR.Party"}],"Version""#;
     let listed = with_parties(alloc, bytes, one)?;
     let named = listed.replace(alloc, r#""UniqueId""#, r#""PartyIds":["b"],"UniqueId""#)?;
-    match quick_report(alloc, &definition, named.as_bytes()) {
-        Ok(report) => Ok(report.cvrs.as_slice().len() == 1),
-        Err(Stop::Memory) => Err(ReadFault::Memory),
-        Err(_) => Ok(false),
+    let report = check_report(alloc, &definition, named.as_bytes())?;
+    Ok(report.cvrs.as_slice().len() == 1)
+}
+
+// Why a file is refused in whose text something else stands.
+fn refusal_of(
+    alloc: Global,
+    records: &Records<'_>,
+    here: &str,
+    other: &str,
+) -> Result<Option<ReadFault>, ReadFault> {
+    let Ok(text) = str::from_utf8(records.bytes) else {
+        return Ok(None);
+    };
+    let spoiled = text.replace(alloc, here, other)?;
+    match check_report(alloc, records.definition, spoiled.as_bytes()) {
+        Ok(_) => Ok(None),
+        Err(ReadFault::Memory) => Err(ReadFault::Memory),
+        Err(fault) => Ok(Some(fault)),
     }
 }
 
 // Whether the fault of a file is told whose first record has lost its UniqueId.
-fn is_fault_told(alloc: Global, bytes: &[u8]) -> Result<bool, ReadFault> {
-    let Ok(text) = str::from_utf8(bytes) else {
-        return Ok(false);
-    };
-    let spoiled = text.replace(alloc, r#""UniqueId""#, r#""UniqueID""#)?;
-    match record_fault(alloc, spoiled.as_bytes())? {
+fn is_fault_told(alloc: Global, records: &Records<'_>) -> Result<bool, ReadFault> {
+    match refusal_of(alloc, records, r#""UniqueId""#, r#""UniqueID""#)? {
         Some(ReadFault::Schema { path, rule }) => {
             Ok(path.as_str() == "/CVR/0/UniqueId" && matches!(rule, Rule::Missing))
         }
@@ -216,12 +208,8 @@ fn is_fault_told(alloc: Global, bytes: &[u8]) -> Result<bool, ReadFault> {
 }
 
 // Whether the fault of a file is told whose first record has a number that isn't whole.
-fn is_fraction_told(alloc: Global, bytes: &[u8]) -> Result<bool, ReadFault> {
-    let Ok(text) = str::from_utf8(bytes) else {
-        return Ok(false);
-    };
-    let spoiled = text.replace(alloc, r#""UniqueId""#, r#""a/b":0.5,"UniqueId""#)?;
-    match record_fault(alloc, spoiled.as_bytes())? {
+fn is_fraction_told(alloc: Global, records: &Records<'_>) -> Result<bool, ReadFault> {
+    match refusal_of(alloc, records, r#""UniqueId""#, r#""a/b":0.5,"UniqueId""#)? {
         Some(ReadFault::Schema { path, rule }) => {
             Ok(path.as_str() == "/CVR/0/a~1b" && matches!(rule, Rule::NotWhole))
         }
@@ -231,12 +219,8 @@ fn is_fraction_told(alloc: Global, bytes: &[u8]) -> Result<bool, ReadFault> {
 
 // Whether the fault of a file is told whose first record comes from a device that the file hasn't.
 fn is_reference_told(alloc: Global, records: &Records<'_>) -> Result<bool, ReadFault> {
-    let Ok(text) = str::from_utf8(records.bytes) else {
-        return Ok(false);
-    };
     let here = r#""CreatingDeviceId":"s1""#;
-    let spoiled = text.replace(alloc, here, r#""CreatingDeviceId":"s9""#)?;
-    match reference_fault(alloc, records.definition, spoiled.as_bytes())? {
+    match refusal_of(alloc, records, here, r#""CreatingDeviceId":"s9""#)? {
         Some(ReadFault::Reference { path }) => Ok(path.as_str() == "/CVR/0/CreatingDeviceId"),
         _ => Ok(false),
     }

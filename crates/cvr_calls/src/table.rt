@@ -29,16 +29,15 @@ static COPIES: [(&str, Copying); 11] = [
     ("Definition::copy", Copying::Definition),
 ];
 
-static FILINGS: [(&str, Filing); 10] = [
+static FILINGS: [(&str, Filing); 9] = [
     ("read_file", Filing::ReadFile),
-    ("read_text_apart", Filing::Apart),
-    ("is_json", Filing::Json),
+    ("read_text_fold", Filing::Apart),
     ("Definition::read", Filing::Definition),
-    ("quick_report, take_facts", Filing::Quick),
-    ("quick_report, of a party", Filing::OfAParty),
-    ("record_fault", Filing::Fault),
-    ("record_fault, of a number", Filing::Fraction),
-    ("reference_fault", Filing::Reference),
+    ("check_report, take_facts", Filing::Taken),
+    ("check_report, of a party", Filing::OfAParty),
+    ("check_report, a fault of form", Filing::Fault),
+    ("check_report, of a number", Filing::Fraction),
+    ("check_report, a reference", Filing::Reference),
     ("check_report, facts_of", Filing::Facts),
 ];
 

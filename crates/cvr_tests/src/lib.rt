@@ -19,8 +19,6 @@ mod playing;
 #[cfg(test)]
 mod pulling;
 #[cfg(test)]
-mod quick;
-#[cfg(test)]
 mod rows;
 #[cfg(test)]
 mod runs;

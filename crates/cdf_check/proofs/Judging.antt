@@ -1,0 +1,313 @@
+-- The answer for a file, by what was seen of its records and by what is left beside them.
+use Rattle.std.proofs.Common.{◌≡◌, ◌≤◌, inl, inr, ◌+◌, ℕ, List, [], ◌∷◌, ◌++◌, length, Contains, true, false, Result, Ok, Err, Option, Some, None, IsSome, option_map, codes, refl, sym, ap, subst, ◌∙◌, arith}
+use Rattle.std.specs.Prelude.{IfOk, IfErr, OnOk}
+use Rattle.std.specs.Str.{IsUtf8, is_utf8}
+use Rattle.std.proofs.lemmas.Bool.{false_from_ne_true}
+use Rattle.std.proofs.lemmas.List.{length-map}
+use Rattle.std.proofs.lemmas.Str.{is_utf8-from_IsUtf8, IsUtf8-from_is_utf8}
+use Rattle.std.specs.Option.{option_or}
+use Rattle.serde_json.specs.Data.{Data, array, object, Items, no_items, Members}
+use Rattle.serde_json.specs.Find.{get, get_member}
+use Rattle.serde_json.specs.Read.{read}
+use Rattle.serde_json.specs.View.{items_of}
+use Rattle.serde_json.specs.Written.{has_float}
+use Rattle.cdf_pull.specs.Fold.{list_of, items_found, items_under, left_beside, filled, IsFolded}
+use Rattle.cdf_pull.specs.Laws.{IsBeside}
+use Rattle.cdf_pull.proofs.Laws.{beside}
+use Rattle.cdf_types.specs.declared.fault.ReadFault.{ReadFault}
+use Rattle.cdf_types.specs.declared.fault.ReadFault.TheVariants.{Reference, Disagrees, NotJson}
+use Rattle.cdf_types.specs.declared.report.Report.{Report}
+use Rattle.cdf_form.specs.declared.table.Group.TheVariants as group
+use Rattle.cdf_form.specs.declared.table.Leaf.TheVariants as leaf
+use Rattle.cdf_form.specs.declared.table.Key.TheVariants as key
+use Rattle.cdf_form.specs.declared.table.Kind.TheVariants.{One, Array}
+use Rattle.cdf_form.specs.declared.found.Path.{Path as Found}
+use Rattle.cdf_form.specs.Form as form
+use Rattle.cdf_form.specs.Form.{Step, Fault, at_member, at_item, deeper}
+use Rattle.cdf_form.specs.Found.{fault_of, path_of}
+use Rattle.cdf_form.specs.Tables.{any, optional}
+use Rattle.cdf_form.specs.HasForm.{HasForm}
+use Rattle.cdf_form.specs.Parts.{array_at}
+use Rattle.cdf_form.specs.Path.{path_text}
+use Rattle.cdf_form.specs.Reading.{document_faults, refusal_of, IsMemory, value_of, max_file}
+use Rattle.cdf_form.proofs.Laws.{items_have_form, row_of, whole_document}
+use Rattle.cdf_typed.specs.Typed.{cvr_of, report_of}
+use Rattle.cdf_typed.specs.Range.{ReportInRange}
+use Rattle.cdf_check.specs.declared.seen.Kept.{Kept}
+use Rattle.cdf_check.specs.declared.seen.Seen.{Seen}
+use Rattle.cdf_check.specs.declared.unnamed.Unnamed.{Unnamed}
+use Rattle.cdf_check.specs.Paths.{Path, first, below, places, each}
+use Rattle.cdf_check.specs.References.{Scope, scope_of, many, in_cvr, in_election, in_report, missing}
+use Rattle.cdf_check.specs.Frame.{Frame}
+use Rattle.cdf_check.specs.Named.{ids_of}
+use Rattle.cdf_check.specs.Agreement.{disagreements, Agrees}
+use Rattle.cdf_check.specs.Acceptance.{Holds, IsReport, value_refusal, first_refusal, report_in, Valid}
+use Rattle.cdf_check.specs.Sound.{IsFrame}
+use Rattle.cdf_check.specs.Apart.{with_records}
+use Rattle.cdf_check.specs.Within.{named_in, texts_at}
+use Rattle.cdf_check.specs.Seen.{AreKept, IsUnnamed, IsJudged, HasForms, HasKept, IsSeen, form_refusal, first_of_file, is_array, Settles, Refuses, IsRefusedFor}
+use Rattle.cdf_check.proofs.Apart.{records, typed_apart, array_stays, found_records, records_there, scope_stays}
+use Rattle.cdf_check.proofs.Accepting.{either, none_value, value_none, file_holds, is_short}
+use Rattle.cdf_check.proofs.Agreeing.{agreement}
+use Rattle.cdf_check.proofs.Empty.{at_head, at_tail}
+use Rattle.cdf_check.proofs.Faults.{none_right, form_law, no_fraction_seen}
+use Rattle.cdf_check.proofs.Joining.{all_resolved, all_within, all_placed, all_listed, own_contests, own_elections}
+use Rattle.cdf_check.proofs.NamedParties.{texts_there}
+use Rattle.cdf_check.proofs.Numbers.{unmapped}
+use Rattle.cdf_check.proofs.Ranges.{in_range}
+use Rattle.cdf_check.proofs.Resolving.{cvr_law}
+use Rattle.cdf_check.proofs.SameElection.{value_is, contests_agree}
+use Rattle.cdf_check.proofs.Sounding.{sound}
+use Rattle.cdf_check.proofs.Wider.{agreed_wider}
+
+-- ---- lists of paths, and the refusal for them
+
+-- what can be named in what is left
+abbrev own : Members → Scope
+own ms = scope_of (object ms)
+
+-- the texts of what is left that name nothing
+abbrev of_rest : Members → List Path
+of_rest ms = each (in_election (own ms)) (codes "Election") (object ms) ++ many (own ms).devices (codes "ReportGeneratingDeviceIds") (object ms)
+
+module _ (ds : List Data) (ms : Members) where
+  missing_whole : IsSome (get_member records ms) → missing (with_records ds ms) ≡ below (at_member records) (places (in_cvr (own ms)) ds 0) ++ of_rest ms
+  missing_whole some =
+      ap (λ s. in_report s (with_records ds ms)) (scope_stays ds ms)
+      ∙ rw (records_there ds ms some, array_stays (items_of ds) ms (codes "Election") refl, array_stays (items_of ds) ms (codes "ReportGeneratingDeviceIds") refl)
+
+  missing_left : IsSome (get_member records ms) → filled records no_items ms ≡ ms → missing (object ms) ≡ of_rest ms
+  missing_left some emptied =
+      let none : array_at records (object ms) ≡ [] = subst (λ xs. array_at records (object xs) ≡ []) emptied (records_there [] ms some) in
+      ap (λ xs. below (at_member records) (places (in_cvr (own ms)) xs 0) ++ of_rest ms) none
+
+  agreement_stays : (frame : Frame) → disagreements frame (with_records ds ms) ≡ disagreements frame (object ms)
+  agreement_stays frame = cc (array_stays (items_of ds) ms (codes "Election") refl, array_stays (items_of ds) ms (codes "GpUnit") refl, array_stays (items_of ds) ms (codes "Party") refl)
+
+-- ---- the refusal
+
+abbrev unnamed : Path → ReadFault
+unnamed p = Reference (path_text p)
+
+-- why a value is refused, where a record names what isn't there, or else what is left
+abbrev refusal_with : Frame → Option Path → Data → Option ReadFault
+refusal_with frame o left = option_or (option_map (λ p. unnamed (at_member records ∷ p)) o) (value_refusal frame left)
+
+records_first : (xs ys : List Path) (others : Option ReadFault)
+    → option_or (option_map unnamed (first (below (at_member records) xs ++ ys))) others ≡ option_or (option_map (λ p. unnamed (at_member records ∷ p)) (first xs)) (option_or (option_map unnamed (first ys)) others)
+records_first [] ys others = refl
+records_first (x ∷ xs) ys others = refl
+
+-- ---- the second reading
+
+list_again : (ds : List Data) → list_of (items_of ds) ≡ ds
+list_again [] = refl
+list_again (d ∷ ds) = ap (λ es. d ∷ es) (list_again ds)
+
+absent_none : (scope : Scope) (ds : List Data) (i : ℕ) → ((d : Data) → Contains ds d → in_cvr scope d ≡ []) → first (places (in_cvr scope) ds i) ≡ None
+absent_none scope [] i none = refl
+absent_none scope (d ∷ ds) i none =
+    rw (none d (at_head d ds)) (absent_none scope ds (i + 1) (λ e at. none e (at_tail d e ds at)))
+
+module _ (frame : Frame) (text : List ℕ) (left : Data) (count : ℕ) (h : HasForms text left count) where
+  abbrev ds : List Data
+  ds = h.records
+
+  abbrev ms : Members
+  ms = h.members
+
+  abbrev all : Data
+  all = with_records ds ms
+
+  the_value : (d : Data) → read text ≡ Some d → all ≡ d
+  the_value d is = let whole = h.whole in cc
+
+  -- what the records name, and what is left
+  refusal_own : value_refusal frame all ≡ refusal_with frame (first (places (in_cvr (own ms)) ds 0)) (object ms)
+  refusal_own =
+      rw (h.sound, h.rest, missing_whole ds ms h.some, missing_left ds ms h.some h.emptied, agreement_stays ds ms frame)
+      (records_first (places (in_cvr (own ms)) ds 0) (of_rest ms) (option_map (λ p. Disagrees (path_text p)) (first (disagreements frame (object ms)))))
+
+  refused_by : (scope : Scope) (again : Data) (seen : Unnamed) → scope ≡ scope_of left → IsFolded (IsUnnamed scope count) text records again seen → value_refusal frame all ≡ refusal_with frame (option_map path_of seen.first) left
+  refused_by scope again seen is n =
+      let listed : items_under records n.0 ≡ ds = rw (← the_value n.0 n.1) (ap items_found (found_records (items_of ds) ms h.some) ∙ list_again ds) in
+      let few : length (items_under records n.0) ≤ count = rw listed (omega (arith, h.number)) in
+      let told : option_map path_of seen.first ≡ first (places (in_cvr (scope_of left)) ds 0) = n.3.first few ∙ cc in
+      refusal_own ∙ ap (λ d. refusal_with frame (first (places (in_cvr (scope_of d)) ds 0)) d) (sym h.left_is) ∙ ap (λ o. refusal_with frame o left) (sym told)
+
+  -- a record names what isn't there
+  pub unnamed_first : {scope : Scope} {again : Data} {seen : Unnamed} {found : Found} → scope ≡ scope_of left → IsFolded (IsUnnamed scope count) text records again seen → seen.first ≡ Some found
+      → (e : ReadFault) → e ≡ Reference (path_text (at_member records ∷ path_of found)) → IsRefusedFor frame text e
+  unnamed_first is n told e fault d value = rw (← the_value d value, refused_by _ _ _ is n, told, fault) refl
+
+  -- none does, so that the refusal is that of what is left
+  pub rest_first : {scope : Scope} {again : Data} {seen : Unnamed} → scope ≡ scope_of left → IsFolded (IsUnnamed scope count) text records again seen → seen.first ≡ None
+      → (d : Data) → read text ≡ Some d → value_refusal frame d ≡ value_refusal frame left
+  rest_first is n told d value = rw (← the_value d value, refused_by _ _ _ is n, told) refl
+
+  -- ---- what is kept
+
+  module _ (kept : Kept) (k : AreKept frame ds kept) (of : IsFrame frame) where
+    whole : has_float all ≡ false
+    whole = whole_document all h.sound
+
+    named_is : kept.settled ≡ true → texts_at (ids_of frame.parties) kept.named.items ≡ named_in ds
+    named_is is = (texts_there (ids_of frame.parties) (named_in ds) kept.named.items (k.named is)).1
+
+    -- what settles is accepted
+    accepted : Settles frame (object ms) kept → value_refusal frame all ≡ None
+    accepted s =
+        let r : IsReport (object ms) = (sound (object ms)).0 s.sound in
+        let a : Agrees frame (object ms) = (agreement frame (object ms)).0 s.agrees in
+        let contests = own_contests frame text ds ms h.whole whole r a of in
+        let elections = own_elections frame text ds ms h.whole whole r a of in
+        let placed = rw k.typed at s.placed in
+        let listed = rw (named_is s.settled) at s.listed in
+        let none = all_resolved frame (own ms) ds contests elections (k.settled.0 s.settled) placed listed in
+        rw (refusal_own, absent_none (own ms) ds 0 none) (none_value frame (object ms) r a)
+
+    pub judged_joined : (report : Report) → Settles frame left kept → report ≡ record { devices = (report_of frame.contests left).devices; cvrs = kept.cvrs.items } → (d : Data) → read text ≡ Some d → IsJudged frame d (Ok report)
+    judged_joined report s is d value =
+        let typed : report ≡ report_of frame.contests all = cc (typed_apart frame.contests ds ms h.some, ap (λ e. (report_of frame.contests e).devices) h.left_is) in
+        subst (λ x. IsJudged frame x (Ok report)) (the_value d value) (record { ok = (accepted (subst (λ x. Settles frame x kept) h.left_is s), typed); err = tt })
+
+    -- ---- what is accepted settles
+
+    module _ (none : value_refusal frame all ≡ None) where
+      all_is : IsReport all × Agrees frame all
+      all_is = value_none frame all none
+
+      left_is : IsReport (object ms) × Agrees frame (object ms)
+      left_is = value_none frame (object ms) (either _ _ (sym refusal_own ∙ none)).1
+
+      named_there : (d : Data) → Contains ds d → in_cvr (own ms) d ≡ []
+      named_there d at =
+          subst (λ s. in_cvr s d ≡ []) (scope_stays ds ms) ((cvr_law (scope_of all) d).1 (all_is.0.references.cvrs d (rw (records_there ds ms h.some) at)))
+
+      formed : (d : Data) → Contains ds d → HasForm (One (leaf.Object group.Cvrs)) d
+      formed d at =
+          let row = row_of group.Reports (optional records (Array (leaf.Object group.Cvrs) 0 any key.Free)) all (refl, tt) all_is.0.form in
+          items_have_form row d (rw (records_there ds ms h.some) at)
+
+      settled : Settles frame (object ms) kept
+      settled =
+          let contests = sym (own_contests frame text ds ms h.whole whole left_is.0 left_is.1 of) in
+          let wider = agreed_wider frame (object ms) left_is.1 contests in
+          let is = k.settled.1 (all_within frame (own ms) ds contests wider.elections wider.parties named_there) in
+          record {
+            settled = is;
+            sound = (sound (object ms)).1 left_is.0;
+            agrees = (agreement frame (object ms)).1 left_is.1;
+            listed = rw (named_is is) (all_listed (own ms) ds named_there);
+            placed = rw k.typed (all_placed frame.contests (own ms) ds formed named_there);
+          }
+
+    pub unsettled : (Settles frame left kept → ⊥) → Refuses frame text
+    unsettled never d value none =
+        never (subst (λ x. Settles frame x kept) (sym h.left_is) (settled (ap (value_refusal frame) (the_value d value) ∙ none)))
+
+-- ---- what is left, and the records
+
+array_of : (o : Option Data) → is_array o ≡ true → (es : Items) × (o ≡ Some (array es))
+array_of (Some (array es)) e = (es, refl)
+array_of _ e = absurd (cc)
+
+abbrev Parts : Frame → List ℕ → Data → Seen → Type 0
+Parts frame text left seen = record {
+  ds : List Data;
+  ms : Members;
+  whole : read text ≡ Some (with_records ds ms);
+  left_is : left ≡ object ms;
+  emptied : filled records no_items ms ≡ ms;
+  some : IsSome (get_member records ms);
+  seen_is : IsSeen frame ds seen;
+}
+
+module _ (frame : Frame) (text : List ℕ) (left : Data) (seen : Seen) (h : IsFolded (IsSeen frame) text records left seen) where
+  parts_at : is_array (get records left) ≡ true → IsBeside records h.0 (items_under records h.0) (left_beside records h.0) → Parts frame text left seen
+  parts_at there (inl q) = let a = array_of (get records left) there in absurd (q.2 a.0 (ap (get records) (sym (h.2 ∙ q.0)) ∙ a.1))
+  parts_at there (inr q) = record {
+    ds = items_under records h.0;
+    ms = q.0;
+    whole = h.1 ∙ ap Some q.4;
+    left_is = h.2 ∙ q.1;
+    emptied = q.3;
+    some = rw q.2 refl;
+    seen_is = h.3;
+  }
+
+  whole_at : is_array (get records left) ≡ false → IsBeside records h.0 (items_under records h.0) (left_beside records h.0) → left ≡ h.0
+  whole_at none (inl q) = h.2 ∙ q.0
+  whole_at none (inr q) = let e = rw (h.2 ∙ q.1, q.2) at none in absurd (cc)
+
+  -- no array stands there, so what is left is all
+  pub judged_whole : (answer : Result Report ReadFault) → is_array (get records left) ≡ false → IsJudged frame left answer → (d : Data) → read text ≡ Some d → IsJudged frame d answer
+  judged_whole answer none j d value =
+      let same : h.0 ≡ d = cc in
+      subst (λ x. IsJudged frame x answer) (whole_at none (beside records h.0 h.4) ∙ same) j
+
+  -- ---- numbers and form
+
+  module _ (there : is_array (get records left) ≡ true) where
+    abbrev p : Parts frame text left seen
+    p = parts_at there (beside records h.0 h.4)
+
+    abbrev fault : Option Fault
+    fault = option_map fault_of seen.form
+
+    law : option_map refusal_of (form.first (document_faults (with_records p.ds p.ms))) ≡ form_refusal left seen.fraction fault
+    law = form_law frame p.ds p.ms seen p.seen_is p.emptied p.some ∙ ap (λ d. form_refusal d seen.fraction fault) (sym p.left_is)
+
+    pub judged_form : (e : ReadFault) → form_refusal left seen.fraction fault ≡ Some e → (d : Data) → read text ≡ Some d → IsJudged frame d (Err e)
+    judged_form e is d value =
+        let whole = p.whole in
+        let same : with_records p.ds p.ms ≡ d = cc in
+        record { ok = tt; err = λ other. rw (← same, law, is) (refl {a = Some e}) }
+
+    pub forms_right : form_refusal left seen.fraction fault ≡ None → HasKept frame text left seen.kept
+    forms_right none =
+        let sound : document_faults (with_records p.ds p.ms) ≡ [] = none_right _ (unmapped refusal_of _ (law ∙ none)) in
+        let apart = either _ _ (ap (λ d. form_refusal d seen.fraction fault) (sym p.left_is) ∙ none) in
+        let faults : first_of_file (object p.ms) fault ≡ None = unmapped refusal_of _ apart.1 in
+        let by_class = either _ _ (either _ _ faults).1 in
+        let by_record = either _ _ by_class.1 in
+        let unfaulted : seen.form ≡ None = unmapped fault_of _ (unmapped (deeper (at_member records)) _ by_record.0) in
+        let kept = p.seen_is.whole (no_fraction_seen frame p.ds p.ms seen p.seen_is p.some sound) in (
+          record {
+            records = p.ds;
+            members = p.ms;
+            whole = p.whole;
+            left_is = p.left_is;
+            emptied = p.emptied;
+            some = p.some;
+            number = ap length kept.typed ∙ length-map p.ds (cvr_of frame.contests);
+            sound = sound;
+            rest = none_right _ by_record.1;
+          },
+          kept.kept unfaulted,
+        )
+
+-- ---- the file
+
+abbrev IsAnswered : Frame → List ℕ → Result Report ReadFault → Type 0
+IsAnswered frame bytes answer = record {
+  report : IfOk answer (λ r. r ≡ report_in frame.contests bytes);
+  accepted : OnOk answer (first_refusal frame bytes ≡ None);
+  first : IfErr answer (λ e. ¬ IsMemory e → first_refusal frame bytes ≡ Some e);
+}
+
+pub value_of_text : (bytes text : List ℕ) (d : Data) → text ≡ bytes → IsUtf8 bytes → read text ≡ Some d → value_of bytes ≡ Some d
+value_of_text bytes text d same utf8 value = rw (is_utf8-from_IsUtf8 bytes utf8) (ap read (sym same) ∙ value)
+
+pub answered : (frame : Frame) (bytes : List ℕ) (d : Data) → Holds bytes d → (answer : Result Report ReadFault) → IsJudged frame d answer → IsAnswered frame bytes answer
+answered frame bytes d v (Ok r) j =
+    record { report = j.ok.1 ∙ ap (report_of frame.contests) (sym (value_is bytes d v.1)); accepted = file_holds (value_refusal frame) bytes d v ∙ j.ok.0; first = tt }
+answered frame bytes d v (Err e) j = record { report = tt; accepted = tt; first = λ other. file_holds (value_refusal frame) bytes d v ∙ j.err other }
+
+-- what is no text has no value
+pub no_text : (frame : Frame) (bytes : List ℕ) → length bytes ≤ max_file → (IsUtf8 bytes → ⊥) → first_refusal frame bytes ≡ Some NotJson
+no_text frame bytes short never = rw (is_short (length bytes) max_file short, false_from_ne_true (is_utf8 bytes) (λ is. never (IsUtf8-from_is_utf8 bytes is))) refl
+
+pub range_at : {E : Type 0} (frame : Frame) (bytes : List ℕ) (answer : Result Report E) → IsFrame frame → OnOk answer (Valid frame bytes) → IfOk answer (λ r. r ≡ report_in frame.contests bytes) → IfOk answer (λ r. ReportInRange frame.contests r)
+range_at frame bytes (Ok r) of v is = rw is (in_range contests_agree frame bytes of v)
+range_at frame bytes (Err e) of v is = tt

@@ -1,0 +1,141 @@
+ghost use Rattle.std.specs.Prelude.{◌≡◌, ◌∷◌, None, Some, IfOk, option_map, codes};
+ghost use Rattle.serde_json.specs.View.{view};
+ghost use Rattle.cdf_types.specs.declared.fault.ReadFault.TheVariants.{Reference};
+ghost use Rattle.cdf_form.specs.Form.{at_member, at_item};
+ghost use Rattle.cdf_form.specs.Path.{path_text};
+ghost use Rattle.cdf_form.specs.Found.{path_of};
+ghost use Rattle.cdf_check.specs.Paths.{first};
+ghost use Rattle.cdf_check.specs.References.{in_cvr};
+ghost use Rattle.cdf_check.specs.Scoped.{scope_view};
+ghost use Rattle.cdf_check.specs.Acceptance.{value_refusal};
+ghost use Rattle.cdf_check.specs.Seen.{IsUnnamed, HasForms, Refuses, IsRefusedFor};
+
+use crate::check::check_value;
+use crate::definition::Definition;
+use crate::look::Look;
+use crate::references::InCvr;
+use crate::scope::Scope;
+use cdf_form::found::{Path, Step};
+use cdf_form::path::pointer;
+use cdf_pull::{Fold, read_text_fold};
+use cdf_types::{Memory, ReadFault};
+use json::Scratch;
+use serde_json::Value;
+use std::alloc::{AllocError, Global};
+
+// What is seen of the names in records, in order.
+#[derive(Drop)]
+pub(crate) struct Unnamed {
+    // The place of the next record.
+    place: usize,
+    // The path of the first text that names nothing, from their array.
+    first: Option<Path<'static>>,
+}
+
+// Looks at what each record of a file names, where these ids can be named.
+#[derive(Drop)]
+pub(crate) struct Names<'a> {
+    scope: &'a Scope,
+    // How many records there are.
+    count: usize,
+}
+
+// The first text of a record that names nothing, from the array of the records.
+fn unnamed_in(
+    alloc: Global,
+    scope: &Scope,
+    place: usize,
+    cvr: &Value,
+) -> Result<Option<Path<'static>>, AllocError>
+    ensures { IfOk result (λ found. option_map path_of found
+        ≡ option_map (λ p. at_item place ∷ p) (first (in_cvr (scope_view scope.now) (view cvr.now)))) }
+{
+    match InCvr(scope).look(alloc, cvr) {
+        Ok(None) => Ok(None),
+        Err(Memory) => Err(AllocError),
+        Ok(Some(path)) => match path.under(Step::Item(place)) {
+            Ok(path) => Ok(Some(path)),
+            Err(_) => Err(AllocError),
+        },
+    }
+}
+
+impl Fold for Names<'_> {
+    type Kept = Unnamed;
+
+    ghost keeps = { λ s ds seen. IsUnnamed (scope_view s.scope.now) s.count ds seen };
+
+    fn none(&self, _alloc: Global) -> Unnamed {
+        Unnamed {
+            place: 0,
+            first: None,
+        }
+    }
+
+    fn take(&self, alloc: Global, seen: &mut Unnamed, item: Value) -> Result<(), AllocError> {
+        if seen.first.is_some() {
+            return Ok(());
+        }
+        // There is no record more, so this isn't reached.
+        if seen.place >= self.count {
+            return Ok(());
+        }
+        seen.first = unnamed_in(alloc, self.scope, seen.place, &item)?;
+        seen.place += 1;
+        Ok(())
+    }
+}
+
+// The refusal for a text of a record that names nothing.
+fn fault_at(alloc: Global, path: Path<'static>) -> Result<ReadFault, Memory>
+    ensures { IfOk result (λ e. e ≡ Reference (path_text (at_member (codes "CVR") ∷ path_of path.entry))) }
+{
+    Ok(ReadFault::Reference {
+        path: pointer(alloc, &path.under(Step::Member("CVR"))?)?,
+    })
+}
+
+// Why a value is refused beside a definition.
+fn value_fault(alloc: Global, definition: &Definition, value: &Value) -> Result<ReadFault, Memory>
+    requires { value_refusal definition.now (view value.now) ≡ None → ⊥ }
+    ensures { IfOk result (λ e. value_refusal definition.now (view value.now) ≡ Some e) }
+{
+    match check_value(alloc, definition, value) {
+        Ok(()) => unreachable!(),
+        Err(ReadFault::Memory) => Err(Memory),
+        Err(fault) => Ok(fault),
+    }
+}
+
+/// Why a file is refused that has no fault of numbers or form: for the first text that names nothing, or
+/// else for the first object that isn't the definition's. The file is read again: what can be named is
+/// known only once it has been read.
+///
+/// # Errors
+/// `Memory` where a growth was refused.
+pub(crate) fn reference_fault(
+    alloc: Global,
+    definition: &Definition,
+    text: &str,
+    scratch: &mut Scratch,
+    left: &Value,
+    count: usize,
+) -> Result<ReadFault, Memory>
+    requires forms { HasForms text.now (view left.now) count }
+    requires refused { Refuses definition.now text.now }
+    ensures { IfOk result (λ e. IsRefusedFor definition.now text.now e) }
+{
+    let scope = Scope::of_report(alloc, left)?;
+    let names = Names {
+        scope: &scope,
+        count,
+    };
+    match read_text_fold(alloc, text, scratch, "CVR", &names) {
+        Ok(Some((_, seen))) => match seen.first {
+            Some(path) => fault_at(alloc, path),
+            None => value_fault(alloc, definition, left),
+        },
+        Ok(None) => unreachable!(),
+        Err(_) => Err(Memory),
+    }
+}
