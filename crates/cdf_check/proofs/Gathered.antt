@@ -1,7 +1,7 @@
 -- Entries in order, lists of pairs, and the text that stands beside an id.
 use Rattle.std.proofs.Common.{◌≡◌, ℕ, suc, ◌+◌, ◌-◌, ◌<◌, ◌≤◌, List, [], ◌∷◌, ◌++◌, length, get_or, map, take, Bool, true, false, cond, Some, None, Ordering, Less, Equal, Greater, bytes_eq, refl, sym, ap, ◌∙◌, arith, String, Global, string_bytes, nat_cmp}
 use Rattle.std.specs.String.{string_cmp}
-use Rattle.std.specs.List.{position_from}
+use Rattle.std.specs.List.{position_from, zip}
 use Rattle.std.specs.BTreeMap.{insert_entry}
 use Rattle.std.specs.Ordering.{match_ordering}
 use Rattle.std.specs.Cmp.Lexicographic.{slice_cmp}
@@ -11,7 +11,7 @@ use Rattle.serde_json.specs.declared.value.Value.{Value}
 use Rattle.cdf_form.specs.Places.{Texts, place_in}
 use Rattle.cdf_form.specs.Kept.{bytes_of}
 use Rattle.cdf_form.proofs.Lemmas.{length-bytes_of}
-use Rattle.cdf_check.specs.Named.{Entry, named, put_all, sorted, pairs, entries_of, ids_of, texts_of, text_of}
+use Rattle.cdf_check.specs.Named.{Entry, named, put_all, sorted, entries_of, ids_of, texts_of, text_of}
 
 -- ---- gathering
 
@@ -43,35 +43,35 @@ gathered_more es fs k v vs i x h e is n =
 
 -- ---- pairs
 
-pub pairs-push : (ids texts : Texts) (id text : List ℕ) → length ids ≡ length texts → pairs (ids ++ id ∷ []) (texts ++ text ∷ []) ≡ pairs ids texts ++ (id, text) ∷ []
-pairs-push [] [] id text e = refl
-pairs-push [] (y ∷ texts) id text e = absurd (omega arith)
-pairs-push (x ∷ ids) [] id text e = absurd (omega arith)
-pairs-push (x ∷ ids) (y ∷ texts) id text e = ap (λ zs. (x, y) ∷ zs) (pairs-push ids texts id text (omega arith))
+pub zip-push : (ids texts : Texts) (id text : List ℕ) → length ids ≡ length texts → zip (ids ++ id ∷ []) (texts ++ text ∷ []) ≡ zip ids texts ++ (id, text) ∷ []
+zip-push [] [] id text e = refl
+zip-push [] (y ∷ texts) id text e = absurd (omega arith)
+zip-push (x ∷ ids) [] id text e = absurd (omega arith)
+zip-push (x ∷ ids) (y ∷ texts) id text e = ap (λ zs. (x, y) ∷ zs) (zip-push ids texts id text (omega arith))
 
-pub ids_of-pairs : (ids texts : Texts) → length ids ≡ length texts → ids_of (pairs ids texts) ≡ ids
-ids_of-pairs [] texts e = refl
-ids_of-pairs (x ∷ ids) [] e = absurd (omega arith)
-ids_of-pairs (x ∷ ids) (y ∷ texts) e = ap (λ zs. x ∷ zs) (ids_of-pairs ids texts (omega arith))
+pub ids_of-zip : (ids texts : Texts) → length ids ≡ length texts → ids_of (zip ids texts) ≡ ids
+ids_of-zip [] texts e = refl
+ids_of-zip (x ∷ ids) [] e = absurd (omega arith)
+ids_of-zip (x ∷ ids) (y ∷ texts) e = ap (λ zs. x ∷ zs) (ids_of-zip ids texts (omega arith))
 
-pub texts_of-pairs : (ids texts : Texts) → length ids ≡ length texts → texts_of (pairs ids texts) ≡ texts
-texts_of-pairs [] [] e = refl
-texts_of-pairs [] (y ∷ texts) e = absurd (omega arith)
-texts_of-pairs (x ∷ ids) [] e = absurd (omega arith)
-texts_of-pairs (x ∷ ids) (y ∷ texts) e = ap (λ zs. y ∷ zs) (texts_of-pairs ids texts (omega arith))
+pub texts_of-zip : (ids texts : Texts) → length ids ≡ length texts → texts_of (zip ids texts) ≡ texts
+texts_of-zip [] [] e = refl
+texts_of-zip [] (y ∷ texts) e = absurd (omega arith)
+texts_of-zip (x ∷ ids) [] e = absurd (omega arith)
+texts_of-zip (x ∷ ids) (y ∷ texts) e = ap (λ zs. y ∷ zs) (texts_of-zip ids texts (omega arith))
 
-pub pairs_more : (ids : List (String Global)) (texts : Texts) (id : String Global) (text : List ℕ) (rest more : List Held) (all : List Entry) → length ids ≡ length texts → pairs (bytes_of ids) texts ++ entries_of rest ≡ all
-    → rest ≡ (id, text) ∷ more → pairs (bytes_of (ids ++ id ∷ [])) (texts ++ text ∷ []) ++ entries_of more ≡ all
+pub pairs_more : (ids : List (String Global)) (texts : Texts) (id : String Global) (text : List ℕ) (rest more : List Held) (all : List Entry) → length ids ≡ length texts → zip (bytes_of ids) texts ++ entries_of rest ≡ all
+    → rest ≡ (id, text) ∷ more → zip (bytes_of (ids ++ id ∷ [])) (texts ++ text ∷ []) ++ entries_of more ≡ all
 pairs_more ids texts id text rest more all e is step =
     let same : length (bytes_of ids) ≡ length texts = length-bytes_of ids ∙ e in
-    rw (map-append (λ (s : String Global). string_bytes s) ids (id ∷ []), pairs-push (bytes_of ids) texts (string_bytes id) text same, append_assoc)
-    (sym (ap (λ (r : List Held). pairs (bytes_of ids) texts ++ entries_of r) step) ∙ is)
+    rw (map-append (λ (s : String Global). string_bytes s) ids (id ∷ []), zip-push (bytes_of ids) texts (string_bytes id) text same, append_assoc)
+    (sym (ap (λ (r : List Held). zip (bytes_of ids) texts ++ entries_of r) step) ∙ is)
 
 -- ---- looking up
 
 -- a place that was found, and the text there
 abbrev pub TextAt : Texts → Texts → List ℕ → ℕ → ℕ → List ℕ → Type 0
-TextAt ids texts id i p d = (i ≤ p) × (p < i + length ids) × (text_of (pairs ids texts) id ≡ Some (get_or texts (p - i) d))
+TextAt ids texts id i p d = (i ≤ p) × (p < i + length ids) × (text_of (zip ids texts) id ≡ Some (get_or texts (p - i) d))
 
 found_head : (t : Bool) (x y : List ℕ) (ids texts : Texts) (id : List ℕ) (i p : ℕ) (d : List ℕ) → bytes_eq id x ≡ t
     → (position_from (bytes_eq id) (i + 1) ids ≡ Some p → TextAt ids texts id (i + 1) p d)
@@ -91,23 +91,23 @@ found_text (x ∷ ids) [] id i p d len is = absurd (omega arith)
 found_text (x ∷ ids) (y ∷ texts) id i p d len is = found_head (bytes_eq id x) x y ids texts id i p d refl (λ later. found_text ids texts id (i + 1) p d (omega arith) later) is
 
 none_head : (t : Bool) (x y : List ℕ) (ids texts : Texts) (id : List ℕ) (i : ℕ) → bytes_eq id x ≡ t
-    → (position_from (bytes_eq id) (i + 1) ids ≡ None → text_of (pairs ids texts) id ≡ None)
-    → cond t (Some i) (position_from (bytes_eq id) (i + 1) ids) ≡ None → text_of (pairs (x ∷ ids) (y ∷ texts)) id ≡ None
+    → (position_from (bytes_eq id) (i + 1) ids ≡ None → text_of (zip ids texts) id ≡ None)
+    → cond t (Some i) (position_from (bytes_eq id) (i + 1) ids) ≡ None → text_of (zip (x ∷ ids) (y ∷ texts)) id ≡ None
 none_head true x y ids texts id i e later is = cc
 none_head false x y ids texts id i e later is = rw e (later is)
 
-no_text_from : (ids texts : Texts) (id : List ℕ) (i : ℕ) → position_from (bytes_eq id) i ids ≡ None → text_of (pairs ids texts) id ≡ None
+no_text_from : (ids texts : Texts) (id : List ℕ) (i : ℕ) → position_from (bytes_eq id) i ids ≡ None → text_of (zip ids texts) id ≡ None
 no_text_from [] texts id i is = refl
 no_text_from (x ∷ ids) [] id i is = refl
 no_text_from (x ∷ ids) (y ∷ texts) id i is = none_head (bytes_eq id x) x y ids texts id i refl (λ later. no_text_from ids texts id (i + 1) later) is
 
 -- the text beside an id that has a place
-pub text_there : (ids texts : Texts) (id : List ℕ) (p : ℕ) (d : List ℕ) → length ids ≡ length texts → place_in ids id ≡ Some p → (p < length texts) × (text_of (pairs ids texts) id ≡ Some (get_or texts p d))
+pub text_there : (ids texts : Texts) (id : List ℕ) (p : ℕ) (d : List ℕ) → length ids ≡ length texts → place_in ids id ≡ Some p → (p < length texts) × (text_of (zip ids texts) id ≡ Some (get_or texts p d))
 text_there ids texts id p d len is =
     let h = found_text ids texts id 0 p d len is in
     let z : p - 0 ≡ p = omega arith in
     (omega (arith, h.1), h.2 ∙ ap (λ k. Some (get_or texts k d)) z)
 
 -- no text beside an id that has none
-pub no_text : (ids texts : Texts) (id : List ℕ) → place_in ids id ≡ None → text_of (pairs ids texts) id ≡ None
+pub no_text : (ids texts : Texts) (id : List ℕ) → place_in ids id ≡ None → text_of (zip ids texts) id ≡ None
 no_text ids texts id is = no_text_from ids texts id 0 is

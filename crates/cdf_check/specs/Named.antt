@@ -37,12 +37,6 @@ put_all done (e ∷ es) = put_all (insert_entry (slice_cmp nat_cmp) done e.0 e.1
 abbrev pub sorted : List Entry → List Entry
 sorted entries = put_all [] entries
 
--- two lists, pair by pair
-abbrev pub pairs : Texts → Texts → List Entry
-pairs [] texts = []
-pairs (id ∷ ids) [] = []
-pairs (id ∷ ids) (text ∷ texts) = (id, text) ∷ pairs ids texts
-
 -- the entries of a map
 abbrev pub entries_of : List (String Global × List ℕ) → List Entry
 entries_of es = map (λ e. (string_bytes e.0, e.1)) es

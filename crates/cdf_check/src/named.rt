@@ -16,22 +16,23 @@ pub struct Named {
 
 impl Model for Named {
     ghost use Rattle.std.specs.Prelude.{List, ◌≡◌, length};
-    ghost use Rattle.cdf_check.specs.Named.{Entry, pairs};
+    ghost use Rattle.std.specs.List.{zip};
+    ghost use Rattle.cdf_check.specs.Named.{Entry};
 
     ghost Value = { List Entry };
 
-    ghost view = { λ n. pairs n.ids n.bodies.items };
+    ghost view = { λ n. zip n.ids n.bodies.items };
 
     ghost invariant = { λ n. length n.ids ≡ length n.bodies.items };
 }
 
 impl Named {
     ghost use Rattle.std.specs.Prelude.{◌≡◌, length, option_map, IfOk, false, map, IsTrue, ◌↔◌};
-    ghost use Rattle.std.specs.List.{list_any};
+    ghost use Rattle.std.specs.List.{list_any, zip};
     ghost use Rattle.serde_json.specs.View.{view};
     ghost use Rattle.serde_json.specs.Written.{has_float};
     ghost use Rattle.cdf_form.specs.Kept.{bytes_of};
-    ghost use Rattle.cdf_check.specs.Named.{named, sorted, entries_of, pairs, ids_of, texts_of, text_of};
+    ghost use Rattle.cdf_check.specs.Named.{named, sorted, entries_of, ids_of, texts_of, text_of};
 
     /// The texts of objects, in byte order of their ids; of several with one id the last.
     ///
@@ -60,7 +61,7 @@ impl Named {
     // Ids beside texts.
     fn of(alloc: Global, ids: Vec<String>, bodies: Vec<Body>) -> Result<Named, Memory>
         requires { length ids.items ≡ length bodies.items }
-        ensures { IfOk result (λ n. n ≡ pairs (bytes_of ids.items) bodies.items) }
+        ensures { IfOk result (λ n. n ≡ zip (bytes_of ids.items) bodies.items) }
     {
         Ok(Named {
             ids: Ids::of(alloc, ids)?,

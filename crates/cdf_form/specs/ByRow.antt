@@ -62,13 +62,9 @@ ObjectLaw = (g : Group) (d : Data) → HasForm (One (leaf.Object g)) d → (ms :
 abbrev pub IsTextual : Leaf → Type 0
 IsTextual leaf.Text = ⊤
 IsTextual leaf.Name = ⊤
-IsTextual leaf.Count = ⊥
-IsTextual leaf.Whole = ⊥
-IsTextual leaf.Truth = ⊥
 IsTextual leaf.Moment = ⊤
-IsTextual leaf.Fractional = ⊥
 IsTextual (leaf.Listed l) = ⊤
-IsTextual (leaf.Object g) = ⊥
+IsTextual l = ⊥
 
 -- a text that is found under a row has the form
 abbrev pub TextLaw : Type 0

@@ -113,15 +113,8 @@ leaf_faults (leaf.Object g) d = wanted rule.NotObject (λ ms. type_faults g (get
 
 -- a value that is to be no object
 abbrev pub IsPlain : Leaf → Type 0
-IsPlain leaf.Text = Unit {0}
-IsPlain leaf.Name = Unit {0}
-IsPlain leaf.Count = Unit {0}
-IsPlain leaf.Whole = Unit {0}
-IsPlain leaf.Truth = Unit {0}
-IsPlain leaf.Moment = Unit {0}
-IsPlain leaf.Fractional = Unit {0}
-IsPlain (leaf.Listed l) = Unit {0}
 IsPlain (leaf.Object g) = ⊥
+IsPlain l = Unit {0}
 
 -- ---- arrays and objects
 
@@ -182,15 +175,8 @@ array_faults (Array l least most k) ds each = length_faults least most (items_le
 
 -- the class whose table goes on below a value
 abbrev pub class_below : Leaf → Data → Option Class
-class_below leaf.Text d = None
-class_below leaf.Name d = None
-class_below leaf.Count d = None
-class_below leaf.Whole d = None
-class_below leaf.Truth d = None
-class_below leaf.Moment d = None
-class_below leaf.Fractional d = None
-class_below (leaf.Listed l) d = None
 class_below (leaf.Object g) d = class_in g d
+class_below l d = None
 
 -- an object, whose members have the faults that `look` finds
 abbrev pub members_faults : Kind → Members → (List ℕ → Kind → Option (List Fault)) → Key → List Fault

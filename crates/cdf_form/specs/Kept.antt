@@ -1,8 +1,8 @@
--- How ids and contests are kept: a list beside a map of places. (This project's own.)
-use Rattle.std.specs.Prelude.{◌≡◌, ℕ, List, [], ◌∷◌, map, string_bytes, String}
+-- How ids are kept: a list beside a map of places. (This project's own.)
+use Rattle.std.specs.Prelude.{◌≡◌, ℕ, List, map, string_bytes, String}
 use Rattle.std.specs.BTreeMap.{BTreeMap, get_by_text}
 use Rattle.std.specs.declared.alloc.Global.{Global}
-use Rattle.cdf_form.specs.Places.{Texts, place_in, Contest}
+use Rattle.cdf_form.specs.Places.{Texts, place_in}
 
 -- the bytes of each text
 abbrev pub bytes_of : List (String Global) → Texts
@@ -11,9 +11,3 @@ bytes_of texts = map (λ t. string_bytes t) texts
 -- the map holds the first place of each id
 abbrev pub HasPlaces : BTreeMap (String Global) ℕ → Texts → Type 0
 HasPlaces places ids = (q : List ℕ) → get_by_text places q ≡ place_in ids q
-
--- two lists, pair by pair
-abbrev pub contests_of : Texts → List Texts → List Contest
-contests_of [] selections = []
-contests_of (id ∷ ids) [] = []
-contests_of (id ∷ ids) (s ∷ selections) = (id, s) ∷ contests_of ids selections

@@ -30,15 +30,8 @@ all_have_row n [] = true
 all_have_row n (c ∷ cs) = has_row n (table c) && all_have_row n cs
 
 abbrev pub leaf_has_row : List ℕ → Leaf → Bool
-leaf_has_row n leaf.Text = false
-leaf_has_row n leaf.Name = false
-leaf_has_row n leaf.Count = false
-leaf_has_row n leaf.Whole = false
-leaf_has_row n leaf.Truth = false
-leaf_has_row n leaf.Moment = false
-leaf_has_row n leaf.Fractional = false
-leaf_has_row n (leaf.Listed l) = false
 leaf_has_row n (leaf.Object g) = all_have_row n (classes_of g)
+leaf_has_row n l = false
 
 abbrev pub key_has_row : Key → Leaf → Bool
 key_has_row key.Free l = true

@@ -4,7 +4,7 @@ use Rattle.std.specs.Ordering.{nat_cmp}
 use Rattle.std.specs.Cmp.Lexicographic.{slice_cmp}
 use Rattle.std.specs.declared.cmp.Ordering.TheVariants.{Less}
 use Rattle.serde_json.specs.Data.{Num, unsigned, negative, float}
-use Rattle.serde_json.specs.Data.{Data, null, boolean, number, string, array, object, depth}
+use Rattle.serde_json.specs.Data.{Data, number, array, object, depth}
 use Rattle.serde_json.specs.Data.{Items, no_items, item, Members, no_members, member}
 use Rattle.serde_json.specs.Written.{has_float}
 
@@ -27,12 +27,10 @@ Below k (member l e ms) = Before k l × Below k ms
 -- each number fits, and each object's names stand strictly in byte order
 abbrev mutual
   pub IsWell : Data → Type 0
-  IsWell null = ⊤
-  IsWell (boolean b) = ⊤
   IsWell (number n) = NumFits n
-  IsWell (string s) = ⊤
   IsWell (array ds) = ItemsAreWell ds
   IsWell (object ms) = MembersAreWell ms
+  IsWell d = ⊤
 
   -- each item is well
   pub ItemsAreWell : Items → Type 0

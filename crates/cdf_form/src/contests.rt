@@ -16,11 +16,11 @@ pub struct Contests {
 impl Model for Contests {
     ghost use Rattle.std.specs.Prelude.{List, ◌≡◌, length};
     ghost use Rattle.cdf_form.specs.Places.{Contest};
-    ghost use Rattle.cdf_form.specs.Kept.{contests_of};
+    ghost use Rattle.std.specs.List.{zip};
 
     ghost Value = { List Contest };
 
-    ghost view = { λ n. contests_of n.ids n.selections.items };
+    ghost view = { λ n. zip n.ids n.selections.items };
 
     ghost invariant = { λ n. length n.ids ≡ length n.selections.items };
 }

@@ -3,7 +3,7 @@ use Rattle.std.specs.Prelude.{◌≡◌, ⊤, ℕ, List, [], ◌∷◌, Option, 
 use Rattle.std.specs.Cmp.Lexicographic.{slice_cmp}
 use Rattle.std.specs.Ordering.{nat_cmp}
 use Rattle.std.specs.declared.cmp.Ordering.TheVariants.{Less}
-use Rattle.serde_json.specs.Data.{Data, null, boolean, number, string, array, object, Items, no_items, item, Members, no_members, member}
+use Rattle.serde_json.specs.Data.{Data, array, object, Items, no_items, item, Members, no_members, member}
 use Rattle.serde_json.specs.Find.{get_member}
 use Rattle.serde_json.specs.Read.{read}
 
@@ -13,21 +13,13 @@ list_of (item d ds) = d ∷ list_of ds
 
 -- the items of an array; any other value has none
 abbrev pub items_in : Data → List Data
-items_in null = []
-items_in (boolean b) = []
-items_in (number n) = []
-items_in (string s) = []
 items_in (array ds) = list_of ds
-items_in (object ms) = []
+items_in d = []
 
 -- an array without its items; any other value stays
 abbrev pub emptied : Data → Data
-emptied null = null
-emptied (boolean b) = boolean b
-emptied (number n) = number n
-emptied (string s) = string s
 emptied (array ds) = array no_items
-emptied (object ms) = object ms
+emptied d = d
 
 -- the members, with what stands at the name changed
 abbrev pub changed : List ℕ → (Data → Data) → Members → Members
@@ -44,12 +36,8 @@ items_found (Some d) = items_in d
 
 -- the items of the array at the name of an object; where there is none, no items
 abbrev pub items_under : List ℕ → Data → List Data
-items_under name null = []
-items_under name (boolean b) = []
-items_under name (number n) = []
-items_under name (string s) = []
-items_under name (array ds) = []
 items_under name (object ms) = items_found (get_member name ms)
+items_under name d = []
 
 -- the members, with an array of these items in the place of what stands at the name
 abbrev pub filled : List ℕ → Items → Members → Members
@@ -57,21 +45,14 @@ filled name ds ms = changed name (λ _. array ds) ms
 
 -- what is left of a value beside them
 abbrev pub left_beside : List ℕ → Data → Data
-left_beside name null = null
-left_beside name (boolean b) = boolean b
-left_beside name (number n) = number n
-left_beside name (string s) = string s
-left_beside name (array ds) = array ds
 left_beside name (object ms) = object (emptied_at name ms)
+left_beside name d = d
 
 -- neither an array nor an object
 abbrev pub IsScalar : Data → Type 0
-IsScalar null = ⊤
-IsScalar (boolean b) = ⊤
-IsScalar (number n) = ⊤
-IsScalar (string s) = ⊤
 IsScalar (array ds) = ⊥
 IsScalar (object ms) = ⊥
+IsScalar d = ⊤
 
 -- each key comes after this one
 abbrev pub Under : List ℕ → Members → Type 0
@@ -85,12 +66,8 @@ Rises (member k d ms) = Under k ms × Rises ms
 
 -- the keys of an object rise
 abbrev pub IsOrdered : Data → Type 0
-IsOrdered null = ⊤
-IsOrdered (boolean b) = ⊤
-IsOrdered (number n) = ⊤
-IsOrdered (string s) = ⊤
-IsOrdered (array ds) = ⊤
 IsOrdered (object ms) = Rises ms
+IsOrdered d = ⊤
 
 -- the text is a value, this is left of it beside the items under the name, and that is kept of them
 abbrev pub IsFolded : {K : Type 0} → (List Data → K → Type 0) → List ℕ → List ℕ → Data → K → Type 0

@@ -15,7 +15,7 @@ use std::alloc::Global;
 ///
 /// # Errors
 /// `Unread` where no such value comes next; `Memory` where a growth was refused. Where the reader
-/// stands then isn't told.
+/// stands then, no clause says.
 #[cycle(value)]
 #[tactic(auto, using(crate::proofs::Loops::next_value_nothing))]
 pub fn read(alloc: Global, reader: &mut Reader<'_>, depth: usize) -> Result<Value, Stop>

@@ -44,9 +44,8 @@ pub record IsHeld (contests : List Contest) (devices : List AnyFact) (es : Entri
 
 -- a snapshot's sums are those of contests of the definition
 abbrev pub IsSummed : List Contest → AnyFact → Type 0
-IsSummed contests (any.Device d) = ⊤
-IsSummed contests (any.Header h) = ⊤
 IsSummed contests (any.Snapshot s) = AreSums contests s.votes
+IsSummed contests fact = ⊤
 
 -- what stands is a plain office's, and what comes keeps it so
 pub record IsTold (contests : List Contest) (old more : List AnyFact) : Type 0 where

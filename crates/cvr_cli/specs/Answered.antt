@@ -17,17 +17,13 @@ use Rattle.cvr_cli.specs.Worked.{Stops, Runs}
 -- ---- words that ask for no request
 
 abbrev pub is_help : LineFault → Bool
-is_help (Refused text) = false
 is_help (Help text) = true
-is_help (BadStep place step) = false
-is_help Memory = false
+is_help fault = false
 
 -- what is printed: help alone
 abbrev pub help_text : LineFault → List ℕ
-help_text (Refused text) = []
 help_text (Help text) = string_bytes text
-help_text (BadStep place step) = []
-help_text Memory = []
+help_text fault = []
 
 abbrev pub bad_step_line : List ℕ → List ℕ
 bad_step_line step = step ++ codes ": L3\n"

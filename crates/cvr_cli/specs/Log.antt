@@ -35,18 +35,14 @@ cause_line what cause = what ++ (codes ": " ++ (cause_text cause ++ 10 ∷ []))
 
 -- whether a path stands in the line: its spelling alone takes memory
 abbrev pub has_path : ReadFault → Bool
-has_path TooLong = false
-has_path NotJson = false
 has_path (Schema path rule) = true
 has_path (Reference path) = true
 has_path (Disagrees path) = true
-has_path Memory = false
+has_path fault = false
 
 abbrev pub has_path_in : Cause → Bool
 has_path_in (Read fault) = has_path fault
-has_path_in (Join fault) = false
-has_path_in NoOffice = false
-has_path_in NoFile = false
+has_path_in cause = false
 
 -- want of memory that no file is told for; it stands in the place of a line whose path could not be spelled
 abbrev pub memory_line : List ℕ

@@ -10,9 +10,8 @@ pub data At : Type 0 where
 
 -- it says that a file is there
 abbrev pub has_file : At → Bool
-has_file Unknown = false
-has_file Absent = false
 has_file (Has bytes) = true
+has_file at = false
 
 -- a file was opened, with this left to read: all of its bytes
 abbrev pub IsOpened : At → Option (List ℕ) → Type 0
@@ -29,9 +28,8 @@ IsRead (Has all) bytes = bytes ≡ take held_bytes all
 -- at each path its file was read
 abbrev pub AreRead : (List ℕ → At) → List (List ℕ) → List (List ℕ) → Type 0
 AreRead file_at [] [] = Unit {0}
-AreRead file_at [] (file ∷ files) = ⊥
-AreRead file_at (path ∷ paths) [] = ⊥
 AreRead file_at (path ∷ paths) (file ∷ files) = IsRead (file_at path) file × AreRead file_at paths files
+AreRead file_at paths files = ⊥
 
 -- at each path there is its file
 abbrev pub AreAt : (List ℕ → At) → List (List ℕ) → List (List ℕ) → Type 0
@@ -39,6 +37,5 @@ AreAt file_at paths files = map file_at paths ≡ map Has files
 
 -- a device can have failed at a path: where a file is there, only if its reading may fail
 abbrev pub FailedAt : At → Bool → Type 0
-FailedAt Unknown may_fail = Unit {0}
-FailedAt Absent may_fail = Unit {0}
 FailedAt (Has bytes) may_fail = may_fail ≡ true
+FailedAt at may_fail = Unit {0}

@@ -46,18 +46,16 @@ check_line definition path file = option_map_or (λ report. count_line path (rec
 
 -- a line for each accepted file, in order
 abbrev pub check_lines : Frame → List (List ℕ) → List (List ℕ) → List ℕ
-check_lines definition [] files = []
-check_lines definition (path ∷ paths) [] = []
 check_lines definition (path ∷ paths) (file ∷ files) = check_line definition path file ++ check_lines definition paths files
+check_lines definition paths files = []
 
 -- the text of a task over facts: `check` and `drill` print nothing of them
 abbrev pub facts_text : Frame → Task → Facts → List ℕ
 facts_text definition Currents facts = currents facts
 facts_text definition Conflicts facts = conflict_text (conflicts facts)
 facts_text definition Tally facts = tally definition.contests facts
-facts_text definition Check facts = []
 facts_text definition (Merge date device i) facts = merge_text definition date device (non_zero_u32_get i) facts
-facts_text definition (Drill n steps) facts = []
+facts_text definition task facts = []
 
 -- the text of a task over files
 abbrev pub task_text : Frame → Task → List (List ℕ) → List (List ℕ) → List ℕ
@@ -73,12 +71,8 @@ run_text task def paths files = if is_unsound def then [] else task_text (frame_
 
 -- why a task prints nothing over facts: `merge` alone may have a fault
 abbrev pub facts_fault : Frame → Task → Facts → Option MergeFault
-facts_fault definition Currents facts = None
-facts_fault definition Conflicts facts = None
-facts_fault definition Tally facts = None
-facts_fault definition Check facts = None
 facts_fault definition (Merge date device i) facts = merge_fault definition date device (non_zero_u32_get i) facts
-facts_fault definition (Drill n steps) facts = None
+facts_fault definition task facts = None
 
 -- the same over files
 abbrev pub task_fault : Frame → Task → List (List ℕ) → Option MergeFault

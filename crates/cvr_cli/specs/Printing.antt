@@ -19,15 +19,13 @@ use Rattle.cvr_cli.specs.Told.{out_line}
 
 -- whether the output failed
 abbrev pub is_output : PrintFault → Bool
-is_output (Merge fault) = false
 is_output Device = true
-is_output Memory = false
+is_output fault = false
 
 -- the fault of a merge, where it is one
 abbrev pub merge_part : PrintFault → Option MergeFault
 merge_part (Merge fault) = Some fault
-merge_part Device = None
-merge_part Memory = None
+merge_part fault = None
 
 -- all of the text where the call succeeded, else a front of it; the output has failed exactly where that is the fault; want of memory aside, the merge has the fault that is told, or none
 abbrev pub Prints : {T : Type 0} → Option (List ℕ) → Option (List ℕ) → Bool → Result T PrintFault → Option MergeFault → List ℕ → Type 0

@@ -2,9 +2,9 @@
 use Rattle.std.specs.Prelude.{◌≡◌, ◌<◌, ℕ, List, length, get_or, Bool, true, false, ◌||◌, if◌then◌else◌, Option, Some, None, is_some, option_map}
 use Rattle.std.specs.Option.{option_map_or}
 use Rattle.cdf_types.specs.declared.fault.ReadFault.{ReadFault}
-use Rattle.cdf_types.specs.declared.fault.ReadFault.TheVariants.{TooLong, NotJson, Schema, Reference, Disagrees, Memory}
+use Rattle.cdf_types.specs.declared.fault.ReadFault.TheVariants.{Memory}
 use Rattle.cvr_collect.specs.declared.event.Cause.{Cause}
-use Rattle.cvr_collect.specs.declared.event.Cause.TheVariants.{Read, Join, NoOffice, NoFile}
+use Rattle.cvr_collect.specs.declared.event.Cause.TheVariants.{Read, Join}
 use Rattle.cvr_collect.specs.declared.event.Outcome.{Outcome}
 use Rattle.cvr_collect.specs.declared.event.Outcome.TheVariants as outcome
 use Rattle.cvr_collect.specs.declared.fault.JoinFault.TheVariants as join
@@ -14,20 +14,14 @@ use Rattle.cvr_cli.specs.declared.status.Status.TheVariants as status
 
 -- whether a file was refused for want of memory
 abbrev pub is_memory : ReadFault → Bool
-is_memory TooLong = false
-is_memory NotJson = false
-is_memory (Schema path rule) = false
-is_memory (Reference path) = false
-is_memory (Disagrees path) = false
 is_memory Memory = true
+is_memory fault = false
 
 -- the same of any cause
 abbrev pub wants_memory : Cause → Bool
 wants_memory (Read fault) = is_memory fault
-wants_memory (Join join.OtherDefinition) = false
 wants_memory (Join join.Memory) = true
-wants_memory NoOffice = false
-wants_memory NoFile = false
+wants_memory cause = false
 
 -- the cause for which an outcome says that something was refused
 abbrev pub cause_in : Outcome → Option Cause

@@ -24,9 +24,8 @@ refusal_line what (Some cause) = cause_line what cause
 
 -- the lines of files or of steps, by their texts and what is due to them, in order
 abbrev pub refusal_lines : List (List ℕ) → List Due → List ℕ
-refusal_lines [] dues = []
-refusal_lines (what ∷ texts) [] = []
 refusal_lines (what ∷ texts) (due ∷ dues) = refusal_line what due.cause ++ refusal_lines texts dues
+refusal_lines texts dues = []
 
 -- what is due to each file beside a definition
 abbrev pub file_dues : Frame → List (List ℕ) → List Due
@@ -81,14 +80,12 @@ can_be Lacking due = is_some due.want
 can_be Unspelled due = option_map_or has_path_in due.cause false
 
 abbrev pub is_lacking : Telling → Bool
-is_lacking AsDue = false
 is_lacking Lacking = true
-is_lacking Unspelled = false
+is_lacking telling = false
 
 abbrev pub is_unspelled : Telling → Bool
-is_unspelled AsDue = false
-is_unspelled Lacking = false
 is_unspelled Unspelled = true
+is_unspelled telling = false
 
 -- whether memory was wanting for it
 abbrev pub is_short : Telling → Bool
@@ -96,10 +93,8 @@ is_short telling = is_lacking telling || is_unspelled telling
 
 -- the lines of the first, as many as there are tellings
 abbrev pub told_lines : List Telling → List (List ℕ) → List Due → List ℕ
-told_lines [] texts dues = []
-told_lines (telling ∷ tellings) [] dues = []
-told_lines (telling ∷ tellings) (what ∷ texts) [] = []
 told_lines (telling ∷ tellings) (what ∷ texts) (due ∷ dues) = told_line telling what due ++ told_lines tellings texts dues
+told_lines tellings texts dues = []
 
 -- each of them can be told so
 abbrev pub can_all : List Telling → List Due → Bool

@@ -1,6 +1,7 @@
 -- The union over the members of a set.
 use Rattle.std.proofs.Common.{◌≡◌, Bool, true, false, ◌||◌, ◌⊎◌, inl, inr, List, [], ◌∷◌, refl, sym, ap, ◌∙◌, subst}
 use Rattle.std.proofs.lemmas.Bool.{false≢true}
+use Rattle.std.proofs.Math.Bool.{or_self}
 use Rattle.std.specs.List.{list_any}
 use Rattle.std.specs.declared.cmp.Ordering.{Ordering}
 use Rattle.std.specs.Ordering.{eq_by_cmp}
@@ -9,10 +10,6 @@ use Rattle.std.specs.FinSet.{FinSet, union, empty, insert, from_list, items, con
 use Rattle.std.specs.FinMap.{IsAntisymmetric}
 use Rattle.cvr_facts.specs.Facts.{Fact, Facts, fact_cmp, fact_total, fact_exact}
 use Rattle.cvr_collect.specs.Reach.{union_over}
-
-or_same : (a : Bool) → (a || a) ≡ a
-or_same true = refl
-or_same false = refl
 
 pub or_cases : (a b : Bool) → (a || b) ≡ true → (a ≡ true) ⊎ (b ≡ true)
 or_cases true b h = inl refl
@@ -110,4 +107,4 @@ module _ {K : Type 0} {R : K → K → Ordering} (t : IsTotalOrder R) (e : IsAnt
       ∙ ap (λ b. b || contains (f k) q) (any_empty (λ x. contains (f x) q))))
 
 pub union_same : (s : Facts) → union s s ≡ s
-union_same s = same_set fact_total fact_exact _ _ (λ q. contains-union fact_total s s q ∙ or_same (contains s q))
+union_same s = same_set fact_total fact_exact _ _ (λ q. contains-union fact_total s s q ∙ or_self (contains s q))

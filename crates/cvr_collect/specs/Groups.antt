@@ -14,9 +14,8 @@ use Rattle.cvr_collect.specs.declared.record_facts.IdFacts.{IdFacts}
 use Rattle.cvr_collect.specs.Runs.{snapshots}
 
 abbrev pub id_of : AnyFact → Option (List ℕ)
-id_of (any.Device d) = None
-id_of (any.Header h) = None
 id_of (any.Snapshot s) = Some s.id
+id_of fact = None
 
 -- how a fact's snapshot id stands to this one, where what has none stands before all
 abbrev pub id_order : List ℕ → AnyFact → Ordering

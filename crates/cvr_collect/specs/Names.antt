@@ -41,14 +41,9 @@ conflict_cmp = on name_key (slice_cmp text_cmp)
 
 abbrev pub is_named : ConflictName → Fact → Bool
 is_named (name.Device id) (Device i b) = bytes_eq id i
-is_named (name.Device id) (Header d u b) = false
-is_named (name.Device id) (Snapshot d u i b) = false
-is_named (name.Header key) (Device i b) = false
 is_named (name.Header key) (Header d u b) = is_name key d u
-is_named (name.Header key) (Snapshot d u i b) = false
-is_named (name.Snapshot key id) (Device i b) = false
-is_named (name.Snapshot key id) (Header d u b) = false
 is_named (name.Snapshot key id) (Snapshot d u i b) = is_name key d u && bytes_eq id i
+is_named n f = false
 
 -- the bodies under a name, each once, in byte order
 abbrev pub bodies_under : Facts → ConflictName → List (List ℕ)
@@ -73,17 +68,15 @@ records facts = ordered name_cmp (filter_map record_of (items facts))
 
 abbrev pub device_in : Fact → Option (List ℕ)
 device_in (Device id body) = Some id
-device_in (Header device unique body) = None
-device_in (Snapshot device unique id body) = None
+device_in fact = None
 
 abbrev pub devices : Facts → List (List ℕ)
 devices facts = ordered text_cmp (filter_map device_in (items facts))
 
 -- the snapshot's id, where a fact is one of the record
 abbrev pub id_in : RecordName → Fact → Option (List ℕ)
-id_in key (Device i b) = None
-id_in key (Header d u b) = None
 id_in key (Snapshot d u i b) = if is_name key d u then Some i else None
+id_in key fact = None
 
 abbrev pub snapshot_ids : Facts → RecordName → List (List ℕ)
 snapshot_ids facts key = ordered text_cmp (filter_map (id_in key) (items facts))

@@ -35,14 +35,12 @@ first_record [] = None
 first_record (fact ∷ facts) = record_of (fact_of fact)
 
 abbrev pub as_header : AnyFact → Option HeaderFact
-as_header (any.Device d) = None
 as_header (any.Header h) = Some h
-as_header (any.Snapshot s) = None
+as_header fact = None
 
 abbrev pub as_snapshot : AnyFact → Option SnapshotFact
-as_snapshot (any.Device d) = None
-as_snapshot (any.Header h) = None
 as_snapshot (any.Snapshot s) = Some s
+as_snapshot fact = None
 
 -- the headers of a list, and its snapshots
 abbrev pub headers : List AnyFact → List HeaderFact

@@ -6,7 +6,7 @@ use Rattle.std.specs.Cmp.{IsTotalOrder}
 use Rattle.std.specs.List.{list_any}
 use Rattle.std.specs.FinSet.{FinSet, union, contains, insert, from_list, len, len-insert, contains-insert, contains-union, contains-from_list, same_set}
 use Rattle.std.specs.FinMap.{IsAntisymmetric}
-use Rattle.cvr_facts.specs.Unions.{or_false}
+use Rattle.std.proofs.Math.Bool.{or-false}
 use Rattle.cvr_facts.proofs.Bools.{or_swap}
 
 module _ {K : Type 0} {R : K → K → Ordering} where
@@ -21,7 +21,7 @@ module _ {K : Type 0} {R : K → K → Ordering} where
 
 module _ {K : Type 0} {R : K → K → Ordering} (o : IsTotalOrder R) where
   contains-with_all : (s : FinSet R) (xs : List K) (q : K) → contains (with_all s xs) q ≡ (contains s q || list_any (eq_by_cmp R q) xs)
-  contains-with_all s [] q = sym (or_false (contains s q))
+  contains-with_all s [] q = sym (or-false (contains s q))
   contains-with_all s (x ∷ xs) q =
       contains-insert o (with_all s xs) x q ∙ (ap (λ b. eq_by_cmp R q x || b) (contains-with_all s xs q) ∙ or_swap (eq_by_cmp R q x) (contains s q) (list_any (eq_by_cmp R q) xs))
 

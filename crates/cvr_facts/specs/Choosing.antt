@@ -13,7 +13,7 @@ use Rattle.cdf_typed.specs.Greatest.{greatest}
 use Rattle.cdf_typed.specs.Typed.{kind_of, moment_of}
 use Rattle.cvr_facts.specs.declared.name.RecordName.{RecordName}
 use Rattle.cvr_facts.specs.declared.snapshot.SnapshotFact.{SnapshotFact}
-use Rattle.cvr_facts.specs.Facts.{Fact, Device, Header, Snapshot, Facts, text_cmp}
+use Rattle.cvr_facts.specs.Facts.{Fact, Header, Snapshot, Facts, text_cmp}
 
 -- the value that a body spells
 abbrev pub data_of : List ℕ → Data
@@ -38,15 +38,13 @@ is_name key device unique = bytes_eq key.device device && bytes_eq key.unique un
 
 -- the body of a fact that is a header of the record
 abbrev pub header_body : RecordName → Fact → Option (List ℕ)
-header_body key (Device i b) = None
 header_body key (Header d u b) = if is_name key d u then Some b else None
-header_body key (Snapshot d u i b) = None
+header_body key fact = None
 
 -- the body of a fact that is a snapshot of the record
 abbrev pub snapshot_body : RecordName → Fact → Option (List ℕ)
-snapshot_body key (Device i b) = None
-snapshot_body key (Header d u b) = None
 snapshot_body key (Snapshot d u i b) = if is_name key d u then Some b else None
+snapshot_body key fact = None
 
 abbrev pub header_bodies : Facts → RecordName → List (List ℕ)
 header_bodies facts key = filter_map (header_body key) (items facts)

@@ -17,21 +17,18 @@ use Rattle.cvr_facts.specs.declared.sums.VoteSums.{VoteSums}
 
 -- whether HasIndication is `yes`
 abbrev pub is_marked : Indication → Bool
-is_marked indication.No = false
-is_marked indication.Unknown = false
 is_marked indication.Yes = true
+is_marked i = false
 
 -- whether IsAllocable is `yes`
 abbrev pub is_allowed : Allocation → Bool
-is_allowed allocation.No = false
-is_allowed allocation.Unknown = false
 is_allowed allocation.Yes = true
+is_allowed a = false
 
 -- whether IsAllocable is `unknown`
 abbrev pub is_unsettled : Allocation → Bool
-is_unsettled allocation.No = false
 is_unsettled allocation.Unknown = true
-is_unsettled allocation.Yes = false
+is_unsettled a = false
 
 -- a position counts where IsAllocable is `yes`, or is absent while HasIndication is `yes`
 abbrev pub counts : Position → Bool

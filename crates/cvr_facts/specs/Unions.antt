@@ -1,6 +1,7 @@
 -- Laws of the union of finite sets, which `Join` asks of each set. (This project's own.)
-use Rattle.std.specs.Prelude.{◌≡◌, Bool, true, false, ◌||◌}
-use Rattle.std.proofs.Common.{refl, sym, ap, ◌∙◌}
+use Rattle.std.specs.Prelude.{◌≡◌, ◌||◌}
+use Rattle.std.proofs.Common.{sym, ap, ◌∙◌}
+use Rattle.std.proofs.Math.Bool.{or_comm, or_assoc, or_self, or-false}
 use Rattle.std.specs.declared.cmp.Ordering.{Ordering}
 use Rattle.std.specs.Cmp.{IsTotalOrder}
 use Rattle.std.specs.Cmp.Lexicographic.{nat_list_cmp_total}
@@ -8,24 +9,6 @@ use Rattle.std.specs.FinSet.{FinSet, union, empty, contains, same_set, contains-
 use Rattle.std.specs.FinMap.{IsAntisymmetric, nat_cmp-IsAntisymmetric, slice_cmp-IsAntisymmetric}
 use Rattle.cvr_facts.specs.Facts.{text_cmp}
 use Rattle.cvr_facts.specs.Sets.{JoinLaws}
-
-or_comm : (a b : Bool) → (a || b) ≡ (b || a)
-or_comm true true = refl
-or_comm true false = refl
-or_comm false true = refl
-or_comm false false = refl
-
-or_assoc : (a b c : Bool) → ((a || b) || c) ≡ (a || (b || c))
-or_assoc true b c = refl
-or_assoc false b c = refl
-
-or_same : (a : Bool) → (a || a) ≡ a
-or_same true = refl
-or_same false = refl
-
-pub or_false : (a : Bool) → (a || false) ≡ a
-or_false true = refl
-or_false false = refl
 
 module _ {K : Type 0} {R : K → K → Ordering} (o : IsTotalOrder R) (e : IsAntisymmetric R) where
   pub union_comm : (s t : FinSet R) → union s t ≡ union t s
@@ -38,10 +21,10 @@ module _ {K : Type 0} {R : K → K → Ordering} (o : IsTotalOrder R) (e : IsAnt
       ∙ (ap (λ b. contains s q || b) (sym (contains-union o t u q)) ∙ sym (contains-union o s (union t u) q)))))
 
   pub union_same : (s : FinSet R) → union s s ≡ s
-  union_same s = same_set o e _ _ (λ q. contains-union o s s q ∙ or_same (contains s q))
+  union_same s = same_set o e _ _ (λ q. contains-union o s s q ∙ or_self (contains s q))
 
   pub union_empty : (s : FinSet R) → union s empty ≡ s
-  union_empty s = same_set o e _ _ (λ q. contains-union o s empty q ∙ (ap (λ b. contains s q || b) (contains-empty R q) ∙ or_false (contains s q)))
+  union_empty s = same_set o e _ _ (λ q. contains-union o s empty q ∙ (ap (λ b. contains s q || b) (contains-empty R q) ∙ or-false (contains s q)))
 
   pub empty_union : (s : FinSet R) → union empty s ≡ s
   empty_union s = union_comm empty s ∙ union_empty s

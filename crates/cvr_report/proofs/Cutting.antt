@@ -2,6 +2,7 @@
 use Rattle.std.proofs.Common.{◌≡◌, ℕ, ◌+◌, ◌<◌, ◌≤◌, ◌==◌, ◌||◌, Bool, true, false, cond, List, [], ◌∷◌, ◌++◌, length, drop, get_or, Ordering, Less, Equal, Greater, nat_cmp, refl, sym, ap, ◌∙◌, arith, append_assoc, length-drop}
 use Rattle.std.proofs.lemmas.List.{drop_more}
 use Rattle.std.proofs.lemmas.Cmp.{nat_list_cmp_total}
+use Rattle.std.proofs.Math.Bool.{or-true, or-false}
 use Rattle.std.specs.Cmp.Lexicographic.{slice_cmp}
 use Rattle.std.specs.Ordering.{match_ordering, is_lt, ordering_reverse}
 use Rattle.json.specs.Print.{escape}
@@ -74,14 +75,6 @@ kept name k d ms h = rw (nat_list_cmp_total.antisymm name k) (kept_at (slice_cmp
 passed : (name k : List ℕ) (d : Data) (ms : Members) → is_lt (slice_cmp nat_cmp k name) ≡ true → (front name (member k d ms) ≡ member k d (front name ms)) × (back name (member k d ms) ≡ back name ms)
 passed name k d ms h = rw (nat_list_cmp_total.antisymm name k) (passed_at (slice_cmp nat_cmp k name) k d (front name ms) (back name ms) ms h)
 
-or_true : (b : Bool) → (b || true) ≡ true
-or_true true = refl
-or_true false = refl
-
-or_false : (b : Bool) → (b || false) ≡ b
-or_false true = refl
-or_false false = refl
-
 -- ---- the ends of the pass
 
 closed : (now : Bool) (text : List ℕ) (at : ℕ) (rest : Members) → get_or text at 0 ≡ 125 → drop at text ≡ members_text now rest → rest ≡ no_members
@@ -116,7 +109,7 @@ here now later f text at name (member k d ms) b unclosed l e same flag plain sto
     let n = name_at now text at k d ms e in
     let above = sym (is_before-escape k name (58 ∷ (compact_text d ++ members_text true ms)) plain) ∙ ap (λ s. is_before s name) (sym n.1) ∙ stop in
     let p = kept name k d ms above in
-    e ∙ (λ i. members_text ((sym (or_false now) ∙ ap (λ m. now || some m) (sym p.0) ∙ flag) i) ((sym p.1 ∙ same) i))
+    e ∙ (λ i. members_text ((sym (or-false now) ∙ ap (λ m. now || some m) (sym p.0) ∙ flag) i) ((sym p.1 ∙ same) i))
 
 pub cut_at_name : (text : List ℕ) (from : ℕ) (name : List ℕ) (at : ℕ) → Goes text from name at → (get_or text at 0 ≡ 125 → ⊥) → at < length text → IsPlain name
     → is_before (drop (start_of text at) text) name ≡ false → IsCut text from name at
@@ -144,7 +137,7 @@ next now f text at to name (member k d ms) b h unclosed e same flag plain go ski
       h.2,
       skip ∙ ap (after InString 0) n.1 ∙ member_pass k d ms h.0,
       sym p.1 ∙ same,
-      sym (or_true now) ∙ ap (λ m. now || some m) (sym p.0) ∙ flag,
+      sym (or-true now) ∙ ap (λ m. now || some m) (sym p.0) ∙ flag,
     )
 
 pub goes_on : (text : List ℕ) (from : ℕ) (name : List ℕ) (at to : ℕ) → Goes text from name at → (get_or text at 0 ≡ 125 → ⊥) → IsPlain name

@@ -2,8 +2,6 @@
 use Rattle.std.specs.Prelude.{◌≡◌, ℕ, List, Bool, true, false, bytes_eq}
 use Rattle.std.specs.List.{list_any}
 use Rattle.std.specs.Str.{IsUtf8}
-use Rattle.std.specs.Coded.{Coded, code_by, coded×, coded_list, coded_ℕ}
-use Rattle.std.proofs.Common.{refl}
 use Rattle.cdf_form.specs.Form.{is_moment}
 use Rattle.cdf_check.specs.Frame.{Frame}
 use Rattle.cdf_check.specs.Named.{ids_of}
@@ -14,9 +12,6 @@ use Rattle.cvr_report.specs.declared.heading.HeadFault.TheVariants.{NotMoment, N
 pub record Head : Type 0 where
   pub date : List ℕ
   pub device : List ℕ
-
-abbrev pub coded_head : Coded Head
-coded_head = code_by (List ℕ × List ℕ) (coded× (coded_list coded_ℕ) (coded_list coded_ℕ)) (λ h. (h.date, h.device)) (λ p. record { date = p.0; device = p.1 }) (λ _. refl)
 
 -- what every heading keeps: its date is a moment, in UTF-8
 pub record IsHeading (h : Head) : Type 0 where

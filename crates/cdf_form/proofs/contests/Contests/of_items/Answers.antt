@@ -3,7 +3,7 @@ use Rattle.std.specs.Prelude.{codes}
 use Rattle.std.proofs.lemmas.List.{take_all}
 use Rattle.serde_json.specs.View.{view}
 use Rattle.cdf_form.specs.Parts.{id_of, ids_at}
-use Rattle.cdf_form.proofs.ContestLists.{contests_of-map}
+use Rattle.cdf_form.proofs.ContestLists.{zip-map}
 use Rattle.cdf_form.proofs.contests.Contests.of_items.Goals as goal
 
 pub returns : goal.returns
@@ -13,4 +13,4 @@ returns c =
     let all = take_all c.loop-item.item-index vs done in
     let own : c.in_ok-of_items-2.field-0 ≡ map id_of (map view vs) = search rules in
     let each : c.loop-item.selections.items ≡ map (ids_at (codes "ContestSelection")) (map view vs) = c.loop-item.invariant ∙ ap (λ xs. map (ids_at (codes "ContestSelection")) (map view xs)) all in
-    rw (own, each) (contests_of-map (map view vs))
+    rw (own, each) (zip-map (map view vs))

@@ -1,17 +1,17 @@
 use Rattle.std.proofs.Common.{◌≡◌, ◌<◌, ℕ, List, length, get_or, Some, None, sym, ap, ◌∙◌, arith, rules}
 use Rattle.cdf_form.specs.Places.{place_in, selections_of}
-use Rattle.cdf_form.specs.Kept.{contests_of}
-use Rattle.cdf_form.proofs.ContestLists.{contest_ids-contests_of, place_below, selections_at-contests_of}
+use Rattle.std.specs.List.{zip}
+use Rattle.cdf_form.proofs.ContestLists.{contest_ids-zip, place_below, selections_at-zip}
 use Rattle.cdf_form.proofs.contests.Contests.selections_of.Goals as goal
 
-found : (xs : List (List ℕ)) (ys : List (List (List ℕ))) (s : List ℕ) (p : ℕ) (d : List (List ℕ)) → length xs ≡ length ys → place_in xs s ≡ Some p → d ≡ get_or ys p d → Some d ≡ selections_of (contests_of xs ys) s
+found : (xs : List (List ℕ)) (ys : List (List (List ℕ))) (s : List ℕ) (p : ℕ) (d : List (List ℕ)) → length xs ≡ length ys → place_in xs s ≡ Some p → d ≡ get_or ys p d → Some d ≡ selections_of (zip xs ys) s
 found xs ys s p d e is at =
     let h = place_below xs s 0 p is in
     let lt : p < length ys = omega arith in
-    rw (contest_ids-contests_of xs ys e, is) (ap Some (at ∙ sym (selections_at-contests_of xs ys p d e lt)))
+    rw (contest_ids-zip xs ys e, is) (ap Some (at ∙ sym (selections_at-zip xs ys p d e lt)))
 
-none : (xs : List (List ℕ)) (ys : List (List (List ℕ))) (s : List ℕ) → length xs ≡ length ys → place_in xs s ≡ None → None ≡ selections_of (contests_of xs ys) s
-none xs ys s e is = rw (contest_ids-contests_of xs ys e, is)
+none : (xs : List (List ℕ)) (ys : List (List (List ℕ))) (s : List ℕ) → length xs ≡ length ys → place_in xs s ≡ None → None ≡ selections_of (zip xs ys) s
+none xs ys s e is = rw (contest_ids-zip xs ys e, is)
 
 pub index-requires : goal.index-requires
 index-requires c =
