@@ -1,8 +1,8 @@
 -- What is seen of the records of a file as it is read, and why the file is refused, by that and by what is left beside them. (This project's own.)
-use Rattle.std.specs.Prelude.{◌≡◌, ◌↔◌, ◌≤◌, ℕ, List, [], ◌∷◌, length, map, Option, None, Some, option_map, option_and_then, Result, IfOk, IfErr, IsSome, codes, if◌then◌else◌, bytes_eq, Bool, true, false}
+use Rattle.std.specs.Prelude.{◌≡◌, ◌↔◌, ◌<◌, ◌≤◌, ℕ, List, [], ◌∷◌, length, map, Option, None, Some, option_map, option_and_then, Result, IfOk, IfErr, IsSome, codes, if◌then◌else◌, bytes_eq, Bool, true, false}
 use Rattle.std.specs.List.{list_all, All}
 use Rattle.std.specs.Option.{option_or}
-use Rattle.serde_json.specs.Data.{Data, null, boolean, number, string, array, object, no_items, Members, no_members, member}
+use Rattle.serde_json.specs.Data.{Data, array, object, no_items, Members, no_members, member}
 use Rattle.serde_json.specs.Find.{as_object, get_member}
 use Rattle.serde_json.specs.Read.{read}
 use Rattle.serde_json.specs.View.{items_of}
@@ -66,11 +66,14 @@ form_refusal left fraction fault =
 
 -- ---- what is kept of right records
 
--- the typed records; whether what each names, but for its device and its unit, is the definition's or its own; and where it is, the places of the parties that they name
+-- whether what each record names, but for its device and its unit, is the definition's or its own; and where it is, the places of the parties that they name
 pub record AreKept (frame : Frame) (ds : List Data) (kept : Kept) : Type 0 where
-  pub typed : kept.cvrs.items ≡ map (cvr_of frame.contests) ds
   pub settled : (kept.settled ≡ true) ↔ All (NamesWithin frame) ds
   pub named : kept.settled ≡ true → AddsPlaces (ids_of frame.parties) [] (named_in ds) kept.named.items
+
+-- where all that they name is settled, the places are those of parties
+abbrev pub KeepsParties : Frame → Kept → Type 0
+KeepsParties frame kept = kept.settled ≡ true → All (λ p. p < length (ids_of frame.parties)) kept.named.items
 
 -- of records whose numbers are whole: the typed records and their first fault of form, and what is kept where they have none
 pub record AreWhole (frame : Frame) (ds : List Data) (seen : Seen) : Type 0 where
@@ -112,10 +115,6 @@ HasForms text left count = record {
   rest : document_faults (object members) ≡ [];
 }
 
--- and this is kept of its records
-abbrev pub HasKept : Frame → List ℕ → Data → Kept → Type 0
-HasKept frame text left kept = (h : HasForms text left (length kept.cvrs.items)) × AreKept frame h.records kept
-
 -- what is left is sound and agrees, lists the parties that are named, and has each record's device and unit
 pub record Settles (frame : Frame) (left : Data) (kept : Kept) : Type 0 where
   pub settled : kept.settled ≡ true
@@ -123,6 +122,12 @@ pub record Settles (frame : Frame) (left : Data) (kept : Kept) : Type 0 where
   pub agrees : disagreements frame left ≡ []
   pub listed : lists (ids_at (codes "Party") left) (texts_at (ids_of frame.parties) kept.named.items) ≡ true
   pub placed : list_all (is_placed (ids_at (codes "ReportingDevice") left) (ids_at (codes "GpUnit") left)) kept.cvrs.items ≡ true
+
+-- and the records have no fault
+pub record Accepts (frame : Frame) (left : Data) (seen : Seen) : Type 0 where
+  pub whole : seen.fraction ≡ None
+  pub form : seen.form ≡ None
+  pub settles : Settles frame left seen.kept
 
 -- the value is refused
 abbrev pub Refuses : Frame → List ℕ → Type 0
@@ -133,10 +138,5 @@ abbrev pub IsRefusedFor : Frame → List ℕ → ReadFault → Type 0
 IsRefusedFor frame text fault = (d : Data) → read text ≡ Some d → value_refusal frame d ≡ Some fault
 
 abbrev pub is_array : Option Data → Bool
-is_array None = false
-is_array (Some null) = false
-is_array (Some (boolean b)) = false
-is_array (Some (number n)) = false
-is_array (Some (string s)) = false
 is_array (Some (array ds)) = true
-is_array (Some (object ms)) = false
+is_array o = false
