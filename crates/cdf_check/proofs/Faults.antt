@@ -28,7 +28,7 @@ use Rattle.cdf_check.specs.Frame.{Frame}
 use Rattle.cdf_check.specs.Apart.{with_records}
 use Rattle.cdf_check.specs.Seen.{in_file, file_fraction, first_of_file, form_refusal, IsSeen}
 use Rattle.cdf_check.proofs.Apart.{items_len-items_of, records_there}
-use Rattle.cdf_check.proofs.Numbers.{path_of, append_first, first_rule, all_of, first_filled}
+use Rattle.cdf_check.proofs.Numbers.{path_of, append_first, first_rule, all_of, first_filled, unmapped}
 
 abbrev records : List ℕ
 records = codes "CVR"
@@ -134,3 +134,12 @@ no_fraction_seen frame ds ms seen h some sound =
     let all = with_records ds ms in
     let array_whole : items_have_float (items_of ds) ≡ false = whole_records ds ms some (whole_document all sound) in
     h.fraction ∙ ap (λ fs. option_map in_file (first fs)) (no_float_faults (array (items_of ds)) array_whole)
+
+-- records with no fault leave a file with none, where what is left has none
+pub records_right : (frame : Frame) (ds : List Data) (ms : Members) (seen : Seen) → IsSeen frame ds seen → filled records no_items ms ≡ ms → IsSome (get_member records ms) → seen.fraction ≡ None → seen.form ≡ None
+    → document_faults (object ms) ≡ [] → document_faults (with_records ds ms) ≡ []
+records_right frame ds ms seen h emptied some whole right rest =
+    let own = h.whole whole in
+    let numbers = none_right _ (unmapped in_file _ (sym h.fraction ∙ whole)) in
+    let forms = none_right _ (sym own.form ∙ ap (option_map fault_of) right) in
+    faults_stay ds ms (whole_of (array (items_of ds)) numbers) emptied some own.few forms ∙ rest

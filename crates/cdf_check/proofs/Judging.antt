@@ -1,5 +1,5 @@
 -- The answer for a file, by what was seen of its records and by what is left beside them.
-use Rattle.std.proofs.Common.{◌≡◌, ◌≤◌, inl, inr, ◌+◌, ℕ, List, [], ◌∷◌, ◌++◌, length, Contains, true, false, Result, Ok, Err, Option, Some, None, IsSome, option_map, codes, refl, sym, ap, subst, ◌∙◌, arith}
+use Rattle.std.proofs.Common.{◌≡◌, ◌≤◌, inl, inr, ◌+◌, ℕ, List, [], ◌∷◌, ◌++◌, length, map, Contains, true, false, Result, Ok, Err, Option, Some, None, IsSome, option_map, codes, refl, sym, ap, subst, ◌∙◌, arith}
 use Rattle.std.specs.Prelude.{IfOk, IfErr, OnOk}
 use Rattle.std.specs.Str.{IsUtf8, is_utf8}
 use Rattle.std.proofs.lemmas.Bool.{false_from_ne_true}
@@ -23,7 +23,7 @@ use Rattle.cdf_form.specs.declared.table.Key.TheVariants as key
 use Rattle.cdf_form.specs.declared.table.Kind.TheVariants.{One, Array}
 use Rattle.cdf_form.specs.declared.found.Path.{Path as Found}
 use Rattle.cdf_form.specs.Form as form
-use Rattle.cdf_form.specs.Form.{Step, Fault, at_member, at_item, deeper}
+use Rattle.cdf_form.specs.Form.{Fault, at_member, deeper}
 use Rattle.cdf_form.specs.Found.{fault_of, path_of}
 use Rattle.cdf_form.specs.Tables.{any, optional}
 use Rattle.cdf_form.specs.HasForm.{HasForm}
@@ -45,12 +45,12 @@ use Rattle.cdf_check.specs.Acceptance.{Holds, IsReport, value_refusal, first_ref
 use Rattle.cdf_check.specs.Sound.{IsFrame}
 use Rattle.cdf_check.specs.Apart.{with_records}
 use Rattle.cdf_check.specs.Within.{named_in, texts_at}
-use Rattle.cdf_check.specs.Seen.{AreKept, IsUnnamed, IsJudged, HasForms, HasKept, IsSeen, form_refusal, first_of_file, is_array, Settles, Refuses, IsRefusedFor}
+use Rattle.cdf_check.specs.Seen.{Accepts, AreKept, KeepsParties, IsUnnamed, IsJudged, HasForms, IsSeen, form_refusal, first_of_file, is_array, Settles, Refuses, IsRefusedFor}
 use Rattle.cdf_check.proofs.Apart.{records, typed_apart, array_stays, found_records, records_there, scope_stays}
 use Rattle.cdf_check.proofs.Accepting.{either, none_value, value_none, file_holds, is_short}
 use Rattle.cdf_check.proofs.Agreeing.{agreement}
 use Rattle.cdf_check.proofs.Empty.{at_head, at_tail}
-use Rattle.cdf_check.proofs.Faults.{none_right, form_law, no_fraction_seen}
+use Rattle.cdf_check.proofs.Faults.{none_right, form_law, no_fraction_seen, records_right}
 use Rattle.cdf_check.proofs.Joining.{all_resolved, all_within, all_placed, all_listed, own_contests, own_elections}
 use Rattle.cdf_check.proofs.NamedParties.{texts_there}
 use Rattle.cdf_check.proofs.Numbers.{unmapped}
@@ -147,7 +147,7 @@ module _ (frame : Frame) (text : List ℕ) (left : Data) (count : ℕ) (h : HasF
 
   -- ---- what is kept
 
-  module _ (kept : Kept) (k : AreKept frame ds kept) (of : IsFrame frame) where
+  module _ (kept : Kept) (typed : kept.cvrs.items ≡ map (cvr_of frame.contests) ds) (k : AreKept frame ds kept) (of : IsFrame frame) where
     whole : has_float all ≡ false
     whole = whole_document all h.sound
 
@@ -161,15 +161,15 @@ module _ (frame : Frame) (text : List ℕ) (left : Data) (count : ℕ) (h : HasF
         let a : Agrees frame (object ms) = (agreement frame (object ms)).0 s.agrees in
         let contests = own_contests frame text ds ms h.whole whole r a of in
         let elections = own_elections frame text ds ms h.whole whole r a of in
-        let placed = rw k.typed at s.placed in
+        let placed = rw typed at s.placed in
         let listed = rw (named_is s.settled) at s.listed in
         let none = all_resolved frame (own ms) ds contests elections (k.settled.0 s.settled) placed listed in
         rw (refusal_own, absent_none (own ms) ds 0 none) (none_value frame (object ms) r a)
 
     pub judged_joined : (report : Report) → Settles frame left kept → report ≡ record { devices = (report_of frame.contests left).devices; cvrs = kept.cvrs.items } → (d : Data) → read text ≡ Some d → IsJudged frame d (Ok report)
     judged_joined report s is d value =
-        let typed : report ≡ report_of frame.contests all = cc (typed_apart frame.contests ds ms h.some, ap (λ e. (report_of frame.contests e).devices) h.left_is) in
-        subst (λ x. IsJudged frame x (Ok report)) (the_value d value) (record { ok = (accepted (subst (λ x. Settles frame x kept) h.left_is s), typed); err = tt })
+        let whole : report ≡ report_of frame.contests all = cc (typed, typed_apart frame.contests ds ms h.some, ap (λ e. (report_of frame.contests e).devices) h.left_is) in
+        subst (λ x. IsJudged frame x (Ok report)) (the_value d value) (record { ok = (accepted (subst (λ x. Settles frame x kept) h.left_is s), whole); err = tt })
 
     -- ---- what is accepted settles
 
@@ -199,7 +199,7 @@ module _ (frame : Frame) (text : List ℕ) (left : Data) (count : ℕ) (h : HasF
             sound = (sound (object ms)).1 left_is.0;
             agrees = (agreement frame (object ms)).1 left_is.1;
             listed = rw (named_is is) (all_listed (own ms) ds named_there);
-            placed = rw k.typed (all_placed frame.contests (own ms) ds formed named_there);
+            placed = rw typed (all_placed frame.contests (own ms) ds formed named_there);
           }
 
     pub unsettled : (Settles frame left kept → ⊥) → Refuses frame text
@@ -264,15 +264,11 @@ module _ (frame : Frame) (text : List ℕ) (left : Data) (seen : Seen) (h : IsFo
         let same : with_records p.ds p.ms ≡ d = cc in
         record { ok = tt; err = λ other. rw (← same, law, is) (refl {a = Some e}) }
 
-    pub forms_right : form_refusal left seen.fraction fault ≡ None → HasKept frame text left seen.kept
-    forms_right none =
-        let sound : document_faults (with_records p.ds p.ms) ≡ [] = none_right _ (unmapped refusal_of _ (law ∙ none)) in
-        let apart = either _ _ (ap (λ d. form_refusal d seen.fraction fault) (sym p.left_is) ∙ none) in
-        let faults : first_of_file (object p.ms) fault ≡ None = unmapped refusal_of _ apart.1 in
-        let by_class = either _ _ (either _ _ faults).1 in
-        let by_record = either _ _ by_class.1 in
-        let unfaulted : seen.form ≡ None = unmapped fault_of _ (unmapped (deeper (at_member records)) _ by_record.0) in
-        let kept = p.seen_is.whole (no_fraction_seen frame p.ds p.ms seen p.seen_is p.some sound) in (
+    right_kept : seen.fraction ≡ None → seen.form ≡ None → document_faults left ≡ []
+        → (h : HasForms text left (length seen.kept.cvrs.items)) × (seen.kept.cvrs.items ≡ map (cvr_of frame.contests) h.records) × AreKept frame h.records seen.kept
+    right_kept whole right rest =
+        let kept = p.seen_is.whole whole in
+        let own : document_faults (object p.ms) ≡ [] = ap document_faults (sym p.left_is) ∙ rest in (
           record {
             records = p.ds;
             members = p.ms;
@@ -281,11 +277,34 @@ module _ (frame : Frame) (text : List ℕ) (left : Data) (seen : Seen) (h : IsFo
             emptied = p.emptied;
             some = p.some;
             number = ap length kept.typed ∙ length-map p.ds (cvr_of frame.contests);
-            sound = sound;
-            rest = none_right _ by_record.1;
+            sound = records_right frame p.ds p.ms seen p.seen_is p.emptied p.some whole right own;
+            rest = own;
           },
-          kept.kept unfaulted,
+          kept.typed,
+          kept.kept right,
         )
+
+    pub places_kept : seen.fraction ≡ None → seen.form ≡ None → KeepsParties frame seen.kept
+    places_kept whole right is = (texts_there (ids_of frame.parties) (named_in p.ds) seen.kept.named.items (((p.seen_is.whole whole).kept right).named is)).0
+
+    module _ (of : IsFrame frame) where
+      pub judged_accepted : (report : Report) → Accepts frame left seen → report ≡ record { devices = (report_of frame.contests left).devices; cvrs = seen.kept.cvrs.items } → (d : Data) → read text ≡ Some d → IsJudged frame d (Ok report)
+      judged_accepted report a is =
+          let k = right_kept a.whole a.form a.settles.sound.0 in
+          judged_joined frame text left (length seen.kept.cvrs.items) k.0 seen.kept k.1 k.2 of report a.settles is
+
+      -- what has no fault of numbers or form, and isn't accepted, is refused for a name or an object
+      pub refused_for_names : (Accepts frame left seen → ⊥) → form_refusal left seen.fraction fault ≡ None → HasForms text left (length seen.kept.cvrs.items) × Refuses frame text
+      refused_for_names never none =
+          let sound : document_faults (with_records p.ds p.ms) ≡ [] = none_right _ (unmapped refusal_of _ (law ∙ none)) in
+          let apart = either _ _ (ap (λ d. form_refusal d seen.fraction fault) (sym p.left_is) ∙ none) in
+          let faults : first_of_file (object p.ms) fault ≡ None = unmapped refusal_of _ apart.1 in
+          let by_class = either _ _ (either _ _ faults).1 in
+          let by_record = either _ _ by_class.1 in
+          let unfaulted : seen.form ≡ None = unmapped fault_of _ (unmapped (deeper (at_member records)) _ by_record.0) in
+          let whole : seen.fraction ≡ None = no_fraction_seen frame p.ds p.ms seen p.seen_is p.some sound in
+          let k = right_kept whole unfaulted (ap document_faults p.left_is ∙ none_right _ by_record.1) in
+          (k.0, unsettled frame text left (length seen.kept.cvrs.items) k.0 seen.kept k.1 k.2 of (λ s. never (record { whole = whole; form = unfaulted; settles = s })))
 
 -- ---- the file
 

@@ -71,10 +71,9 @@ whole_first d none = whole_of d (none_right (float_faults d) none)
 
 -- what is kept of one record more
 pub kept_more : (frame : Frame) (ds : List Data) (d : Data) (kept more : Kept) → AreKept frame ds kept → (more.settled ≡ true) ↔ ((kept.settled ≡ true) × NamesWithin frame d)
-    → (more.settled ≡ true → AddsPlaces (ids_of frame.parties) kept.named.items (named_by d) more.named.items) → more.cvrs.items ≡ kept.cvrs.items ++ cvr_of frame.contests d ∷ [] → AreKept frame (ds ++ d ∷ []) more
-kept_more frame ds d kept more h exact named typed =
+    → (more.settled ≡ true → AddsPlaces (ids_of frame.parties) kept.named.items (named_by d) more.named.items) → AreKept frame (ds ++ d ∷ []) more
+kept_more frame ds d kept more h exact named =
     record {
-      typed = rw (typed, h.typed, map-append);
       settled = (
         (λ still. let both = exact.0 still in All-push (NamesWithin frame) ds d (h.settled.0 both.0) both.1),
         λ all. let both = All-pop (NamesWithin frame) (ds ++ d ∷ []) ds (Some d) refl all in exact.1 (h.settled.1 both.0, both.1),

@@ -1,4 +1,4 @@
-ghost use Rattle.std.specs.Prelude.{◌≡◌, codes, false, None, IfOk, IfErr, OnOk, option_map};
+ghost use Rattle.std.specs.Prelude.{◌≡◌, ◌↔◌, codes, false, None, IfOk, IfErr, IsTrue, OnOk, option_map};
 ghost use Rattle.serde_json.specs.Data.{Data};
 ghost use Rattle.serde_json.specs.Find.{get};
 ghost use Rattle.serde_json.specs.Read.{read as read_data};
@@ -7,13 +7,13 @@ ghost use Rattle.serde_json.specs.Written.{has_float};
 ghost use Rattle.cdf_pull.specs.Fold.{IsFolded};
 ghost use Rattle.cdf_form.specs.Found.{Tells, fault_of};
 ghost use Rattle.cdf_typed.specs.Typed.{report_of};
-ghost use Rattle.cdf_check.specs.Seen.{IsSeen, first_of_file, form_refusal, is_array, HasKept, IsJudged};
+ghost use Rattle.cdf_check.specs.Seen.{IsSeen, first_of_file, form_refusal, is_array, Accepts, KeepsParties, IsJudged};
 
 use crate::check::{check_value, told_fault};
 use crate::definition::Definition;
 use crate::fractions::file_fraction;
 use crate::placed::settles;
-use crate::seen::{Kept, Seen};
+use crate::seen::Seen;
 use crate::unnamed::reference_fault;
 use cdf_form::float::find_float;
 use cdf_form::found::{Found, Step, Stop};
@@ -90,27 +90,22 @@ fn join(
     Ok(report)
 }
 
-// The report of a file with no fault of numbers or form. It is read again only to find out why it is
-// refused.
-#[tactic(auto, using(cdf_form::proofs::Laws::whole_document))]
-fn judge_names(
+// Whether a file is accepted, whose records were seen so. What is left is checked once, and not for its
+// first fault, which is of interest only where the file is refused.
+fn is_accepted(
     alloc: Global,
     definition: &Definition,
-    text: &str,
-    scratch: &mut Scratch,
-    left: Value,
-    kept: Kept,
-) -> Result<Report, ReadFault>
-    requires { HasKept definition.now text.now (view left) kept }
-    ensures { (d : Data) → read_data text.now ≡ Some d → IsJudged definition.now d result }
+    left: &Value,
+    seen: &Seen,
+) -> Result<bool, Memory>
+    requires { seen.now.fraction ≡ None → seen.now.form ≡ None
+        → KeepsParties definition.now seen.now.kept }
+    ensures { IfOk result (λ is. IsTrue is ↔ Accepts definition.now (view left.now) seen.now) }
 {
-    definition.made_of_a_report();
-    if settles(alloc, definition, &left, &kept)? {
-        return Ok(join(alloc, definition, left, kept.cvrs)?);
+    if seen.fraction.is_some() || seen.form.is_some() {
+        return Ok(false);
     }
-    let count = kept.cvrs.len();
-    drop(kept);
-    Err(reference_fault(alloc, definition, text, scratch, &left, count)?)
+    settles(alloc, definition, left, &seen.kept)
 }
 
 // The report that a value is, beside a definition.
@@ -150,13 +145,20 @@ pub(crate) fn judge(
     if !has_records(&left) {
         return judge_whole(alloc, definition, left);
     }
+    definition.made_of_a_report();
+    let is_accepted = is_accepted(alloc, definition, &left, &seen)?;
     let Seen {
         fraction,
         form,
         kept,
     } = seen;
+    if is_accepted {
+        return Ok(join(alloc, definition, left, kept.cvrs)?);
+    }
+    let count = kept.cvrs.len();
+    drop(kept);
     match form_fault(alloc, &left, fraction, form)? {
         Some(fault) => Err(fault),
-        None => judge_names(alloc, definition, text, scratch, left, kept),
+        None => Err(reference_fault(alloc, definition, text, scratch, &left, count)?),
     }
 }

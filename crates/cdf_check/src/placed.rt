@@ -3,7 +3,7 @@ ghost use Rattle.std.specs.List.{list_all, All};
 ghost use Rattle.serde_json.specs.View.{view};
 ghost use Rattle.cdf_form.specs.Parts.{ids_at};
 ghost use Rattle.cdf_check.specs.Named.{ids_of};
-ghost use Rattle.cdf_check.specs.Seen.{Settles};
+ghost use Rattle.cdf_check.specs.Seen.{KeepsParties, Settles};
 ghost use Rattle.cdf_check.specs.Within.{is_placed, lists, texts_at};
 
 use crate::check::check_value;
@@ -75,8 +75,7 @@ pub(crate) fn settles(
     left: &Value,
     kept: &Kept,
 ) -> Result<bool, Memory>
-    requires { kept.now.settled ≡ true
-        → All (λ p. p < length (ids_of definition.now.parties)) kept.now.named.items }
+    requires { KeepsParties definition.now kept.now }
     ensures { IfOk result (λ is. IsTrue is ↔ Settles definition.now (view left.now) kept.now) }
 {
     if !kept.settled {

@@ -10,6 +10,6 @@ returns c = record {
     few = omega arith;
     typed = c.new.ensures.items;
     form = refl;
-    kept = λ _. record { typed = c.new.ensures.items; settled = ((λ _. All-nil (NamesWithin c.args.self.now.0.now)), λ _. refl); named = λ _. ap (map Some) c.new-2.ensures.items };
+    kept = λ _. record { settled = ((λ _. All-nil (NamesWithin c.args.self.now.0.now)), λ _. refl); named = λ _. ap (map Some) c.new-2.ensures.items };
   };
 }

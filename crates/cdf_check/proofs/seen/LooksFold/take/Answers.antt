@@ -32,4 +32,4 @@ returns c =
     on_ok_weaker c.push_typed-2.result (λ pushed ds h.
     seen_more c.args.self.now.0.now ds (view c.args.item) seen _ c.len-place.result h unseen count c.in_ok-seen.ensures (λ own _.
     whole_more c.args.self.now.0.now ds (view c.args.item) seen _ c.len-place.result count short pushed (or_none _ _ _ (ap (option_map fault_of) right) c.in_ok-form.ensures.form) own (λ _.
-    kept_more c.args.self.now.0.now ds (view c.args.item) seen.kept _ (own.kept right) c.in_ok-seen-2.ensures.exact c.in_ok-seen-2.ensures.named pushed))) c.push_typed-2.ensures
+    kept_more c.args.self.now.0.now ds (view c.args.item) seen.kept _ (own.kept right) c.in_ok-seen-2.ensures.exact c.in_ok-seen-2.ensures.named))) c.push_typed-2.ensures
