@@ -1,0 +1,5 @@
+pub mod View
+pub mod Next
+pub mod Loops
+pub mod Order
+pub mod Written
