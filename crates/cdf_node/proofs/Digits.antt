@@ -1,0 +1,31 @@
+-- What a number is, by what its readers give, and that the text of one below 0 reads as it.
+use Rattle.std.proofs.Common.{◌≡◌, ℤ, pos, negsuc, Bool, true, Some, int_lt, SFits, w64, refl, arith}
+use Rattle.std.specs.Fmt.{signed_decimal}
+use Rattle.std.specs.Float.{float_is_finite}
+use Rattle.std.specs.Option.{MatchOption}
+use Rattle.serde_json.specs.Data.{Num, unsigned, negative, float}
+use Rattle.serde_json.specs.Find.{as_u64, as_i64, to_float}
+use Rattle.serde_json.specs.Number.{num_of, is_valid}
+use Rattle.serde_json.specs.Read.{number_of}
+use Rattle.serde_json.specs.declared.number.N.{N}
+use Rattle.serde_json.specs.declared.number.N.TheVariants as made
+use Rattle.serde_json.proofs.Numbers.{number_of-negative}
+
+pub kind_of : (n : Num) → MatchOption (as_u64 n) (MatchOption (as_i64 n) (float (to_float n) ≡ n) (λ z. negative z ≡ n)) (λ w. unsigned w ≡ n)
+kind_of (unsigned w) = refl
+kind_of (negative z) = refl
+kind_of (float x) = refl
+
+abbrev pub in_range : Num → Bool
+in_range (unsigned w) = true
+in_range (negative z) = int_lt z (pos 0)
+in_range (float x) = float_is_finite x
+
+pub in_range-valid : (n : N) → in_range (num_of n) ≡ is_valid n
+in_range-valid (made.PosInt w) = refl
+in_range-valid (made.NegInt z) = refl
+in_range-valid (made.Float x) = refl
+
+pub number_of_below_zero : (z : ℤ) → int_lt z (pos 0) ≡ true → SFits w64 z → number_of (signed_decimal z) ≡ Some (negative z)
+number_of_below_zero (pos n) e fits = absurd (grind arith)
+number_of_below_zero (negsuc n) e fits = number_of-negative n (grind arith)

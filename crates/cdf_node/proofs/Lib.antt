@@ -1,0 +1,11 @@
+pub mod Numbers
+pub mod Loops
+pub mod Views
+pub mod Sorting
+pub mod Placing
+pub mod Stable
+pub mod Found
+pub mod Digits
+pub mod Writing
+pub mod Lemmas
+pub mod Laws

@@ -1,0 +1,9 @@
+use Rattle.std.proofs.Common.{arith}
+use Rattle.std.proofs.lemmas.List.Sorted.{answers_always}
+use Rattle.cdf_node.proofs.Stable.{in_order-stable}
+use Rattle.cdf_node.proofs.order.in_order.Goals as goal
+
+pub returns : goal.returns
+returns c =
+    let stable = c.sort_by_key.ensures.stable (λ e. e.0) (answers_always _ _ _ (λ f a r g called. grind (arith, called))) in
+    rw (← in_order-stable _ _ stable) c.last_of_each.ensures

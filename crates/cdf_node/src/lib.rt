@@ -1,0 +1,19 @@
+//! A JSON value (RFC 8259) of slices in an arena, read as serde_json reads it, and written.
+#![tactic(auto)]
+
+pub mod law;
+mod member;
+mod node;
+mod order;
+mod stop;
+mod text;
+mod token;
+mod value;
+mod write;
+
+pub use node::Node;
+pub use order::in_order;
+pub use stop::Stop;
+pub use text::read_text;
+pub use token::scalar;
+pub use value::{read, read_array, read_object};

@@ -1,0 +1,67 @@
+ghost use Rattle.std.specs.Prelude.{◌≡◌, ◌≢◌, false, true, Err, IfOk, option_map};
+ghost use Rattle.json.specs.Reads.{token_of};
+ghost use Rattle.serde_json.specs.Read.{number_of, number_from};
+ghost use Rattle.cdf_node.specs.Next.{IsAlone, IsRefused, IsScalar};
+ghost use Rattle.cdf_node.specs.View.{number_view, view};
+
+use crate::node::Node;
+use crate::stop::Stop;
+use fast_float::Numeral;
+use json::Token;
+use serde_json::Number;
+
+// The number that a numeral with no sign writes, unless it is too large.
+fn positive(numeral: &Numeral<'_>) -> Option<Number>
+    ensures { option_map number_view result ≡ number_from false numeral.now }
+{
+    match numeral.to_u64() {
+        Some(whole) => Some(Number::from(whole)),
+        None => Number::from_f64(numeral.to_float(false)),
+    }
+}
+
+// The number that a numeral behind a minus writes, unless it is too large; `-0` is a float.
+fn negative(numeral: &Numeral<'_>) -> Option<Number>
+    ensures { option_map number_view result ≡ number_from true numeral.now }
+{
+    match numeral.to_i64(true) {
+        Some(whole) if whole < 0 => Some(Number::from(whole)),
+        _ => Number::from_f64(numeral.to_float(true)),
+    }
+}
+
+// The number that a text writes, unless it is too large.
+#[tactic(auto, using(crate::proofs::Numbers::number_of_minus, crate::proofs::Numbers::number_of_plain))]
+fn number(text: &str) -> Option<Number>
+    ensures { option_map number_view result ≡ number_of text.now }
+{
+    let bytes = text.as_bytes();
+    match bytes.split_first() {
+        Some((b'-', behind)) => negative(&Numeral::scan(behind)),
+        _ => positive(&Numeral::scan(bytes)),
+    }
+}
+
+/// The value that a token is by itself, as serde_json reads it. Takes no memory.
+///
+/// # Errors
+/// `Unread` where it is none.
+#[tactic(auto, using(json::proofs::Grammar::value_is, crate::specs::declared::node::Node::the_lemmas))]
+pub fn scalar(token: Token<'_>) -> Result<Node<'_>, Stop>
+    requires no_array { token ≢ Token.BeginArray }
+    requires no_object { token ≢ Token.BeginObject }
+    ensures value { IfOk result (λ v. IsAlone (token_of token.entry) (view v)) }
+    ensures scalar { IfOk result (λ v. IsScalar (view v)) }
+    ensures unread { result ≡ Err Stop.Unread → IsRefused (token_of token.entry) }
+{
+    match token {
+        Token::Null => Ok(Node::Null),
+        Token::Bool(truth) => Ok(Node::Bool(truth)),
+        Token::String(text) => Ok(Node::String(text)),
+        Token::Number(text) => match number(text) {
+            Some(number) => Ok(Node::Number(number)),
+            None => Err(Stop::Unread),
+        },
+        _ => Err(Stop::Unread),
+    }
+}
