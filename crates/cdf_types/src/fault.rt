@@ -23,6 +23,12 @@ impl<T: Drop> From<AllocFailed<T>> for Memory {
     }
 }
 
+impl From<Memory> for AllocError {
+    fn from(_memory: Memory) -> AllocError {
+        AllocError
+    }
+}
+
 /// Why a file is refused: the first cause that applies, in the order of the variants, `NotWhole`
 /// over the whole file before the other rules. A path is a JSON Pointer (RFC 6901).
 #[derive(Debug, Drop, Error)]
