@@ -1,11 +1,9 @@
 -- A value without the items of one array, and those items.
-use Rattle.std.specs.Prelude.{◌≡◌, ⊤, ℕ, List, [], ◌∷◌, Option, None, Some, if◌then◌else◌, bytes_eq}
-use Rattle.std.specs.Cmp.Lexicographic.{slice_cmp}
-use Rattle.std.specs.Ordering.{nat_cmp}
-use Rattle.std.specs.declared.cmp.Ordering.TheVariants.{Less}
+use Rattle.std.specs.Prelude.{◌≡◌, ⊤, ◌^◌, ℕ, List, [], ◌∷◌, Option, None, Some, if◌then◌else◌, bytes_eq}
 use Rattle.serde_json.specs.Data.{Data, array, object, Items, no_items, item, Members, no_members, member}
 use Rattle.serde_json.specs.Find.{get_member}
 use Rattle.serde_json.specs.Read.{read}
+use Rattle.cdf_node.specs.Order.{Rises}
 
 abbrev pub list_of : Items → List Data
 list_of no_items = []
@@ -48,23 +46,7 @@ abbrev pub left_beside : List ℕ → Data → Data
 left_beside name (object ms) = object (emptied_at name ms)
 left_beside name d = d
 
--- neither an array nor an object
-abbrev pub IsScalar : Data → Type 0
-IsScalar (array ds) = ⊥
-IsScalar (object ms) = ⊥
-IsScalar d = ⊤
-
--- each key comes after this one
-abbrev pub Under : List ℕ → Members → Type 0
-Under k no_members = ⊤
-Under k (member l d ms) = (slice_cmp nat_cmp k l ≡ Less) × Under k ms
-
--- the keys rise, so none comes twice
-abbrev pub Rises : Members → Type 0
-Rises no_members = ⊤
-Rises (member k d ms) = Under k ms × Rises ms
-
--- the keys of an object rise
+-- the names of an object rise
 abbrev pub IsOrdered : Data → Type 0
 IsOrdered (object ms) = Rises ms
 IsOrdered d = ⊤
@@ -72,3 +54,7 @@ IsOrdered d = ⊤
 -- the text is a value, this is left of it beside the items under the name, and that is kept of them
 abbrev pub IsFolded : {K : Type 0} → (List Data → K → Type 0) → List ℕ → List ℕ → Data → K → Type 0
 IsFolded keeps text name left kept = (d : Data) × (read text ≡ Some d) × (left ≡ left_beside name d) × keeps (items_under name d) kept × IsOrdered d
+
+-- the most tokens of a text: one more than a text has bytes
+abbrev pub most_tokens : ℕ
+most_tokens = 2 ^ 63
