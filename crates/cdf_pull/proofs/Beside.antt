@@ -5,7 +5,8 @@ use Rattle.std.proofs.lemmas.Bool.{or_from, or_parts}
 use Rattle.serde_json.specs.Data.{Data, array, object, Items, no_items, Members, no_members, member}
 use Rattle.serde_json.specs.Find.{get_member}
 use Rattle.serde_json.specs.Written.{has_float, items_have_float, members_have_float}
-use Rattle.cdf_pull.specs.Fold.{items_found, items_under, emptied, emptied_at, filled, left_beside, Rises, IsOrdered}
+use Rattle.cdf_node.specs.Order.{Rises}
+use Rattle.cdf_pull.specs.Fold.{items_found, items_under, emptied, emptied_at, filled, left_beside, IsOrdered}
 use Rattle.cdf_pull.specs.Laws.{IsBeside}
 use Rattle.cdf_pull.proofs.Folding.{changed_twice, found_changed, found_unchanged, items_of-list_of, Rises-changed, unchanged}
 

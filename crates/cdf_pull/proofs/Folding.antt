@@ -1,11 +1,7 @@
 -- Members that are put and that change at a name, and what is left of a value beside the items of an array.
-use Rattle.std.proofs.Common.{◌≡◌, ℕ, List, [], ◌∷◌, Bool, true, false, bytes_eq, Option, None, Some, option_map, Ordering, Less, Equal, Greater, nat_cmp, is_eq, String, Global, string_bytes, string_cmp, refl, sym, ap, ap₂, subst, ◌∙◌}
+use Rattle.std.proofs.Common.{◌≡◌, ℕ, List, [], ◌∷◌, Bool, true, false, bytes_eq, Option, None, Some, option_map, Ordering, Less, Equal, Greater, nat_cmp, is_eq, refl, sym, ap, ap₂, subst, ◌∙◌}
 use Rattle.std.specs.Prelude.{if◌then◌else◌}
-use Rattle.std.specs.BTreeMap.{insert_entry}
 use Rattle.std.specs.Cmp.Lexicographic.{slice_cmp}
-use Rattle.std.specs.List.{AllByRecursion}
-use Rattle.std.specs.List.Sorted.{IsStrictlySortedBy}
-use Rattle.std.specs.Map.{keys_of}
 use Rattle.std.specs.Ordering.{match_ordering}
 use Rattle.std.proofs.lemmas.Bool.Decides.{not_from_Decides, same_from_decides}
 use Rattle.std.proofs.lemmas.Iterator.Adapters.{option_map_id}
@@ -14,18 +10,17 @@ use Rattle.std.proofs.lemmas.Option.{none-some}
 use Rattle.std.proofs.lemmas.Slice.Eq.{bytes_eq-Decides}
 use Rattle.serde_json.specs.Data.{Data, array, object, Items, no_items, item, Members, no_members, member, put}
 use Rattle.serde_json.specs.Find.{get_member}
-use Rattle.serde_json.specs.View.{view, items_of, members_view}
-use Rattle.serde_json.specs.declared.value.Value.{Value}
-use Rattle.serde_json.proofs.Views.{Entry, get_member-put, get_member-put_other, members_view-insert_entry}
-use Rattle.cdf_pull.specs.Fold.{changed, list_of, items_found, items_in, items_under, emptied, left_beside, IsScalar, Under, Rises, IsOrdered}
+use Rattle.serde_json.specs.View.{items_of}
+use Rattle.serde_json.proofs.Views.{get_member-put, get_member-put_other}
+use Rattle.cdf_node.specs.Next.{IsScalar}
+use Rattle.cdf_node.specs.Order.{Before, Below, Rises, IsSorted}
+use Rattle.cdf_node.proofs.Lemmas.{rises_sorted}
+use Rattle.cdf_pull.specs.Fold.{changed, list_of, items_found, items_in, items_under, emptied, left_beside, IsOrdered}
 
 same_key : (k l : List ℕ) → slice_cmp nat_cmp k l ≡ Equal → k ≡ l
 same_key k l is = (bytes_eq-Decides k l).0 (sym (is_eq-slice_cmp k l) ∙ ap is_eq is)
 
 -- ---- what is put
-
-pub inserted : (k : List ℕ) {new : List Entry} (old : List Entry) (text : String Global) (v : Value) → new ≡ insert_entry string_cmp old text v → string_bytes text ≡ k → members_view new ≡ put k (view v) (members_view old)
-inserted k old text v is copied = ap members_view is ∙ members_view-insert_entry old text v ∙ ap (λ q. put q (view v) (members_view old)) copied
 
 module _ (name : List ℕ) (f : Data → Data) where
   -- the value that stands at a key once what is at the name has changed
@@ -63,26 +58,26 @@ module _ (name : List ℕ) (f : Data → Data) where
 
   -- ---- the order of the keys stays
 
-  Under-changed : (k : List ℕ) (ms : Members) → Under k (changed name f ms) ≡ Under k ms
-  Under-changed k no_members = refl
-  Under-changed k (member l d ms) = ap (λ P. (slice_cmp nat_cmp k l ≡ Less) × P) (Under-changed k ms)
+  Below-changed : (k : List ℕ) (ms : Members) → Below k (changed name f ms) ≡ Below k ms
+  Below-changed k no_members = refl
+  Below-changed k (member l d ms) = ap (λ P. Before k l × P) (Below-changed k ms)
 
   pub Rises-changed : (ms : Members) → Rises (changed name f ms) ≡ Rises ms
   Rises-changed no_members = refl
-  Rises-changed (member k d ms) = ap₂ (λ P Q. P × Q) (Under-changed k ms) (Rises-changed ms)
+  Rises-changed (member k d ms) = ap₂ (λ P Q. P × Q) (Below-changed k ms) (Rises-changed ms)
 
   -- ---- what stays as it is
 
-  Under-none : (k : List ℕ) (ms : Members) → Under k ms → get_member k ms ≡ None
-  Under-none k no_members h = refl
-  Under-none k (member l d ms) h = rw h.0 (Under-none k ms h.1)
+  Below-none : (k : List ℕ) (ms : Members) → Below k ms → get_member k ms ≡ None
+  Below-none k no_members h = refl
+  Below-none k (member l d ms) h = rw h.0 (Below-none k ms h.1)
 
-  unchanged_at : (o : Ordering) (k : List ℕ) (d : Data) (ms : Members) → slice_cmp nat_cmp name k ≡ o → Under k ms
+  unchanged_at : (o : Ordering) (k : List ℕ) (d : Data) (ms : Members) → slice_cmp nat_cmp name k ≡ o → Below k ms
       → ((x : Data) → match_ordering o (get_member name ms) (Some d) (get_member name ms) ≡ Some x → f x ≡ x) → (((x : Data) → get_member name ms ≡ Some x → f x ≡ x) → changed name f ms ≡ ms)
       → member k (if is_eq o then f d else d) (changed name f ms) ≡ member k d ms
   unchanged_at Less k d ms is h stays more = ap (member k d) (more stays)
   unchanged_at Equal k d ms is h stays more =
-      ap₂ (member k) (stays d refl) (more (λ x found. absurd (none-some x (sym (Under-none name ms (subst (λ q. Under q ms) (sym (same_key name k is)) h)) ∙ found))))
+      ap₂ (member k) (stays d refl) (more (λ x found. absurd (none-some x (sym (Below-none name ms (subst (λ q. Below q ms) (sym (same_key name k is)) h)) ∙ found))))
   unchanged_at Greater k d ms is h stays more = ap (member k d) (more stays)
 
   named : (k : List ℕ) → bytes_eq k name ≡ is_eq (slice_cmp nat_cmp name k)
@@ -114,17 +109,6 @@ module _ (name k : List ℕ) (d : Data) (ms : Members) where
   pub items_found-put : (if bytes_eq k name then items_in d else items_found (get_member name ms)) ≡ items_found (get_member name (put k d ms))
   items_found-put = items_found-put_at (bytes_eq k name) refl
 
--- ---- the keys of a map rise
-
-Under-members_view : (k : String Global) (es : List Entry) → AllByRecursion (λ l. string_cmp k l ≡ Less) (keys_of es) → Under (string_bytes k) (members_view es)
-Under-members_view k [] h = tt
-Under-members_view k (e ∷ es) h = (h.0, Under-members_view k es h.1)
-
-pub Rises-members_view : (es : List Entry) → IsStrictlySortedBy string_cmp (keys_of es) → Rises (members_view es)
-unfolding IsStrictlySortedBy
-Rises-members_view [] h = tt
-Rises-members_view (e ∷ es) h = (Under-members_view e.0 es h.0, Rises-members_view es h.1)
-
 -- ---- items as a list
 
 pub list_of-items_of : (ds : List Data) → list_of (items_of ds) ≡ ds
@@ -144,3 +128,7 @@ emptied-scalar d h = (refl, refl)
 pub left_beside-scalar : (name : List ℕ) (d : Data) → IsScalar d → (d ≡ left_beside name d) × (items_under name d ≡ []) × IsOrdered d
 left_beside-scalar name (object ms) h = absurd h
 left_beside-scalar name d h = (refl, refl, tt)
+
+pub ordered : (d : Data) → IsSorted d → IsOrdered d
+ordered (object ms) h = rises_sorted ms h
+ordered d h = tt

@@ -1,5 +1,4 @@
-pub mod Numbers
-pub mod Loops
 pub mod Folding
+pub mod Tokens
 pub mod Beside
 pub mod Laws

@@ -1,17 +1,15 @@
-ghost use Rattle.std.specs.Prelude.{◌≡◌, ◌<◌, ◌∷◌, ◌++◌, [], length, List, Err, None, Some, IfOk, OnOk, MatchOption, if◌then◌else◌};
+ghost use Rattle.std.specs.Prelude.{◌≡◌, ◌<◌, ◌≤◌, ◌∷◌, ◌++◌, ◌^◌, [], length, List, Err, None, Some, IfOk, OnOk, MatchOption, if◌then◌else◌};
 ghost use Rattle.json.specs.Token as spec;
 ghost use Rattle.serde_json.specs.Data.{Data, Members, array, object};
 ghost use Rattle.serde_json.specs.Find.{get_member};
 ghost use Rattle.serde_json.specs.Read.{read as read_data};
-ghost use Rattle.serde_json.specs.View.{view, items_of, members_view};
-ghost use Rattle.cdf_pull.specs.Next.{next_value, next_last};
-ghost use Rattle.cdf_pull.specs.Fold.{items_in, emptied, emptied_at, items_found, items_under, left_beside, Rises, IsOrdered, IsFolded};
+ghost use Rattle.cdf_node.specs.Next.{next_value, next_last};
+ghost use Rattle.cdf_node.specs.View.{view, items_of, members_view};
+ghost use Rattle.cdf_pull.specs.Fold.{items_in, emptied, emptied_at, items_found, items_under, left_beside, IsOrdered, IsFolded, most_tokens};
 
-use crate::scalar::scalar;
-use crate::stop::Stop;
-use crate::value::{read, read_array, read_object};
+use bumpalo::Bump;
+use cdf_node::{Node, Stop, in_order, read, read_array, read_object, scalar};
 use json::{Reader, Scratch, Token};
-use serde_json::{Map, Value};
 use std::alloc::{AllocError, Global};
 
 /// What is kept of the items of an array, which are handed over one at a time.
@@ -24,18 +22,25 @@ pub trait Fold {
     fn none(&self, alloc: Global) -> Self::Kept
         ensures { keeps self.now [] result };
 
-    /// Takes the next item.
+    /// Takes the next item, which stands at this place in the array.
     ///
     /// # Errors
     /// An `AllocError` where a growth was refused.
-    fn take(&self, alloc: Global, kept: &mut Self::Kept, item: Value) -> Result<(), AllocError>
-        ensures { OnOk result ((ds : List Data) → keeps self.now ds kept.old
-            → keeps self.now (ds ++ view item ∷ []) kept.new) };
+    fn take(
+        &self,
+        alloc: Global,
+        kept: &mut Self::Kept,
+        place: usize,
+        item: Node<'_>,
+    ) -> Result<(), AllocError>
+        requires { place < 2 ^ 63 }
+        ensures { OnOk result ((ds : List Data) → place ≡ length ds → keeps self.now ds kept.old
+            → keeps self.now (ds ++ view item.entry ∷ []) kept.new) };
 }
 
-// What is kept of the items of the array whose first bracket was read, each taken before the next one
-// is read.
-#[tactic(auto, using(crate::proofs::Loops::array_flat, crate::proofs::Loops::array_shorter))]
+// What is kept of the items of the array whose first bracket was read, each of which is taken, and its
+// memory given back, before the next one is read.
+#[tactic(auto, using(cdf_node::proofs::Lemmas::array_flat, cdf_node::proofs::Lemmas::array_shorter))]
 fn fold_items<F: Fold>(
     alloc: Global,
     reader: &mut Reader<'_>,
@@ -44,6 +49,7 @@ fn fold_items<F: Fold>(
 ) -> Result<F::Kept, Stop>
 where
     F::Kept: Drop,
+    requires { length reader.now ≤ most_tokens }
     ensures items { IfOk result (λ kept. (ds : List Data)
         × (next_value depth (spec.Token.begin_array ∷ reader.old)
         ≡ Some (array (items_of ds), reader.new))
@@ -55,24 +61,31 @@ where
     if depth == 0 {
         return Err(Stop::Unread);
     }
+    let mut arena = Bump::new(alloc);
     let mut kept = fold.none(alloc);
+    let mut place = 0;
     'items: while !reader.take_end_array() {
-        let item = read(alloc, reader, depth - 1)?;
-        fold.take(alloc, &mut kept, item)?;
+        let item = read(&arena, reader, depth - 1)?;
+        fold.take(alloc, &mut kept, place, item)?;
+        place += 1;
+        // Where it fails, the arena goes on growing.
+        let _ = arena.reset();
     }
     Ok(kept)
 }
 
 // The next value, and what is kept of its items, of which it has none any more.
-#[tactic(auto, using(crate::proofs::Loops::next_value_nothing))]
-fn read_emptied<F: Fold>(
+#[tactic(auto, using(cdf_node::proofs::Lemmas::next_value_nothing))]
+fn read_emptied<'t, 'a: 't, F: Fold>(
     alloc: Global,
-    reader: &mut Reader<'_>,
+    bump: &'t Bump,
+    reader: &mut Reader<'a>,
     depth: usize,
     fold: &F,
-) -> Result<(Value, F::Kept), Stop>
+) -> Result<(Node<'t>, F::Kept), Stop>
 where
     F::Kept: Drop,
+    requires { length reader.now ≤ most_tokens }
     ensures value { IfOk result (λ p. (d : Data)
         × (next_value depth reader.old ≡ Some (d, reader.new))
         × (view p.0 ≡ emptied d)
@@ -84,27 +97,29 @@ where
     match token {
         Token::BeginArray => {
             let kept = fold_items(alloc, reader, depth, fold)?;
-            Ok((Value::Array(Vec::new(alloc)), kept))
+            Ok((Node::Array(&[]), kept))
         }
         Token::BeginObject => {
-            let found = read_object(alloc, reader, depth)?;
-            Ok((Value::Object(found), fold.none(alloc)))
+            let found = read_object(bump, reader, depth)?;
+            Ok((Node::Object(found), fold.none(alloc)))
         }
-        _ => Ok((scalar(alloc, token)?, fold.none(alloc))),
+        _ => Ok((scalar(token)?, fold.none(alloc))),
     }
 }
 
 // The next member's value, emptied if its name is the one that is folded, and what is kept then.
-fn read_member<F: Fold>(
+fn read_member<'t, 'a: 't, F: Fold>(
     alloc: Global,
-    reader: &mut Reader<'_>,
+    bump: &'t Bump,
+    reader: &mut Reader<'a>,
     depth: usize,
     is_folded: bool,
     kept: F::Kept,
     fold: &F,
-) -> Result<(Value, F::Kept), Stop>
+) -> Result<(Node<'t>, F::Kept), Stop>
 where
     F::Kept: Drop,
+    requires { length reader.now ≤ most_tokens }
     ensures value { IfOk result (λ p. (d : Data)
         × (next_value depth reader.old ≡ Some (d, reader.new))
         × (view p.0 ≡ (if is_folded then emptied d else d))
@@ -116,57 +131,59 @@ where
     if is_folded {
         // What was kept of an array before this one of the same name is freed first.
         drop(kept);
-        read_emptied(alloc, reader, depth, fold)
+        read_emptied(alloc, bump, reader, depth, fold)
     } else {
-        Ok((read(alloc, reader, depth)?, kept))
+        Ok((read(bump, reader, depth)?, kept))
     }
 }
 
 // The members of the object whose first brace was read, that under the name emptied, and what is kept
 // of its items.
-#[tactic(auto, using(crate::proofs::Loops::object_flat))]
-fn read_members<F: Fold>(
+#[tactic(auto, using(cdf_node::proofs::Lemmas::object_flat))]
+fn read_members<'t, 'a: 't, F: Fold>(
     alloc: Global,
-    reader: &mut Reader<'_>,
+    bump: &'t Bump,
+    reader: &mut Reader<'a>,
     depth: usize,
     name: &str,
     fold: &F,
-) -> Result<(Map<String, Value>, F::Kept), Stop>
+) -> Result<(&'t [(&'t str, Node<'t>)], F::Kept), Stop>
 where
     F::Kept: Drop,
+    requires { length reader.now ≤ most_tokens }
     ensures members { IfOk result (λ p. (ms : Members)
         × (next_value depth (spec.Token.begin_object ∷ reader.old) ≡ Some (object ms, reader.new))
-        × (members_view p.0.entries ≡ emptied_at name.now ms)
-        × F.keeps fold.now (items_found (get_member name.now ms)) p.1
-        × Rises ms) }
+        × (members_view p.0.now ≡ emptied_at name.now ms)
+        × F.keeps fold.now (items_found (get_member name.now ms)) p.1) }
     ensures unread { result ≡ Err Stop.Unread
         → next_value depth (spec.Token.begin_object ∷ reader.old) ≡ None }
 {
     if depth == 0 {
         return Err(Stop::Unread);
     }
-    let mut found = Map::new(alloc);
+    let mut found = Vec::new(bump);
     let mut kept = fold.none(alloc);
     'members: while let Some(key) = reader.next_key()? {
-        let text = String::from_str(alloc, key)?;
-        let (member, anew) = read_member(alloc, reader, depth - 1, key == name, kept, fold)?;
-        drop(found.insert(text, member)?);
+        let (member, anew) = read_member(alloc, bump, reader, depth - 1, key == name, kept, fold)?;
+        found.push((key, member))?;
         kept = anew;
     }
-    Ok((found, kept))
+    Ok((in_order(bump, found)?, kept))
 }
 
 // The next value, with the array under the name of an object emptied, and what is kept of its items.
-#[tactic(auto, using(crate::proofs::Loops::next_value_nothing))]
-fn read_beside<F: Fold>(
+#[tactic(auto, using(cdf_node::proofs::Lemmas::next_value_nothing))]
+fn read_beside<'t, 'a: 't, F: Fold>(
     alloc: Global,
-    reader: &mut Reader<'_>,
+    bump: &'t Bump,
+    reader: &mut Reader<'a>,
     depth: usize,
     name: &str,
     fold: &F,
-) -> Result<(Value, F::Kept), Stop>
+) -> Result<(Node<'t>, F::Kept), Stop>
 where
     F::Kept: Drop,
+    requires { length reader.now ≤ most_tokens }
     ensures value { IfOk result (λ p. (d : Data)
         × (next_value depth reader.old ≡ Some (d, reader.new))
         × (view p.0 ≡ left_beside name.now d)
@@ -177,27 +194,29 @@ where
     let token = reader.next().ok_or(Stop::Unread)?;
     match token {
         Token::BeginArray => {
-            let items = read_array(alloc, reader, depth)?;
-            Ok((Value::Array(items), fold.none(alloc)))
+            let items = read_array(bump, reader, depth)?;
+            Ok((Node::Array(items), fold.none(alloc)))
         }
         Token::BeginObject => {
-            let (found, kept) = read_members(alloc, reader, depth, name, fold)?;
-            Ok((Value::Object(found), kept))
+            let (found, kept) = read_members(alloc, bump, reader, depth, name, fold)?;
+            Ok((Node::Object(found), kept))
         }
-        _ => Ok((scalar(alloc, token)?, fold.none(alloc))),
+        _ => Ok((scalar(token)?, fold.none(alloc))),
     }
 }
 
 // The value that the tokens are, with nothing behind it.
-fn read_whole<F: Fold>(
+fn read_whole<'t, 'a: 't, F: Fold>(
     alloc: Global,
-    reader: &mut Reader<'_>,
+    bump: &'t Bump,
+    reader: &mut Reader<'a>,
     depth: usize,
     name: &str,
     fold: &F,
-) -> Result<(Value, F::Kept), Stop>
+) -> Result<(Node<'t>, F::Kept), Stop>
 where
     F::Kept: Drop,
+    requires { length reader.now ≤ most_tokens }
     ensures value { IfOk result (λ p. (d : Data)
         × (next_last depth reader.old ≡ Some d)
         × (view p.0 ≡ left_beside name.now d)
@@ -205,7 +224,7 @@ where
         × IsOrdered d) }
     ensures unread { result ≡ Err Stop.Unread → next_last depth reader.old ≡ None }
 {
-    let found = read_beside(alloc, reader, depth, name, fold)?;
+    let found = read_beside(alloc, bump, reader, depth, name, fold)?;
     if reader.next().is_some() {
         return Err(Stop::Unread);
     }
@@ -218,24 +237,27 @@ const MAX_DEPTH: usize = 127;
 /// What a text is as serde_json reads it, but for the items of the array under a name of its object,
 /// and what a fold keeps of those items, which were handed to it one by one. Of two members of one
 /// name the last counts, and what isn't there has no items. None where serde_json reads no value.
-/// `scratch` grows to the text's length.
+/// What is left stands in the arena, with texts of `text` and of `scratch`, which grows to the text's
+/// length; an item is gone once it was taken.
 ///
 /// # Errors
 /// An `AllocError` where a growth was refused.
-pub fn read_text_fold<F: Fold>(
+#[tactic(auto, using(crate::proofs::Tokens::tokens_few))]
+pub fn read_text_fold<'t, F: Fold>(
     alloc: Global,
-    text: &str,
-    scratch: &mut Scratch,
+    bump: &'t Bump,
+    text: &'t str,
+    scratch: &'t mut Scratch,
     name: &str,
     fold: &F,
-) -> Result<Option<(Value, F::Kept)>, AllocError>
+) -> Result<Option<(Node<'t>, F::Kept)>, AllocError>
 where
     F::Kept: Drop,
     ensures { IfOk result (λ found. MatchOption found (read_data text.now ≡ None)
         (λ p. IsFolded (F.keeps fold.now) text.now name.now (view p.0) p.1)) }
 {
     let mut reader = Reader::new(text, scratch)?;
-    match read_whole(alloc, &mut reader, MAX_DEPTH, name, fold) {
+    match read_whole(alloc, bump, &mut reader, MAX_DEPTH, name, fold) {
         Ok(found) => Ok(Some(found)),
         Err(Stop::Unread) => Ok(None),
         Err(Stop::Memory) => Err(AllocError),

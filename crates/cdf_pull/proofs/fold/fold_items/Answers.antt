@@ -1,18 +1,22 @@
-use Rattle.std.proofs.Common.{[], ◌∷◌, ◌++◌, arith}
-use Rattle.serde_json.specs.View.{view}
-use Rattle.cdf_pull.proofs.Loops.{array_begun, array_next, array_over, array_none}
+use Rattle.std.proofs.Common.{[], ◌∷◌, ◌++◌, length-append, arith}
+use Rattle.cdf_node.specs.View.{view}
+use Rattle.cdf_node.proofs.Lemmas.{array_begun, array_next, array_over, array_none}
 use Rattle.cdf_pull.proofs.fold.fold_items.Goals as goal
 
 pub items-init : goal.items-init
-items-init g c = record { ds = []; read = array_begun c.args.depth c.args.reader.now (omega arith); keeps = c.none-kept.ensures }
+items-init g c = record { ds = []; place = omega arith; room = omega arith; read = array_begun c.args.depth c.args.reader.now (omega arith); keeps = c.none-kept.ensures }
 
 pub items-preserved : goal.items-preserved
 items-preserved g c =
     let done = c.in_ok-item.ensures in
+    let l = c.items.invariant in
+    let more = length-append l.ds (view c.in_ok-item.item ∷ []) in
     record {
-      ds = c.items.invariant.ds ++ view c.in_ok-item.item ∷ [];
-      read = array_next c.items.invariant.read (grind arith) done.value done.shorter;
-      keeps = c.in_ok-take.ensures c.items.invariant.ds c.items.invariant.keeps;
+      ds = l.ds ++ view c.in_ok-item.item ∷ [];
+      place = grind (arith, more, l.place);
+      room = grind (arith, more, l.room);
+      read = array_next l.read (grind arith) done.value done.shorter;
+      keeps = c.in_ok-take.ensures l.ds (grind arith) l.keeps;
     }
 
 pub returns-clause-items : goal.returns-clause-items

@@ -1,17 +1,19 @@
 use Rattle.std.proofs.Common.{ap, ◌∙◌, arith}
+use Rattle.std.proofs.lemmas.Option.{MatchOption-at_some}
 use Rattle.serde_json.specs.Data.{array, object}
-use Rattle.serde_json.specs.View.{view, items_view}
-use Rattle.serde_json.proofs.Views.{view-Array, view-Object}
-use Rattle.cdf_pull.proofs.Folding.{left_beside-scalar}
+use Rattle.cdf_node.specs.View.{view, items_view}
+use Rattle.cdf_node.proofs.Laws.{sorted_next}
+use Rattle.cdf_node.proofs.Lemmas.{view-Array, view-Object}
+use Rattle.cdf_pull.proofs.Folding.{left_beside-scalar, ordered}
 use Rattle.cdf_pull.proofs.fold.read_beside.Goals as goal
 
 pub returns-in_ok-items-in-BeginArray-clause-value : goal.returns-in_ok-items-in-BeginArray-clause-value
-returns-in_ok-items-in-BeginArray-clause-value g c = (array (items_view c.in_ok-items-in-BeginArray.items.items), grind arith, view-Array _, c.none.ensures, tt)
+returns-in_ok-items-in-BeginArray-clause-value g c = (array (items_view c.in_ok-items-in-BeginArray.items.now), grind arith, view-Array _, c.none.ensures, tt)
 
 pub returns-in_ok-found-in-BeginObject-clause-value : goal.returns-in_ok-found-in-BeginObject-clause-value
 returns-in_ok-found-in-BeginObject-clause-value g c =
     let h = c.in_ok-found-in-BeginObject.ensures.members in
-    (object h.0, grind (arith, h.1), view-Object _ ∙ ap object h.2, h.3, h.4)
+    (object h.0, grind (arith, h.1), view-Object _ ∙ ap object h.2, h.3, ordered (object h.0) (MatchOption-at_some _ _ _ h.1 (sorted_next _ _)))
 
 pub returns-in_ok-scalar-in_default-clause-value : goal.returns-in_ok-scalar-in_default-clause-value
 returns-in_ok-scalar-in_default-clause-value g c =

@@ -1,17 +1,17 @@
 use Rattle.std.proofs.Common.{arith}
 use Rattle.serde_json.specs.Data.{array, object}
-use Rattle.serde_json.specs.View.{view, items_of, members_view}
-use Rattle.serde_json.proofs.Views.{view-Array, view-Object}
+use Rattle.cdf_node.specs.View.{view, items_of, members_view}
+use Rattle.cdf_node.proofs.Lemmas.{view-Array, view-Object}
 use Rattle.cdf_pull.proofs.Folding.{list_of-items_of, emptied-scalar}
 use Rattle.cdf_pull.proofs.fold.read_emptied.Goals as goal
 
 pub returns-in_ok-kept-in-BeginArray-clause-value : goal.returns-in_ok-kept-in-BeginArray-clause-value
 returns-in_ok-kept-in-BeginArray-clause-value g c =
     let h = c.in_ok-kept-in-BeginArray.ensures.items in
-    (array (items_of h.0), grind (arith, h.1), rw (view-Array, c.new.ensures.items), rw list_of-items_of h.2)
+    (array (items_of h.0), grind (arith, h.1), view-Array _, rw list_of-items_of h.2)
 
 pub returns-in_ok-found-in-BeginObject-clause-value : goal.returns-in_ok-found-in-BeginObject-clause-value
-returns-in_ok-found-in-BeginObject-clause-value g c = (object (members_view c.in_ok-found-in-BeginObject.found.entries), grind arith, view-Object _, c.none.ensures)
+returns-in_ok-found-in-BeginObject-clause-value g c = (object (members_view c.in_ok-found-in-BeginObject.found.now), grind arith, view-Object _, c.none.ensures)
 
 pub returns-in_ok-scalar-in_default-clause-value : goal.returns-in_ok-scalar-in_default-clause-value
 returns-in_ok-scalar-in_default-clause-value g c =

@@ -1,17 +1,17 @@
-use Rattle.std.proofs.Common.{◌≡◌, bytes_eq, ap, ap₂, subst, ◌∙◌, arith, rules}
+use Rattle.std.proofs.Common.{◌≡◌, bytes_eq, ap, ap₂, ◌∙◌, arith}
+use Rattle.std.proofs.lemmas.List.Sums.{fold-append}
 use Rattle.serde_json.specs.Data.{no_members, put}
-use Rattle.serde_json.specs.View.{members_view}
-use Rattle.cdf_pull.specs.Fold.{emptied, Rises}
-use Rattle.cdf_pull.proofs.Loops.{object_begun, object_next, object_over, object_none, object_no_key}
-use Rattle.cdf_pull.proofs.Folding.{inserted, items_found-put, put-changed, Rises-changed, Rises-members_view}
+use Rattle.cdf_node.specs.Order.{in_order}
+use Rattle.cdf_node.proofs.Lemmas.{object_begun, object_next, object_over, object_none, object_no_key}
+use Rattle.cdf_pull.specs.Fold.{emptied}
+use Rattle.cdf_pull.proofs.Folding.{items_found-put, put-changed}
 use Rattle.cdf_pull.proofs.fold.read_members.Goals as goal
 
 pub members-init : goal.members-init
 members-init g c = record {
   ms = no_members;
   read = object_begun c.args.depth c.args.reader.now (omega arith);
-  left = ap members_view c.new-found.ensures.empty;
-  ordered = c.new-found.ensures.ordered;
+  left = ap in_order c.new-found.ensures.items;
   keeps = c.none-kept.ensures;
 }
 
@@ -26,16 +26,14 @@ members-preserved g c =
     record {
       ms = put k d l.ms;
       read = object_next l.read {k = k} (grind arith) member.1 c.in_ok-member.ensures.shorter;
-      left = inserted k c.members.found.entries c.in_ok-text.text c.in_ok-member.member c.in_ok-insert.ensures.entries (search rules) ∙ ap₂ (put k) member.2 l.left ∙ put-changed name emptied k d l.ms;
-      ordered = c.in_ok-insert.ensures.ordered;
+      left = rw (c.in_ok-push.ensures.items, fold-append) (ap₂ (put k) member.2 l.left ∙ put-changed name emptied k d l.ms);
       keeps = rw (← items_found-put name k d l.ms) (member.3 _ l.keeps);
     }
 
 pub returns-clause-members : goal.returns-clause-members
 returns-clause-members g c =
     let l = c.members.invariant in
-    let rises = subst Rises l.left (Rises-members_view c.members.found.entries l.ordered) in
-    (l.ms, object_over l.read (grind arith), l.left, l.keeps, subst (λ T. T) (Rises-changed c.args.name.now emptied l.ms) rises)
+    (l.ms, object_over l.read (grind arith), c.in_ok-in_order.ensures ∙ l.left, l.keeps)
 
 pub returns-in_err-key-clause-unread : goal.returns-in_err-key-clause-unread
 returns-in_err-key-clause-unread g c unread = object_no_key c.members.invariant.read c.in_err-key.ensures.value
