@@ -5,8 +5,8 @@ use Rattle.std.specs.Ordering.{nat_cmp, is_lt}
 use Rattle.std.specs.Cmp.Lexicographic.{slice_cmp}
 use Rattle.serde_json.specs.Data.{Data}
 use Rattle.serde_json.specs.Find.{get}
-use Rattle.serde_json.specs.View.{view}
-use Rattle.serde_json.specs.declared.value.Value.{Value}
+use Rattle.cdf_node.specs.View.{view}
+use Rattle.cdf_node.specs.declared.node.Node.{Node}
 use Rattle.serde_json.specs.Written.{has_float}
 use Rattle.cdf_form.specs.declared.table.Class.{Class}
 use Rattle.cdf_form.specs.declared.table.Leaf.{Leaf}
@@ -85,5 +85,5 @@ WholeItems = (d : Data) (name : List ℕ) → has_float d ≡ false → list_any
 
 -- nor has a value of a list where none has
 abbrev pub WholeValues : Type 0
-WholeValues = (values : List Value) (i : ℕ) (value : Value) → i < length values → value ≡ get_or values i value
+WholeValues = (values : List Node) (i : ℕ) (value : Node) → i < length values → value ≡ get_or values i value
     → list_any has_float (map view values) ≡ false → has_float (view value) ≡ false

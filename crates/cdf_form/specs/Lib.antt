@@ -10,7 +10,6 @@ pub mod Places
 pub mod Kept
 pub mod Laws
 pub mod Listings
-pub mod Merge
 pub mod Records
 pub mod Proper
 pub mod TextLaws

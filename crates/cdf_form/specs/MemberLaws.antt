@@ -1,15 +1,8 @@
 -- Laws of an object's members: one taken out, and one put in.
-use Rattle.std.specs.Prelude.{◌≡◌, ◌≢◌, ℕ, suc, List, Some, None, String, string_bytes, false}
-use Rattle.std.specs.declared.alloc.Global.{Global}
-use Rattle.std.specs.Ordering.{nat_cmp}
-use Rattle.std.specs.Cmp.Lexicographic.{slice_cmp}
-use Rattle.std.specs.BTreeMap.{is_at}
-use Rattle.std.specs.Map.{remove_entry}
+use Rattle.std.specs.Prelude.{◌≡◌, ◌≢◌, ℕ, suc, List, Some, None, false}
 use Rattle.serde_json.specs.Data.{Data, object, Members, put}
 use Rattle.serde_json.specs.Find.{get_member}
-use Rattle.serde_json.specs.View.{members_view}
 use Rattle.serde_json.specs.Written.{members_have_float}
-use Rattle.serde_json.specs.declared.value.Value.{Value}
 use Rattle.cdf_form.specs.Proper.{MembersAreWell, IsProper}
 use Rattle.cdf_form.specs.Removing.{without}
 
@@ -60,10 +53,3 @@ abbrev pub PutIsProperLaw : Type 0
 PutIsProperLaw =
     (n : ℕ) (k : List ℕ) (d : Data) (ms : Members)
     → IsProper n d → IsProper (suc n) (object ms) → IsProper (suc n) (object (put k d ms))
-
--- What a map's `remove` leaves stands for the members without that one.
-abbrev pub RemovedLaw : Type 0
-RemovedLaw =
-    (name : List ℕ) (entries : List (String Global × Value))
-    → members_view (remove_entry (is_at (λ k. slice_cmp nat_cmp name (string_bytes k))) entries)
-    ≡ without name (members_view entries)

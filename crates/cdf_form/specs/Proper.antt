@@ -1,12 +1,10 @@
 -- What data that was read is: numbers in range, and the names of each object strictly in byte order.
-use Rattle.std.specs.Prelude.{◌≡◌, ◌≤◌, ◌<◌, ◌^◌, ℕ, pos, negsuc, List, false, ⊤}
-use Rattle.std.specs.Ordering.{nat_cmp}
-use Rattle.std.specs.Cmp.Lexicographic.{slice_cmp}
-use Rattle.std.specs.declared.cmp.Ordering.TheVariants.{Less}
+use Rattle.std.specs.Prelude.{◌≡◌, ◌≤◌, ◌<◌, ◌^◌, ℕ, pos, negsuc, false, ⊤}
 use Rattle.serde_json.specs.Data.{Num, unsigned, negative, float}
 use Rattle.serde_json.specs.Data.{Data, number, array, object, depth}
 use Rattle.serde_json.specs.Data.{Items, no_items, item, Members, no_members, member}
 use Rattle.serde_json.specs.Written.{has_float}
+pub use Rattle.cdf_node.specs.Order.{Before, Below}
 
 -- a number that is a u64, an i64 below 0, or a float
 abbrev pub NumFits : Num → Type 0
@@ -14,15 +12,6 @@ NumFits (unsigned n) = n < 2 ^ 64
 NumFits (negative (pos n)) = ⊥
 NumFits (negative (negsuc n)) = n < 2 ^ 63
 NumFits (float x) = ⊤
-
--- the first name stands before the second in byte order
-abbrev pub Before : List ℕ → List ℕ → Type 0
-Before k l = slice_cmp nat_cmp k l ≡ Less
-
--- k stands before the name of each member
-abbrev pub Below : List ℕ → Members → Type 0
-Below k no_members = ⊤
-Below k (member l e ms) = Before k l × Below k ms
 
 -- each number fits, and each object's names stand strictly in byte order
 abbrev mutual
