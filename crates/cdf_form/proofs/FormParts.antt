@@ -18,7 +18,7 @@ use Rattle.cdf_form.specs.declared.table.Leaf.TheVariants as leaf
 use Rattle.cdf_form.specs.declared.table.Key.{Key}
 use Rattle.cdf_form.specs.declared.table.Kind.TheVariants.{One, Array}
 use Rattle.cdf_form.specs.Tables.{Entry, table, classes_of, type_text, listed_in}
-use Rattle.cdf_form.specs.Form.{is_empty, is_count, is_moment, class_in, find_class}
+use Rattle.cdf_form.specs.Form.{is_count, is_moment, class_in, find_class}
 use Rattle.cdf_form.specs.HasForm.{IsRow, HasForm, text, name, count, moment, listed, class, items}
 use Rattle.cdf_form.specs.Parts.{list_of, array_at, text_in, text_at}
 use Rattle.cdf_form.specs.ByRow.{AllClasses, find_row, HasRow, HasClass, IsTextual, ListApart}
@@ -149,12 +149,6 @@ textual_form leaf.Moment e q f = moment_form f
 textual_form leaf.Fractional e q f = absurd q
 textual_form (leaf.Listed l) e q f = listed_form f
 textual_form (leaf.Object g) e q f = absurd q
-
-pub name_is_full : (s : List ℕ) → HasForm (One leaf.Name) (string s) → is_empty s ≡ false
-name_is_full s f = go f refl
-  where
-    go : {e : Data} → HasForm (One leaf.Name) e → as_str e ≡ Some s → is_empty s ≡ false
-    go (name {s = t} is full) same = subst (λ x. is_empty x ≡ false) (inside t s (sym is ∙ same)) full
 
 pub moment_is_read : (s : List ℕ) → HasForm (One leaf.Moment) (string s) → is_moment s ≡ true
 moment_is_read s f = go f refl

@@ -6,6 +6,6 @@ pub use Rattle.cdf_form.proofs.Lists.{array_proper, list_of-items_of}
 pub use Rattle.cdf_form.proofs.PartLaws.{item_proper, listed_part, listed_reads_back, member_proper, part_of_part, part_proper, part_reads_back, proper_deeper}
 pub use Rattle.cdf_form.proofs.Records.{records_apart, records_first}
 pub use Rattle.cdf_form.proofs.ReadsBack.{read-proper, same_text}
-pub use Rattle.cdf_form.proofs.Removing.{gone, others_stay, put_proper, view-remove_entry, whole-without, without-put, without_proper, without_well}
+pub use Rattle.cdf_form.proofs.Removing.{gone, others_stay, put_proper, whole-without, without-put, without_proper, without_well}
 pub use Rattle.cdf_form.proofs.WasRead.{proper_read}
 pub use Rattle.cdf_form.proofs.Whole.{no_float_faults, whole_array, whole_document, whole_of, whole_there}

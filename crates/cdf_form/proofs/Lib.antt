@@ -4,7 +4,6 @@ pub mod Pointers
 pub mod FormLaw
 pub mod Records
 pub mod Whole
-pub mod Merging
 pub mod Walking
 pub mod Apart
 pub mod Order

@@ -1,12 +1,13 @@
 -- The faults of a value in terms of its parts, and a measure for the walk.
-use Rattle.std.proofs.Common.{◌≡◌, ℕ, zero, suc, ◌+◌, ◌<◌, List, [], ◌∷◌, ◌++◌, length, get_or, drop, Option, Some, None, option_map, Ordering, Less, Equal, Greater, refl, sym, ap, ◌∙◌, arith}
+use Rattle.std.proofs.Common.{◌≡◌, ℕ, zero, suc, ◌+◌, ◌<◌, List, [], ◌∷◌, ◌++◌, length, get_or, drop, Option, Some, None, option_map, Ordering, Less, Equal, Greater, refl, ap, ◌∙◌, arith}
+use Rattle.std.specs.Option.{option_or}
 use Rattle.std.specs.Ordering.{nat_cmp, match_ordering}
 use Rattle.std.specs.Cmp.Lexicographic.{slice_cmp}
 use Rattle.serde_json.specs.Data.{Data, null, boolean, number, string, array, object, Items, no_items, item, Members, no_members, member}
 use Rattle.serde_json.specs.Find.{get_member, get, as_array}
 use Rattle.serde_json.specs.Events.{items_len}
-use Rattle.serde_json.specs.View.{view, items_view}
-use Rattle.serde_json.specs.declared.value.Value.{Value}
+use Rattle.cdf_node.specs.View.{view, items_view}
+use Rattle.cdf_node.specs.declared.node.Node.{Node}
 use Rattle.cdf_types.specs.declared.rule.Rule.TheVariants as rule
 use Rattle.cdf_form.specs.declared.table.Leaf.{Leaf}
 use Rattle.cdf_form.specs.declared.table.Leaf.TheVariants as leaf
@@ -14,8 +15,7 @@ use Rattle.cdf_form.specs.declared.table.Key.{Key}
 use Rattle.cdf_form.specs.declared.table.Key.TheVariants as key
 use Rattle.cdf_form.specs.declared.table.Kind.{Kind}
 use Rattle.cdf_form.specs.declared.table.Kind.TheVariants.{One, Array}
-use Rattle.cdf_form.specs.declared.table.Class.{Class}
-use Rattle.cdf_form.specs.Tables.{Entry, table}
+use Rattle.cdf_form.specs.Tables.{Entry}
 use Rattle.std.proofs.lemmas.List.{drop_more}
 use Rattle.cdf_form.specs.Form.{Step, at_item, mark_of, key_text, add_text, Fault, here, deeper, under, first, leaf_faults, class_below, rows_of, length_faults, rows_faults, faults, items_faults, found_faults, member_look}
 
@@ -94,18 +94,25 @@ faults-array (object ms) ds l least most k mark e = cc
 
 -- ---- the first fault, from those of the parts
 
-pub array_some : (d : Data) (ds : Items) (kind : Kind) (l : Leaf) (least most n : ℕ) (k mark : Key) (f : Fault) → as_array d ≡ Some ds → kind ≡ Array l least most k → n ≡ items_len ds → first (length_faults least most n) ≡ Some f → first (faults d kind mark) ≡ Some f
-array_some d ds kind l least most n k mark f is of len e = rw (of, faults-array d ds l least most k mark is, ← len) (first-append_some (length_faults least most n) (items_faults ds l k 0 []) f e)
+first-append : (xs ys : List Fault) → first (xs ++ ys) ≡ option_or (first xs) (first ys)
+first-append [] ys = refl
+first-append (x ∷ xs) ys = refl
 
-pub array_none : (d : Data) (ds : Items) (kind : Kind) (l : Leaf) (least most n : ℕ) (k mark : Key) → as_array d ≡ Some ds → kind ≡ Array l least most k → n ≡ items_len ds → first (length_faults least most n) ≡ None → first (items_faults ds l k 0 []) ≡ first (faults d kind mark)
-array_none d ds kind l least most n k mark is of len e = rw (of, faults-array d ds l least most k mark is, ← len) (sym (first-append_none (length_faults least most n) (items_faults ds l k 0 []) e))
+pub as_many : (vs : List Node) → items_len (items_view vs) ≡ length vs
+as_many [] = refl
+as_many (v ∷ vs) = ap suc (as_many vs)
 
-pub one_rows : (d : Data) (l : Leaf) (mark : Key) (c : Class) → first (leaf_faults l d) ≡ None → class_below l d ≡ Some c → first (rows_faults (member_look d) mark (table c)) ≡ first (faults d (One l) mark)
-one_rows d l mark c e is = rw (faults-one d l mark, is) (sym (first-append_none (leaf_faults l d) _ e))
+pub array_first : (d : Data) (ds : Items) (kind : Kind) (l : Leaf) (least most n : ℕ) (k mark : Key) → as_array d ≡ Some ds → kind ≡ Array l least most k → n ≡ items_len ds
+    → first (faults d kind mark) ≡ option_or (first (length_faults least most n)) (first (items_faults ds l k 0 []))
+array_first d ds kind l least most n k mark is of len = rw (of, faults-array d ds l least most k mark is, ← len) (first-append _ _)
+
+pub one_first : (d : Data) (l : Leaf) (mark : Key)
+    → first (faults d (One l) mark) ≡ option_or (first (leaf_faults l d)) (first (rows_faults (member_look d) mark (rows_of (class_below l d))))
+one_first d l mark = rw (faults-one d l mark) (first-append _ _)
 
 -- ---- items
 
-pub items_go : (vs : List Value) (l : Leaf) (k : Key) (i : ℕ) (v : Value) (texts : List (List ℕ)) → i < length vs
+pub items_go : (vs : List Node) (l : Leaf) (k : Key) (i : ℕ) (v : Node) (texts : List (List ℕ)) → i < length vs
     → first (faults (view (get_or vs i v)) (One l) (mark_of k texts (view (get_or vs i v)))) ≡ None
     → first (items_faults (items_view (drop i vs)) l k i texts) ≡ first (items_faults (items_view (drop (i + 1) vs)) l k (i + 1) (add_text (key_text k (view (get_or vs i v))) texts))
 items_go vs l k i v texts h e = rw (drop_more vs i v h) (first-append_none _ _ (first-under _ _ ∙ ap (option_map (deeper (at_item i))) e))
@@ -134,11 +141,19 @@ member_lighter Less ms d found e h is = let k = h is in omega arith
 member_lighter Equal ms d found e h is = let same : d ≡ e = cc in let w = ap weight same in omega arith
 member_lighter Greater ms d found e h is = let k = h is in omega arith
 
-pub weight-get_member : (ms : Members) (name : List ℕ) (e : Data) → get_member name ms ≡ Some e → weight e < members_weight ms
-weight-get_member no_members name e is = cc
-weight-get_member (member l d ms) name e is = member_lighter (slice_cmp nat_cmp name l) ms d (get_member name ms) e (weight-get_member ms name e) is
+pub member_is_lighter : (ms : Members) (name : List ℕ) (e : Data) → get_member name ms ≡ Some e → weight e < members_weight ms
+member_is_lighter no_members name e is = cc
+member_is_lighter (member l d ms) name e is = member_lighter (slice_cmp nat_cmp name l) ms d (get_member name ms) e (member_is_lighter ms name e) is
 
-pub weight-item : (vs : List Value) (i : ℕ) (v : Value) → i < length vs → weight (view (get_or vs i v)) < items_weight (items_view vs)
-weight-item [] i v h = absurd (omega arith)
-weight-item (x ∷ vs) zero v h = omega arith
-weight-item (x ∷ vs) (suc i) v h = let k = weight-item vs i v (omega arith) in omega arith
+pub part_is_lighter : (d : Data) (name : List ℕ) (e : Data) → get name d ≡ Some e → weight e < weight d
+part_is_lighter null name e is = cc
+part_is_lighter (boolean b) name e is = cc
+part_is_lighter (number n) name e is = cc
+part_is_lighter (string s) name e is = cc
+part_is_lighter (array ds) name e is = cc
+part_is_lighter (object ms) name e is = let w = member_is_lighter ms name e is in omega arith
+
+pub item_is_lighter : (vs : List Node) (i : ℕ) (v : Node) → i < length vs → weight (view (get_or vs i v)) < items_weight (items_view vs)
+item_is_lighter [] i v h = absurd (omega arith)
+item_is_lighter (x ∷ vs) zero v h = omega arith
+item_is_lighter (x ∷ vs) (suc i) v h = let k = item_is_lighter vs i v (omega arith) in omega arith

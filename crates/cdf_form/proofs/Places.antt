@@ -5,14 +5,14 @@ use Rattle.std.specs.List.{position_from, list_any}
 use Rattle.std.specs.Prelude.{is_some}
 use Rattle.std.specs.BTreeMap.{BTreeMap, get_by_text, Updates}
 use Rattle.std.specs.String.{string_cmp}
-use Rattle.std.proofs.Common.{take, true≢false, ◌||◌}
+use Rattle.std.proofs.Common.{take, ◌||◌}
 use Rattle.std.proofs.lemmas.Option.{none-some}
 use Rattle.std.proofs.lemmas.Cmp.{nat_list_eq_equiv}
 use Rattle.std.proofs.lemmas.Slice.Eq.{bytes_eq-Decides}
 use Rattle.std.proofs.lemmas.List.{map-append, take_more, length-map, length-take-le}
 use Rattle.std.proofs.lemmas.Map.Text.{btree_map_updates_text}
-use Rattle.serde_json.specs.View.{view}
-use Rattle.serde_json.specs.declared.value.Value.{Value}
+use Rattle.cdf_node.specs.View.{view}
+use Rattle.cdf_node.specs.declared.node.Node.{Node}
 use Rattle.cdf_form.specs.Parts.{id_of}
 use Rattle.cdf_form.specs.Places.{place_in}
 use Rattle.cdf_form.specs.Kept.{bytes_of, HasPlaces}
@@ -60,17 +60,6 @@ pub noted_text : (m n : BTreeMap (String Global) ℕ) (id : String Global) (text
     → (q : List ℕ) → get_by_text n q ≡ option_or (get_by_text m q) (cond (bytes_eq q text) (Some i) None)
 noted_text m n id text i is lacks u = subst (λ t. (q : List ℕ) → get_by_text n q ≡ option_or (get_by_text m q) (cond (bytes_eq q t) (Some i) None)) is (noted m n id i (ap (λ t. is_some (get_by_text m t)) is ∙ lacks) u)
 
--- an id that is known keeps its place
-pub was_known : (m : BTreeMap (String Global) ℕ) (id : List ℕ) (i : ℕ) → is_some (get_by_text m id) ≡ true
-    → (q : List ℕ) → get_by_text m q ≡ option_or (get_by_text m q) (cond (bytes_eq q id) (Some i) None)
-was_known m id i has q = known_at (bytes_eq q id) (get_by_text m q) i (λ t. rw ((bytes_eq-Decides q id).0 t) has)
-  where
-    known_at : (t : Bool) (o : Option ℕ) (i : ℕ) → (t ≡ true → is_some o ≡ true) → o ≡ option_or o (cond t (Some i) None)
-    known_at true None i h = absurd (true≢false (sym (h refl)))
-    known_at true (Some p) i h = refl
-    known_at false None i h = refl
-    known_at false (Some p) i h = refl
-
 pub places_more : (m n : BTreeMap (String Global) ℕ) (ids : List (List ℕ)) (id : List ℕ) (i : ℕ) → length ids ≡ i → HasPlaces m ids
     → ((q : List ℕ) → get_by_text n q ≡ option_or (get_by_text m q) (cond (bytes_eq q id) (Some i) None)) → HasPlaces n (ids ++ id ∷ [])
 places_more m n ids id i len h more q =
@@ -80,11 +69,11 @@ places_more m n ids id i len h more q =
 pub bytes_more : (xs : List (String Global)) (s : String Global) (id : List ℕ) → string_bytes s ≡ id → bytes_of (xs ++ s ∷ []) ≡ bytes_of xs ++ id ∷ []
 bytes_more xs s id e = map-append (λ x. string_bytes x) xs (s ∷ []) ∙ ap (λ t. bytes_of xs ++ t ∷ []) e
 
-pub ids_more : (xs : List (String Global)) (s : String Global) (vs : List Value) (i : ℕ) (v : Value) → i < length vs → bytes_of xs ≡ map id_of (map view (take i vs)) → string_bytes s ≡ id_of (view (get_or vs i v))
+pub ids_more : (xs : List (String Global)) (s : String Global) (vs : List Node) (i : ℕ) (v : Node) → i < length vs → bytes_of xs ≡ map id_of (map view (take i vs)) → string_bytes s ≡ id_of (view (get_or vs i v))
     → bytes_of (xs ++ s ∷ []) ≡ map id_of (map view (take (i + 1) vs))
 ids_more xs s vs i v h e t = map-append (λ x. string_bytes x) xs (s ∷ []) ∙ rw (take_more vs i v h, map-append view (take i vs), map-append id_of (map view (take i vs)), e, t)
 
-pub ids_len : (xs : List (String Global)) (vs : List Value) (i : ℕ) → i ≤ length vs → bytes_of xs ≡ map id_of (map view (take i vs)) → length (bytes_of xs) ≡ i
+pub ids_len : (xs : List (String Global)) (vs : List Node) (i : ℕ) → i ≤ length vs → bytes_of xs ≡ map id_of (map view (take i vs)) → length (bytes_of xs) ≡ i
 ids_len xs vs i h e = rw (e, length-map, length-map) (length-take-le i vs h)
 
 -- an id is among those that have a place

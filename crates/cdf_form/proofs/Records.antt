@@ -16,7 +16,14 @@ use Rattle.cdf_form.specs.Form.{Step, at_member, Fault, deeper, under, first, fi
 use Rattle.cdf_form.specs.Records.{cvrs_faults, RecordsFirstLaw, RecordsApartLaw}
 use Rattle.cdf_form.proofs.Parts.{first-append_some, first-under, faults-one, faults-array}
 use Rattle.cdf_form.proofs.FormLaw.{object_ok, length_ok}
-use Rattle.cdf_form.proofs.Merging.{and-left, and-right}
+
+pub and-left : (a b : Bool) → (a && b) ≡ true → a ≡ true
+and-left true b e = refl
+and-left false b e = e
+
+pub and-right : (a b : Bool) → (a && b) ≡ true → b ≡ true
+and-right true b e = e
+and-right false b e = cc
 
 abbrev records : List ℕ
 records = codes "CVR"

@@ -1,41 +1,17 @@
 -- An object without a member, and a member put in and taken out again.
-use Rattle.std.proofs.Common.{◌≡◌, ◌≤◌, ℕ, suc, List, [], ◌∷◌, false, cond, Some, None}
-use Rattle.std.proofs.Common.{Ordering, Less, Equal, Greater, nat_cmp, is_eq, string_bytes}
+use Rattle.std.proofs.Common.{◌≡◌, ◌≤◌, ℕ, suc, List, false, Some, None}
+use Rattle.std.proofs.Common.{Ordering, Less, Equal, Greater, nat_cmp}
 use Rattle.std.proofs.Common.{refl, sym, ap, ◌∙◌, subst, arith}
 use Rattle.std.proofs.lemmas.Bool.{or_parts}
-use Rattle.std.specs.BTreeMap.{is_at}
-use Rattle.std.specs.Map.{remove_entry}
 use Rattle.std.specs.Cmp.Lexicographic.{slice_cmp}
 use Rattle.std.specs.Ordering.{match_ordering}
 use Rattle.serde_json.specs.Data.{Data, object, Members, no_members, member, put, depth, members_depth}
 use Rattle.serde_json.specs.Find.{get_member}
-use Rattle.serde_json.specs.View.{view, members_view}
 use Rattle.serde_json.specs.Written.{has_float, members_have_float}
-use Rattle.serde_json.proofs.Views.{Entry}
 use Rattle.cdf_form.specs.Proper.{Below, MembersAreWell, IsProper}
 use Rattle.cdf_form.specs.Removing.{without}
 use Rattle.cdf_form.proofs.Order.{Below-trans, equal_is, same_name, put_well}
 use Rattle.cdf_form.proofs.ReadsBack.{inside}
-
--- ---- what the map's `remove` leaves
-
-removed_at : (o : Ordering) (e : Entry) (es fs : List Entry) (rest : Members) → members_view fs ≡ rest
-    → members_view (cond (is_eq o) es (e ∷ fs))
-    ≡ match_ordering o
-    (member (string_bytes e.0) (view e.1) rest) (members_view es) (member (string_bytes e.0) (view e.1) rest)
-removed_at Less e es fs rest h = ap (member (string_bytes e.0) (view e.1)) h
-removed_at Equal e es fs rest h = refl
-removed_at Greater e es fs rest h = ap (member (string_bytes e.0) (view e.1)) h
-
-pub view-remove_entry : (name : List ℕ) (es : List Entry)
-    → members_view (remove_entry (is_at (λ k. slice_cmp nat_cmp name (string_bytes k))) es)
-    ≡ without name (members_view es)
-view-remove_entry name [] = refl
-view-remove_entry name (e ∷ es) =
-    removed_at (slice_cmp nat_cmp name (string_bytes e.0)) e es
-    (remove_entry (is_at (λ k. slice_cmp nat_cmp name (string_bytes k))) es)
-    (without name (members_view es))
-    (view-remove_entry name es)
 
 -- ---- taken out
 

@@ -4,8 +4,8 @@ use Rattle.std.specs.Ordering.{nat_cmp, match_ordering}
 use Rattle.std.specs.Cmp.Lexicographic.{slice_cmp}
 use Rattle.serde_json.specs.Data.{Data, null, boolean, number, string, array, object, Items, no_items, item, Members, no_members, member}
 use Rattle.serde_json.specs.Find.{get, get_member, get_item, as_array, is_float}
-use Rattle.serde_json.specs.View.{view}
-use Rattle.serde_json.specs.declared.value.Value.{Value}
+use Rattle.cdf_node.specs.View.{view}
+use Rattle.cdf_node.specs.declared.node.Node.{Node}
 use Rattle.serde_json.specs.Written.{has_float, items_have_float, members_have_float}
 use Rattle.std.specs.Prelude.{option_and_then, unwrap_or}
 use Rattle.std.specs.List.{list_any}
@@ -105,12 +105,12 @@ pub whole_array : (d : Data) (name : List ℕ) → has_float d ≡ false → lis
 whole_array d name h = whole_found (get name d) (λ e is. whole_get d name e h is)
 
 -- an item of a list of values with no float
-pub whole_value : (vs : List Value) (i : ℕ) (v : Value) → i < length vs → list_any has_float (map view vs) ≡ false → has_float (view (get_or vs i v)) ≡ false
+pub whole_value : (vs : List Node) (i : ℕ) (v : Node) → i < length vs → list_any has_float (map view vs) ≡ false → has_float (view (get_or vs i v)) ≡ false
 whole_value [] i v lt h = absurd (omega arith)
 whole_value (w ∷ vs) zero v lt h = or_left (has_float (view w)) (list_any has_float (map view vs)) h
 whole_value (w ∷ vs) (suc i) v lt h = whole_value vs i v (omega arith) (or_right (has_float (view w)) (list_any has_float (map view vs)) h)
 
-pub whole_there : (vs : List Value) (i : ℕ) (v : Value) → i < length vs → v ≡ get_or vs i v → list_any has_float (map view vs) ≡ false → has_float (view v) ≡ false
+pub whole_there : (vs : List Node) (i : ℕ) (v : Node) → i < length vs → v ≡ get_or vs i v → list_any has_float (map view vs) ≡ false → has_float (view v) ≡ false
 whole_there vs i v lt is h = ap (λ w. has_float (view w)) is ∙ whole_value vs i v lt h
 
 -- ---- a document with no fault

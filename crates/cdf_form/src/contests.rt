@@ -1,7 +1,7 @@
 use crate::ids::Ids;
 use crate::part::items_at;
+use cdf_node::Node;
 use cdf_types::Memory;
-use serde_json::Value;
 use std::alloc::Global;
 use std::marker::Model;
 
@@ -27,14 +27,14 @@ impl Model for Contests {
 
 impl Contests {
     ghost use Rattle.std.specs.Prelude.{◌≡◌, ◌<◌, length, map, IfOk, option_map};
-    ghost use Rattle.serde_json.specs.View.{view};
+    ghost use Rattle.cdf_node.specs.View.{view};
     ghost use Rattle.cdf_form.specs.Places.{contest_of, contest_ids, selections_at, selections_of};
 
     /// The contests of an Election's array, in order.
     ///
     /// # Errors
     /// `Memory` where a growth was refused.
-    pub fn of_items(alloc: Global, items: &[Value]) -> Result<Contests, Memory>
+    pub fn of_items(alloc: Global, items: &[Node<'_>]) -> Result<Contests, Memory>
         ensures { IfOk result (λ n. n ≡ map contest_of (map view items.now)) }
     {
         let mut selections = Vec::with_capacity(alloc, items.len())?;

@@ -1,7 +1,7 @@
 use crate::noting::note_place;
 use crate::part::{copy_texts, text_at};
+use cdf_node::Node;
 use cdf_types::Memory;
-use serde_json::Value;
 use std::alloc::Global;
 use std::collections::BTreeMap;
 use std::marker::Model;
@@ -28,7 +28,7 @@ impl Model for Ids {
 impl Ids {
     ghost use Rattle.std.specs.Prelude.{◌≡◌, ◌<◌, length, slice_index_or, map, IfOk, [], bytes_eq};
     ghost use Rattle.std.specs.List.{list_any};
-    ghost use Rattle.serde_json.specs.View.{view};
+    ghost use Rattle.cdf_node.specs.View.{view};
     ghost use Rattle.cdf_form.specs.Parts.{id_of};
     ghost use Rattle.cdf_form.specs.Places.{place_in};
     ghost use Rattle.cdf_form.specs.Kept.{bytes_of};
@@ -51,7 +51,7 @@ impl Ids {
     ///
     /// # Errors
     /// `Memory` where a growth was refused.
-    pub fn of_items(alloc: Global, items: &[Value]) -> Result<Ids, Memory>
+    pub fn of_items(alloc: Global, items: &[Node<'_>]) -> Result<Ids, Memory>
         ensures { IfOk result (λ n. n ≡ map id_of (map view items.now)) }
     {
         let mut ids = Vec::with_capacity(alloc, items.len())?;

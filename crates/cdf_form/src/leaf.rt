@@ -1,15 +1,17 @@
 ghost use Rattle.std.specs.Prelude.{◌≡◌, option_map, map, bytes_eq, IfOk, IfErr, OnOk, Some, None};
 ghost use Rattle.std.specs.List.{list_any};
-ghost use Rattle.serde_json.specs.View.{view, number_view};
+ghost use Rattle.serde_json.specs.View.{number_view};
+ghost use Rattle.cdf_node.specs.View.{view};
 ghost use Rattle.cdf_form.specs.Tables.{listed_in};
 ghost use Rattle.cdf_form.specs.Form.{first, leaf_faults, here, is_moment, is_count, IsPlain, find_class, class_in};
 ghost use Rattle.cdf_form.specs.Found.{Tells};
 
 use crate::found::{Step, Stop};
 use crate::table::{Class, Group, Leaf, Listing, class_text, classes, texts};
+use cdf_node::Node;
 use cdf_types::Rule;
 use jiff::Timestamp;
-use serde_json::{Number, Value};
+use serde_json::Number;
 use std::alloc::Global;
 
 fn is_moment(text: &str) -> bool
@@ -59,7 +61,7 @@ pub fn find_class(among: &[Class], text: &str) -> Option<Class>
 /// # Errors
 /// `NotObject` at the value; at `@type` `Missing`, `WrongKind` where it is no text, `WrongClass`
 /// where it is no class of the group. `Memory` where a growth was refused.
-pub fn class_of(alloc: Global, group: Group, value: &Value) -> Result<Class, Stop<'static>>
+pub fn class_of(alloc: Global, group: Group, value: &Node<'_>) -> Result<Class, Stop<'static>>
     ensures ok { OnOk result (first (leaf_faults (Leaf.Object group) (view value.now)) ≡ None) }
     ensures class { IfOk result (λ class. class_in group (view value.now) ≡ Some class) }
     ensures fault { IfErr result (λ s.
@@ -82,7 +84,7 @@ pub fn class_of(alloc: Global, group: Group, value: &Value) -> Result<Class, Sto
 }
 
 /// The rule that a value breaks, where it is to be no object. Takes no memory.
-pub fn plain_rule(value: &Value, leaf: Leaf) -> Option<Rule>
+pub fn plain_rule(value: &Node<'_>, leaf: Leaf) -> Option<Rule>
     requires { IsPlain leaf }
     ensures { option_map here result ≡ first (leaf_faults leaf (view value.now)) }
 {

@@ -17,4 +17,4 @@ pub mod table;
 pub mod text_law;
 mod walk;
 
-pub use part::{election_items, instant, items_at, take_items, text_at, text_in};
+pub use part::{election_items, instant, items_at, text_at, text_in};

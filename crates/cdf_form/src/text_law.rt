@@ -1,7 +1,7 @@
 // Laws of JSON data and its compact text (RFC 8259). Each is the contract of a function that does nothing.
 ghost use Rattle.cdf_form.specs.TextLaws.{ReadIsWellLaw, ReadIsShallowLaw, ReadIsProperLaw, ReadsBackLaw, ReadAgainLaw, OneTextLaw};
 ghost use Rattle.cdf_form.specs.MemberLaws.{GoneLaw, OthersStayLaw, AbsentLaw, FoundLaw, OthersKeptLaw};
-ghost use Rattle.cdf_form.specs.MemberLaws.{TakenOutLaw, PutBackLaw, WithoutIsWellLaw, WithoutIsWholeLaw, WithoutIsProperLaw, PutIsProperLaw, RemovedLaw};
+ghost use Rattle.cdf_form.specs.MemberLaws.{TakenOutLaw, PutBackLaw, WithoutIsWellLaw, WithoutIsWholeLaw, WithoutIsProperLaw, PutIsProperLaw};
 ghost use Rattle.cdf_form.specs.PartLaws.{MemberIsProperLaw, ItemIsProperLaw, ArrayIsProperLaw, PartIsProperLaw, DeeperIsProperLaw};
 ghost use Rattle.cdf_form.specs.PartLaws.{ArrayListLaw, PartOfPartLaw, ListedIsPartLaw, PartIsShorterLaw, ItemsAreShorterLaw};
 ghost use Rattle.cdf_form.specs.PartLaws.{PartReadsBackLaw, ListedReadsBackLaw};
@@ -52,11 +52,6 @@ pub fn members_stay_proper()
     ensures whole { WithoutIsWholeLaw }
     ensures without { WithoutIsProperLaw }
     ensures put { PutIsProperLaw }
-{}
-
-/// A map's `remove` takes out the member of that name.
-pub fn map_remove()
-    ensures { RemovedLaw }
 {}
 
 /// A part of data that reads back does so too, and what may nest so deep may nest deeper.

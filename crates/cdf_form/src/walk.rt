@@ -1,26 +1,20 @@
-ghost use Rattle.std.specs.Prelude.{◌≡◌, option_map, IfOk, IfErr, OnOk, [], List, ℕ, None, Some, true};
-ghost use Rattle.serde_json.specs.Data.{object};
-ghost use Rattle.serde_json.specs.View.{view, items_view, members_view};
-ghost use Rattle.serde_json.specs.Written.{has_float, items_have_float, members_have_float};
-ghost use Rattle.cdf_types.specs.declared.rule.Rule.TheVariants.{Missing};
-ghost use Rattle.cdf_form.specs.Form.{first, faults, here, deeper, at_member, items_faults, length_faults, repeat_faults, rows_faults, member_look, key_text, mark_of, add_text};
+ghost use Rattle.std.specs.Prelude.{◌≡◌, option_map, IfOk, IfErr, OnOk, [], List, ℕ, None, Some};
+ghost use Rattle.cdf_node.specs.View.{view, items_view};
+ghost use Rattle.cdf_form.specs.declared.table.Key.TheVariants.{Free};
+ghost use Rattle.cdf_form.specs.Form.{first, faults, here, items_faults, length_faults, repeat_faults, row_faults, rows_faults, member_look, key_text, mark_of, add_text};
 ghost use Rattle.cdf_form.specs.Found.{Tells};
-ghost use Rattle.cdf_form.specs.Laws.{is_in_order};
-ghost use Rattle.cdf_form.specs.Merge.{missing_faults, member_faults, entry_faults, rows_after};
 ghost use Rattle.cdf_form.specs.Seen.{HasTexts};
 ghost use Rattle.cdf_form.specs.Tables.{entry_of, entries_of};
 
-use crate::float::has_fraction;
 use crate::found::{Step, Stop};
 use crate::leaf::{class_of, plain_rule};
 use crate::table::{Group, Key, Kind, Leaf, Member, class_members};
+use cdf_node::Node;
 use cdf_types::Rule;
-use serde_json::{Map, Value};
 use std::alloc::{AllocError, Global};
-use std::cmp::Ordering;
 use std::collections::BTreeSet;
 
-fn key_text(key: Key, value: &Value) -> Option<&str>
+fn key_text<'t>(key: Key, value: &Node<'t>) -> Option<&'t str>
     ensures { option_map (λ s. s.now) result ≡ key_text key (view value.now) }
 {
     match key {
@@ -31,10 +25,10 @@ fn key_text(key: Key, value: &Value) -> Option<&str>
 }
 
 // The key, if its text was seen before; now it has been.
-fn note_key<'a>(seen: &mut BTreeSet<&'a str>, key: Key, item: &'a Value) -> Result<Key, AllocError>
+fn note_key<'t>(seen: &mut BTreeSet<&'t str>, key: Key, item: &Node<'t>) -> Result<Key, AllocError>
     ensures { IfOk result (λ mark. (texts : List (List ℕ)) → HasTexts seen.old texts
-        → (mark ≡ mark_of key texts (view item.entry.now))
-        × HasTexts seen.new (add_text (key_text key (view item.entry.now)) texts)) }
+        → (mark ≡ mark_of key texts (view item.now))
+        × HasTexts seen.new (add_text (key_text key (view item.now)) texts)) }
 {
     match key_text(key, item) {
         None => Ok(Key::Free),
@@ -76,15 +70,14 @@ fn length_rule(least: usize, most: usize, len: usize) -> Option<Rule>
     }
 }
 
-/// Looks for the first fault of a value against a kind, in the order of the walk; Ok tells whether
-/// a number that isn't whole stands anywhere in the value.
+/// Looks for the first fault of a value against a kind, in the order of the walk.
 ///
 /// # Errors
 /// `Fault` where there is one; `Memory` where a growth was refused.
 #[cycle(walk)]
-pub fn walk(alloc: Global, value: &Value, kind: Kind, mark: Key) -> Result<bool, Stop<'static>>
+#[tactic(auto, using(crate::proofs::Parts::array_first, crate::proofs::Parts::as_many))]
+pub fn walk(alloc: Global, value: &Node<'_>, kind: Kind, mark: Key) -> Result<(), Stop<'static>>
     ensures none { OnOk result (first (faults (view value.now) kind mark) ≡ None) }
-    ensures fraction { IfOk result (λ fraction. fraction ≡ has_float (view value.now)) }
     ensures fault { IfErr result (λ s. Tells s (first (faults (view value.now) kind mark))) }
 {
     match kind {
@@ -100,14 +93,17 @@ pub fn walk(alloc: Global, value: &Value, kind: Kind, mark: Key) -> Result<bool,
 }
 
 #[cycle(walk)]
-fn walk_one(alloc: Global, value: &Value, leaf: Leaf, mark: Key) -> Result<bool, Stop<'static>>
+#[tactic(auto, using(crate::proofs::Parts::one_first))]
+fn walk_one(alloc: Global, value: &Node<'_>, leaf: Leaf, mark: Key) -> Result<(), Stop<'static>>
     ensures none { OnOk result (first (faults (view value.now) (Kind.One leaf) mark) ≡ None) }
-    ensures fraction { IfOk result (λ fraction. fraction ≡ has_float (view value.now)) }
     ensures fault { IfErr result (λ s.
         Tells s (first (faults (view value.now) (Kind.One leaf) mark))) }
 {
     match leaf {
-        Leaf::Object(group) => walk_object(alloc, value, group, mark),
+        Leaf::Object(group) => {
+            let class = class_of(alloc, group, value)?;
+            walk_rows(alloc, value, class_members(class), mark)
+        }
         Leaf::Text
         | Leaf::Name
         | Leaf::Count
@@ -117,145 +113,74 @@ fn walk_one(alloc: Global, value: &Value, leaf: Leaf, mark: Key) -> Result<bool,
         | Leaf::Fractional
         | Leaf::Listed(_) => match plain_rule(value, leaf) {
             Some(rule) => Err(Stop::at(alloc, rule)),
-            None => Ok(value.is_f64()),
+            None => Ok(()),
         },
     }
 }
 
+// Objects have few members, and most names differ in length: to look each row's member up costs
+// little more than to hold both in order against each other.
 #[cycle(walk)]
-fn walk_object(alloc: Global, value: &Value, group: Group, mark: Key) -> Result<bool, Stop<'static>>
-    ensures none { OnOk result
-        (first (faults (view value.now) (Kind.One (Leaf.Object group)) mark) ≡ None) }
-    ensures fraction { IfOk result (λ fraction. fraction ≡ has_float (view value.now)) }
-    ensures fault { IfErr result (λ s.
-        Tells s (first (faults (view value.now) (Kind.One (Leaf.Object group)) mark))) }
-{
-    let class = class_of(alloc, group, value)?;
-    match value.as_object() {
-        None => Ok(false),
-        Some(members) => walk_members(alloc, members, class_members(class), mark),
-    }
-}
-
-// Members and rows both stand in byte order, so one pass over both serves.
-#[cycle(walk)]
-fn walk_members(
+#[tactic(auto, using(crate::proofs::Parts::part_is_lighter))]
+fn walk_rows(
     alloc: Global,
-    members: &Map<String, Value>,
+    value: &Node<'_>,
     rows: &'static [Member],
     mark: Key,
-) -> Result<bool, Stop<'static>>
-    requires { is_in_order (entries_of rows.now) ≡ true }
-    ensures none { OnOk result (first (rows_faults
-        (member_look (object (members_view members.now.entries))) mark (entries_of rows.now)) ≡ None) }
-    ensures fraction { IfOk result (λ fraction.
-        fraction ≡ members_have_float (members_view members.now.entries)) }
-    ensures fault { IfErr result (λ s. Tells s (first (rows_faults
-        (member_look (object (members_view members.now.entries))) mark (entries_of rows.now)))) }
-{
-    let mut fraction = false;
-    let mut left = rows;
-    for (name, member) in members.iter() {
-        let (part, rest) = walk_entry(alloc, name.as_str(), member, left, mark)?;
-        fraction |= part;
-        left = rest;
-    }
-    find_missing(alloc, left)?;
-    Ok(fraction)
-}
-
-// Ok gives the rows after the member, and whether it has a fraction.
-#[cycle(walk)]
-fn walk_entry(
-    alloc: Global,
-    name: &str,
-    member: &Value,
-    rows: &'static [Member],
-    mark: Key,
-) -> Result<(bool, &'static [Member]), Stop<'static>>
+) -> Result<(), Stop<'static>>
     ensures none { OnOk result
-        (first (entry_faults name.now (view member.now) mark (entries_of rows.now)) ≡ None) }
-    ensures fraction { IfOk result (λ p. p.0 ≡ has_float (view member.now)) }
-    ensures left { IfOk result (λ p.
-        entries_of p.1.now ≡ rows_after name.now (entries_of rows.now)) }
+        (first (rows_faults (member_look (view value.now)) mark (entries_of rows.now)) ≡ None) }
     ensures fault { IfErr result (λ s.
-        Tells s (first (entry_faults name.now (view member.now) mark (entries_of rows.now)))) }
-{
-    for (place, row) in rows.iter().enumerate() {
-        match row.name.cmp(name) {
-            Ordering::Less => if row.required {
-                return Err(missing(alloc, row.name));
-            },
-            Ordering::Equal => return match walk_member(alloc, member, *row, mark) {
-                Ok(fraction) => Ok((fraction, &rows[place + 1..])),
-                Err(stop) => Err(stop.under(Step::Member(row.name))),
-            },
-            Ordering::Greater => return Ok((has_fraction(member), &rows[place..])),
-        }
-    }
-    Ok((has_fraction(member), &[]))
-}
-
-// A member that a row lists.
-#[cycle(walk)]
-fn walk_member(alloc: Global, member: &Value, row: Member, mark: Key) -> Result<bool, Stop<'static>>
-    ensures none { OnOk result
-        (first (member_faults (view member.now) mark (entry_of row)) ≡ None) }
-    ensures fraction { IfOk result (λ fraction. fraction ≡ has_float (view member.now)) }
-    ensures fault { IfErr result (λ s.
-        Tells s (first (member_faults (view member.now) mark (entry_of row)))) }
-{
-    let fraction = walk(alloc, member, row.kind, Key::Free)?;
-    match repeat_rule(mark, row.name) {
-        Some(rule) => Err(Stop::at(alloc, rule)),
-        None => Ok(fraction),
-    }
-}
-
-// The fault of a required member that is absent.
-fn missing(alloc: Global, name: &'static str) -> Stop<'static>
-    ensures { Tells result (Some (deeper (at_member name.now) (here Missing))) }
-{
-    Stop::at(alloc, Rule::Missing).under(Step::Member(name))
-}
-
-// No member is left for these rows.
-fn find_missing(alloc: Global, rows: &'static [Member]) -> Result<(), Stop<'static>>
-    ensures none { OnOk result
-        (first (missing_faults (entries_of rows.now)) ≡ None) }
-    ensures fault { IfErr result (λ s.
-        Tells s (first (missing_faults (entries_of rows.now)))) }
+        Tells s (first (rows_faults (member_look (view value.now)) mark (entries_of rows.now)))) }
 {
     for row in rows {
-        if row.required {
-            return Err(missing(alloc, row.name));
+        match value.get(row.name) {
+            None => if row.required {
+                return Err(Stop::at(alloc, Rule::Missing).under(Step::Member(row.name)));
+            },
+            Some(member) => match walk_member(alloc, member, row, mark) {
+                Ok(()) => {}
+                Err(stop) => return Err(stop.under(Step::Member(row.name))),
+            },
         }
     }
     Ok(())
 }
 
+// A member that a row lists.
 #[cycle(walk)]
-fn walk_items(
+fn walk_member(
     alloc: Global,
-    items: &Vec<Value>,
-    leaf: Leaf,
-    key: Key,
-) -> Result<bool, Stop<'static>>
-    ensures none { OnOk result
-        (first (items_faults (items_view items.now.items) leaf key 0 []) ≡ None) }
-    ensures fraction { IfOk result (λ fraction.
-        fraction ≡ items_have_float (items_view items.now.items)) }
-    ensures fault { IfErr result (λ s.
-        Tells s (first (items_faults (items_view items.now.items) leaf key 0 []))) }
+    member: &Node<'_>,
+    row: &Member,
+    mark: Key,
+) -> Result<(), Stop<'static>>
+    ensures none { OnOk result (first (row_faults mark (entry_of row.now)
+        (Some (faults (view member.now) row.now.kind Free))) ≡ None) }
+    ensures fault { IfErr result (λ s. Tells s (first (row_faults mark (entry_of row.now)
+        (Some (faults (view member.now) row.now.kind Free))))) }
 {
-    let mut fraction = false;
+    walk(alloc, member, row.kind, Key::Free)?;
+    match repeat_rule(mark, row.name) {
+        Some(rule) => Err(Stop::at(alloc, rule)),
+        None => Ok(()),
+    }
+}
+
+#[cycle(walk)]
+#[tactic(auto, using(crate::proofs::Parts::item_is_lighter))]
+fn walk_items(alloc: Global, items: &[Node<'_>], leaf: Leaf, key: Key) -> Result<(), Stop<'static>>
+    ensures none { OnOk result (first (items_faults (items_view items.now) leaf key 0 []) ≡ None) }
+    ensures fault { IfErr result (λ s.
+        Tells s (first (items_faults (items_view items.now) leaf key 0 []))) }
+{
     let mut seen: BTreeSet<&str> = BTreeSet::new(alloc);
     for (place, item) in items.iter().enumerate() {
         let mark = note_key(&mut seen, key, item)?;
         match walk(alloc, item, Kind::One(leaf), mark) {
-            Ok(part) => fraction |= part,
+            Ok(()) => {}
             Err(stop) => return Err(stop.under(Step::Item(place))),
         }
     }
-    Ok(fraction)
+    Ok(())
 }

@@ -6,8 +6,8 @@ use Rattle.std.specs.List.{filter_map, cons_option}
 use Rattle.std.proofs.lemmas.Cmp.{int_cmp_total, upto}
 use Rattle.std.proofs.lemmas.List.{drop_more}
 use Rattle.serde_json.specs.Data.{Data}
-use Rattle.serde_json.specs.View.{view}
-use Rattle.serde_json.specs.declared.value.Value.{Value}
+use Rattle.cdf_node.specs.View.{view}
+use Rattle.cdf_node.specs.declared.node.Node.{Node}
 use Rattle.cdf_typed.specs.Greatest.{greater, greatest}
 use Rattle.cdf_typed.specs.Instants.{later}
 use Rattle.cdf_typed.specs.Typed.{instant_in}
@@ -49,11 +49,7 @@ greatest_more (Some x) xs = at_rest x (greatest int_cmp xs) where
 pub latest_more : (m : Option ℤ) (d : Data) (ds : List Data) → later m (greatest int_cmp (filter_map instant_in (d ∷ ds))) ≡ later (later m (instant_in d)) (greatest int_cmp (filter_map instant_in ds))
 latest_more m d ds = ap (later m) (greatest_more (instant_in d) (filter_map instant_in ds)) ∙ later_joined m (instant_in d) (greatest int_cmp (filter_map instant_in ds))
 
-pub later_none : (m : Option ℤ) → later m None ≡ m
-later_none None = refl
-later_none (Some a) = refl
-
-pub latest_step : (vs : List Value) (i : ℕ) (v : Value) (m : Option ℤ) → i < length vs → v ≡ get_or vs i v
+pub latest_step : (vs : List Node) (i : ℕ) (v : Node) (m : Option ℤ) → i < length vs → v ≡ get_or vs i v
     → later m (greatest int_cmp (filter_map instant_in (map view (drop i vs)))) ≡ later (later m (instant_in (view v))) (greatest int_cmp (filter_map instant_in (map view (drop (i + 1) vs))))
 latest_step vs i v m lt is =
     let first : drop i vs ≡ v ∷ drop (i + 1) vs = drop_more vs i v lt ∙ ap (λ x. x ∷ drop (i + 1) vs) (sym is) in

@@ -1,9 +1,9 @@
 ghost use Rattle.std.specs.Prelude.{◌≡◌};
-ghost use Rattle.serde_json.specs.View.{view};
+ghost use Rattle.cdf_node.specs.View.{view};
 ghost use Rattle.cdf_typed.specs.Typed.{kind_named, indication_named, allocation_named, count_at};
 
+use cdf_node::Node;
 use cdf_types::{Allocation, Indication, SnapshotKind};
-use serde_json::Value;
 
 /// The kind that a text names, if it names one.
 pub fn kind_named(text: &str) -> Option<SnapshotKind>
@@ -27,7 +27,7 @@ pub fn allocation_named(text: &str) -> Option<Allocation>
 }
 
 /// The whole number from 0 under a name, or 0.
-pub fn count_at(name: &str, value: &Value) -> u64
+pub fn count_at(name: &str, value: &Node<'_>) -> u64
     ensures { result ≡ count_at name.now (view value.now) }
 {
     match value.get(name) {

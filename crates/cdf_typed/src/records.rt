@@ -1,27 +1,34 @@
-ghost use Rattle.std.specs.Prelude.{◌≡◌, IfOk, map, false, option_map};
-ghost use Rattle.std.specs.List.{list_any};
-ghost use Rattle.serde_json.specs.View.{view};
+ghost use Rattle.std.specs.Prelude.{◌≡◌, IfOk, map, false, bytes_eq, option_map};
+ghost use Rattle.std.specs.List.{list_any, position};
 ghost use Rattle.serde_json.specs.Written.{has_float, compact_text};
+ghost use Rattle.cdf_node.specs.View.{view, members_view};
+ghost use Rattle.cdf_form.specs.Removing.{without};
 ghost use Rattle.cdf_typed.specs.Instants.{later};
 ghost use Rattle.cdf_typed.specs.Typed.{kind_of, instant_in, moment_of, snapshot_of, header_of, cvr_of, device_of, report_of};
 
 use crate::listed::kind_named;
 use crate::votes::read_contests;
 use cdf_form::contests::Contests;
-use cdf_form::{instant, items_at, take_items, text_at, text_in};
+use cdf_form::{instant, items_at, text_at, text_in};
+use cdf_node::Node;
 use cdf_types::{Body, Cvr, Memory, Moment, Report, ReportingDevice, Seq, Snapshot, SnapshotKind};
-use serde_json::Value;
 use std::alloc::Global;
 
-// A text of its own.
-fn own_text(alloc: Global, text: &str) -> Result<Body, Memory>
+/// A text of its own.
+///
+/// # Errors
+/// `Memory` where a growth was refused.
+pub fn own_text(alloc: Global, text: &str) -> Result<Body, Memory>
     ensures { IfOk result (λ b. b ≡ text.now) }
 {
     Ok(Body::new(String::from_str(alloc, text)?))
 }
 
-// A text of its own, if there is one.
-fn own_text_in(alloc: Global, text: Option<&str>) -> Result<Option<Body>, Memory>
+/// A text of its own, if there is one.
+///
+/// # Errors
+/// `Memory` where a growth was refused.
+pub fn own_text_in(alloc: Global, text: Option<&str>) -> Result<Option<Body>, Memory>
     ensures { IfOk result (λ b. b ≡ option_map (λ s. s.now) text.entry) }
 {
     match text {
@@ -30,8 +37,11 @@ fn own_text_in(alloc: Global, text: Option<&str>) -> Result<Option<Body>, Memory
     }
 }
 
-// The compact text of a value. It has no room for more: such texts are most of what a report holds.
-fn compact(alloc: Global, value: &Value) -> Result<Body, Memory>
+/// The compact text of a value. It has no room for more: such texts are most of what a report holds.
+///
+/// # Errors
+/// `Memory` where a growth was refused.
+pub fn compact(alloc: Global, value: &Node<'_>) -> Result<Body, Memory>
     requires { has_float (view value.now) ≡ false }
     ensures { IfOk result (λ b. b ≡ compact_text (view value.now)) }
 {
@@ -40,8 +50,8 @@ fn compact(alloc: Global, value: &Value) -> Result<Body, Memory>
     Ok(Body::new(text))
 }
 
-// The kind of a snapshot.
-fn kind_of(snapshot: &Value) -> SnapshotKind
+/// The kind of a snapshot (member Type), `Original` where it names none. Takes no memory.
+pub fn kind_of(snapshot: &Node<'_>) -> SnapshotKind
     ensures { result ≡ kind_of (view snapshot.now) }
 {
     kind_named(text_at("Type", snapshot)).unwrap_or(SnapshotKind::Original)
@@ -61,7 +71,7 @@ fn later(one: Option<Moment>, other: Option<Moment>) -> Option<Moment>
 }
 
 // The instant of an annotation.
-fn instant_in(annotation: &Value) -> Option<Moment>
+fn instant_in(annotation: &Node<'_>) -> Option<Moment>
     ensures { result ≡ instant_in (view annotation.now) }
 {
     match text_in("TimeStamp", annotation) {
@@ -73,8 +83,9 @@ fn instant_in(annotation: &Value) -> Option<Moment>
     }
 }
 
-// The greatest instant of a snapshot's annotations.
-fn moment_of(snapshot: &Value) -> Option<Moment>
+/// The greatest instant of a snapshot's annotations (class Annotation, member TimeStamp). Takes no
+/// memory.
+pub fn moment_of(snapshot: &Node<'_>) -> Option<Moment>
     ensures { result ≡ moment_of (view snapshot.now) }
 {
     let mut latest = None;
@@ -84,7 +95,7 @@ fn moment_of(snapshot: &Value) -> Option<Moment>
     latest
 }
 
-fn read_snapshot(alloc: Global, contests: &Contests, value: &Value) -> Result<Snapshot, Memory>
+fn read_snapshot(alloc: Global, contests: &Contests, value: &Node<'_>) -> Result<Snapshot, Memory>
     requires { has_float (view value.now) ≡ false }
     ensures { IfOk result (λ s. s ≡ snapshot_of contests.now (view value.now)) }
 {
@@ -100,7 +111,7 @@ fn read_snapshot(alloc: Global, contests: &Contests, value: &Value) -> Result<Sn
 fn read_snapshots(
     alloc: Global,
     contests: &Contests,
-    values: &[Value],
+    values: &[Node<'_>],
 ) -> Result<Seq<Snapshot>, Memory>
     requires { list_any has_float (map view values.now) ≡ false }
     ensures { IfOk result (λ s. s ≡ map (snapshot_of contests.now) (map view values.now)) }
@@ -112,42 +123,53 @@ fn read_snapshots(
     Ok(Seq::new(snapshots))
 }
 
-// The record without its snapshots and the name of the current one.
-fn header(cvr: Value) -> Value
-    ensures { view result ≡ header_of (view cvr) }
+// The place of the member of a name.
+fn place_of(members: &[(&str, Node<'_>)], name: &str) -> Option<usize>
+    ensures { result ≡ position (λ member. bytes_eq name.now member.0.now) members.now }
 {
-    match cvr {
-        Value::Object(mut members) => {
-            let _ = members.remove("CVRSnapshot");
-            let _ = members.remove("CurrentSnapshotId");
-            Value::Object(members)
-        }
-        _ => Value::Null,
+    members.iter().position(|member| name == member.0)
+}
+
+// Takes out the member of a name.
+fn take_out<'t>(members: &mut Vec<(&'t str, Node<'t>)>, name: &str)
+    ensures { members_view members.new.items ≡ without name.now (members_view members.old.items) }
+{
+    if let Some(place) = place_of(members, name) {
+        let _ = members.remove(place);
     }
 }
 
-// The text of that.
-fn header_text(alloc: Global, cvr: Value) -> Result<Body, Memory>
-    requires { has_float (view cvr) ≡ false }
-    ensures { IfOk result (λ b. b ≡ compact_text (header_of (view cvr))) }
-{
-    compact(alloc, &header(cvr))
-}
-
-/// The typed record of a value that has the form of a record (NIST SP 1500-103, class CVR), told as
-/// by `read_report`. The value is freed.
+/// The compact text of a record without its members CVRSnapshot and CurrentSnapshotId.
 ///
 /// # Errors
 /// `Memory` where a growth was refused.
-pub fn read_cvr(alloc: Global, contests: &Contests, cvr: Value) -> Result<Cvr, Memory>
-    requires { has_float (view cvr) ≡ false }
-    ensures { IfOk result (λ c. c ≡ cvr_of contests.now (view cvr)) }
+pub fn header_text(alloc: Global, cvr: &Node<'_>) -> Result<Body, Memory>
+    requires { has_float (view cvr.now) ≡ false }
+    ensures { IfOk result (λ b. b ≡ compact_text (header_of (view cvr.now))) }
 {
-    let device = own_text(alloc, text_at("CreatingDeviceId", &cvr))?;
-    let unique = own_text(alloc, text_at("UniqueId", &cvr))?;
-    let unit = own_text_in(alloc, text_in("BallotStyleUnitId", &cvr))?;
-    let batch = own_text_in(alloc, text_in("BatchId", &cvr))?;
-    let snapshots = read_snapshots(alloc, contests, items_at("CVRSnapshot", &cvr))?;
+    let Some(members) = cvr.as_object() else {
+        return compact(alloc, &Node::Null);
+    };
+    let mut others = Vec::from_slice(alloc, members)?;
+    take_out(&mut others, "CVRSnapshot");
+    take_out(&mut others, "CurrentSnapshotId");
+    compact(alloc, &Node::Object(&others))
+}
+
+/// The typed record of a value that has the form of a record (NIST SP 1500-103, class CVR), told as
+/// by `read_report`.
+///
+/// # Errors
+/// `Memory` where a growth was refused.
+pub fn read_cvr(alloc: Global, contests: &Contests, cvr: &Node<'_>) -> Result<Cvr, Memory>
+    requires { has_float (view cvr.now) ≡ false }
+    ensures { IfOk result (λ c. c ≡ cvr_of contests.now (view cvr.now)) }
+{
+    let device = own_text(alloc, text_at("CreatingDeviceId", cvr))?;
+    let unique = own_text(alloc, text_at("UniqueId", cvr))?;
+    let unit = own_text_in(alloc, text_in("BallotStyleUnitId", cvr))?;
+    let batch = own_text_in(alloc, text_in("BatchId", cvr))?;
+    let snapshots = read_snapshots(alloc, contests, items_at("CVRSnapshot", cvr))?;
     let body = header_text(alloc, cvr)?;
     Ok(Cvr {
         device,
@@ -159,10 +181,9 @@ pub fn read_cvr(alloc: Global, contests: &Contests, cvr: Value) -> Result<Cvr, M
     })
 }
 
-// Each cast vote record is freed once it is read.
-fn read_cvrs(alloc: Global, contests: &Contests, values: Vec<Value>) -> Result<Seq<Cvr>, Memory>
-    requires { list_any has_float (map view values.items) ≡ false }
-    ensures { IfOk result (λ s. s ≡ map (cvr_of contests.now) (map view values.items)) }
+fn read_cvrs(alloc: Global, contests: &Contests, values: &[Node<'_>]) -> Result<Seq<Cvr>, Memory>
+    requires { list_any has_float (map view values.now) ≡ false }
+    ensures { IfOk result (λ s. s ≡ map (cvr_of contests.now) (map view values.now)) }
 {
     let mut cvrs = Vec::with_capacity(alloc, values.len())?;
     for value in values {
@@ -171,7 +192,7 @@ fn read_cvrs(alloc: Global, contests: &Contests, values: Vec<Value>) -> Result<S
     Ok(Seq::new(cvrs))
 }
 
-fn read_device(alloc: Global, value: &Value) -> Result<ReportingDevice, Memory>
+fn read_device(alloc: Global, value: &Node<'_>) -> Result<ReportingDevice, Memory>
     requires { has_float (view value.now) ≡ false }
     ensures { IfOk result (λ d. d ≡ device_of (view value.now)) }
 {
@@ -181,7 +202,7 @@ fn read_device(alloc: Global, value: &Value) -> Result<ReportingDevice, Memory>
     })
 }
 
-fn read_devices(alloc: Global, values: &[Value]) -> Result<Seq<ReportingDevice>, Memory>
+fn read_devices(alloc: Global, values: &[Node<'_>]) -> Result<Seq<ReportingDevice>, Memory>
     requires { list_any has_float (map view values.now) ≡ false }
     ensures { IfOk result (λ s. s ≡ map device_of (map view values.now)) }
 {
@@ -199,11 +220,11 @@ fn read_devices(alloc: Global, values: &[Value]) -> Result<Seq<ReportingDevice>,
 ///
 /// # Errors
 /// `Memory` where a growth was refused.
-pub fn read_report(alloc: Global, contests: &Contests, report: Value) -> Result<Report, Memory>
-    requires whole { has_float (view report) ≡ false }
-    ensures { IfOk result (λ r. r ≡ report_of contests.now (view report)) }
+pub fn read_report(alloc: Global, contests: &Contests, report: &Node<'_>) -> Result<Report, Memory>
+    requires whole { has_float (view report.now) ≡ false }
+    ensures { IfOk result (λ r. r ≡ report_of contests.now (view report.now)) }
 {
-    let devices = read_devices(alloc, items_at("ReportingDevice", &report))?;
-    let cvrs = read_cvrs(alloc, contests, take_items(alloc, "CVR", report))?;
+    let devices = read_devices(alloc, items_at("ReportingDevice", report))?;
+    let cvrs = read_cvrs(alloc, contests, items_at("CVR", report))?;
     Ok(Report { devices, cvrs })
 }

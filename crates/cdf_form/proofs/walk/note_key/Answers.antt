@@ -4,7 +4,7 @@ use Rattle.std.specs.Cmp.Lexicographic.{slice_cmp}
 use Rattle.std.specs.BTreeSet.{BTreeSet, Updates}
 use Rattle.std.proofs.lemmas.Map.Text.{is_eq-slice_cmp}
 use Rattle.serde_json.specs.Data.{Data}
-use Rattle.serde_json.specs.View.{view}
+use Rattle.cdf_node.specs.View.{view}
 use denote.Ref.{Bor}
 use Rattle.cdf_form.specs.declared.table.Key.{Key}
 use Rattle.cdf_form.specs.declared.table.Key.TheVariants as key

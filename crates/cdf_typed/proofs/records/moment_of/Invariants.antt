@@ -1,7 +1,7 @@
 use Rattle.std.proofs.Common.{◌≡◌, map, drop}
 use Rattle.std.specs.Ordering.{int_cmp}
 use Rattle.std.specs.List.{filter_map}
-use Rattle.serde_json.specs.View.{view}
+use Rattle.cdf_node.specs.View.{view}
 use Rattle.cdf_typed.specs.Greatest.{greatest}
 use Rattle.cdf_typed.specs.Instants.{later}
 use Rattle.cdf_typed.specs.Typed.{instant_in, moment_of}

@@ -1,5 +1,5 @@
 use Rattle.std.proofs.Common.{◌≡◌, take, map}
-use Rattle.serde_json.specs.View.{view}
+use Rattle.cdf_node.specs.View.{view}
 use Rattle.cdf_typed.specs.Typed.{snapshot_of}
 use Rattle.cdf_typed.proofs.records.read_snapshots.Given as goal
 

@@ -1,5 +1,5 @@
 use Rattle.std.proofs.Common.{◌≡◌, take, map}
-use Rattle.serde_json.specs.View.{view}
+use Rattle.cdf_node.specs.View.{view}
 use Rattle.cdf_typed.specs.Typed.{contest_vote_of}
 use Rattle.cdf_typed.proofs.votes.read_contests.Given as goal
 

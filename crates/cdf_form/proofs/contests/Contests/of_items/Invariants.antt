@@ -1,6 +1,6 @@
 use Rattle.std.proofs.Common.{◌≡◌, take, map}
 use Rattle.std.specs.Prelude.{codes}
-use Rattle.serde_json.specs.View.{view}
+use Rattle.cdf_node.specs.View.{view}
 use Rattle.cdf_form.specs.Parts.{ids_at}
 use Rattle.cdf_form.proofs.contests.Contests.of_items.Given as goal
 

@@ -1,5 +1,5 @@
 use Rattle.std.proofs.Common.{◌≡◌, ◌<◌, ◌++◌, ◌∷◌, [], get_or, length, sym, ap, ◌∙◌, string_bytes, rules, arith}
-use Rattle.serde_json.specs.View.{view}
+use Rattle.cdf_node.specs.View.{view}
 use Rattle.cdf_form.specs.Parts.{id_of}
 use Rattle.cdf_form.specs.Places.{place_in}
 use Rattle.cdf_form.specs.Kept.{bytes_of}

@@ -1,5 +1,5 @@
 use Rattle.std.proofs.Common.{◌≡◌, take, map}
-use Rattle.serde_json.specs.View.{view}
+use Rattle.cdf_node.specs.View.{view}
 use Rattle.cdf_form.specs.Parts.{id_of}
 use Rattle.cdf_form.specs.Kept.{bytes_of, HasPlaces}
 use Rattle.cdf_form.proofs.ids.Ids.of_items.Given as goal
