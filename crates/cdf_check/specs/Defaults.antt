@@ -1,17 +1,21 @@
 -- In an accepted file no default of the typed readers stands for a part that is demanded, or for one of another kind or out of range. (NIST SP 1500-103, classes ReportingDevice, CVR to SelectionPosition; limits: this project's own.)
-use Rattle.std.specs.Prelude.{◌≡◌, ◌≤◌, ℕ, List, Some, IsSome, codes, length}
+use Rattle.std.specs.Prelude.{◌≡◌, ◌≤◌, ℕ, List, [], None, Some, IsSome, codes, length}
 use Rattle.std.specs.List.{Contains}
 use Rattle.serde_json.specs.Data.{Data}
 use Rattle.serde_json.specs.Find.{get, as_array, as_object}
 use Rattle.cdf_form.specs.declared.table.Group.TheVariants as group
 use Rattle.cdf_form.specs.declared.table.Leaf.TheVariants as leaf
 use Rattle.cdf_form.specs.declared.table.Kind.TheVariants.{One}
+use Rattle.cdf_form.specs.Form.{first}
+use Rattle.cdf_form.specs.Records.{cvr_faults}
 use Rattle.cdf_form.specs.HasForm.{HasForm}
 use Rattle.cdf_form.specs.Parts.{array_at, text_at, text_in, instant_of}
 use Rattle.cdf_form.specs.Places.{Texts, place_in, Contest, contest_ids, selections_of}
-use Rattle.cdf_typed.specs.Typed.{kind_named, indication_named, allocation_named, count_in}
-use Rattle.cdf_typed.specs.Range.{ReportInRange}
-use Rattle.cdf_check.specs.References.{scope_of}
+use Rattle.cdf_typed.specs.Typed.{kind_named, indication_named, allocation_named, count_in, cvr_of}
+use Rattle.cdf_typed.specs.Range.{CvrInRange, ReportInRange}
+use Rattle.cdf_check.specs.Paths.{each}
+use Rattle.cdf_check.specs.References.{scope_of, in_snapshot}
+use Rattle.cdf_check.specs.Scoped.{contests_alone}
 use Rattle.cdf_check.specs.Resolves.{Resolves}
 use Rattle.cdf_check.specs.Frame.{Frame}
 use Rattle.cdf_check.specs.Sound.{IsFrame}
@@ -102,3 +106,8 @@ NoDefaultLaw = (frame : Frame) (bytes : List ℕ) → IsFrame frame → Valid fr
 -- what an accepted file gives is in range: each place is one of the definition's, and no contest stands twice in a snapshot
 abbrev pub InRangeLaw : Type 0
 InRangeLaw = (frame : Frame) (bytes : List ℕ) → IsFrame frame → Valid frame bytes → ReportInRange frame.contests (report_in frame.contests bytes)
+
+-- so is what a record gives that has no fault of form, and names contests and selections of these alone
+abbrev pub RecordInRangeLaw : Type 0
+RecordInRangeLaw = (contests : List Contest) (cvr : Data) → first (cvr_faults cvr) ≡ None
+    → each (in_snapshot (contests_alone contests)) (codes "CVRSnapshot") cvr ≡ [] → CvrInRange contests (cvr_of contests cvr)

@@ -1,40 +1,39 @@
 -- What is seen of the records of a file as it is read, and why the file is refused, by that and by what is left beside them. (This project's own.)
-use Rattle.std.specs.Prelude.{◌≡◌, ◌↔◌, ◌<◌, ◌≤◌, ℕ, List, [], ◌∷◌, length, map, Option, None, Some, option_map, option_and_then, Result, IfOk, IfErr, IsSome, codes, if◌then◌else◌, bytes_eq, Bool, true, false}
-use Rattle.std.specs.List.{list_all, All}
+use Rattle.std.specs.Prelude.{◌≡◌, ◌↔◌, ◌≤◌, ℕ, List, [], ◌∷◌, length, map, Option, None, Some, option_map, option_and_then, Result, IfOk, IfErr, OnOk, IsSome, codes, if◌then◌else◌, bytes_eq, Bool, true, false}
+use Rattle.std.specs.List.{All}
 use Rattle.std.specs.Option.{option_or}
 use Rattle.serde_json.specs.Data.{Data, array, object, no_items, Members, no_members, member}
 use Rattle.serde_json.specs.Find.{as_object, get_member}
 use Rattle.serde_json.specs.Read.{read}
-use Rattle.serde_json.specs.View.{items_of}
+use Rattle.cdf_node.specs.View.{items_of}
 use Rattle.cdf_pull.specs.Fold.{filled}
 use Rattle.cdf_types.specs.declared.fault.ReadFault.{ReadFault}
 use Rattle.cdf_types.specs.declared.fault.ReadFault.TheVariants.{Schema}
-use Rattle.cdf_types.specs.declared.report.Report.{Report}
+use Rattle.cdf_types.specs.declared.report.Cvr.{Cvr}
+use Rattle.cdf_types.specs.declared.report.ReportingDevice.{ReportingDevice}
 use Rattle.cdf_types.specs.declared.rule.Rule.TheVariants as rule
 use Rattle.cdf_form.specs.declared.table.Group.TheVariants as group
 use Rattle.cdf_form.specs.declared.table.Leaf.TheVariants as leaf
+use Rattle.cdf_form.specs.declared.found.Path.{Path as Found}
 use Rattle.cdf_form.specs.Form as form
 use Rattle.cdf_form.specs.Form.{Fault, at_member, deeper, first, float_faults, leaf_faults}
 use Rattle.cdf_form.specs.Found.{fault_of, path_of}
 use Rattle.cdf_form.specs.Tables.{any}
-use Rattle.cdf_form.specs.Parts.{ids_at}
 use Rattle.cdf_form.specs.Path.{path_text}
 use Rattle.cdf_form.specs.Reading.{refusal_of, IsMemory, document_faults}
 use Rattle.cdf_form.specs.Records.{cvrs_faults}
 use Rattle.cdf_typed.specs.Typed.{cvr_of, report_of}
 use Rattle.cdf_check.specs.declared.seen.Kept.{Kept}
 use Rattle.cdf_check.specs.declared.seen.Seen.{Seen}
-use Rattle.cdf_check.specs.declared.unnamed.Unnamed.{Unnamed}
 use Rattle.cdf_check.specs.Paths as paths
 use Rattle.cdf_check.specs.Paths.{places}
 use Rattle.cdf_check.specs.References.{Scope, in_cvr}
 use Rattle.cdf_check.specs.Frame.{Frame}
-use Rattle.cdf_check.specs.Named.{ids_of}
 use Rattle.cdf_check.specs.Sound.{IsSound}
 use Rattle.cdf_check.specs.Agreement.{disagreements}
 use Rattle.cdf_check.specs.Acceptance.{value_refusal}
 use Rattle.cdf_check.specs.Apart.{with_records}
-use Rattle.cdf_check.specs.Within.{NamesWithin, AddsPlaces, named_in, texts_at, lists, is_placed}
+use Rattle.cdf_check.specs.Within.{AreNamed, ListsNamed, NamesOwn}
 
 -- ---- numbers and form
 
@@ -64,67 +63,62 @@ abbrev pub form_refusal : Data → Option (List ℕ) → Option Fault → Option
 form_refusal left fraction fault =
     option_and_then (λ ms. option_or (option_map (λ path. Schema path rule.NotWhole) (file_fraction ms fraction)) (option_map refusal_of (first_of_file left fault))) (as_object left)
 
--- ---- what is kept of right records
+-- ---- what is kept of records that have no fault of numbers or form
 
--- whether what each record names, but for its device and its unit, is the definition's or its own; and where it is, the places of the parties that they name
-pub record AreKept (frame : Frame) (ds : List Data) (kept : Kept) : Type 0 where
-  pub settled : (kept.settled ≡ true) ↔ All (NamesWithin frame) ds
-  pub named : kept.settled ≡ true → AddsPlaces (ids_of frame.parties) [] (named_in ds) kept.named.items
+-- whether what each record names is the definition's or its own, but for devices, units and parties; and where it is, these, and what is kept of the typed records
+pub record AreKept {T : Type 0} (keeps : List Cvr → T → Type 0) (frame : Frame) (ds : List Data) (kept : Kept T) : Type 0 where
+  pub settled : (kept.settled ≡ true) ↔ All (NamesOwn frame) ds
+  pub names : kept.settled ≡ true → AreNamed ds kept.names
+  pub records : kept.settled ≡ true → keeps (map (cvr_of frame.contests) ds) kept.records
 
--- where all that they name is settled, the places are those of parties
-abbrev pub KeepsParties : Frame → Kept → Type 0
-KeepsParties frame kept = kept.settled ≡ true → All (λ p. p < length (ids_of frame.parties)) kept.named.items
-
--- of records whose numbers are whole: the typed records and their first fault of form, and what is kept where they have none
-pub record AreWhole (frame : Frame) (ds : List Data) (seen : Seen) : Type 0 where
+-- of records whose numbers are whole: their first fault of form, and what is kept where they have none
+pub record AreWhole {T : Type 0} (keeps : List Cvr → T → Type 0) (frame : Frame) (ds : List Data) (seen : Seen T) : Type 0 where
   pub few : length ds ≤ any
-  pub typed : seen.kept.cvrs.items ≡ map (cvr_of frame.contests) ds
   pub form : option_map fault_of seen.form ≡ first (cvrs_faults (items_of ds))
-  pub kept : seen.form ≡ None → AreKept frame ds seen.kept
+  pub kept : seen.form ≡ None → AreKept keeps frame ds seen.kept
 
 -- the path of the records' first number that isn't whole, and where there is none, all this
-pub record IsSeen (frame : Frame) (ds : List Data) (seen : Seen) : Type 0 where
+pub record IsSeen {T : Type 0} (keeps : List Cvr → T → Type 0) (frame : Frame) (ds : List Data) (seen : Seen T) : Type 0 where
   pub fraction : seen.fraction ≡ option_map in_file (first (float_faults (array (items_of ds))))
-  pub whole : seen.fraction ≡ None → AreWhole frame ds seen
+  pub whole : seen.fraction ≡ None → AreWhole keeps frame ds seen
 
 -- ---- what they name
 
--- of so many records at most, this is the first text that names nothing, from their array, or else the place of the record after them
-pub record IsUnnamed (scope : Scope) (count : ℕ) (ds : List Data) (seen : Unnamed) : Type 0 where
-  pub place : length ds ≤ count → seen.first ≡ None → seen.place ≡ length ds
-  pub first : length ds ≤ count → option_map path_of seen.first ≡ paths.first (places (in_cvr scope) ds 0)
+-- this is the first text of records that names nothing, from their array
+abbrev pub IsUnnamed : Scope → List Data → Option Found → Type 0
+IsUnnamed scope ds found = option_map path_of found ≡ paths.first (places (in_cvr scope) ds 0)
 
 -- ---- the answer
 
--- it is the report of the value, which nothing refuses, or why it is refused, or out of memory
-pub record IsJudged (frame : Frame) (d : Data) (answer : Result Report ReadFault) : Type 0 where
-  pub ok : IfOk answer (λ r. (value_refusal frame d ≡ None) × (r ≡ report_of frame.contests d))
+-- it is the devices of the value, which nothing refuses, and what is kept of its records; or why it is refused, or out of memory
+pub record IsJudged {T : Type 0} (keeps : List Cvr → T → Type 0) (frame : Frame) (d : Data) (answer : Result (List ReportingDevice × T) ReadFault) : Type 0 where
+  pub accepted : OnOk answer (value_refusal frame d ≡ None)
+  pub devices : IfOk answer (λ p. p.0 ≡ (report_of frame.contests d).devices)
+  pub kept : IfOk answer (λ p. keeps (report_of frame.contests d).cvrs p.1)
   pub err : IfErr answer (λ e. ¬ IsMemory e → value_refusal frame d ≡ Some e)
 
--- the text is what is left with so many records in it; it has no fault of numbers or form, nor has what is left
-abbrev pub HasForms : List ℕ → Data → ℕ → Type 0
-HasForms text left count = record {
+-- the text is what is left with records in it; it has no fault of numbers or form, nor has what is left
+abbrev pub HasForms : List ℕ → Data → Type 0
+HasForms text left = record {
   records : List Data;
   members : Members;
   whole : read text ≡ Some (with_records records members);
   left_is : left ≡ object members;
   emptied : filled (codes "CVR") no_items members ≡ members;
   some : IsSome (get_member (codes "CVR") members);
-  number : count ≡ length records;
   sound : document_faults (with_records records members) ≡ [];
   rest : document_faults (object members) ≡ [];
 }
 
--- what is left is sound and agrees, lists the parties that are named, and has each record's device and unit
-pub record Settles (frame : Frame) (left : Data) (kept : Kept) : Type 0 where
+-- what is left is sound and agrees, and lists each device, unit and party that the records name, whose other names are settled
+pub record Settles {T : Type 0} (frame : Frame) (left : Data) (kept : Kept T) : Type 0 where
   pub settled : kept.settled ≡ true
   pub sound : IsSound left
   pub agrees : disagreements frame left ≡ []
-  pub listed : lists (ids_at (codes "Party") left) (texts_at (ids_of frame.parties) kept.named.items) ≡ true
-  pub placed : list_all (is_placed (ids_at (codes "ReportingDevice") left) (ids_at (codes "GpUnit") left)) kept.cvrs.items ≡ true
+  pub listed : ListsNamed left kept.names
 
 -- and the records have no fault
-pub record Accepts (frame : Frame) (left : Data) (seen : Seen) : Type 0 where
+pub record Accepts {T : Type 0} (frame : Frame) (left : Data) (seen : Seen T) : Type 0 where
   pub whole : seen.fraction ≡ None
   pub form : seen.form ≡ None
   pub settles : Settles frame left seen.kept
