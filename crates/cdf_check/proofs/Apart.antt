@@ -5,7 +5,7 @@ use Rattle.std.proofs.lemmas.Slice.Eq.{bytes_eq-Decides}
 use Rattle.serde_json.specs.Data.{Data, array, object, Items, Members}
 use Rattle.serde_json.specs.Find.{get_member, get_item, as_str, as_array}
 use Rattle.serde_json.specs.Events.{items_len}
-use Rattle.serde_json.specs.View.{items_of}
+use Rattle.cdf_node.specs.View.{items_of}
 use Rattle.serde_json.specs.Written.{has_float, items_have_float}
 use Rattle.cdf_pull.specs.Fold.{filled}
 use Rattle.cdf_pull.proofs.Laws.{found_other, found_here, filled_is_whole}

@@ -6,11 +6,12 @@ use Rattle.std.specs.Option.{option_or}
 use Rattle.serde_json.specs.Data.{Data, array, object, Items, no_items, Members, no_members, member}
 use Rattle.serde_json.specs.Find.{get_member, as_str}
 use Rattle.serde_json.specs.Events.{items_len}
-use Rattle.serde_json.specs.View.{items_of}
+use Rattle.cdf_node.specs.View.{items_of}
 use Rattle.serde_json.specs.Written.{has_float, items_have_float}
 use Rattle.cdf_pull.specs.Fold.{filled}
 use Rattle.cdf_pull.proofs.Laws.{found_other, found_here}
 use Rattle.cdf_types.specs.declared.fault.ReadFault.TheVariants.{Schema}
+use Rattle.cdf_types.specs.declared.report.Cvr.{Cvr}
 use Rattle.cdf_form.specs.declared.table.Class.TheVariants as class_of
 use Rattle.cdf_form.specs.declared.table.Group.TheVariants as group
 use Rattle.cdf_form.specs.declared.table.Leaf.{Leaf}
@@ -107,15 +108,15 @@ whole_records ds ms some whole = whole_list ds ∙ ap (list_any has_float) (sym 
 
 -- ---- together
 
-law_at : (frame : Frame) (ds : List Data) (ms : Members) (seen : Seen) (o : Option Fault) → IsSeen frame ds seen → filled records no_items ms ≡ ms → IsSome (get_member records ms)
+law_at : {T : Type 0} (keeps : List Cvr → T → Type 0) (frame : Frame) (ds : List Data) (ms : Members) (seen : Seen T) (o : Option Fault) → IsSeen keeps frame ds seen → filled records no_items ms ≡ ms → IsSome (get_member records ms)
     → option_map path_of (first (float_faults (with_records ds ms))) ≡ file_fraction ms seen.fraction → first (float_faults (with_records ds ms)) ≡ o
     → option_map refusal_of (first (document_faults (with_records ds ms))) ≡ form_refusal (object ms) seen.fraction (option_map fault_of seen.form)
-law_at frame ds ms seen (Some f) h emptied some numbers is =
+law_at keeps frame ds ms seen (Some f) h emptied some numbers is =
     let all = with_records ds ms in
     let found : first (document_faults all) ≡ Some f = append_first (float_faults all) _ f is in
     let path : file_fraction ms seen.fraction ≡ Some (path_of f) = sym numbers ∙ ap (option_map path_of) is in
     rw (found, path) (ap (λ r. Some (Schema (path_of f) r)) (first_rule (float_faults all) f (all_of all) is))
-law_at frame ds ms seen None h emptied some numbers is =
+law_at keeps frame ds ms seen None h emptied some numbers is =
     let all = with_records ds ms in
     let whole : has_float all ≡ false = whole_of all (none_right _ is) in
     let array_whole : items_have_float (items_of ds) ≡ false = whole_records ds ms some whole in
@@ -124,21 +125,21 @@ law_at frame ds ms seen None h emptied some numbers is =
     rw (path, file_first ds ms array_whole emptied some (h.whole told).few (option_map fault_of seen.form) (sym (h.whole told).form))
 
 -- the refusal for numbers and form is what is told
-pub form_law : (frame : Frame) (ds : List Data) (ms : Members) (seen : Seen) → IsSeen frame ds seen → filled records no_items ms ≡ ms → IsSome (get_member records ms)
+pub form_law : {T : Type 0} (keeps : List Cvr → T → Type 0) (frame : Frame) (ds : List Data) (ms : Members) (seen : Seen T) → IsSeen keeps frame ds seen → filled records no_items ms ≡ ms → IsSome (get_member records ms)
     → option_map refusal_of (first (document_faults (with_records ds ms))) ≡ form_refusal (object ms) seen.fraction (option_map fault_of seen.form)
-form_law frame ds ms seen h emptied some =
-    law_at frame ds ms seen _ h emptied some (first_filled (items_of ds) seen.fraction (sym h.fraction) ms) refl
+form_law keeps frame ds ms seen h emptied some =
+    law_at keeps frame ds ms seen _ h emptied some (first_filled (items_of ds) seen.fraction (sym h.fraction) ms) refl
 
-pub no_fraction_seen : (frame : Frame) (ds : List Data) (ms : Members) (seen : Seen) → IsSeen frame ds seen → IsSome (get_member records ms) → document_faults (with_records ds ms) ≡ [] → seen.fraction ≡ None
-no_fraction_seen frame ds ms seen h some sound =
+pub no_fraction_seen : {T : Type 0} (keeps : List Cvr → T → Type 0) (frame : Frame) (ds : List Data) (ms : Members) (seen : Seen T) → IsSeen keeps frame ds seen → IsSome (get_member records ms) → document_faults (with_records ds ms) ≡ [] → seen.fraction ≡ None
+no_fraction_seen keeps frame ds ms seen h some sound =
     let all = with_records ds ms in
     let array_whole : items_have_float (items_of ds) ≡ false = whole_records ds ms some (whole_document all sound) in
     h.fraction ∙ ap (λ fs. option_map in_file (first fs)) (no_float_faults (array (items_of ds)) array_whole)
 
 -- records with no fault leave a file with none, where what is left has none
-pub records_right : (frame : Frame) (ds : List Data) (ms : Members) (seen : Seen) → IsSeen frame ds seen → filled records no_items ms ≡ ms → IsSome (get_member records ms) → seen.fraction ≡ None → seen.form ≡ None
+pub records_right : {T : Type 0} (keeps : List Cvr → T → Type 0) (frame : Frame) (ds : List Data) (ms : Members) (seen : Seen T) → IsSeen keeps frame ds seen → filled records no_items ms ≡ ms → IsSome (get_member records ms) → seen.fraction ≡ None → seen.form ≡ None
     → document_faults (object ms) ≡ [] → document_faults (with_records ds ms) ≡ []
-records_right frame ds ms seen h emptied some whole right rest =
+records_right keeps frame ds ms seen h emptied some whole right rest =
     let own = h.whole whole in
     let numbers = none_right _ (unmapped in_file _ (sym h.fraction ∙ whole)) in
     let forms = none_right _ (sym own.form ∙ ap (option_map fault_of) right) in

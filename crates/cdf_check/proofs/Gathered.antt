@@ -6,8 +6,8 @@ use Rattle.std.specs.BTreeMap.{insert_entry}
 use Rattle.std.specs.Ordering.{match_ordering}
 use Rattle.std.specs.Cmp.Lexicographic.{slice_cmp}
 use Rattle.std.proofs.lemmas.List.{take_more, map-append, append_assoc}
-use Rattle.serde_json.specs.View.{view}
-use Rattle.serde_json.specs.declared.value.Value.{Value}
+use Rattle.cdf_node.specs.View.{view}
+use Rattle.cdf_node.specs.declared.node.Node.{Node}
 use Rattle.cdf_form.specs.Places.{Texts, place_in}
 use Rattle.cdf_form.specs.Kept.{bytes_of}
 use Rattle.cdf_form.proofs.Lemmas.{length-bytes_of}
@@ -32,7 +32,7 @@ pub put_all-push : (done es : List Entry) (e : Entry) → put_all done (es ++ e 
 put_all-push done [] e = refl
 put_all-push done (f ∷ es) e = put_all-push (insert_entry (slice_cmp nat_cmp) done f.0 f.1) es e
 
-pub gathered_more : (es fs : List Held) (k : String Global) (v : List ℕ) (vs : List Value) (i : ℕ) (x : Value) → i < length vs → entries_of es ≡ sorted (map named (map view (take i vs))) → fs ≡ insert_entry string_cmp es k v
+pub gathered_more : (es fs : List Held) (k : String Global) (v : List ℕ) (vs : List Node) (i : ℕ) (x : Node) → i < length vs → entries_of es ≡ sorted (map named (map view (take i vs))) → fs ≡ insert_entry string_cmp es k v
     → (string_bytes k, v) ≡ named (view (get_or vs i x)) → entries_of fs ≡ sorted (map named (map view (take (i + 1) vs)))
 gathered_more es fs k v vs i x h e is n =
     let put : entries_of fs ≡ insert_entry (slice_cmp nat_cmp) (entries_of es) (string_bytes k) v = rw is (entries_of-insert_entry es k v) in

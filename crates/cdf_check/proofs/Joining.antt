@@ -1,31 +1,18 @@
 -- A report agrees with a definition, and all that its records name is there, exactly where what they name is the definition's or their own, and what is left beside them has the rest.
-use Rattle.std.proofs.Common.{◌≡◌, ◌↔◌, ℕ, List, [], ◌∷◌, map, slice_index_or, Contains, true, false, bytes_eq, Option, Some, None, unwrap_or, codes, refl, sym, ap, subst, ◌∙◌}
-use Rattle.std.specs.Cmp.Derive.{both_true}
-use Rattle.std.specs.List.{list_any, list_all, All}
+use Rattle.std.proofs.Common.{◌≡◌, ℕ, List, [], ◌∷◌, slice_index_or, Contains, true, false, Some, codes, refl, subst, ◌∙◌}
+use Rattle.std.specs.List.{All}
 use Rattle.std.proofs.lemmas.List.Elements.{All-contains, Contains-get_or}
-use Rattle.std.proofs.lemmas.List.Folds.{list_all-map}
-use Rattle.std.proofs.lemmas.List.Sums.{AllPass-from_list_all, list_all-from_AllPass}
 use Rattle.std.proofs.Math.Logic.{∥∥₁_elim}
 use Rattle.std.proofs.Math.Nat.{ℕ_set}
 use mathlib.Core.List.{is_set}
 use Rattle.serde_json.specs.Data.{Data, object, Members}
 use Rattle.serde_json.specs.Read.{read}
-use Rattle.serde_json.specs.View.{items_of}
+use Rattle.cdf_node.specs.View.{items_of}
 use Rattle.serde_json.specs.Written.{has_float}
-use Rattle.cdf_types.specs.declared.report.Cvr.{Cvr}
-use Rattle.cdf_form.specs.declared.table.Group.TheVariants as group
-use Rattle.cdf_form.specs.declared.table.Leaf.TheVariants as leaf
-use Rattle.cdf_form.specs.declared.table.Kind.TheVariants.{One}
-use Rattle.cdf_form.specs.Tables.{required}
-use Rattle.cdf_form.specs.Form.{Step, at_member}
-use Rattle.cdf_form.specs.HasForm.{HasForm}
-use Rattle.cdf_form.specs.Parts.{array_at, text_at, text_in}
-use Rattle.cdf_form.specs.Places.{Texts, Contest}
-use Rattle.cdf_form.proofs.Laws.{proper_read, row_of, must_text_in}
-use Rattle.cdf_form.proofs.Lemmas.{and-left, and-right}
-use Rattle.cdf_typed.specs.Typed.{cvr_of}
-use Rattle.cdf_check.specs.Paths.{Path, below}
-use Rattle.cdf_check.specs.References.{Scope, scope_of, unknown, one, in_snapshot, in_cvr}
+use Rattle.cdf_form.specs.Parts.{array_at}
+use Rattle.cdf_form.proofs.Laws.{proper_read}
+use Rattle.cdf_check.specs.declared.record_names.RecordNames.{RecordNames}
+use Rattle.cdf_check.specs.References.{Scope, scope_of, one, in_snapshot, in_cvr}
 use Rattle.cdf_check.specs.Scoped.{contests_alone}
 use Rattle.cdf_check.specs.Named.{ids_of}
 use Rattle.cdf_check.specs.Frame.{Frame, frame_of, entries_at}
@@ -34,99 +21,62 @@ use Rattle.cdf_check.specs.Sound.{IsSound, IsFrame, WasRead}
 use Rattle.cdf_check.specs.Acceptance.{IsReport}
 use Rattle.cdf_check.specs.Wider.{Includes}
 use Rattle.cdf_check.specs.Apart.{with_records}
-use Rattle.cdf_check.specs.Within.{NamesOwn, NamesWithin, named_by, named_in, knows, lists, is_placed}
-use Rattle.cdf_check.proofs.Empty.{nil_unless, unless_nil, inner}
-use Rattle.cdf_check.proofs.NamedParties.{many_listed, each_listed}
+use Rattle.cdf_check.specs.Within.{device_of, lists, parties_of, unit_of, AreNamed, ListsNamed, NamesOwn}
+use Rattle.cdf_check.proofs.NamedTexts.{listed_all, listed_at, many_listed, one_listed}
 use Rattle.cdf_check.proofs.Sounding.{sound}
 use Rattle.cdf_check.proofs.Reports.{one_election, election_is}
 use Rattle.cdf_check.proofs.SameElection.{proper_report, same_election}
-use Rattle.cdf_check.proofs.Wider.{each_wider, one_wider, many_wider, snapshot_wider, cvr_parts, parts_cvr}
+use Rattle.cdf_check.proofs.Wider.{each_wider, one_wider, snapshot_wider, cvr_parts, parts_cvr}
 use Rattle.cdf_check.proofs.Apart.{array_stays, agrees_apart}
-
--- ---- one text
-
-unit_known : (ids : Texts) (o : Option (List ℕ)) → (unknown ids o ≡ []) ↔ (knows ids o ≡ true)
-unit_known ids None = ((λ _. refl), λ _. refl)
-unit_known ids (Some s) = (unless_nil (list_any (bytes_eq s) ids), nil_unless (list_any (bytes_eq s) ids))
-
-device_known : (ids : Texts) (o : Option (List ℕ)) → list_any (bytes_eq (unwrap_or o [])) ids ≡ true → unknown ids o ≡ []
-device_known ids None e = refl
-device_known ids (Some s) e = nil_unless (list_any (bytes_eq s) ids) e
-
--- the other way round: a text that is known is one of the ids
-known_device : (ids : Texts) (o : Option (List ℕ)) (s : List ℕ) → o ≡ Some s → unknown ids o ≡ [] → list_any (bytes_eq s) ids ≡ true
-known_device ids o s is e = unless_nil (list_any (bytes_eq s) ids) (ap (unknown ids) (sym is) ∙ e)
 
 -- ---- what a record names
 
 -- all that it names is there, where it names the definition's or its own and the rest is there
-resolved : (frame : Frame) (scope : Scope) (cvr : Data) → frame.contests ≡ scope.contests → ids_of frame.elections ≡ scope.elections
-    → NamesOwn frame cvr → is_placed scope.devices scope.units (cvr_of frame.contests cvr) ≡ true → lists scope.parties (named_by cvr) ≡ true → in_cvr scope cvr ≡ []
-resolved frame scope cvr contests elections names p listed =
-    let taken : Cvr = cvr_of frame.contests cvr in
-    let device = and-left (list_any (bytes_eq taken.device) scope.devices) (knows scope.units taken.unit) p in
-    let unit = and-right (list_any (bytes_eq taken.device) scope.devices) (knows scope.units taken.unit) p in
+resolved : (frame : Frame) (scope : Scope) (cvr : Data) → frame.contests ≡ scope.contests → ids_of frame.elections ≡ scope.elections → NamesOwn frame cvr
+    → lists scope.devices (device_of cvr) ≡ true → lists scope.units (unit_of cvr) ≡ true → lists scope.parties (parties_of cvr) ≡ true → in_cvr scope cvr ≡ []
+resolved frame scope cvr contests elections names device unit parties =
     parts_cvr scope cvr record {
-      unit = ap (below (at_member (codes "BallotStyleUnitId"))) ((unit_known scope.units (text_in (codes "BallotStyleUnitId") cvr)).1 unit);
+      unit = (one_listed scope.units (codes "BallotStyleUnitId") cvr).1 unit;
       snapshots = each_wider (in_snapshot (contests_alone frame.contests)) (in_snapshot scope) (snapshot_wider (contests_alone frame.contests) scope contests) (codes "CVRSnapshot") cvr names.snapshots;
-      device = ap (below (at_member (codes "CreatingDeviceId"))) (device_known scope.devices (text_in (codes "CreatingDeviceId") cvr) device);
+      device = (one_listed scope.devices (codes "CreatingDeviceId") cvr).1 device;
       current = names.current;
       election = subst (λ ids. one ids (codes "ElectionId") cvr ≡ []) elections names.election;
-      parties = (many_listed scope.parties cvr).1 listed;
+      parties = (many_listed scope.parties cvr).1 parties;
     }
-
-pub all_resolved : (frame : Frame) (scope : Scope) (ds : List Data) → frame.contests ≡ scope.contests → ids_of frame.elections ≡ scope.elections
-    → All (NamesWithin frame) ds → list_all (is_placed scope.devices scope.units) (map (cvr_of frame.contests) ds) ≡ true → lists scope.parties (named_in ds) ≡ true → (d : Data) → Contains ds d → in_cvr scope d ≡ []
-all_resolved frame scope ds contests elections names placed listed d at =
-    let placed_in = is_placed scope.devices scope.units in
-    let here = AllPass-from_list_all (λ e. placed_in (cvr_of frame.contests e)) ds (sym (list_all-map placed_in (cvr_of frame.contests) ds) ∙ placed) in
-    resolved frame scope d contests elections (All-contains (NamesWithin frame) ds d names at).own
-    (All-contains (λ e. placed_in (cvr_of frame.contests e) ≡ true) ds d here at)
-    (All-contains (λ e. lists scope.parties (named_by e) ≡ true) ds d ((each_listed scope.parties ds).0 listed) at)
 
 -- and where all that it names is there, in a report that agrees, it names the definition's or its own
-within : (frame : Frame) (scope : Scope) (cvr : Data) → scope.contests ≡ frame.contests → Includes scope.elections (ids_of frame.elections) → Includes scope.parties (ids_of frame.parties)
-    → in_cvr scope cvr ≡ [] → NamesWithin frame cvr
-within frame scope cvr contests elections parties none =
+settled : (frame : Frame) (scope : Scope) (cvr : Data) → scope.contests ≡ frame.contests → Includes scope.elections (ids_of frame.elections) → in_cvr scope cvr ≡ [] → NamesOwn frame cvr
+settled frame scope cvr contests elections none =
     let p = cvr_parts scope cvr none in
     record {
-      own = record {
-        snapshots = each_wider (in_snapshot scope) (in_snapshot (contests_alone frame.contests)) (snapshot_wider scope (contests_alone frame.contests) contests) (codes "CVRSnapshot") cvr p.snapshots;
-        current = p.current;
-        election = one_wider scope.elections (ids_of frame.elections) elections (codes "ElectionId") cvr p.election;
-      };
-      parties = (many_listed (ids_of frame.parties) cvr).0 (many_wider scope.parties (ids_of frame.parties) parties (codes "PartyIds") cvr p.parties);
+      snapshots = each_wider (in_snapshot scope) (in_snapshot (contests_alone frame.contests)) (snapshot_wider scope (contests_alone frame.contests) contests) (codes "CVRSnapshot") cvr p.snapshots;
+      current = p.current;
+      election = one_wider scope.elections (ids_of frame.elections) elections (codes "ElectionId") cvr p.election;
     }
 
-pub all_within : (frame : Frame) (scope : Scope) (ds : List Data) → scope.contests ≡ frame.contests → Includes scope.elections (ids_of frame.elections) → Includes scope.parties (ids_of frame.parties)
-    → ((d : Data) → Contains ds d → in_cvr scope d ≡ []) → All (NamesWithin frame) ds
-all_within frame scope ds contests elections parties none =
-    λ k d lt. within frame scope (slice_index_or ds k d) contests elections parties (none (slice_index_or ds k d) (Contains-get_or ds k d lt))
+pub all_settled : (frame : Frame) (scope : Scope) (ds : List Data) → scope.contests ≡ frame.contests → Includes scope.elections (ids_of frame.elections)
+    → ((d : Data) → Contains ds d → in_cvr scope d ≡ []) → All (NamesOwn frame) ds
+all_settled frame scope ds contests elections none =
+    λ k d lt. settled frame scope (slice_index_or ds k d) contests elections (none (slice_index_or ds k d) (Contains-get_or ds k d lt))
 
-inside : (s : Step) (ps : List Path) → below s ps ≡ [] → ps ≡ []
-inside s ps e = (inner s ps ((λ q. q), (λ q. q))).0 e
+module _ (left : Data) (ds : List Data) (names : RecordNames) (named : AreNamed ds names) where
+  abbrev scope : Scope
+  scope = scope_of left
 
--- its device and its unit are there
-placed : (contests : List Contest) (scope : Scope) (cvr : Data) → HasForm (One (leaf.Object group.Cvrs)) cvr → in_cvr scope cvr ≡ [] → is_placed scope.devices scope.units (cvr_of contests cvr) ≡ true
-placed contests scope cvr form none =
-    let p = cvr_parts scope cvr none in
-    let text : text_in (codes "CreatingDeviceId") cvr ≡ Some (text_at (codes "CreatingDeviceId") cvr) = must_text_in (row_of group.Cvrs (required (codes "CreatingDeviceId") (One leaf.Name)) cvr (refl, tt) form) tt in
-    both_true
-    (known_device scope.devices (text_in (codes "CreatingDeviceId") cvr) (text_at (codes "CreatingDeviceId") cvr) text (inside (at_member (codes "CreatingDeviceId")) _ p.device))
-    ((unit_known scope.units (text_in (codes "BallotStyleUnitId") cvr)).0 (inside (at_member (codes "BallotStyleUnitId")) _ p.unit))
+  pub all_resolved : (frame : Frame) → frame.contests ≡ scope.contests → ids_of frame.elections ≡ scope.elections → All (NamesOwn frame) ds → ListsNamed left names → (d : Data) → Contains ds d → in_cvr scope d ≡ []
+  all_resolved frame contests elections all listed d at =
+      resolved frame scope d contests elections (All-contains (NamesOwn frame) ds d all at)
+      (listed_at device_of scope.devices ds names.devices named.devices listed.devices d at)
+      (listed_at unit_of scope.units ds names.units named.units listed.units d at)
+      (listed_at parties_of scope.parties ds names.parties named.parties listed.parties d at)
 
-pub all_placed : (contests : List Contest) (scope : Scope) (ds : List Data) → ((d : Data) → Contains ds d → HasForm (One (leaf.Object group.Cvrs)) d) → ((d : Data) → Contains ds d → in_cvr scope d ≡ [])
-    → list_all (is_placed scope.devices scope.units) (map (cvr_of contests) ds) ≡ true
-all_placed contests scope ds form none =
-    let placed_in = is_placed scope.devices scope.units in
-    list_all-map placed_in (cvr_of contests) ds ∙ list_all-from_AllPass (λ e. placed_in (cvr_of contests e)) ds (λ k d lt. let at = Contains-get_or ds k d lt in placed contests scope _ (form _ at) (none _ at))
-
--- the parties that records name are there
-pub all_listed : (scope : Scope) (ds : List Data) → ((d : Data) → Contains ds d → in_cvr scope d ≡ []) → lists scope.parties (named_in ds) ≡ true
-all_listed scope ds none =
-    (each_listed scope.parties ds).1 (λ k d lt.
-    let e = slice_index_or ds k d in
-    (many_listed scope.parties e).0 (cvr_parts scope e (none e (Contains-get_or ds k d lt))).parties)
+  -- what records name is listed where all of it is there
+  pub all_listed : ((d : Data) → Contains ds d → in_cvr scope d ≡ []) → ListsNamed left names
+  all_listed none = record {
+    devices = listed_all device_of scope.devices ds names.devices named.devices (λ e at. (one_listed scope.devices (codes "CreatingDeviceId") e).0 (cvr_parts scope e (none e at)).device);
+    units = listed_all unit_of scope.units ds names.units named.units (λ e at. (one_listed scope.units (codes "BallotStyleUnitId") e).0 (cvr_parts scope e (none e at)).unit);
+    parties = listed_all parties_of scope.parties ds names.parties named.parties (λ e at. (many_listed scope.parties e).0 (cvr_parts scope e (none e at)).parties);
+  }
 
 -- ---- the election is the definition's
 

@@ -1,58 +1,50 @@
 -- The answer for a file, by what was seen of its records and by what is left beside them.
-use Rattle.std.proofs.Common.{◌≡◌, ◌≤◌, inl, inr, ◌+◌, ℕ, List, [], ◌∷◌, ◌++◌, length, map, Contains, true, false, Result, Ok, Err, Option, Some, None, IsSome, option_map, codes, refl, sym, ap, subst, ◌∙◌, arith}
-use Rattle.std.specs.Prelude.{IfOk, IfErr, OnOk}
+use Rattle.std.proofs.Common.{◌≡◌, ◌≤◌, inl, inr, ◌+◌, ℕ, List, [], ◌∷◌, ◌++◌, length, Contains, true, false, Result, Ok, Err, Option, Some, None, IsSome, option_map, codes, refl, sym, ap, subst, ◌∙◌}
+use Rattle.std.specs.Prelude.{option_and_then, unwrap_or, IfOk, IfErr, OnOk}
 use Rattle.std.specs.Str.{IsUtf8, is_utf8}
 use Rattle.std.proofs.lemmas.Bool.{false_from_ne_true}
-use Rattle.std.proofs.lemmas.List.{length-map}
 use Rattle.std.proofs.lemmas.Str.{is_utf8-from_IsUtf8, IsUtf8-from_is_utf8}
 use Rattle.std.specs.Option.{option_or}
 use Rattle.serde_json.specs.Data.{Data, array, object, Items, no_items, Members}
-use Rattle.serde_json.specs.Find.{get, get_member}
+use Rattle.serde_json.specs.Find.{as_array, get, get_member}
 use Rattle.serde_json.specs.Read.{read}
-use Rattle.serde_json.specs.View.{items_of}
+use Rattle.cdf_node.specs.View.{items_of}
 use Rattle.serde_json.specs.Written.{has_float}
 use Rattle.cdf_pull.specs.Fold.{list_of, items_found, items_under, left_beside, filled, IsFolded}
 use Rattle.cdf_pull.specs.Laws.{IsBeside}
 use Rattle.cdf_pull.proofs.Laws.{beside}
 use Rattle.cdf_types.specs.declared.fault.ReadFault.{ReadFault}
 use Rattle.cdf_types.specs.declared.fault.ReadFault.TheVariants.{Reference, Disagrees, NotJson}
+use Rattle.cdf_types.specs.declared.report.Cvr.{Cvr}
 use Rattle.cdf_types.specs.declared.report.Report.{Report}
-use Rattle.cdf_form.specs.declared.table.Group.TheVariants as group
-use Rattle.cdf_form.specs.declared.table.Leaf.TheVariants as leaf
-use Rattle.cdf_form.specs.declared.table.Key.TheVariants as key
-use Rattle.cdf_form.specs.declared.table.Kind.TheVariants.{One, Array}
+use Rattle.cdf_types.specs.declared.report.ReportingDevice.{ReportingDevice}
 use Rattle.cdf_form.specs.declared.found.Path.{Path as Found}
 use Rattle.cdf_form.specs.Form as form
 use Rattle.cdf_form.specs.Form.{Fault, at_member, deeper}
 use Rattle.cdf_form.specs.Found.{fault_of, path_of}
-use Rattle.cdf_form.specs.Tables.{any, optional}
-use Rattle.cdf_form.specs.HasForm.{HasForm}
+use Rattle.cdf_form.specs.Parts as parts
 use Rattle.cdf_form.specs.Parts.{array_at}
 use Rattle.cdf_form.specs.Path.{path_text}
 use Rattle.cdf_form.specs.Reading.{document_faults, refusal_of, IsMemory, value_of, max_file}
-use Rattle.cdf_form.proofs.Laws.{items_have_form, row_of, whole_document}
-use Rattle.cdf_typed.specs.Typed.{cvr_of, report_of}
+use Rattle.cdf_form.proofs.Laws.{whole_document}
+use Rattle.cdf_typed.specs.Typed.{report_of}
 use Rattle.cdf_typed.specs.Range.{ReportInRange}
 use Rattle.cdf_check.specs.declared.seen.Kept.{Kept}
 use Rattle.cdf_check.specs.declared.seen.Seen.{Seen}
-use Rattle.cdf_check.specs.declared.unnamed.Unnamed.{Unnamed}
 use Rattle.cdf_check.specs.Paths.{Path, first, below, places, each}
 use Rattle.cdf_check.specs.References.{Scope, scope_of, many, in_cvr, in_election, in_report, missing}
 use Rattle.cdf_check.specs.Frame.{Frame}
-use Rattle.cdf_check.specs.Named.{ids_of}
 use Rattle.cdf_check.specs.Agreement.{disagreements, Agrees}
-use Rattle.cdf_check.specs.Acceptance.{Holds, IsReport, value_refusal, first_refusal, report_in, Valid}
+use Rattle.cdf_check.specs.Acceptance.{Holds, IsReport, value_refusal, first_refusal, of_file, report_in, Valid}
 use Rattle.cdf_check.specs.Sound.{IsFrame}
 use Rattle.cdf_check.specs.Apart.{with_records}
-use Rattle.cdf_check.specs.Within.{named_in, texts_at}
-use Rattle.cdf_check.specs.Seen.{Accepts, AreKept, KeepsParties, IsUnnamed, IsJudged, HasForms, IsSeen, form_refusal, first_of_file, is_array, Settles, Refuses, IsRefusedFor}
+use Rattle.cdf_check.specs.Seen.{Accepts, AreKept, IsUnnamed, IsJudged, HasForms, IsSeen, form_refusal, first_of_file, is_array, Settles, Refuses, IsRefusedFor}
 use Rattle.cdf_check.proofs.Apart.{records, typed_apart, array_stays, found_records, records_there, scope_stays}
-use Rattle.cdf_check.proofs.Accepting.{either, none_value, value_none, file_holds, is_short}
+use Rattle.cdf_check.proofs.Accepting.{either, none_value, value_none, file_holds, is_short, valid_file}
 use Rattle.cdf_check.proofs.Agreeing.{agreement}
 use Rattle.cdf_check.proofs.Empty.{at_head, at_tail}
 use Rattle.cdf_check.proofs.Faults.{none_right, form_law, no_fraction_seen, records_right}
-use Rattle.cdf_check.proofs.Joining.{all_resolved, all_within, all_placed, all_listed, own_contests, own_elections}
-use Rattle.cdf_check.proofs.NamedParties.{texts_there}
+use Rattle.cdf_check.proofs.Joining.{all_listed, all_resolved, all_settled, own_contests, own_elections}
 use Rattle.cdf_check.proofs.Numbers.{unmapped}
 use Rattle.cdf_check.proofs.Ranges.{in_range}
 use Rattle.cdf_check.proofs.Resolving.{cvr_law}
@@ -109,7 +101,7 @@ absent_none scope [] i none = refl
 absent_none scope (d ∷ ds) i none =
     rw (none d (at_head d ds)) (absent_none scope ds (i + 1) (λ e at. none e (at_tail d e ds at)))
 
-module _ (frame : Frame) (text : List ℕ) (left : Data) (count : ℕ) (h : HasForms text left count) where
+module _ (frame : Frame) (text : List ℕ) (left : Data) (h : HasForms text left) where
   abbrev ds : List Data
   ds = h.records
 
@@ -128,31 +120,27 @@ module _ (frame : Frame) (text : List ℕ) (left : Data) (count : ℕ) (h : HasF
       rw (h.sound, h.rest, missing_whole ds ms h.some, missing_left ds ms h.some h.emptied, agreement_stays ds ms frame)
       (records_first (places (in_cvr (own ms)) ds 0) (of_rest ms) (option_map (λ p. Disagrees (path_text p)) (first (disagreements frame (object ms)))))
 
-  refused_by : (scope : Scope) (again : Data) (seen : Unnamed) → scope ≡ scope_of left → IsFolded (IsUnnamed scope count) text records again seen → value_refusal frame all ≡ refusal_with frame (option_map path_of seen.first) left
-  refused_by scope again seen is n =
+  refused_by : {scope : Scope} {again : Data} (found : Option Found) → scope ≡ scope_of left → IsFolded (IsUnnamed scope) text records again found → value_refusal frame all ≡ refusal_with frame (option_map path_of found) left
+  refused_by found is n =
       let listed : items_under records n.0 ≡ ds = rw (← the_value n.0 n.1) (ap items_found (found_records (items_of ds) ms h.some) ∙ list_again ds) in
-      let few : length (items_under records n.0) ≤ count = rw listed (omega (arith, h.number)) in
-      let told : option_map path_of seen.first ≡ first (places (in_cvr (scope_of left)) ds 0) = n.3.first few ∙ cc in
+      let told : option_map path_of found ≡ first (places (in_cvr (scope_of left)) ds 0) = n.3 ∙ cc in
       refusal_own ∙ ap (λ d. refusal_with frame (first (places (in_cvr (scope_of d)) ds 0)) d) (sym h.left_is) ∙ ap (λ o. refusal_with frame o left) (sym told)
 
   -- a record names what isn't there
-  pub unnamed_first : {scope : Scope} {again : Data} {seen : Unnamed} {found : Found} → scope ≡ scope_of left → IsFolded (IsUnnamed scope count) text records again seen → seen.first ≡ Some found
+  pub unnamed_first : {scope : Scope} {again : Data} (found : Found) → scope ≡ scope_of left → IsFolded (IsUnnamed scope) text records again (Some found)
       → (e : ReadFault) → e ≡ Reference (path_text (at_member records ∷ path_of found)) → IsRefusedFor frame text e
-  unnamed_first is n told e fault d value = rw (← the_value d value, refused_by _ _ _ is n, told, fault) refl
+  unnamed_first found is n e fault d value = rw (← the_value d value, refused_by (Some found) is n, fault) refl
 
   -- none does, so that the refusal is that of what is left
-  pub rest_first : {scope : Scope} {again : Data} {seen : Unnamed} → scope ≡ scope_of left → IsFolded (IsUnnamed scope count) text records again seen → seen.first ≡ None
+  pub rest_first : {scope : Scope} {again : Data} → scope ≡ scope_of left → IsFolded (IsUnnamed scope) text records again None
       → (d : Data) → read text ≡ Some d → value_refusal frame d ≡ value_refusal frame left
-  rest_first is n told d value = rw (← the_value d value, refused_by _ _ _ is n, told) refl
+  rest_first is n d value = rw (← the_value d value, refused_by None is n) refl
 
   -- ---- what is kept
 
-  module _ (kept : Kept) (typed : kept.cvrs.items ≡ map (cvr_of frame.contests) ds) (k : AreKept frame ds kept) (of : IsFrame frame) where
+  module _ {T : Type 0} (keeps : List Cvr → T → Type 0) (kept : Kept T) (k : AreKept keeps frame ds kept) (of : IsFrame frame) where
     whole : has_float all ≡ false
     whole = whole_document all h.sound
-
-    named_is : kept.settled ≡ true → texts_at (ids_of frame.parties) kept.named.items ≡ named_in ds
-    named_is is = (texts_there (ids_of frame.parties) (named_in ds) kept.named.items (k.named is)).1
 
     -- what settles is accepted
     accepted : Settles frame (object ms) kept → value_refusal frame all ≡ None
@@ -161,15 +149,18 @@ module _ (frame : Frame) (text : List ℕ) (left : Data) (count : ℕ) (h : HasF
         let a : Agrees frame (object ms) = (agreement frame (object ms)).0 s.agrees in
         let contests = own_contests frame text ds ms h.whole whole r a of in
         let elections = own_elections frame text ds ms h.whole whole r a of in
-        let placed = rw typed at s.placed in
-        let listed = rw (named_is s.settled) at s.listed in
-        let none = all_resolved frame (own ms) ds contests elections (k.settled.0 s.settled) placed listed in
+        let none = all_resolved (object ms) ds kept.names (k.names s.settled) frame contests elections (k.settled.0 s.settled) s.listed in
         rw (refusal_own, absent_none (own ms) ds 0 none) (none_value frame (object ms) r a)
 
-    pub judged_joined : (report : Report) → Settles frame left kept → report ≡ record { devices = (report_of frame.contests left).devices; cvrs = kept.cvrs.items } → (d : Data) → read text ≡ Some d → IsJudged frame d (Ok report)
-    judged_joined report s is d value =
-        let whole : report ≡ report_of frame.contests all = cc (typed, typed_apart frame.contests ds ms h.some, ap (λ e. (report_of frame.contests e).devices) h.left_is) in
-        subst (λ x. IsJudged frame x (Ok report)) (the_value d value) (record { ok = (accepted (subst (λ x. Settles frame x kept) h.left_is s), whole); err = tt })
+    pub judged_joined : (devices : List ReportingDevice) → Settles frame left kept → devices ≡ (report_of frame.contests left).devices → (d : Data) → read text ≡ Some d → IsJudged keeps frame d (Ok (devices, kept.records))
+    judged_joined devices s is d value =
+        let apart = typed_apart frame.contests ds ms h.some in
+        subst (λ x. IsJudged keeps frame x (Ok (devices, kept.records))) (the_value d value) (record {
+          accepted = accepted (subst (λ x. Settles frame x kept) h.left_is s);
+          devices = is ∙ ap (λ e. (report_of frame.contests e).devices) h.left_is ∙ ap (λ r. r.devices) (sym apart);
+          kept = subst (λ r. keeps r.cvrs kept.records) (sym apart) (k.records s.settled);
+          err = tt;
+        })
 
     -- ---- what is accepted settles
 
@@ -184,22 +175,15 @@ module _ (frame : Frame) (text : List ℕ) (left : Data) (count : ℕ) (h : HasF
       named_there d at =
           subst (λ s. in_cvr s d ≡ []) (scope_stays ds ms) ((cvr_law (scope_of all) d).1 (all_is.0.references.cvrs d (rw (records_there ds ms h.some) at)))
 
-      formed : (d : Data) → Contains ds d → HasForm (One (leaf.Object group.Cvrs)) d
-      formed d at =
-          let row = row_of group.Reports (optional records (Array (leaf.Object group.Cvrs) 0 any key.Free)) all (refl, tt) all_is.0.form in
-          items_have_form row d (rw (records_there ds ms h.some) at)
-
       settled : Settles frame (object ms) kept
       settled =
           let contests = sym (own_contests frame text ds ms h.whole whole left_is.0 left_is.1 of) in
-          let wider = agreed_wider frame (object ms) left_is.1 contests in
-          let is = k.settled.1 (all_within frame (own ms) ds contests wider.elections wider.parties named_there) in
+          let is = k.settled.1 (all_settled frame (own ms) ds contests (agreed_wider frame (object ms) left_is.1 contests).elections named_there) in
           record {
             settled = is;
             sound = (sound (object ms)).1 left_is.0;
             agrees = (agreement frame (object ms)).1 left_is.1;
-            listed = rw (named_is is) (all_listed (own ms) ds named_there);
-            placed = rw typed (all_placed frame.contests (own ms) ds formed named_there);
+            listed = all_listed (object ms) ds kept.names (k.names is) named_there;
           }
 
     pub unsettled : (Settles frame left kept → ⊥) → Refuses frame text
@@ -212,19 +196,28 @@ array_of : (o : Option Data) → is_array o ≡ true → (es : Items) × (o ≡ 
 array_of (Some (array es)) e = (es, refl)
 array_of _ e = absurd (cc)
 
-abbrev Parts : Frame → List ℕ → Data → Seen → Type 0
-Parts frame text left seen = record {
+none_at : (o : Option Data) → is_array o ≡ false → unwrap_or (option_map parts.list_of (option_and_then as_array o)) [] ≡ []
+none_at None e = refl
+none_at (Some (array es)) e = absurd (cc)
+none_at (Some d) e = refl
+
+-- where no array stands, there are no records
+pub no_records : (d : Data) → is_array (get records d) ≡ false → array_at records d ≡ []
+no_records d e = none_at (get records d) e
+
+abbrev Parts : {T : Type 0} → (List Cvr → T → Type 0) → Frame → List ℕ → Data → Seen T → Type 0
+Parts keeps frame text left seen = record {
   ds : List Data;
   ms : Members;
   whole : read text ≡ Some (with_records ds ms);
   left_is : left ≡ object ms;
   emptied : filled records no_items ms ≡ ms;
   some : IsSome (get_member records ms);
-  seen_is : IsSeen frame ds seen;
+  seen_is : IsSeen keeps frame ds seen;
 }
 
-module _ (frame : Frame) (text : List ℕ) (left : Data) (seen : Seen) (h : IsFolded (IsSeen frame) text records left seen) where
-  parts_at : is_array (get records left) ≡ true → IsBeside records h.0 (items_under records h.0) (left_beside records h.0) → Parts frame text left seen
+module _ {T : Type 0} (keeps : List Cvr → T → Type 0) (frame : Frame) (text : List ℕ) (left : Data) (seen : Seen T) (h : IsFolded (IsSeen keeps frame) text records left seen) where
+  parts_at : is_array (get records left) ≡ true → IsBeside records h.0 (items_under records h.0) (left_beside records h.0) → Parts keeps frame text left seen
   parts_at there (inl q) = let a = array_of (get records left) there in absurd (q.2 a.0 (ap (get records) (sym (h.2 ∙ q.0)) ∙ a.1))
   parts_at there (inr q) = record {
     ds = items_under records h.0;
@@ -241,31 +234,31 @@ module _ (frame : Frame) (text : List ℕ) (left : Data) (seen : Seen) (h : IsFo
   whole_at none (inr q) = let e = rw (h.2 ∙ q.1, q.2) at none in absurd (cc)
 
   -- no array stands there, so what is left is all
-  pub judged_whole : (answer : Result Report ReadFault) → is_array (get records left) ≡ false → IsJudged frame left answer → (d : Data) → read text ≡ Some d → IsJudged frame d answer
+  pub judged_whole : (answer : Result (List ReportingDevice × T) ReadFault) → is_array (get records left) ≡ false → IsJudged keeps frame left answer → (d : Data) → read text ≡ Some d → IsJudged keeps frame d answer
   judged_whole answer none j d value =
       let same : h.0 ≡ d = cc in
-      subst (λ x. IsJudged frame x answer) (whole_at none (beside records h.0 h.4) ∙ same) j
+      subst (λ x. IsJudged keeps frame x answer) (whole_at none (beside records h.0 h.4) ∙ same) j
 
   -- ---- numbers and form
 
   module _ (there : is_array (get records left) ≡ true) where
-    abbrev p : Parts frame text left seen
+    abbrev p : Parts keeps frame text left seen
     p = parts_at there (beside records h.0 h.4)
 
     abbrev fault : Option Fault
     fault = option_map fault_of seen.form
 
     law : option_map refusal_of (form.first (document_faults (with_records p.ds p.ms))) ≡ form_refusal left seen.fraction fault
-    law = form_law frame p.ds p.ms seen p.seen_is p.emptied p.some ∙ ap (λ d. form_refusal d seen.fraction fault) (sym p.left_is)
+    law = form_law keeps frame p.ds p.ms seen p.seen_is p.emptied p.some ∙ ap (λ d. form_refusal d seen.fraction fault) (sym p.left_is)
 
-    pub judged_form : (e : ReadFault) → form_refusal left seen.fraction fault ≡ Some e → (d : Data) → read text ≡ Some d → IsJudged frame d (Err e)
+    pub judged_form : (e : ReadFault) → form_refusal left seen.fraction fault ≡ Some e → (d : Data) → read text ≡ Some d → IsJudged keeps frame d (Err e)
     judged_form e is d value =
         let whole = p.whole in
         let same : with_records p.ds p.ms ≡ d = cc in
-        record { ok = tt; err = λ other. rw (← same, law, is) (refl {a = Some e}) }
+        record { accepted = tt; devices = tt; kept = tt; err = λ other. rw (← same, law, is) (refl {a = Some e}) }
 
     right_kept : seen.fraction ≡ None → seen.form ≡ None → document_faults left ≡ []
-        → (h : HasForms text left (length seen.kept.cvrs.items)) × (seen.kept.cvrs.items ≡ map (cvr_of frame.contests) h.records) × AreKept frame h.records seen.kept
+        → (h : HasForms text left) × AreKept keeps frame h.records seen.kept
     right_kept whole right rest =
         let kept = p.seen_is.whole whole in
         let own : document_faults (object p.ms) ≡ [] = ap document_faults (sym p.left_is) ∙ rest in (
@@ -276,25 +269,20 @@ module _ (frame : Frame) (text : List ℕ) (left : Data) (seen : Seen) (h : IsFo
             left_is = p.left_is;
             emptied = p.emptied;
             some = p.some;
-            number = ap length kept.typed ∙ length-map p.ds (cvr_of frame.contests);
-            sound = records_right frame p.ds p.ms seen p.seen_is p.emptied p.some whole right own;
+            sound = records_right keeps frame p.ds p.ms seen p.seen_is p.emptied p.some whole right own;
             rest = own;
           },
-          kept.typed,
           kept.kept right,
         )
 
-    pub places_kept : seen.fraction ≡ None → seen.form ≡ None → KeepsParties frame seen.kept
-    places_kept whole right is = (texts_there (ids_of frame.parties) (named_in p.ds) seen.kept.named.items (((p.seen_is.whole whole).kept right).named is)).0
-
     module _ (of : IsFrame frame) where
-      pub judged_accepted : (report : Report) → Accepts frame left seen → report ≡ record { devices = (report_of frame.contests left).devices; cvrs = seen.kept.cvrs.items } → (d : Data) → read text ≡ Some d → IsJudged frame d (Ok report)
-      judged_accepted report a is =
+      pub judged_accepted : (devices : List ReportingDevice) → Accepts frame left seen → devices ≡ (report_of frame.contests left).devices → (d : Data) → read text ≡ Some d → IsJudged keeps frame d (Ok (devices, seen.kept.records))
+      judged_accepted devices a is =
           let k = right_kept a.whole a.form a.settles.sound.0 in
-          judged_joined frame text left (length seen.kept.cvrs.items) k.0 seen.kept k.1 k.2 of report a.settles is
+          judged_joined frame text left k.0 keeps seen.kept k.1 of devices a.settles is
 
       -- what has no fault of numbers or form, and isn't accepted, is refused for a name or an object
-      pub refused_for_names : (Accepts frame left seen → ⊥) → form_refusal left seen.fraction fault ≡ None → HasForms text left (length seen.kept.cvrs.items) × Refuses frame text
+      pub refused_for_names : (Accepts frame left seen → ⊥) → form_refusal left seen.fraction fault ≡ None → HasForms text left × Refuses frame text
       refused_for_names never none =
           let sound : document_faults (with_records p.ds p.ms) ≡ [] = none_right _ (unmapped refusal_of _ (law ∙ none)) in
           let apart = either _ _ (ap (λ d. form_refusal d seen.fraction fault) (sym p.left_is) ∙ none) in
@@ -302,30 +290,37 @@ module _ (frame : Frame) (text : List ℕ) (left : Data) (seen : Seen) (h : IsFo
           let by_class = either _ _ (either _ _ faults).1 in
           let by_record = either _ _ by_class.1 in
           let unfaulted : seen.form ≡ None = unmapped fault_of _ (unmapped (deeper (at_member records)) _ by_record.0) in
-          let whole : seen.fraction ≡ None = no_fraction_seen frame p.ds p.ms seen p.seen_is p.some sound in
+          let whole : seen.fraction ≡ None = no_fraction_seen keeps frame p.ds p.ms seen p.seen_is p.some sound in
           let k = right_kept whole unfaulted (ap document_faults p.left_is ∙ none_right _ by_record.1) in
-          (k.0, unsettled frame text left (length seen.kept.cvrs.items) k.0 seen.kept k.1 k.2 of (λ s. never (record { whole = whole; form = unfaulted; settles = s })))
+          (k.0, unsettled frame text left k.0 keeps seen.kept k.1 of (λ s. never (record { whole = whole; form = unfaulted; settles = s })))
 
 -- ---- the file
 
-abbrev IsAnswered : Frame → List ℕ → Result Report ReadFault → Type 0
-IsAnswered frame bytes answer = record {
-  report : IfOk answer (λ r. r ≡ report_in frame.contests bytes);
-  accepted : OnOk answer (first_refusal frame bytes ≡ None);
+abbrev IsAnswered : {T : Type 0} → (List Cvr → T → Type 0) → Frame → List ℕ → Result (List ReportingDevice × T) ReadFault → Type 0
+IsAnswered keeps frame bytes answer = record {
+  valid : OnOk answer (Valid frame bytes);
+  devices : IfOk answer (λ p. p.0 ≡ (report_in frame.contests bytes).devices);
+  kept : IfOk answer (λ p. keeps (report_in frame.contests bytes).cvrs p.1);
   first : IfErr answer (λ e. ¬ IsMemory e → first_refusal frame bytes ≡ Some e);
 }
 
 pub value_of_text : (bytes text : List ℕ) (d : Data) → text ≡ bytes → IsUtf8 bytes → read text ≡ Some d → value_of bytes ≡ Some d
 value_of_text bytes text d same utf8 value = rw (is_utf8-from_IsUtf8 bytes utf8) (ap read (sym same) ∙ value)
 
-pub answered : (frame : Frame) (bytes : List ℕ) (d : Data) → Holds bytes d → (answer : Result Report ReadFault) → IsJudged frame d answer → IsAnswered frame bytes answer
-answered frame bytes d v (Ok r) j =
-    record { report = j.ok.1 ∙ ap (report_of frame.contests) (sym (value_is bytes d v.1)); accepted = file_holds (value_refusal frame) bytes d v ∙ j.ok.0; first = tt }
-answered frame bytes d v (Err e) j = record { report = tt; accepted = tt; first = λ other. file_holds (value_refusal frame) bytes d v ∙ j.err other }
+pub answered : {T : Type 0} (keeps : List Cvr → T → Type 0) (frame : Frame) (bytes : List ℕ) (d : Data) → Holds bytes d → (answer : Result (List ReportingDevice × T) ReadFault) → IsJudged keeps frame d answer → IsAnswered keeps frame bytes answer
+answered keeps frame bytes d v (Ok p) j =
+    let is = sym (value_is bytes d v.1) in
+    record {
+      valid = (valid_file frame bytes).0 (file_holds (value_refusal frame) bytes d v ∙ j.accepted);
+      devices = j.devices ∙ ap (λ e. (report_of frame.contests e).devices) is;
+      kept = subst (λ e. keeps (report_of frame.contests e).cvrs p.1) is j.kept;
+      first = tt;
+    }
+answered keeps frame bytes d v (Err e) j = record { valid = tt; devices = tt; kept = tt; first = λ other. file_holds (value_refusal frame) bytes d v ∙ j.err other }
 
 -- what is no text has no value
-pub no_text : (frame : Frame) (bytes : List ℕ) → length bytes ≤ max_file → (IsUtf8 bytes → ⊥) → first_refusal frame bytes ≡ Some NotJson
-no_text frame bytes short never = rw (is_short (length bytes) max_file short, false_from_ne_true (is_utf8 bytes) (λ is. never (IsUtf8-from_is_utf8 bytes is))) refl
+pub no_text : (bytes : List ℕ) → length bytes ≤ max_file → (IsUtf8 bytes → ⊥) → (refusal : Data → Option ReadFault) → of_file refusal bytes ≡ Some NotJson
+no_text bytes short never refusal = rw (is_short (length bytes) max_file short, false_from_ne_true (is_utf8 bytes) (λ is. never (IsUtf8-from_is_utf8 bytes is))) refl
 
 pub range_at : {E : Type 0} (frame : Frame) (bytes : List ℕ) (answer : Result Report E) → IsFrame frame → OnOk answer (Valid frame bytes) → IfOk answer (λ r. r ≡ report_in frame.contests bytes) → IfOk answer (λ r. ReportInRange frame.contests r)
 range_at frame bytes (Ok r) of v is = rw is (in_range contests_agree frame bytes of v)

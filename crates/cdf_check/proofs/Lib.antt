@@ -22,7 +22,7 @@ pub mod Standing
 pub mod Spelling
 pub mod Utf8
 pub mod Apart
-pub mod NamedParties
+pub mod NamedTexts
 pub mod Joining
 pub mod Numbers
 pub mod Faults

@@ -167,7 +167,7 @@ annotation_read d f =
       instant = λ s is. has_instant s (moment_is_read s (text_has_form stamp s is));
     }
 
-snapshot_read : (scope : Scope) (d : Data) → HasForm (One (leaf.Object group.Snapshots)) d → SnapshotResolves scope d → SnapshotIsRead scope.contests d
+pub snapshot_read : (scope : Scope) (d : Data) → HasForm (One (leaf.Object group.Snapshots)) d → SnapshotResolves scope d → SnapshotIsRead scope.contests d
 snapshot_read scope d f r =
     let id = row_of group.Snapshots (required (codes "@id") (One leaf.Name)) d (refl, tt) f in
     let type = row_of group.Snapshots (required (codes "Type") (One (leaf.Listed listing.CvrType))) d (refl, tt) f in

@@ -1,15 +1,15 @@
 -- One record more is read.
-use Rattle.std.proofs.Common.{◌≡◌, ◌↔◌, ℕ, ◌+◌, List, [], ◌∷◌, ◌++◌, length, map, Option, None, Some, option_map, true, false, refl, ap, subst, ◌∙◌, ◌≤◌, arith}
-use Rattle.std.proofs.lemmas.List.{append-nil, length-map, append_assoc, map-append, flat_map_more}
+use Rattle.std.proofs.Common.{◌≡◌, ℕ, ◌+◌, List, [], ◌∷◌, ◌++◌, length, map, Option, None, Some, option_map, true, false, refl, sym, ◌∙◌, ◌<◌, ◌^◌, arith}
+use Rattle.std.proofs.lemmas.List.{append-nil, length-append, length-map, append_assoc, map-append}
 use Rattle.std.proofs.lemmas.List.Elements.{All-push, All-pop}
 use Rattle.std.specs.Option.{option_or}
 use Rattle.serde_json.specs.Data.{Data, array}
-use Rattle.serde_json.specs.View.{items_of}
+use Rattle.cdf_node.specs.View.{items_of}
 use Rattle.serde_json.specs.Written.{has_float}
+use Rattle.cdf_types.specs.declared.report.Cvr.{Cvr}
 use Rattle.cdf_form.specs.declared.table.Group.TheVariants as group
 use Rattle.cdf_form.specs.declared.table.Leaf.TheVariants as leaf
 use Rattle.cdf_form.specs.declared.table.Key.TheVariants as key
-use Rattle.cdf_form.specs.Tables.{any}
 use Rattle.cdf_form.specs.Form.{Step, Fault, at_item, deeper, under, first, float_faults, items_floats, items_faults}
 use Rattle.cdf_form.specs.Found.{fault_of, path_of}
 use Rattle.cdf_form.specs.Records.{cvr_faults, cvrs_faults}
@@ -22,8 +22,7 @@ use Rattle.cdf_check.specs.declared.seen.Seen.{Seen}
 use Rattle.cdf_check.specs.Paths as paths
 use Rattle.cdf_check.specs.Paths.{Path, below, places}
 use Rattle.cdf_check.specs.Frame.{Frame}
-use Rattle.cdf_check.specs.Named.{ids_of}
-use Rattle.cdf_check.specs.Within.{NamesWithin, AddsPlaces, named_by}
+use Rattle.cdf_check.specs.Within.{AreNamed, NamesOwn}
 use Rattle.cdf_check.specs.Seen.{in_file, AreKept, AreWhole, IsSeen}
 use Rattle.cdf_check.proofs.Faults.{none_right}
 use Rattle.cdf_check.proofs.Items.{first_below, first_or}
@@ -69,42 +68,41 @@ whole_first d none = whole_of d (none_right (float_faults d) none)
 
 -- ---- what they name
 
--- what is kept of one record more
-pub kept_more : (frame : Frame) (ds : List Data) (d : Data) (kept more : Kept) → AreKept frame ds kept → (more.settled ≡ true) ↔ ((kept.settled ≡ true) × NamesWithin frame d)
-    → (more.settled ≡ true → AddsPlaces (ids_of frame.parties) kept.named.items (named_by d) more.named.items) → AreKept frame (ds ++ d ∷ []) more
-kept_more frame ds d kept more h exact named =
-    record {
-      settled = (
-        (λ still. let both = exact.0 still in All-push (NamesWithin frame) ds d (h.settled.0 both.0) both.1),
-        λ all. let both = All-pop (NamesWithin frame) (ds ++ d ∷ []) ds (Some d) refl all in exact.1 (h.settled.1 both.0, both.1),
-      );
-      named = λ still. rw (named still, h.named (exact.0 still).0, ← flat_map_more named_by [] ds d, map-append);
-    }
+module _ {T : Type 0} (keeps : List Cvr → T → Type 0) (frame : Frame) (ds : List Data) (d : Data) where
+  -- what is kept where a record was refused before
+  pub kept_none : (kept : Kept T) → AreKept keeps frame ds kept → (kept.settled ≡ true → ⊥) → AreKept keeps frame (ds ++ d ∷ []) kept
+  kept_none kept h never =
+      record { settled = ((λ is. absurd (never is)), λ all. absurd (never (h.settled.1 (All-pop (NamesOwn frame) (ds ++ d ∷ []) ds (Some d) refl all).0))); names = λ is. absurd (never is); records = λ is. absurd (never is) }
 
--- ---- what is seen
+  -- where this one is
+  pub kept_refused : (more : Kept T) → (NamesOwn frame d → ⊥) → (more.settled ≡ true → ⊥) → AreKept keeps frame (ds ++ d ∷ []) more
+  kept_refused more other never =
+      record { settled = ((λ is. absurd (never is)), λ all. absurd (other (All-pop (NamesOwn frame) (ds ++ d ∷ []) ds (Some d) refl all).1)); names = λ is. absurd (never is); records = λ is. absurd (never is) }
 
--- what is seen of one record more, where each number before it is whole
-pub seen_more : (frame : Frame) (ds : List Data) (d : Data) (seen more : Seen) (place : ℕ) → IsSeen frame ds seen → seen.fraction ≡ None → place ≡ length seen.kept.cvrs.items
-    → more.fraction ≡ option_map (λ f. in_file (deeper (at_item place) f)) (first (float_faults d)) → (AreWhole frame ds seen → more.fraction ≡ None → AreWhole frame (ds ++ d ∷ []) more) → IsSeen frame (ds ++ d ∷ []) more
-seen_more frame ds d seen more place h none count told whole =
-    let own = h.whole none in
-    record {
-      fraction = cc (h.fraction, fraction_next ds d place (count ∙ ap length own.typed ∙ length-map ds (cvr_of frame.contests)));
-      whole = whole own;
-    }
+  -- what is kept of one record more
+  pub kept_more : (kept more : Kept T) (place : ℕ) → place ≡ length ds → AreKept keeps frame ds kept → kept.settled ≡ true → NamesOwn frame d → more.settled ≡ kept.settled
+      → (AreNamed ds kept.names → AreNamed (ds ++ d ∷ []) more.names) → ((cs : List Cvr) → place ≡ length cs → keeps cs kept.records → keeps (cs ++ cvr_of frame.contests d ∷ []) more.records) → AreKept keeps frame (ds ++ d ∷ []) more
+  kept_more kept more place at h is own same names records =
+      record {
+        settled = ((λ _. All-push (NamesOwn frame) ds d (h.settled.0 is) own), λ _. same ∙ is);
+        names = λ _. names (h.names is);
+        records = λ _. rw map-append (records (map (cvr_of frame.contests) ds) (at ∙ sym (length-map ds (cvr_of frame.contests))) (h.records is));
+      }
 
--- and where its own are whole
-pub whole_more : (frame : Frame) (ds : List Data) (d : Data) (seen more : Seen) (place : ℕ) → place ≡ length seen.kept.cvrs.items → length more.kept.cvrs.items ≤ any
-    → more.kept.cvrs.items ≡ seen.kept.cvrs.items ++ cvr_of frame.contests d ∷ [] → option_map fault_of more.form ≡ option_or (option_map fault_of seen.form) (option_map (deeper (at_item place)) (first (cvr_faults d)))
-    → AreWhole frame ds seen → (more.form ≡ None → AreKept frame (ds ++ d ∷ []) more.kept) → AreWhole frame (ds ++ d ∷ []) more
-whole_more frame ds d seen more place count short pushed told h kept =
-    let typed : more.kept.cvrs.items ≡ map (cvr_of frame.contests) (ds ++ d ∷ []) = rw (pushed, h.typed, map-append) in
-    record {
-      few = subst (λ n. n ≤ any) (ap length typed ∙ length-map (ds ++ d ∷ []) (cvr_of frame.contests)) short;
-      typed = typed;
-      form = cc (h.form, form_next ds d place (count ∙ ap length h.typed ∙ length-map ds (cvr_of frame.contests)));
-      kept = kept;
-    }
+  -- ---- what is seen
+
+  -- what is seen of one record more, where each number before it is whole
+  pub seen_more : (seen more : Seen T) (place : ℕ) → IsSeen keeps frame ds seen → seen.fraction ≡ None → place ≡ length ds → more.fraction ≡ option_map (λ f. in_file (deeper (at_item place) f)) (first (float_faults d))
+      → (AreWhole keeps frame ds seen → more.fraction ≡ None → AreWhole keeps frame (ds ++ d ∷ []) more) → IsSeen keeps frame (ds ++ d ∷ []) more
+  seen_more seen more place h none at told whole =
+      record { fraction = cc (h.fraction, fraction_next ds d place at); whole = whole (h.whole none) }
+
+  -- and where its own are whole
+  pub whole_more : (seen more : Seen T) (place : ℕ) → place ≡ length ds → place < 2 ^ 63 → option_map fault_of more.form ≡ option_or (option_map fault_of seen.form) (option_map (deeper (at_item place)) (first (cvr_faults d)))
+      → AreWhole keeps frame ds seen → (more.form ≡ None → AreKept keeps frame (ds ++ d ∷ []) more.kept) → AreWhole keeps frame (ds ++ d ∷ []) more
+  whole_more seen more place at short told h kept =
+      let n = length-append ds (d ∷ []) in
+      record { few = omega (arith, n, at, short); form = cc (h.form, form_next ds d place at); kept = kept }
 
 -- where the first path wasn't found, there is none
 pub no_path : (o : Option Found) (ps : List paths.Path) → option_map path_of o ≡ paths.first ps → o ≡ None → ps ≡ []

@@ -20,15 +20,21 @@ use Rattle.cdf_form.specs.HasForm.{HasForm}
 use Rattle.cdf_form.specs.Parts.{array_at, text_at, text_in}
 use Rattle.cdf_form.specs.Places.{Texts, place_in, Contest, contest_ids, selections_at}
 use Rattle.cdf_form.proofs.Lemmas.{some_of}
-use Rattle.cdf_form.proofs.Laws.{row_of, items_have_form, items_are_apart}
+use Rattle.cdf_form.proofs.Laws.{fits_of, row_of, items_have_form, items_are_apart}
 use Rattle.cdf_form.specs.ByRow.{ListApart}
 use Rattle.cdf_typed.specs.Typed.{count_at, position_of, selection_place, selection_vote_of, contest_vote_of, snapshot_of, cvr_of, report_of}
 use Rattle.cdf_typed.specs.Range.{IsCount, SelectionInRange, ContestInRange, SnapshotInRange, CvrInRange, ReportInRange}
 use Rattle.cdf_check.specs.Acceptance.{value_in}
 use Rattle.cdf_check.specs.Defaults.{HasText, HasCount, MayHaveCount}
-use Rattle.cdf_check.specs.Defaults.{SelectionIsRead, ContestIsRead, SnapshotIsRead, CvrIsRead, ReportIsRead, InRangeLaw}
+use Rattle.cdf_check.specs.Defaults.{SelectionIsRead, ContestIsRead, SnapshotIsRead, CvrIsRead, ReportIsRead, InRangeLaw, RecordInRangeLaw}
+use Rattle.cdf_check.specs.References.{in_snapshot}
+use Rattle.cdf_check.specs.Resolves.{SnapshotResolves}
+use Rattle.cdf_check.specs.Scoped.{contests_alone}
 use Rattle.cdf_check.specs.Laws.{SameElectionLaw}
-use Rattle.cdf_check.proofs.NoDefault.{no_default}
+use Rattle.cdf_check.proofs.Empty.{all_items}
+use Rattle.cdf_check.proofs.Faults.{none_right}
+use Rattle.cdf_check.proofs.NoDefault.{no_default, snapshot_read}
+use Rattle.cdf_check.proofs.Resolving.{snapshot_law}
 use Rattle.cdf_check.proofs.Places.{placed_in, one_place}
 
 -- ---- lists
@@ -139,6 +145,15 @@ report_in_range contests d f h =
     let row = row_of group.Reports (optional (codes "CVR") (Array (leaf.Object group.Cvrs) 0 any key.Free)) d (refl, tt) f in
     each_mapped (cvr_of contests) (CvrInRange contests) (array_at (codes "CVR") d)
     (λ e a. cvr_in_range contests e (items_have_form row e a) (h.cvrs.items e a))
+
+pub record_in_range : RecordInRangeLaw
+record_in_range contests d none names =
+    let scope = contests_alone contests in
+    let f : HasForm (One (leaf.Object group.Cvrs)) d = fits_of d (One (leaf.Object group.Cvrs)) key.Free refl (none_right _ none) in
+    let row = row_of group.Cvrs (required (codes "CVRSnapshot") (Array (leaf.Object group.Snapshots) 1 any key.Id)) d (refl, tt) f in
+    let resolved = (all_items (in_snapshot scope) (SnapshotResolves scope) (snapshot_law scope) (codes "CVRSnapshot") d).0 names in
+    each_mapped (snapshot_of contests) (SnapshotInRange contests) (array_at (codes "CVRSnapshot") d)
+    (λ e a. snapshot_in_range contests e (items_have_form row e a) (snapshot_read scope e (items_have_form row e a) (resolved e a)))
 
 -- ---- accepted files
 

@@ -63,7 +63,7 @@ module _ (scope : Scope) where
       (one_law (contest_ids scope.contests) (codes "ContestId") d) in
       ((λ e. record { contest = (h.0 e).1; selections = (h.0 e).0 }), λ v. h.1 (v.selections, v.contest))
 
-  snapshot_law : (d : Data) → (in_snapshot scope d ≡ []) ↔ SnapshotResolves scope d
+  pub snapshot_law : (d : Data) → (in_snapshot scope d ≡ []) ↔ SnapshotResolves scope d
   snapshot_law = all_items (in_contest_vote scope) (VoteResolves scope) vote_law (codes "CVRContest")
 
   pub cvr_law : (d : Data) → (in_cvr scope d ≡ []) ↔ CvrResolves scope d

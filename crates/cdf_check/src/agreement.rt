@@ -1,5 +1,5 @@
 ghost use Rattle.std.specs.Prelude.{◌≡◌, option_map, IfOk, false};
-ghost use Rattle.serde_json.specs.View.{view};
+ghost use Rattle.cdf_node.specs.View.{view};
 ghost use Rattle.serde_json.specs.Written.{has_float};
 ghost use Rattle.cdf_form.specs.Found.{path_of};
 ghost use Rattle.cdf_check.specs.Paths.{first, each};
@@ -8,12 +8,12 @@ ghost use Rattle.cdf_check.specs.Agreement.{agrees, differing};
 use crate::named::Named;
 use cdf_form::found::{Path, Step};
 use cdf_form::{items_at, text_at};
+use cdf_node::Node;
 use cdf_types::Memory;
-use serde_json::Value;
 use std::alloc::Global;
 
 // Whether an object has the text that stands beside its id.
-fn agrees(alloc: Global, known: &Named, value: &Value) -> Result<bool, Memory>
+fn agrees(alloc: Global, known: &Named, value: &Node<'_>) -> Result<bool, Memory>
     requires { has_float (view value.now) ≡ false }
     ensures { IfOk result (λ b. b ≡ agrees known.now (view value.now)) }
 {
@@ -34,7 +34,7 @@ pub fn first_differing(
     alloc: Global,
     known: &Named,
     name: &'static str,
-    value: &Value,
+    value: &Node<'_>,
 ) -> Result<Option<Path<'static>>, Memory>
     requires { has_float (view value.now) ≡ false }
     ensures { IfOk result (λ o. option_map path_of o

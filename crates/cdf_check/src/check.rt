@@ -1,5 +1,5 @@
 ghost use Rattle.std.specs.Prelude.{◌≡◌, [], Some, IfOk, IfErr, OnOk, false, option_map};
-ghost use Rattle.serde_json.specs.View.{view};
+ghost use Rattle.cdf_node.specs.View.{view};
 ghost use Rattle.serde_json.specs.Written.{has_float};
 ghost use Rattle.cdf_types.specs.declared.fault.ReadFault.TheVariants.{Reference, Disagrees};
 ghost use Rattle.cdf_form.specs.Form as form;
@@ -18,8 +18,8 @@ use crate::references::first_missing;
 use cdf_form::found::{Found, Path, Stop};
 use cdf_form::path::pointer;
 use cdf_form::read::document_fault;
+use cdf_node::Node;
 use cdf_types::{Memory, ReadFault};
-use serde_json::Value;
 use std::alloc::Global;
 
 // The answer that tells a fault of form.
@@ -33,7 +33,7 @@ pub(crate) fn told_fault(alloc: Global, found: Found<'_>) -> Result<ReadFault, M
 }
 
 // Whether the numbers and the form of a report are right.
-fn check_form(alloc: Global, value: &Value) -> Result<(), ReadFault>
+fn check_form(alloc: Global, value: &Node<'_>) -> Result<(), ReadFault>
     ensures ok { OnOk result (document_faults (view value.now) ≡ []) }
     ensures err { IfErr result (λ e. ¬ IsMemory e
         → option_map refusal_of (form.first (document_faults (view value.now))) ≡ Some e) }
@@ -46,7 +46,7 @@ fn check_form(alloc: Global, value: &Value) -> Result<(), ReadFault>
 }
 
 // Whether every text of a report that has to name something does.
-fn check_references(alloc: Global, value: &Value) -> Result<(), ReadFault>
+fn check_references(alloc: Global, value: &Node<'_>) -> Result<(), ReadFault>
     ensures ok { OnOk result (missing (view value.now) ≡ []) }
     ensures err { IfErr result (λ e. ¬ IsMemory e
         → option_map (λ p. Reference (path_text p)) (first (missing (view value.now))) ≡ Some e) }
@@ -64,7 +64,7 @@ fn check_references(alloc: Global, value: &Value) -> Result<(), ReadFault>
 /// # Errors
 /// `Schema` at the first fault of numbers or of form; else `Reference` at the first text that names
 /// nothing. `Memory` in place of either where a growth was refused.
-pub fn check_own(alloc: Global, value: &Value) -> Result<(), ReadFault>
+pub fn check_own(alloc: Global, value: &Node<'_>) -> Result<(), ReadFault>
     ensures ok { OnOk result (IsSound (view value.now)) }
     ensures err { IfErr result (λ e. ¬ IsMemory e → own_refusal (view value.now) ≡ Some e) }
 {
@@ -78,7 +78,7 @@ pub fn check_own(alloc: Global, value: &Value) -> Result<(), ReadFault>
 fn disagreement(
     alloc: Global,
     definition: &Definition,
-    value: &Value,
+    value: &Node<'_>,
 ) -> Result<Option<Path<'static>>, Memory>
     requires { has_float (view value.now) ≡ false }
     ensures { IfOk result (λ o. option_map path_of o
@@ -96,7 +96,11 @@ fn disagreement(
 }
 
 // Whether every object of a report that has to be the definition's is.
-fn check_agreement(alloc: Global, definition: &Definition, value: &Value) -> Result<(), ReadFault>
+fn check_agreement(
+    alloc: Global,
+    definition: &Definition,
+    value: &Node<'_>,
+) -> Result<(), ReadFault>
     requires { has_float (view value.now) ≡ false }
     ensures ok { OnOk result (disagreements definition.now (view value.now) ≡ []) }
     ensures err { IfErr result (λ e. ¬ IsMemory e
@@ -116,7 +120,11 @@ fn check_agreement(alloc: Global, definition: &Definition, value: &Value) -> Res
 /// # Errors
 /// As `check_own`; else `Disagrees` at the first object that isn't the definition's.
 #[tactic(auto, using(cdf_form::proofs::Laws::whole_document))]
-pub fn check_value(alloc: Global, definition: &Definition, value: &Value) -> Result<(), ReadFault>
+pub fn check_value(
+    alloc: Global,
+    definition: &Definition,
+    value: &Node<'_>,
+) -> Result<(), ReadFault>
     ensures sound { OnOk result (IsSound (view value.now)) }
     ensures agrees { OnOk result (disagreements definition.now (view value.now) ≡ []) }
     ensures err { IfErr result (λ e. ¬ IsMemory e

@@ -1,4 +1,4 @@
-ghost use Rattle.cdf_check.specs.Defaults.{ReportIsReadLaw, NoDefaultLaw, InRangeLaw};
+ghost use Rattle.cdf_check.specs.Defaults.{ReportIsReadLaw, NoDefaultLaw, InRangeLaw, RecordInRangeLaw};
 
 /// In an accepted file no default of the typed readers stands for a part that is demanded, or for one of
 /// another kind or out of range: what is demanded is there, and what is there is of its kind.
@@ -15,4 +15,10 @@ pub fn no_default_of_a_report()
 /// within its limit, and no contest stands twice in a snapshot.
 pub fn places_are_in_range()
     ensures { InRangeLaw }
+{}
+
+/// So are those of a record that has its form, and names contests and selections of these contests
+/// alone.
+pub fn places_of_a_record()
+    ensures { RecordInRangeLaw }
 {}

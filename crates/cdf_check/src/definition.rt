@@ -1,8 +1,8 @@
 use crate::named::Named;
 use cdf_form::contests::Contests;
 use cdf_form::{election_items, items_at};
+use cdf_node::Node;
 use cdf_types::{Body, Memory};
-use serde_json::Value;
 use std::alloc::Global;
 use std::marker::Model;
 
@@ -32,7 +32,7 @@ impl Model for Definition {
 impl Definition {
     ghost use Rattle.std.specs.Prelude.{◌≡◌, ◌<◌, length, slice_index_or, IfOk, [], ◌∷◌, bytes_eq, IsTrue, ◌↔◌};
     ghost use Rattle.std.specs.List.{list_any};
-    ghost use Rattle.serde_json.specs.View.{view};
+    ghost use Rattle.cdf_node.specs.View.{view};
     ghost use Rattle.cdf_form.specs.Places.{place_in, contest_ids, selections_at};
     ghost use Rattle.cdf_check.specs.Named.{ids_of, texts_of};
     ghost use Rattle.cdf_check.specs.Frame.{frame_of, IsSame};
@@ -42,7 +42,7 @@ impl Definition {
     ///
     /// # Errors
     /// `Memory` where a growth was refused.
-    pub(crate) fn of_report(alloc: Global, report: &Value) -> Result<Definition, Memory>
+    pub(crate) fn of_report(alloc: Global, report: &Node<'_>) -> Result<Definition, Memory>
         requires sound { IsSound (view report.now) }
         requires read { WasRead (view report.now) }
         ensures { IfOk result (λ def. def ≡ frame_of (view report.now)) }
@@ -202,8 +202,8 @@ impl Definition {
         &self.parties
     }
 
-    // The contests, each with its selections.
-    pub(crate) fn contests(&self) -> &Contests
+    /// The contests by id and place, each with the ids of its selections. Takes no memory.
+    pub fn contests(&self) -> &Contests
         ensures { result.now ≡ self.now.contests }
     {
         &self.contests

@@ -1,16 +1,20 @@
 ghost use Rattle.std.specs.Prelude.{◌≡◌, IfOk};
-ghost use Rattle.serde_json.specs.View.{view, members_view};
+ghost use Rattle.cdf_node.specs.View.{view, members_view};
 ghost use Rattle.cdf_check.specs.Seen.{member_fraction, file_fraction};
 
 use cdf_form::float::find_float;
 use cdf_form::found::{Step, Stop};
 use cdf_form::path::pointer;
+use cdf_node::Node;
 use cdf_types::{Body, Memory};
-use serde_json::{Map, Value};
 use std::alloc::Global;
 
 // The path of the first number of a member that isn't whole.
-fn member_fraction(alloc: Global, name: &str, member: &Value) -> Result<Option<Body>, Memory>
+fn member_fraction<'t>(
+    alloc: Global,
+    name: &'t str,
+    member: &Node<'t>,
+) -> Result<Option<Body>, Memory>
     ensures { IfOk result (λ path. path ≡ member_fraction name.now (view member.now)) }
 {
     let Err(cause) = find_float(alloc, member) else {
@@ -29,17 +33,17 @@ fn member_fraction(alloc: Global, name: &str, member: &Value) -> Result<Option<B
 /// `Memory` where a growth was refused.
 pub(crate) fn file_fraction(
     alloc: Global,
-    left: &Map<String, Value>,
+    left: &[(&str, Node<'_>)],
     of_records: Option<Body>,
 ) -> Result<Option<Body>, Memory>
-    ensures { IfOk result (λ path. path ≡ file_fraction (members_view left.now.entries) of_records) }
+    ensures { IfOk result (λ path. path ≡ file_fraction (members_view left.now) of_records) }
 {
-    for (name, member) in left.iter() {
-        if name.as_str() == "CVR" {
+    for member in left {
+        if member.0 == "CVR" {
             if of_records.is_some() {
                 return Ok(of_records);
             }
-        } else if let Some(path) = member_fraction(alloc, name.as_str(), member)? {
+        } else if let Some(path) = member_fraction(alloc, member.0, &member.1)? {
             return Ok(Some(path));
         }
     }

@@ -1,17 +1,17 @@
 ghost use Rattle.std.specs.Prelude.{◌≡◌, IfOk, false, map};
 ghost use Rattle.std.specs.List.{list_any};
-ghost use Rattle.serde_json.specs.View.{view};
+ghost use Rattle.cdf_node.specs.View.{view};
 ghost use Rattle.serde_json.specs.Written.{has_float};
 ghost use Rattle.cdf_check.specs.Named.{named, sorted, entries_of};
 
 use cdf_form::text_at;
+use cdf_node::Node;
 use cdf_types::{Body, Memory};
-use serde_json::Value;
 use std::alloc::Global;
 use std::collections::BTreeMap;
 
 // The texts of objects by their ids.
-pub(crate) fn gather(alloc: Global, items: &[Value]) -> Result<BTreeMap<String, Body>, Memory>
+pub(crate) fn gather(alloc: Global, items: &[Node<'_>]) -> Result<BTreeMap<String, Body>, Memory>
     requires { list_any has_float (map view items.now) ≡ false }
     ensures { IfOk result (λ m. entries_of m.entries ≡ sorted (map named (map view items.now))) }
 {

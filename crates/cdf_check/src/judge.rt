@@ -1,18 +1,21 @@
-ghost use Rattle.std.specs.Prelude.{◌≡◌, ◌↔◌, codes, false, None, IfOk, IfErr, IsTrue, OnOk, option_map};
+ghost use Rattle.std.specs.Prelude.{◌≡◌, ◌↔◌, [], codes, false, None, IfOk, IfErr, IsTrue, OnOk, option_map};
 ghost use Rattle.serde_json.specs.Data.{Data};
 ghost use Rattle.serde_json.specs.Find.{get};
 ghost use Rattle.serde_json.specs.Read.{read as read_data};
-ghost use Rattle.serde_json.specs.View.{view};
+ghost use Rattle.cdf_node.specs.View.{view};
 ghost use Rattle.serde_json.specs.Written.{has_float};
 ghost use Rattle.cdf_pull.specs.Fold.{IsFolded};
 ghost use Rattle.cdf_form.specs.Found.{Tells, fault_of};
+ghost use Rattle.cdf_form.specs.Parts.{array_at};
 ghost use Rattle.cdf_typed.specs.Typed.{report_of};
-ghost use Rattle.cdf_check.specs.Seen.{IsSeen, first_of_file, form_refusal, is_array, Accepts, KeepsParties, IsJudged};
+ghost use Rattle.cdf_check.specs.Agreement.{disagreements};
+ghost use Rattle.cdf_check.specs.Sound.{IsSound};
+ghost use Rattle.cdf_check.specs.Seen.{IsSeen, first_of_file, form_refusal, is_array, Accepts, IsJudged};
 
 use crate::check::{check_value, told_fault};
 use crate::definition::Definition;
 use crate::fractions::file_fraction;
-use crate::placed::settles;
+use crate::keep::Keep;
 use crate::seen::Seen;
 use crate::unnamed::reference_fault;
 use cdf_form::float::find_float;
@@ -20,23 +23,22 @@ use cdf_form::found::{Found, Step, Stop};
 use cdf_form::leaf::class_of;
 use cdf_form::read::document_fault;
 use cdf_form::table::Group;
+use cdf_node::Node;
 use cdf_typed::read_report;
-use cdf_types::{Body, Cvr, Memory, ReadFault, Report, Rule, Seq};
-use json::Scratch;
-use serde_json::Value;
+use cdf_types::{Body, Memory, ReadFault, ReportingDevice, Rule, Seq};
 use std::alloc::Global;
 
 // Looks for the first fault of a file whose numbers are whole in its records, by what is left beside
 // these and their first fault of form.
 fn first_fault<'a>(
     alloc: Global,
-    left: &'a Value,
+    left: &Node<'a>,
     of_records: Option<Found<'static>>,
 ) -> Result<(), Stop<'a>>
     ensures none { OnOk result
-        (first_of_file (view left.entry.now) (option_map fault_of of_records.entry) ≡ None) }
+        (first_of_file (view left.now) (option_map fault_of of_records.entry) ≡ None) }
     ensures fault { IfErr result (λ s.
-        Tells s (first_of_file (view left.entry.now) (option_map fault_of of_records.entry))) }
+        Tells s (first_of_file (view left.now) (option_map fault_of of_records.entry))) }
 {
     find_float(alloc, left)?;
     class_of(alloc, Group::Reports, left)?;
@@ -49,7 +51,7 @@ fn first_fault<'a>(
 // Why a file is refused for its numbers or its form, if it is.
 fn form_fault(
     alloc: Global,
-    left: &Value,
+    left: &Node<'_>,
     fraction: Option<Body>,
     form: Option<Found<'static>>,
 ) -> Result<Option<ReadFault>, Memory>
@@ -72,93 +74,114 @@ fn form_fault(
     }
 }
 
-// The report of these records and of what is left beside them.
-fn join(
+// The reporting devices of a report.
+fn devices_in(
     alloc: Global,
     definition: &Definition,
-    left: Value,
-    cvrs: Vec<Cvr>,
-) -> Result<Report, Memory>
-    requires { has_float (view left) ≡ false }
-    ensures { IfOk result (λ r. r ≡ record {
-      devices = (report_of definition.now.contests (view left)).devices;
-      cvrs = cvrs.items;
-    }) }
+    report: &Node<'_>,
+) -> Result<Seq<ReportingDevice>, Memory>
+    requires { has_float (view report.now) ≡ false }
+    ensures { IfOk result (λ devices. devices
+        ≡ (report_of definition.now.contests (view report.now)).devices) }
 {
-    let mut report = read_report(alloc, definition.contests(), left)?;
-    report.cvrs = Seq::new(cvrs);
-    Ok(report)
+    Ok(read_report(alloc, definition.contests(), report)?.devices)
+}
+
+// Whether what is left beside records is sound and agrees.
+fn stands(alloc: Global, definition: &Definition, left: &Node<'_>) -> Result<bool, Memory>
+    ensures { IfOk result (λ is. IsTrue is
+        ↔ (IsSound (view left.now) × (disagreements definition.now (view left.now) ≡ []))) }
+{
+    match check_value(alloc, definition, left) {
+        Ok(()) => Ok(true),
+        Err(ReadFault::Memory) => Err(Memory),
+        Err(_) => Ok(false),
+    }
 }
 
 // Whether a file is accepted, whose records were seen so. What is left is checked once, and not for its
 // first fault, which is of interest only where the file is refused.
-fn is_accepted(
+fn is_accepted<T>(
     alloc: Global,
     definition: &Definition,
-    left: &Value,
-    seen: &Seen,
+    left: &Node<'_>,
+    seen: &Seen<T>,
 ) -> Result<bool, Memory>
-    requires { seen.now.fraction ≡ None → seen.now.form ≡ None
-        → KeepsParties definition.now seen.now.kept }
     ensures { IfOk result (λ is. IsTrue is ↔ Accepts definition.now (view left.now) seen.now) }
 {
-    if seen.fraction.is_some() || seen.form.is_some() {
+    if seen.fraction.is_some() || seen.form.is_some() || !seen.kept.settled {
         return Ok(false);
     }
-    settles(alloc, definition, left, &seen.kept)
+    if !seen.kept.names.are_listed(alloc, left)? {
+        return Ok(false);
+    }
+    stands(alloc, definition, left)
 }
 
-// The report that a value is, beside a definition.
+// The reporting devices of a value without records, and what is kept of none.
 #[tactic(auto, using(cdf_form::proofs::Laws::whole_document))]
-fn judge_whole(alloc: Global, definition: &Definition, value: Value) -> Result<Report, ReadFault>
-    ensures { IsJudged definition.now (view value) result }
+fn judge_whole<K: Keep>(
+    alloc: Global,
+    definition: &Definition,
+    value: &Node<'_>,
+    keep: &K,
+) -> Result<(Seq<ReportingDevice>, K::Kept), ReadFault>
+where
+    K::Kept: Drop,
+    requires { array_at (codes "CVR") (view value.now) ≡ [] }
+    ensures { IsJudged (K.keeps keep.now definition.now.contests) definition.now
+        (view value.now) result }
 {
-    check_value(alloc, definition, &value)?;
-    Ok(read_report(alloc, definition.contests(), value)?)
+    check_value(alloc, definition, value)?;
+    Ok((devices_in(alloc, definition, value)?, keep.none(alloc)))
 }
 
 // Whether an array stands at the records' name.
-fn has_records(value: &Value) -> bool
+fn has_records(value: &Node<'_>) -> bool
     ensures { result ≡ is_array (get (codes "CVR") (view value.now)) }
 {
     match value.get("CVR") {
-        Some(Value::Array(_)) => true,
+        Some(Node::Array(_)) => true,
         _ => false,
     }
 }
 
-/// The report of a file, of whose records that was seen, and beside which this is left.
+/// The reporting devices of a file, of whose records that was seen, and beside which this is left; and
+/// what is kept of its records.
 ///
 /// # Errors
 /// As `check_report`.
-pub(crate) fn judge(
+pub(crate) fn judge<K: Keep>(
     alloc: Global,
     definition: &Definition,
     text: &str,
-    scratch: &mut Scratch,
-    left: Value,
-    seen: Seen,
-) -> Result<Report, ReadFault>
-    requires { IsFolded (IsSeen definition.now) text.now (codes "CVR") (view left) seen }
-    ensures { (d : Data) → read_data text.now ≡ Some d → IsJudged definition.now d result }
+    left: &Node<'_>,
+    keep: &K,
+    seen: Seen<K::Kept>,
+) -> Result<(Seq<ReportingDevice>, K::Kept), ReadFault>
+where
+    K::Kept: Drop,
+    requires { IsFolded (IsSeen (K.keeps keep.now definition.now.contests) definition.now) text.now (codes "CVR")
+        (view left.now) seen }
+    ensures { (d : Data) → read_data text.now ≡ Some d
+        → IsJudged (K.keeps keep.now definition.now.contests) definition.now d result }
 {
-    if !has_records(&left) {
-        return judge_whole(alloc, definition, left);
+    if !has_records(left) {
+        return judge_whole(alloc, definition, left, keep);
     }
     definition.made_of_a_report();
-    let is_accepted = is_accepted(alloc, definition, &left, &seen)?;
+    let is_accepted = is_accepted(alloc, definition, left, &seen)?;
     let Seen {
         fraction,
         form,
         kept,
     } = seen;
     if is_accepted {
-        return Ok(join(alloc, definition, left, kept.cvrs)?);
+        return Ok((devices_in(alloc, definition, left)?, kept.records));
     }
-    let count = kept.cvrs.len();
     drop(kept);
-    match form_fault(alloc, &left, fraction, form)? {
+    match form_fault(alloc, left, fraction, form)? {
         Some(fault) => Err(fault),
-        None => Err(reference_fault(alloc, definition, text, scratch, &left, count)?),
+        None => Err(reference_fault(alloc, definition, text, left)?),
     }
 }

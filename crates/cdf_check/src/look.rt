@@ -1,7 +1,7 @@
 ghost use Rattle.std.specs.Prelude.{◌≡◌, List, ℕ, option_map, IfOk};
 ghost use Rattle.serde_json.specs.Data.{Data};
 ghost use Rattle.serde_json.specs.Find.{as_str};
-ghost use Rattle.serde_json.specs.View.{view};
+ghost use Rattle.cdf_node.specs.View.{view};
 ghost use Rattle.cdf_check.specs.Paths as paths;
 ghost use Rattle.cdf_form.specs.Found.{path_of};
 ghost use Rattle.cdf_check.specs.Paths.{first, each};
@@ -10,8 +10,8 @@ ghost use Rattle.cdf_check.specs.References.{unknown, one, many};
 use cdf_form::found::{Path, Step};
 use cdf_form::ids::Ids;
 use cdf_form::items_at;
+use cdf_node::Node;
 use cdf_types::Memory;
-use serde_json::Value;
 use std::alloc::Global;
 
 /// A look for the first text of a value that names nothing.
@@ -22,7 +22,7 @@ pub trait Look {
     ///
     /// # Errors
     /// `Memory` where a growth was refused.
-    fn look(&self, alloc: Global, value: &Value) -> Result<Option<Path<'static>>, Memory>
+    fn look(&self, alloc: Global, value: &Node<'_>) -> Result<Option<Path<'static>>, Memory>
         ensures { IfOk result (λ o. option_map path_of o ≡ first (missing self.now (view value.now))) };
 }
 
@@ -34,7 +34,7 @@ pub fn look_in_each<L: Look>(
     alloc: Global,
     look: &L,
     name: &'static str,
-    value: &Value,
+    value: &Node<'_>,
 ) -> Result<Option<Path<'static>>, Memory>
     ensures { IfOk result (λ o. option_map path_of o
         ≡ first (each (L.missing look.now) name.now (view value.now))) }
@@ -57,7 +57,7 @@ struct Reference<'a>(&'a Ids);
 impl Look for Reference<'_> {
     ghost missing = { λ s d. unknown s.0.now (as_str d) };
 
-    fn look(&self, alloc: Global, value: &Value) -> Result<Option<Path<'static>>, Memory> {
+    fn look(&self, alloc: Global, value: &Node<'_>) -> Result<Option<Path<'static>>, Memory> {
         match value.as_str() {
             None => Ok(None),
             Some(id) => {
@@ -80,7 +80,7 @@ pub fn look_at_one(
     alloc: Global,
     ids: &Ids,
     name: &'static str,
-    value: &Value,
+    value: &Node<'_>,
 ) -> Result<Option<Path<'static>>, Memory>
     ensures { IfOk result (λ o. option_map path_of o ≡ first (one ids.now name.now (view value.now))) }
 {
@@ -101,7 +101,7 @@ pub fn look_at_many(
     alloc: Global,
     ids: &Ids,
     name: &'static str,
-    value: &Value,
+    value: &Node<'_>,
 ) -> Result<Option<Path<'static>>, Memory>
     ensures { IfOk result (λ o. option_map path_of o ≡ first (many ids.now name.now (view value.now))) }
 {

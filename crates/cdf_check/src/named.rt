@@ -1,7 +1,7 @@
 use crate::gather::{copy_bodies, gather};
 use cdf_form::ids::Ids;
+use cdf_node::Node;
 use cdf_types::{Body, Memory};
-use serde_json::Value;
 use std::alloc::Global;
 use std::collections::BTreeMap;
 use std::marker::Model;
@@ -29,7 +29,7 @@ impl Model for Named {
 impl Named {
     ghost use Rattle.std.specs.Prelude.{◌≡◌, length, option_map, IfOk, false, map, IsTrue, ◌↔◌};
     ghost use Rattle.std.specs.List.{list_any, zip};
-    ghost use Rattle.serde_json.specs.View.{view};
+    ghost use Rattle.cdf_node.specs.View.{view};
     ghost use Rattle.serde_json.specs.Written.{has_float};
     ghost use Rattle.cdf_form.specs.Kept.{bytes_of};
     ghost use Rattle.cdf_check.specs.Named.{named, sorted, entries_of, ids_of, texts_of, text_of};
@@ -38,7 +38,7 @@ impl Named {
     ///
     /// # Errors
     /// `Memory` where a growth was refused.
-    pub fn of_items(alloc: Global, items: &[Value]) -> Result<Named, Memory>
+    pub fn of_items(alloc: Global, items: &[Node<'_>]) -> Result<Named, Memory>
         requires { list_any has_float (map view items.now) ≡ false }
         ensures { IfOk result (λ n. n ≡ sorted (map named (map view items.now))) }
     {

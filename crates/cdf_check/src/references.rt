@@ -1,6 +1,6 @@
 ghost use Rattle.std.specs.Prelude.{◌≡◌, option_map, IfOk, codes, map, bytes_eq};
 ghost use Rattle.std.specs.List.{list_any};
-ghost use Rattle.serde_json.specs.View.{view};
+ghost use Rattle.cdf_node.specs.View.{view};
 ghost use Rattle.cdf_form.specs.Form.{class_in};
 ghost use Rattle.cdf_form.specs.Parts.{ids_at, id_of};
 ghost use Rattle.cdf_form.specs.Found.{path_of};
@@ -16,8 +16,8 @@ use cdf_form::ids::Ids;
 use cdf_form::leaf::find_class;
 use cdf_form::table::{Class, Group, classes};
 use cdf_form::{items_at, text_at};
+use cdf_node::Node;
 use cdf_types::Memory;
-use serde_json::Value;
 use std::alloc::Global;
 
 // Each struct looks at a value of one class, in the order of the names of its members. One holds
@@ -29,7 +29,7 @@ struct InSelectionVote<'a>(Option<&'a Ids>);
 impl Look for InSelectionVote<'_> {
     ghost missing = { λ s d. in_selection_vote (option_map (λ i. i.now) s.0) d };
 
-    fn look(&self, alloc: Global, value: &Value) -> Result<Option<Path<'static>>, Memory> {
+    fn look(&self, alloc: Global, value: &Node<'_>) -> Result<Option<Path<'static>>, Memory> {
         match self.0 {
             None => Ok(None),
             Some(ids) => look_at_one(alloc, ids, "ContestSelectionId", value),
@@ -44,7 +44,7 @@ impl Look for InContestVote<'_> {
     ghost missing = { λ s d. in_contest_vote (contests_alone s.0.now) d };
 
     #[tactic(auto, using(crate::proofs::Items::first_or))]
-    fn look(&self, alloc: Global, value: &Value) -> Result<Option<Path<'static>>, Memory> {
+    fn look(&self, alloc: Global, value: &Node<'_>) -> Result<Option<Path<'static>>, Memory> {
         let contests = self.0;
         match look_in_votes(alloc, contests, value)? {
             None => {}
@@ -58,7 +58,7 @@ impl Look for InContestVote<'_> {
 fn look_in_votes(
     alloc: Global,
     contests: &Contests,
-    value: &Value,
+    value: &Node<'_>,
 ) -> Result<Option<Path<'static>>, Memory>
     ensures { IfOk result (λ o. option_map path_of o
         ≡ first (in_votes (contests_alone contests.now) (view value.now))) }
@@ -73,7 +73,7 @@ struct InSnapshot<'a>(&'a Contests);
 impl Look for InSnapshot<'_> {
     ghost missing = { λ s d. in_snapshot (contests_alone s.0.now) d };
 
-    fn look(&self, alloc: Global, value: &Value) -> Result<Option<Path<'static>>, Memory> {
+    fn look(&self, alloc: Global, value: &Node<'_>) -> Result<Option<Path<'static>>, Memory> {
         look_in_each(alloc, &InContestVote(self.0), "CVRContest", value)
     }
 }
@@ -85,7 +85,7 @@ impl Look for InCvr<'_> {
     ghost missing = { λ s d. in_cvr (scope_view s.0.now) d };
 
     #[tactic(auto, using(crate::proofs::Items::first_or))]
-    fn look(&self, alloc: Global, value: &Value) -> Result<Option<Path<'static>>, Memory> {
+    fn look(&self, alloc: Global, value: &Node<'_>) -> Result<Option<Path<'static>>, Memory> {
         let scope = self.0;
         match look_at_one(alloc, &scope.units, "BallotStyleUnitId", value)? {
             None => {}
@@ -118,7 +118,7 @@ impl Look for InCvr<'_> {
 pub fn look_in_snapshots(
     alloc: Global,
     contests: &Contests,
-    cvr: &Value,
+    cvr: &Node<'_>,
 ) -> Result<Option<Path<'static>>, Memory>
     ensures { IfOk result (λ o. option_map path_of o
         ≡ first (each (in_snapshot (contests_alone contests.now)) (codes "CVRSnapshot") (view cvr.now))) }
@@ -130,7 +130,7 @@ pub fn look_in_snapshots(
 ///
 /// # Errors
 /// `Memory` where a growth was refused.
-pub fn look_at_current(alloc: Global, cvr: &Value) -> Result<Option<Path<'static>>, Memory>
+pub fn look_at_current(alloc: Global, cvr: &Node<'_>) -> Result<Option<Path<'static>>, Memory>
     ensures { IfOk result (λ o. option_map path_of o
         ≡ first (one (ids_at (codes "CVRSnapshot") (view cvr.now)) (codes "CurrentSnapshotId") (view cvr.now))) }
 {
@@ -149,7 +149,7 @@ pub fn look_at_current(alloc: Global, cvr: &Value) -> Result<Option<Path<'static
 }
 
 // Whether one of the items has the id. (A record has few snapshots, so no `Ids` are made of them.)
-fn has_id(items: &[Value], id: &str) -> bool
+fn has_id(items: &[Node<'_>], id: &str) -> bool
     ensures { result ≡ list_any (bytes_eq id.now) (map id_of (map view items.now)) }
 {
     for item in items {
@@ -166,14 +166,14 @@ struct InCandidate<'a>(&'a Scope);
 impl Look for InCandidate<'_> {
     ghost missing = { λ s d. in_candidate (scope_view s.0.now) d };
 
-    fn look(&self, alloc: Global, value: &Value) -> Result<Option<Path<'static>>, Memory> {
+    fn look(&self, alloc: Global, value: &Node<'_>) -> Result<Option<Path<'static>>, Memory> {
         let scope = self.0;
         look_at_one(alloc, &scope.parties, "PartyId", value)
     }
 }
 
 // The class that an object has at `@type`, if it is one of the group.
-fn class_in(group: Group, value: &Value) -> Option<Class>
+fn class_in(group: Group, value: &Node<'_>) -> Option<Class>
     ensures { result ≡ class_in group (view value.now) }
 {
     find_class(classes(group), value.get("@type")?.as_str()?)
@@ -188,7 +188,7 @@ struct InSelection<'a> {
 impl Look for InSelection<'_> {
     ghost missing = { λ s d. in_selection (scope_view s.scope.now) s.candidates.now d };
 
-    fn look(&self, alloc: Global, value: &Value) -> Result<Option<Path<'static>>, Memory> {
+    fn look(&self, alloc: Global, value: &Node<'_>) -> Result<Option<Path<'static>>, Memory> {
         let scope = self.scope;
         match class_in(Group::ContestSelections, value) {
             Some(Class::CandidateSelection) => {
@@ -209,7 +209,7 @@ struct InContest<'a> {
 impl Look for InContest<'_> {
     ghost missing = { λ s d. in_contest (scope_view s.scope.now) s.candidates.now d };
 
-    fn look(&self, alloc: Global, value: &Value) -> Result<Option<Path<'static>>, Memory> {
+    fn look(&self, alloc: Global, value: &Node<'_>) -> Result<Option<Path<'static>>, Memory> {
         let in_selection = InSelection {
             scope: self.scope,
             candidates: self.candidates,
@@ -225,7 +225,7 @@ impl Look for InElection<'_> {
     ghost missing = { λ s d. in_election (scope_view s.0.now) d };
 
     #[tactic(auto, using(crate::proofs::Items::first_or))]
-    fn look(&self, alloc: Global, value: &Value) -> Result<Option<Path<'static>>, Memory> {
+    fn look(&self, alloc: Global, value: &Node<'_>) -> Result<Option<Path<'static>>, Memory> {
         let scope = self.0;
         match look_in_each(alloc, &InCandidate(scope), "Candidate", value)? {
             None => {}
@@ -243,7 +243,7 @@ impl Look for InElection<'_> {
 fn look_in_contests(
     alloc: Global,
     scope: &Scope,
-    election: &Value,
+    election: &Node<'_>,
 ) -> Result<Option<Path<'static>>, Memory>
     ensures { IfOk result (λ o. option_map path_of o ≡ first (each
         (in_contest (scope_view scope.now) (ids_at (codes "Candidate") (view election.now)))
@@ -262,7 +262,7 @@ fn look_in_contests(
 fn look_in_report(
     alloc: Global,
     scope: &Scope,
-    report: &Value,
+    report: &Node<'_>,
 ) -> Result<Option<Path<'static>>, Memory>
     ensures { IfOk result (λ o. option_map path_of o
         ≡ first (in_report (scope_view scope.now) (view report.now))) }
@@ -282,7 +282,7 @@ fn look_in_report(
 ///
 /// # Errors
 /// `Memory` where a growth was refused.
-pub fn first_missing(alloc: Global, report: &Value) -> Result<Option<Path<'static>>, Memory>
+pub fn first_missing(alloc: Global, report: &Node<'_>) -> Result<Option<Path<'static>>, Memory>
     ensures { IfOk result (λ o. option_map path_of o ≡ first (missing (view report.now))) }
 {
     let scope = Scope::of_report(alloc, report)?;

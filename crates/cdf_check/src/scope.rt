@@ -1,8 +1,8 @@
 use cdf_form::contests::Contests;
 use cdf_form::ids::Ids;
 use cdf_form::{election_items, items_at};
+use cdf_node::Node;
 use cdf_types::Memory;
-use serde_json::Value;
 use std::alloc::Global;
 
 /// The ids of a report that its texts can name.
@@ -22,7 +22,7 @@ pub struct Scope {
 
 impl Scope {
     ghost use Rattle.std.specs.Prelude.{◌≡◌, IfOk};
-    ghost use Rattle.serde_json.specs.View.{view};
+    ghost use Rattle.cdf_node.specs.View.{view};
     ghost use Rattle.cdf_check.specs.References.{scope_of};
     ghost use Rattle.cdf_check.specs.Scoped.{scope_view};
 
@@ -30,7 +30,7 @@ impl Scope {
     ///
     /// # Errors
     /// `Memory` where a growth was refused.
-    pub fn of_report(alloc: Global, report: &Value) -> Result<Scope, Memory>
+    pub fn of_report(alloc: Global, report: &Node<'_>) -> Result<Scope, Memory>
         ensures { IfOk result (λ s. scope_view s ≡ scope_of (view report.now)) }
     {
         Ok(Scope {

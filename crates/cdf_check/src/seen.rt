@@ -1,60 +1,70 @@
-ghost use Rattle.std.specs.Prelude.{◌≡◌, ◌↔◌, ◌∷◌, ◌++◌, [], false, IfOk, IsTrue, OnOk, option_map};
-ghost use Rattle.serde_json.specs.View.{view};
+ghost use Rattle.std.specs.Prelude.{◌≡◌, ◌↔◌, ◌<◌, ◌^◌, ◌∷◌, ◌++◌, [], false, length, IfOk, IsTrue, List, None, OnOk, option_map};
+ghost use Rattle.serde_json.specs.Data.{Data};
 ghost use Rattle.serde_json.specs.Written.{has_float};
+ghost use Rattle.cdf_node.specs.View.{view};
 ghost use Rattle.cdf_form.specs.Form.{at_item, deeper, first, float_faults};
 ghost use Rattle.cdf_form.specs.Found.{fault_of};
 ghost use Rattle.cdf_form.specs.Records.{cvr_faults};
-ghost use Rattle.cdf_typed.specs.Typed.{cvr_of};
-ghost use Rattle.cdf_check.specs.Seen.{in_file, IsSeen};
-ghost use Rattle.cdf_check.specs.Named.{ids_of};
-ghost use Rattle.cdf_check.specs.Within.{named_by, AddsPlaces, NamesOwn, NamesWithin};
+ghost use Rattle.cdf_check.specs.Seen.{in_file, AreKept, IsSeen};
+ghost use Rattle.cdf_check.specs.Within.{NamesOwn};
 
+use crate::defaults::places_of_a_record;
 use crate::definition::Definition;
+use crate::keep::Keep;
 use crate::look::look_at_one;
-use crate::parties::note_parties;
+use crate::record_names::RecordNames;
 use crate::references::{look_at_current, look_in_snapshots};
 use cdf_form::float::find_float;
 use cdf_form::found::{Found, Step, Stop};
 use cdf_form::path::pointer;
 use cdf_form::read::cvr_fault;
+use cdf_node::Node;
 use cdf_pull::Fold;
-use cdf_typed::read_cvr;
-use cdf_types::{Body, Cvr, Memory};
-use serde_json::Value;
+use cdf_types::{Body, Memory};
 use std::alloc::{AllocError, Global};
 
-/// What is kept of records whose numbers are whole.
+/// What is kept of records, none of which has a fault of numbers or form.
 #[derive(Drop)]
-pub(crate) struct Kept {
-    /// The typed records, in order, also those that lack their form.
-    pub cvrs: Vec<Cvr>,
-    /// Whether each names what is the definition's or its own, but for its device and its unit, which
-    /// the rest of its file has to have; where none lacks its form.
+pub(crate) struct Kept<T> {
+    /// Whether each names what is the definition's or its own, but for devices, units and parties.
     pub settled: bool,
-    /// The places among the definition's parties of those that they name, in order, with repeats.
-    pub named: Vec<usize>,
+    /// These, where it is settled.
+    pub names: RecordNames,
+    /// What is kept of the typed records, where it is settled.
+    pub records: T,
 }
 
 /// What is seen of the records of a file, in order.
 #[derive(Drop)]
-pub(crate) struct Seen {
+pub(crate) struct Seen<T> {
     /// The path of their first number that isn't whole, from the file.
     pub fraction: Option<Body>,
     /// Their first fault of form, from their array, where each number is whole.
     pub form: Option<Found<'static>>,
-    /// What is kept of them, where each number is whole.
-    pub kept: Kept,
+    /// What is kept of them, where there is neither.
+    pub kept: Kept<T>,
 }
 
-/// Looks at each record of a file, beside a definition.
-#[derive(Drop)]
-pub(crate) struct Looks<'a>(pub(crate) &'a Definition);
+/// Looks at each record of a file, beside a definition, and keeps what is to be kept of it.
+pub(crate) struct Looks<'a, K: Keep> {
+    pub(crate) definition: &'a Definition,
+    pub(crate) keep: &'a K,
+}
+
+impl<K: Keep> Drop for Looks<'_, K> {
+    fn drop(self) {
+        let Looks {
+            definition: _,
+            keep: _,
+        } = self;
+    }
+}
 
 // A record's first fault of form, from the array of the records, and whether its numbers need a look.
 fn form_in(
     alloc: Global,
     place: usize,
-    cvr: &Value,
+    cvr: &Node<'_>,
 ) -> Result<(Option<Found<'static>>, bool), AllocError>
     ensures form { IfOk result (λ told. option_map fault_of told.0
         ≡ option_map (deeper (at_item place)) (first (cvr_faults (view cvr.now)))) }
@@ -75,7 +85,7 @@ fn fraction_in(
     alloc: Global,
     place: usize,
     look: bool,
-    cvr: &Value,
+    cvr: &Node<'_>,
 ) -> Result<Option<Body>, AllocError>
     requires { look ≡ false → has_float (view cvr.now) ≡ false }
     ensures { IfOk result (λ path. path
@@ -95,102 +105,104 @@ fn fraction_in(
 
 // Whether the contests, selections and election that a record names are the definition's, and its
 // current snapshot is its own.
-fn names_own(alloc: Global, definition: &Definition, cvr: &Value) -> Result<bool, Memory>
+fn names_own(alloc: Global, definition: &Definition, cvr: &Node<'_>) -> Result<bool, Memory>
     ensures { IfOk result (λ is. IsTrue is ↔ NamesOwn definition.now (view cvr.now)) }
 {
-    match look_in_snapshots(alloc, definition.contests(), cvr)? {
-        None => {}
-        Some(_) => return Ok(false),
-    }
-    match look_at_current(alloc, cvr)? {
-        None => {}
-        Some(_) => return Ok(false),
-    }
-    match look_at_one(alloc, definition.elections().ids(), "ElectionId", cvr)? {
-        None => Ok(true),
-        Some(_) => Ok(false),
-    }
-}
-
-// Whether all that a record names, and the records before it, is the definition's or its own, but for
-// devices and units. Adds the places of the parties that it names.
-fn settle(
-    alloc: Global,
-    definition: &Definition,
-    settled: bool,
-    named: &mut Vec<usize>,
-    cvr: &Value,
-) -> Result<bool, AllocError>
-    ensures exact { IfOk result (λ still. IsTrue still
-        ↔ (IsTrue settled × NamesWithin definition.now (view cvr.now))) }
-    ensures named { IfOk result (λ still. IsTrue still → AddsPlaces (ids_of definition.now.parties)
-        named.old.items (named_by (view cvr.now)) named.new.items) }
-{
-    if !settled {
+    if look_in_snapshots(alloc, definition.contests(), cvr)?.is_some() {
         return Ok(false);
     }
-    match names_own(alloc, definition, cvr) {
-        Ok(true) => note_parties(definition.named_parties().ids(), named, cvr),
-        Ok(false) => Ok(false),
-        Err(Memory) => Err(AllocError),
+    if look_at_current(alloc, cvr)?.is_some() {
+        return Ok(false);
     }
+    Ok(look_at_one(alloc, definition.elections().ids(), "ElectionId", cvr)?.is_none())
 }
 
-// Adds the typed record.
-fn push_typed(
+// Keeps the next record, which has no fault of numbers or form.
+fn keep_right<K: Keep>(
     alloc: Global,
     definition: &Definition,
-    cvrs: &mut Vec<Cvr>,
-    cvr: Value,
-) -> Result<(), AllocError>
-    requires { has_float (view cvr) ≡ false }
-    ensures { OnOk result (cvrs.new.items
-        ≡ cvrs.old.items ++ cvr_of definition.now.contests (view cvr) ∷ []) }
+    keep: &K,
+    kept: &mut Kept<K::Kept>,
+    place: usize,
+    cvr: &Node<'_>,
+) -> Result<(), Memory>
+where
+    K::Kept: Drop,
+    requires whole { has_float (view cvr.now) ≡ false }
+    requires form { first (cvr_faults (view cvr.now)) ≡ None }
+    requires few { place < 2 ^ 63 }
+    ensures { OnOk result ((ds : List Data) → place ≡ length ds
+        → AreKept (K.keeps keep.now definition.now.contests) definition.now ds kept.old
+        → AreKept (K.keeps keep.now definition.now.contests) definition.now (ds ++ view cvr.now ∷ []) kept.new) }
 {
-    match read_cvr(alloc, definition.contests(), cvr) {
-        Ok(typed) => cvrs.push(typed)?,
-        Err(Memory) => return Err(AllocError),
+    if !kept.settled {
+        return Ok(());
     }
-    Ok(())
+    if !names_own(alloc, definition, cvr)? {
+        // The file is refused, and none of its records is asked for.
+        kept.settled = false;
+        kept.records = keep.none(alloc);
+        return Ok(());
+    }
+    kept.names.add(alloc, cvr)?;
+    places_of_a_record();
+    keep.keep(alloc, definition.contests(), &mut kept.records, place, cvr)
 }
 
-impl Fold for Looks<'_> {
-    type Kept = Seen;
+impl<K: Keep> Fold for Looks<'_, K>
+where
+    K::Kept: Drop,
+{
+    type Kept = Seen<K::Kept>;
 
-    ghost keeps = { λ s ds seen. IsSeen s.0.now ds seen };
+    ghost keeps = { λ s ds seen. IsSeen (K.keeps s.keep.now s.definition.now.contests) s.definition.now ds seen };
 
-    fn none(&self, alloc: Global) -> Seen {
+    fn none(&self, alloc: Global) -> Seen<K::Kept> {
         Seen {
             fraction: None,
             form: None,
             kept: Kept {
-                cvrs: Vec::new(alloc),
                 settled: true,
-                named: Vec::new(alloc),
+                names: RecordNames::new(alloc),
+                records: self.keep.none(alloc),
             },
         }
     }
 
     #[tactic(auto, using(crate::proofs::OneMore::whole_first))]
-    fn take(&self, alloc: Global, seen: &mut Seen, item: Value) -> Result<(), AllocError> {
+    fn take(
+        &self,
+        alloc: Global,
+        seen: &mut Seen<K::Kept>,
+        place: usize,
+        item: Node<'_>,
+    ) -> Result<(), AllocError> {
         if seen.fraction.is_some() {
             return Ok(());
         }
-        // Those that lack their form are kept, too, so that they count.
-        let place = seen.kept.cvrs.len();
         let (form, look) = form_in(alloc, place, &item)?;
         seen.fraction = fraction_in(alloc, place, look, &item)?;
         if seen.fraction.is_some() {
-            // The file is refused for a number, and none of its records is asked for.
-            seen.kept.cvrs = Vec::new(alloc);
+            // The file is refused, and none of its records is asked for.
+            seen.kept.records = self.keep.none(alloc);
             return Ok(());
         }
         if seen.form.is_some() {
-            return push_typed(alloc, self.0, &mut seen.kept.cvrs, item);
+            return Ok(());
         }
         seen.form = form;
-        let settled = seen.kept.settled;
-        seen.kept.settled = settle(alloc, self.0, settled, &mut seen.kept.named, &item)?;
-        push_typed(alloc, self.0, &mut seen.kept.cvrs, item)
+        if seen.form.is_some() {
+            seen.kept.records = self.keep.none(alloc);
+            return Ok(());
+        }
+        keep_right(
+            alloc,
+            self.definition,
+            self.keep,
+            &mut seen.kept,
+            place,
+            &item,
+        )?;
+        Ok(())
     }
 }

@@ -1,5 +1,5 @@
 ghost use Rattle.std.specs.Prelude.{◌≡◌, ◌∷◌, None, Some, IfOk, option_map, codes};
-ghost use Rattle.serde_json.specs.View.{view};
+ghost use Rattle.cdf_node.specs.View.{view};
 ghost use Rattle.cdf_types.specs.declared.fault.ReadFault.TheVariants.{Reference};
 ghost use Rattle.cdf_form.specs.Form.{at_member, at_item};
 ghost use Rattle.cdf_form.specs.Path.{path_text};
@@ -15,73 +15,55 @@ use crate::definition::Definition;
 use crate::look::Look;
 use crate::references::InCvr;
 use crate::scope::Scope;
+use bumpalo::Bump;
 use cdf_form::found::{Path, Step};
 use cdf_form::path::pointer;
+use cdf_node::Node;
 use cdf_pull::{Fold, read_text_fold};
 use cdf_types::{Memory, ReadFault};
 use json::Scratch;
-use serde_json::Value;
 use std::alloc::{AllocError, Global};
-
-// What is seen of the names in records, in order.
-#[derive(Drop)]
-pub(crate) struct Unnamed {
-    // The place of the next record.
-    place: usize,
-    // The path of the first text that names nothing, from their array.
-    first: Option<Path<'static>>,
-}
 
 // Looks at what each record of a file names, where these ids can be named.
 #[derive(Drop)]
-pub(crate) struct Names<'a> {
-    scope: &'a Scope,
-    // How many records there are.
-    count: usize,
-}
+struct Names<'a>(&'a Scope);
 
 // The first text of a record that names nothing, from the array of the records.
 fn unnamed_in(
     alloc: Global,
     scope: &Scope,
     place: usize,
-    cvr: &Value,
+    cvr: &Node<'_>,
 ) -> Result<Option<Path<'static>>, AllocError>
     ensures { IfOk result (λ found. option_map path_of found
         ≡ option_map (λ p. at_item place ∷ p) (first (in_cvr (scope_view scope.now) (view cvr.now)))) }
 {
-    match InCvr(scope).look(alloc, cvr) {
-        Ok(None) => Ok(None),
-        Err(Memory) => Err(AllocError),
-        Ok(Some(path)) => match path.under(Step::Item(place)) {
-            Ok(path) => Ok(Some(path)),
-            Err(_) => Err(AllocError),
-        },
+    match InCvr(scope).look(alloc, cvr)? {
+        None => Ok(None),
+        Some(path) => Ok(Some(path.under(Step::Item(place))?)),
     }
 }
 
 impl Fold for Names<'_> {
-    type Kept = Unnamed;
+    type Kept = Option<Path<'static>>;
 
-    ghost keeps = { λ s ds seen. IsUnnamed (scope_view s.scope.now) s.count ds seen };
+    ghost keeps = { λ s ds found. IsUnnamed (scope_view s.0.now) ds found };
 
-    fn none(&self, _alloc: Global) -> Unnamed {
-        Unnamed {
-            place: 0,
-            first: None,
-        }
+    fn none(&self, _alloc: Global) -> Option<Path<'static>> {
+        None
     }
 
-    fn take(&self, alloc: Global, seen: &mut Unnamed, item: Value) -> Result<(), AllocError> {
-        if seen.first.is_some() {
-            return Ok(());
+    #[tactic(auto, using(crate::proofs::OneMore::place_next))]
+    fn take(
+        &self,
+        alloc: Global,
+        found: &mut Option<Path<'static>>,
+        place: usize,
+        item: Node<'_>,
+    ) -> Result<(), AllocError> {
+        if found.is_none() {
+            *found = unnamed_in(alloc, self.0, place, &item)?;
         }
-        // There is no record more, so this isn't reached.
-        if seen.place >= self.count {
-            return Ok(());
-        }
-        seen.first = unnamed_in(alloc, self.scope, seen.place, &item)?;
-        seen.place += 1;
         Ok(())
     }
 }
@@ -96,7 +78,11 @@ fn fault_at(alloc: Global, path: Path<'static>) -> Result<ReadFault, Memory>
 }
 
 // Why a value is refused beside a definition.
-fn value_fault(alloc: Global, definition: &Definition, value: &Value) -> Result<ReadFault, Memory>
+fn value_fault(
+    alloc: Global,
+    definition: &Definition,
+    value: &Node<'_>,
+) -> Result<ReadFault, Memory>
     requires { value_refusal definition.now (view value.now) ≡ None → ⊥ }
     ensures { IfOk result (λ e. value_refusal definition.now (view value.now) ≡ Some e) }
 {
@@ -117,21 +103,17 @@ pub(crate) fn reference_fault(
     alloc: Global,
     definition: &Definition,
     text: &str,
-    scratch: &mut Scratch,
-    left: &Value,
-    count: usize,
+    left: &Node<'_>,
 ) -> Result<ReadFault, Memory>
-    requires forms { HasForms text.now (view left.now) count }
+    requires forms { HasForms text.now (view left.now) }
     requires refused { Refuses definition.now text.now }
     ensures { IfOk result (λ e. IsRefusedFor definition.now text.now e) }
 {
     let scope = Scope::of_report(alloc, left)?;
-    let names = Names {
-        scope: &scope,
-        count,
-    };
-    match read_text_fold(alloc, text, scratch, "CVR", &names) {
-        Ok(Some((_, seen))) => match seen.first {
+    let bump = Bump::new(alloc);
+    let mut scratch = Scratch::new(alloc);
+    match read_text_fold(alloc, &bump, text, &mut scratch, "CVR", &Names(&scope)) {
+        Ok(Some((_, found))) => match found {
             Some(path) => fault_at(alloc, path),
             None => value_fault(alloc, definition, left),
         },

@@ -1,6 +1,6 @@
 use Rattle.std.proofs.Common.{◌≡◌, ◌<◌, false, get_or, length, map, ap, ◌∙◌, rules}
 use Rattle.std.specs.List.{list_any}
-use Rattle.serde_json.specs.View.{view}
+use Rattle.cdf_node.specs.View.{view}
 use Rattle.serde_json.specs.Written.{has_float}
 use Rattle.cdf_form.proofs.Laws.{whole_array, whole_there}
 use Rattle.cdf_check.proofs.agreement.first_differing.Goals as goal

@@ -1,5 +1,5 @@
 use Rattle.std.proofs.Common.{◌≡◌, drop, map}
-use Rattle.serde_json.specs.View.{view}
+use Rattle.cdf_node.specs.View.{view}
 use Rattle.cdf_form.specs.Parts.{array_at}
 use Rattle.cdf_check.specs.Paths.{first, places}
 use Rattle.cdf_check.specs.Agreement.{differing}

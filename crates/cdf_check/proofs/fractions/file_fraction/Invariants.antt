@@ -1,8 +1,8 @@
-use Rattle.std.proofs.Common.{◌≡◌}
-use Rattle.serde_json.specs.View.{members_view}
+use Rattle.std.proofs.Common.{◌≡◌, drop}
+use Rattle.cdf_node.specs.View.{members_view}
 use Rattle.cdf_check.specs.Seen.{file_fraction}
 use Rattle.cdf_check.proofs.fractions.file_fraction.Given as goal
 
 -- what is left of the members, and what was told, is all that the answer hangs on
-abbrev pub invariant-loop-name : goal.invariant-loop-name
-invariant-loop-name l = file_fraction (members_view l.name-iterator) l.of_records ≡ file_fraction (members_view l.initial.name-iterator) l.fn.of_records
+abbrev pub invariant-loop-member : goal.invariant-loop-member
+invariant-loop-member l = file_fraction (members_view (drop l.member-index l.left)) l.of_records ≡ file_fraction (members_view l.left) l.fn.of_records

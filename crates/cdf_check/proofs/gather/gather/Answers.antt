@@ -1,5 +1,5 @@
 use Rattle.std.proofs.Common.{◌≡◌, ◌<◌, false, get_or, length, ap, ◌∙◌, string_bytes, rules}
-use Rattle.serde_json.specs.View.{view}
+use Rattle.cdf_node.specs.View.{view}
 use Rattle.serde_json.specs.Written.{has_float, compact_text}
 use Rattle.cdf_form.specs.Parts.{id_of}
 use Rattle.cdf_form.proofs.Laws.{whole_there}

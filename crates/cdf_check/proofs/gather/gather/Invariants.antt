@@ -1,5 +1,5 @@
 use Rattle.std.proofs.Common.{◌≡◌, take, map}
-use Rattle.serde_json.specs.View.{view}
+use Rattle.cdf_node.specs.View.{view}
 use Rattle.cdf_check.specs.Named.{named, sorted, entries_of}
 use Rattle.cdf_check.proofs.gather.gather.Given as goal
 

@@ -1,6 +1,6 @@
 use Rattle.std.proofs.Common.{◌≡◌, drop, map, bytes_eq}
 use Rattle.std.specs.List.{list_any}
-use Rattle.serde_json.specs.View.{view}
+use Rattle.cdf_node.specs.View.{view}
 use Rattle.cdf_form.specs.Parts.{id_of}
 use Rattle.cdf_check.proofs.references.has_id.Given as goal
 

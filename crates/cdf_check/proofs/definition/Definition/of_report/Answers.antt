@@ -1,7 +1,7 @@
 use Rattle.std.proofs.Common.{ap, ◌∙◌}
 use Rattle.std.specs.Prelude.{codes}
 use Rattle.std.specs.List.{list_any}
-use Rattle.serde_json.specs.View.{view}
+use Rattle.cdf_node.specs.View.{view}
 use Rattle.serde_json.specs.Written.{has_float}
 use Rattle.cdf_check.proofs.OneElection.{whole_at}
 use Rattle.cdf_check.proofs.definition.Definition.of_report.Goals as goal

@@ -1,4 +1,4 @@
-use Rattle.serde_json.specs.View.{view}
+use Rattle.cdf_node.specs.View.{view}
 use Rattle.cdf_check.proofs.Sounding.{sound}
 use Rattle.cdf_check.proofs.definition.Definition.read.Goals as goal
 
