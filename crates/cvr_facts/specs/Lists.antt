@@ -2,6 +2,7 @@
 use Rattle.std.specs.Prelude.{◌≡◌, ℕ, List, ◌++◌, map, None}
 use Rattle.std.specs.List.{flat_map, Contains}
 use Rattle.std.specs.List.Sorted.{IsStrictlySortedBy}
+use Rattle.std.specs.FinSet.{from_list}
 use Rattle.std.specs.declared.cmp.Ordering.{Ordering}
 use Rattle.std.specs.Ordering.{ordering_then}
 use Rattle.cdf_types.specs.declared.report.Cvr.{Cvr}
@@ -16,7 +17,8 @@ use Rattle.cvr_facts.specs.declared.device.DeviceFact.{DeviceFact}
 use Rattle.cvr_facts.specs.declared.header.HeaderFact.{HeaderFact}
 use Rattle.cvr_facts.specs.declared.snapshot.SnapshotFact.{SnapshotFact}
 use Rattle.cvr_facts.specs.declared.list.FactList.{FactList}
-use Rattle.cvr_facts.specs.Facts.{Fact, Device, Header, Snapshot, text_cmp, name_cmp}
+use Rattle.cvr_facts.specs.declared.kept.KeptFacts.{KeptFacts}
+use Rattle.cvr_facts.specs.Facts.{Fact, Device, Header, Snapshot, fact_cmp, text_cmp, name_cmp}
 use Rattle.cvr_facts.specs.Sums.{sums_in}
 
 -- ---- what a report tells
@@ -92,6 +94,20 @@ pub record IsTold (contests : List Contest) (report : Report) (list : FactList) 
   pub devices : (d : DeviceFact) → Contains list.devices d → Contains (map told_device report.devices) d
   pub headers : (h : HeaderFact) → Contains list.headers h → Contains (map told_header report.cvrs) h
   pub snapshots : (s : SnapshotFact) → Contains list.snapshots s → Contains (flat_map (told_snapshots contests) report.cvrs) s
+
+-- the list has the facts of the report, and each is what it tells
+pub record IsListOf (contests : List Contest) (report : Report) (list : FactList) : Type 0 where
+  pub facts : from_list {R = fact_cmp} (facts_in list) ≡ from_list (told_facts contests report)
+  pub told : IsTold contests report list
+
+-- ---- records one by one
+
+-- the headers of these records, and their snapshots
+pub record AreOfRecords (contests : List Contest) (cvrs : List Cvr) (records : KeptFacts) : Type 0 where
+  pub headers : records.headers.items ≡ map told_header cvrs
+  pub snapshots : records.snapshots.items ≡ flat_map (told_snapshots contests) cvrs
+
+-- ---- files
 
 -- the report of a file that is accepted beside a definition
 pub record IsReportOf (frame : Frame) (bytes : List ℕ) (report : Report) : Type 0 where

@@ -38,11 +38,15 @@ counts p = option_map_or is_allowed p.allocation (is_marked p.indication)
 abbrev pub is_pending : Position → Bool
 is_pending p = option_map_or is_unsettled p.allocation false && is_marked p.indication
 
+-- the votes of the positions of this sort
+abbrev pub votes_among : (Position → Bool) → List Position → ℕ
+votes_among sort positions = sum_by (λ p. p.votes) (filter sort positions)
+
 -- ---- contest selections
 
--- the votes of the positions of this sort
+-- the votes of its positions of this sort
 abbrev pub votes_of : (Position → Bool) → SelectionVote → ℕ
-votes_of sort s = sum_by (λ p. p.votes) (filter sort s.positions)
+votes_of sort s = votes_among sort s.positions
 
 -- whether the selection at this place is named
 abbrev pub names : ℕ → SelectionVote → Bool
