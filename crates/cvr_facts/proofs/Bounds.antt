@@ -22,6 +22,11 @@ votes_of-le sort n s h =
     let most = sum_by-le (λ p. p.votes) 4_294_967_295 (filter sort s.positions) (All-filter sort (λ p. IsCount p.votes) s.positions all) in
     omega (arith, most, h.few, length-filter sort s.positions, count_by-le-length sort s.positions)
 
+pub positions-le : (n : ℕ) (s : SelectionVote) → SelectionInRange n s → sum_by (λ p. p.votes) s.positions ≤ selection_limit
+positions-le n s h =
+    let all : All (λ p. IsCount p.votes) s.positions = λ k d less. h.votes _ (Contains-get_or s.positions k d less) in
+    omega (arith, sum_by-le (λ p. p.votes) 4_294_967_295 s.positions all, h.few)
+
 pub votes_are_below : (sort : Position → Bool) (contests : List Contest) (vote : ContestVote) → ContestInRange contests vote
     → sum_by (votes_of sort) vote.selections < sum_limit
 votes_are_below sort contests vote h =

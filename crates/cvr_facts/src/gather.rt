@@ -1,7 +1,5 @@
 ghost use Rattle.std.specs.Prelude.{◌≡◌, ◌++◌, ℕ, List, IfOk, OnOk, map};
-ghost use Rattle.std.specs.List.{Any, Contains, flat_map};
-ghost use Rattle.std.specs.List.Sorted.{IsStrictlySortedBy};
-ghost use Rattle.std.specs.declared.cmp.Ordering.TheVariants.{Equal};
+ghost use Rattle.std.specs.List.{Contains, flat_map};
 ghost use Rattle.std.specs.FinSet.{from_list};
 ghost use Rattle.cdf_types.specs.declared.report.Cvr.{Cvr};
 ghost use Rattle.cdf_typed.specs.Range.{SnapshotInRange, CvrInRange, ReportInRange};
@@ -12,13 +10,14 @@ ghost use Rattle.cvr_facts.specs.Stands.{AreSpelled};
 
 use crate::device::DeviceFact;
 use crate::header::HeaderFact;
-use crate::list::FactList;
+use crate::kept::KeptFacts;
+use crate::list::{FactList, list_of};
 use crate::name::RecordName;
 use crate::snapshot::SnapshotFact;
 use crate::sums::sums_in;
 use crate::text::copy_optional;
 use cdf_check::Definition;
-use cdf_types::{Cvr, Memory, Report, ReportingDevice, Seq, Snapshot};
+use cdf_types::{Cvr, Memory, Report, ReportingDevice, Snapshot};
 use std::alloc::Global;
 
 /// The facts of a report that was accepted beside a definition, each once and in order: of each
@@ -35,22 +34,12 @@ pub fn facts_of(alloc: Global, definition: &Definition, report: &Report) -> Resu
     ensures file { IfOk result (λ list. (bytes : List ℕ) → IsReportOf definition.now bytes report.now → from_list (facts_in list) ≡ facts bytes) }
     ensures spelled { IfOk result (λ list. (bytes : List ℕ) → IsReportOf definition.now bytes report.now → AreSpelled definition.now.contests list) }
 {
-    Ok(FactList {
-        devices: in_order(devices_in(alloc, report.devices.as_slice())?),
-        headers: in_order(headers_in(alloc, report.cvrs.as_slice())?),
-        snapshots: in_order(snapshots_in(alloc, definition, report.cvrs.as_slice())?),
-    })
-}
-
-// The facts in order, one of those that tie.
-pub(crate) fn in_order<T: Ord + Drop>(mut facts: Vec<T>) -> Seq<T>
-    ensures once { IsStrictlySortedBy T.cmp result }
-    ensures told { (fact : T) → Contains result fact → Contains facts.items fact }
-    ensures kept { (fact : T) → Contains facts.items fact → Any (λ other. T.cmp fact other ≡ Equal) result }
-{
-    facts.sort_unstable();
-    facts.dedup();
-    Seq::new(facts)
+    let devices = devices_in(alloc, report.devices.as_slice())?;
+    let records = KeptFacts {
+        headers: headers_in(alloc, report.cvrs.as_slice())?,
+        snapshots: snapshots_in(alloc, definition, report.cvrs.as_slice())?,
+    };
+    Ok(list_of(devices, records))
 }
 
 // The facts of the devices, in order of the file.
@@ -154,7 +143,7 @@ fn snapshot_of(
         id: snapshot.id.copy()?,
         kind: snapshot.kind,
         moment: snapshot.moment,
-        votes: sums_in(alloc, definition, snapshot.contests.as_slice())?,
+        votes: sums_in(alloc, definition.contests(), snapshot.contests.as_slice())?,
         body: snapshot.body.copy()?,
     })
 }

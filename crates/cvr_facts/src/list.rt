@@ -1,5 +1,14 @@
+ghost use Rattle.std.specs.Prelude.{◌≡◌, List, map};
+ghost use Rattle.std.specs.List.{Any, Contains};
+ghost use Rattle.std.specs.List.Sorted.{IsStrictlySortedBy};
+ghost use Rattle.std.specs.declared.cmp.Ordering.TheVariants.{Equal};
+ghost use Rattle.cdf_types.specs.declared.report.Report.{Report};
+ghost use Rattle.cdf_form.specs.Places.{Contest};
+ghost use Rattle.cvr_facts.specs.Lists.{told_device, AreOfRecords, IsListOf, Rises};
+
 use crate::device::DeviceFact;
 use crate::header::HeaderFact;
+use crate::kept::KeptFacts;
 use crate::snapshot::SnapshotFact;
 use cdf_types::Seq;
 
@@ -12,4 +21,29 @@ pub struct FactList {
     pub headers: Seq<HeaderFact>,
     /// In order of record, then of id, then of body.
     pub snapshots: Seq<SnapshotFact>,
+}
+
+// The facts in order, one of those that tie.
+fn in_order<T: Ord + Drop>(mut facts: Vec<T>) -> Seq<T>
+    ensures once { IsStrictlySortedBy T.cmp result }
+    ensures told { (fact : T) → Contains result fact → Contains facts.items fact }
+    ensures kept { (fact : T) → Contains facts.items fact → Any (λ other. T.cmp fact other ≡ Equal) result }
+{
+    facts.sort_unstable();
+    facts.dedup();
+    Seq::new(facts)
+}
+
+// The facts of devices and records, each once and in order.
+pub(crate) fn list_of(devices: Vec<DeviceFact>, records: KeptFacts) -> FactList
+    ensures once { Rises result }
+    ensures list { (contests : List Contest) (report : Report)
+        → devices.items ≡ map told_device report.devices
+        → AreOfRecords contests report.cvrs records → IsListOf contests report result }
+{
+    FactList {
+        devices: in_order(devices),
+        headers: in_order(records.headers),
+        snapshots: in_order(records.snapshots),
+    }
 }

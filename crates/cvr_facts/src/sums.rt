@@ -1,11 +1,11 @@
-ghost use Rattle.std.specs.Prelude.{◌≡◌, ◌<◌, IfOk};
+ghost use Rattle.std.specs.Prelude.{◌≡◌, ◌<◌, IfOk, cond, map};
 ghost use Rattle.std.specs.List.{sum_by};
-ghost use Rattle.cdf_form.specs.Places.{selections_at};
 ghost use Rattle.cdf_typed.specs.Range.{ContestInRange};
-ghost use Rattle.cvr_facts.specs.Sums.{counts, is_pending, votes_of, votes_from, unassigned_in, pending_in, sums_of, sums_in, sum_limit, AreInRange};
+ghost use Rattle.cvr_facts.specs.Sums.{counts, is_pending, votes_among, sums_of, sums_in, sum_limit, AreInRange};
 
-use cdf_check::Definition;
-use cdf_types::{Allocation, ContestVote, Indication, Memory, Position, SelectionVote, Seq};
+use cdf_form::contests::Contests;
+use cdf_typed::{AsContestVote, AsPosition, AsSelectionVote};
+use cdf_types::{Allocation, Indication, Memory, Position, Seq};
 use std::alloc::Global;
 
 /// What a snapshot adds to a contest (NIST SP 1500-103, class CVRContest). Each number is below
@@ -65,109 +65,84 @@ fn is_pending(position: &Position) -> bool
     position.allocation == Some(Allocation::Unknown) && position.indication == Indication::Yes
 }
 
-// The votes of the positions that count.
-fn votes_counted(selection: &SelectionVote) -> u64
-    requires { votes_of counts selection.now < sum_limit }
-    ensures { result ≡ votes_of counts selection.now }
+// The votes of a position where they are of a sort, else 0.
+fn votes_where(is: bool, position: &Position) -> u64
+    ensures { result ≡ cond is position.now.votes 0 }
 {
-    selection
-        .positions
-        .as_slice()
-        .iter()
-        .filter(|p| counts(p))
-        .map(|p| p.votes)
-        .sum()
+    if is { position.votes } else { 0 }
 }
 
-// The votes of the positions that are pending.
-fn votes_pending(selection: &SelectionVote) -> u64
-    requires { votes_of is_pending selection.now < sum_limit }
-    ensures { result ≡ votes_of is_pending selection.now }
-{
-    selection
-        .positions
-        .as_slice()
-        .iter()
-        .filter(|p| is_pending(p))
-        .map(|p| p.votes)
-        .sum()
+// The votes of the positions of a contest selection.
+#[derive(Clone, Copy)]
+struct Votes {
+    // Those that count.
+    counted: u64,
+    // Those that are pending.
+    pending: u64,
 }
 
-// The votes that count for each selection of the contest, by place.
-fn votes_by_place(
-    alloc: Global,
-    definition: &Definition,
-    vote: &ContestVote,
-) -> Result<Vec<u64>, Memory>
-    requires { ContestInRange definition.now.contests vote.now }
-    ensures { IfOk result (λ v. v.items
-        ≡ votes_from 0 (selections_at definition.now.contests vote.now.contest) vote.now) }
+// The votes of positions.
+fn votes_of<P: AsPosition>(positions: &[P]) -> Votes
+    requires { sum_by (λ p. p.votes) (map P.position positions.now) < sum_limit }
+    ensures counted { result.counted ≡ votes_among counts (map P.position positions.now) }
+    ensures pending { result.pending ≡ votes_among is_pending (map P.position positions.now) }
 {
-    let mut votes = vec![in alloc; 0; definition.selection_count(vote.contest)]?;
-    for selection in vote.selections.as_slice() {
-        let counted = votes_counted(selection);
-        if let Some(place) = selection.selection {
-            votes[place] += counted;
-        }
-    }
-    Ok(votes)
-}
-
-// The votes that count of contest selections that name no selection.
-fn unassigned_in(vote: &ContestVote) -> u64
-    requires { sum_by (votes_of counts) vote.now.selections < sum_limit }
-    ensures { result ≡ unassigned_in vote.now }
-{
-    let mut unassigned = 0;
-    for selection in vote.selections.as_slice() {
-        if selection.selection.is_none() {
-            unassigned += votes_counted(selection);
-        }
-    }
-    unassigned
-}
-
-// The votes of pending positions.
-fn pending_in(vote: &ContestVote) -> u64
-    requires { pending_in vote.now < sum_limit }
-    ensures { result ≡ pending_in vote.now }
-{
+    let mut counted = 0;
     let mut pending = 0;
-    for selection in vote.selections.as_slice() {
-        pending += votes_pending(selection);
+    for position in positions {
+        let position = position.position();
+        counted += votes_where(counts(&position), &position);
+        pending += votes_where(is_pending(&position), &position);
     }
-    pending
+    Votes { counted, pending }
 }
 
 // The sums of a contest.
-#[tactic(auto, using(crate::proofs::Bounds::votes_are_below))]
-fn sums_of(alloc: Global, definition: &Definition, vote: &ContestVote) -> Result<VoteSums, Memory>
-    requires { ContestInRange definition.now.contests vote.now }
-    ensures { IfOk result (λ v. v ≡ sums_of definition.now.contests vote.now) }
+fn sums_of<V: AsContestVote>(
+    alloc: Global,
+    contests: &Contests,
+    vote: &V,
+) -> Result<VoteSums, Memory>
+    requires { ContestInRange contests.now (V.contest_vote contests.now vote.now) }
+    ensures { IfOk result (λ v. v ≡ sums_of contests.now (V.contest_vote contests.now vote.now)) }
 {
+    let contest = vote.contest(contests);
+    let ids = vote.selection_ids(contests);
+    let mut votes = vec![in alloc; 0; contests.selections(contest).len()]?;
+    let mut pending = 0;
+    let mut unassigned = 0;
+    for selection in vote.selections() {
+        let added = votes_of(selection.positions());
+        pending += added.pending;
+        match selection.selection(ids) {
+            Some(place) => votes[place] += added.counted,
+            None => unassigned += added.counted,
+        }
+    }
     Ok(VoteSums {
-        contest: vote.contest,
-        votes: Seq::new(votes_by_place(alloc, definition, vote)?),
-        overvotes: vote.overvotes,
-        undervotes: vote.undervotes,
-        write_ins: vote.write_ins,
-        pending: pending_in(vote),
-        unassigned: unassigned_in(vote),
+        contest,
+        votes: Seq::new(votes),
+        overvotes: vote.overvotes(),
+        undervotes: vote.undervotes(),
+        write_ins: vote.write_ins(),
+        pending,
+        unassigned,
     })
 }
 
 // The sums of each contest of a snapshot, in order of place.
-pub(crate) fn sums_in(
+pub(crate) fn sums_in<V: AsContestVote>(
     alloc: Global,
-    definition: &Definition,
-    votes: &[ContestVote],
+    contests: &Contests,
+    votes: &[V],
 ) -> Result<Seq<VoteSums>, Memory>
-    requires { AreInRange definition.now.contests votes.now }
-    ensures { IfOk result (λ v. v ≡ sums_in definition.now.contests votes.now) }
+    requires { AreInRange contests.now (map (V.contest_vote contests.now) votes.now) }
+    ensures { IfOk result (λ v. v
+        ≡ sums_in contests.now (map (V.contest_vote contests.now) votes.now)) }
 {
     let mut sums = Vec::with_capacity(alloc, votes.len())?;
     for vote in votes {
-        sums.push(sums_of(alloc, definition, vote)?)?;
+        sums.push(sums_of(alloc, contests, vote)?)?;
     }
     sums.sort_unstable_by_key(|s| s.contest);
     Ok(Seq::new(sums))

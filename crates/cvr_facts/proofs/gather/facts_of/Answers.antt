@@ -1,7 +1,6 @@
 use Rattle.std.proofs.Common.{map, ap, ◌∙◌}
 use Rattle.std.specs.List.{flat_map}
-use Rattle.cvr_facts.specs.Lists.{told_device, told_header, told_snapshots, fact_of_device, fact_of_header, fact_of_snapshot, device_cmp, header_cmp, snapshot_cmp}
-use Rattle.cvr_facts.proofs.Gathering.{Keeps, keeps, same_told, device_tied, header_tied, snapshot_tied}
+use Rattle.cvr_facts.specs.Lists.{told_device, told_header, told_snapshots, IsListOf}
 use Rattle.cvr_facts.proofs.Told.{told_are}
 use Rattle.cvr_facts.proofs.Spelled.{spelled_are}
 use Rattle.cvr_facts.proofs.gather.facts_of.Goals as goal
@@ -9,30 +8,22 @@ use Rattle.cvr_facts.proofs.gather.facts_of.Goals as goal
 pub snapshots_in-requires : goal.snapshots_in-requires
 snapshots_in-requires c cvr h = c.requires cvr (rw c.as_slice-3.ensures at h)
 
-devices : (c : goal.After-in_order-3) → Keeps fact_of_device (map told_device c.args.report.now.devices) c.in_order.result
-devices c =
-    keeps fact_of_device device_cmp device_tied _ _ _ (c.in_ok-devices_in.ensures ∙ ap (map told_device) c.as_slice.ensures) c.in_order.ensures.told c.in_order.ensures.kept
-
-headers : (c : goal.After-in_order-3) → Keeps fact_of_header (map told_header c.args.report.now.cvrs) c.in_order-2.result
-headers c =
-    keeps fact_of_header header_cmp header_tied _ _ _ (c.in_ok-headers_in.ensures ∙ ap (map told_header) c.as_slice-2.ensures) c.in_order-2.ensures.told c.in_order-2.ensures.kept
-
-snapshots : (c : goal.After-in_order-3) → Keeps fact_of_snapshot (flat_map (told_snapshots c.args.definition.now.contests) c.args.report.now.cvrs) c.in_order-3.result
-snapshots c =
-    keeps fact_of_snapshot snapshot_cmp snapshot_tied _ _ _ (c.in_ok-snapshots_in.ensures ∙ ap (flat_map (told_snapshots c.args.definition.now.contests)) c.as_slice-3.ensures) c.in_order-3.ensures.told c.in_order-3.ensures.kept
+list : (c : goal.After-list_of) → IsListOf c.args.definition.now.contests c.args.report.now c.list_of.result
+list c =
+    c.list_of.ensures.list c.args.definition.now.contests c.args.report.now (c.in_ok-devices.ensures ∙ ap (map told_device) c.as_slice.ensures)
+    (record {
+      headers = c.in_ok-headers_in.ensures ∙ ap (map told_header) c.as_slice-2.ensures;
+      snapshots = c.in_ok-snapshots_in.ensures ∙ ap (flat_map (told_snapshots c.args.definition.now.contests)) c.as_slice-3.ensures;
+    })
 
 pub returns-clause-facts : goal.returns-clause-facts
-returns-clause-facts c = same_told _ _ _ (devices c) (headers c) (snapshots c)
+returns-clause-facts c = (list c).facts
 
 pub returns-clause-told : goal.returns-clause-told
-returns-clause-told c = record {
-  devices = (devices c).from;
-  headers = (headers c).from;
-  snapshots = (snapshots c).from;
-}
+returns-clause-told c = (list c).told
 
 pub returns-clause-file : goal.returns-clause-file
-returns-clause-file c bytes is = returns-clause-facts c ∙ told_are c.args.definition.now bytes c.args.report.now is
+returns-clause-file c bytes is = (list c).facts ∙ told_are c.args.definition.now bytes c.args.report.now is
 
 pub returns-clause-spelled : goal.returns-clause-spelled
-returns-clause-spelled c bytes is = spelled_are c.args.definition.now bytes c.args.report.now _ is (returns-clause-told c)
+returns-clause-spelled c bytes is = spelled_are c.args.definition.now bytes c.args.report.now _ is (list c).told
