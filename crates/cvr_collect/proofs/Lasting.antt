@@ -1,15 +1,13 @@
 -- What has reached an office, and what it holds, stays.
-use Rattle.std.proofs.Common.{◌≡◌, ◌<◌, Bool, true, cond, ℕ, List, [], ◌∷◌, ◌++◌, length, map, get_or, Some, refl, sym, ap, ◌∙◌, subst, append-nil}
-use Rattle.std.proofs.lemmas.List.{get_or-map, length-map}
+use Rattle.std.proofs.Common.{◌≡◌, ◌<◌, Bool, true, cond, ℕ, List, [], ◌∷◌, ◌++◌, length, map, get_or, refl, sym, ap, ◌∙◌, subst, append-nil}
+use Rattle.std.proofs.lemmas.List.{get_or-map}
 use Rattle.std.proofs.lemmas.Option.{slice_get_within, get_or_from_slice_get}
-use Rattle.std.specs.List.{slice_get}
 use Rattle.std.specs.FinSet.{union, empty, items, contains, contains-union}
 use Rattle.cdf_check.specs.Frame.{Frame}
 use Rattle.cvr_facts.specs.Facts.{Fact, Facts}
 use Rattle.cvr_collect.specs.declared.event.Event.TheVariants.{Import, Exchange}
 use Rattle.cvr_collect.specs.declared.event.Outcome.TheVariants.{Accepted}
 use Rattle.cvr_collect.specs.Reach.{Origin, File, History, reached, brought, content}
-use Rattle.cvr_collect.specs.Alike.{ArePlayed}
 use Rattle.cvr_collect.specs.Lasting.{HeldLastsLaw, ImportLastsLaw, ExchangeLastsLaw, PlayedLastsLaw}
 use Rattle.cvr_collect.proofs.Unions.{or_right, contains-union_over, member_that_passes, passes_by_member}
 use Rattle.cvr_collect.proofs.Reached.{origin_total, origin_exact, is_eq, content-none}

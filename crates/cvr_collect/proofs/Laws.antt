@@ -10,7 +10,7 @@ pub use Rattle.cvr_collect.proofs.NewOffices.{same_content, same_definition}
 pub use Rattle.cvr_collect.proofs.NextInFacts.{name_total}
 pub use Rattle.cvr_collect.proofs.OneRecord.{current_is, header_is}
 pub use Rattle.cvr_collect.proofs.OwnFrame.{entry_source, own_agrees}
-pub use Rattle.cvr_collect.proofs.PlainLists.{all_spelled, map-all_of, of_file, plain_start, spelled_put, start_is}
+pub use Rattle.cvr_collect.proofs.PlainLists.{all_spelled, map-all_of, plain_start, spelled_put, start_is}
 pub use Rattle.cvr_collect.proofs.Puts.{put_growth}
 pub use Rattle.cvr_collect.proofs.Reached.{content-none}
 pub use Rattle.cvr_collect.proofs.RecordGroups.{rises_by_id}

@@ -13,12 +13,11 @@ use Rattle.cdf_form.specs.Places.{Contest}
 use Rattle.cdf_check.specs.Named.{Entry}
 use Rattle.cdf_check.specs.Frame.{Frame, IsSame}
 use Rattle.cdf_check.specs.Sound.{IsFrame}
-use Rattle.cdf_check.specs.Acceptance.{Valid, report_in}
-use Rattle.cdf_check.proofs.Laws.{valid_file, same_definitions}
-use Rattle.cdf_types.specs.declared.report.Report.{Report}
+use Rattle.cdf_check.specs.Acceptance.{Valid}
+use Rattle.cdf_check.proofs.Laws.{same_definitions}
 use Rattle.cvr_facts.specs.declared.list.FactList.{FactList}
 use Rattle.cvr_facts.specs.Facts.{Fact, Device, fact_cmp, fact_total, fact_exact}
-use Rattle.cvr_facts.specs.Lists.{fact_of_header, fact_of_snapshot, facts_in, IsReportOf}
+use Rattle.cvr_facts.specs.Lists.{fact_of_header, fact_of_snapshot, facts_in}
 use Rattle.cvr_facts.specs.Reports.{facts}
 use Rattle.cvr_facts.specs.Stands.{AreSpelled}
 use Rattle.cvr_facts.specs.Unions.{empty_union}
@@ -97,13 +96,6 @@ all_spelled contests list are f at =
         | inr s ↦ let found = from_map any.Snapshot f list.snapshots s in subst (IsSpelled contests) found.2 (are.snapshots found.0 found.1)
       ]
     ]
-
-pub of_file : (frame : Frame) (bytes : List ℕ) (report : Report) (list : FactList) → Valid frame bytes → report ≡ report_in frame.contests bytes
-    → ((bytes : List ℕ) → IsReportOf frame bytes report → from_list {R = fact_cmp} (facts_in list) ≡ facts bytes)
-    → ((bytes : List ℕ) → IsReportOf frame bytes report → AreSpelled frame.contests list) → IsTheFiles frame bytes list
-of_file frame bytes report list valid is file spelled =
-    let of : IsReportOf frame bytes report = record { accepted = (valid_file frame bytes).1 valid; report_is = is } in
-    record { file = file bytes of; spelled = spelled bytes of }
 
 module _ (frame : Frame) (bytes : List ℕ) (list : FactList) (old more new : List AnyFact) (files : IsTheFiles frame bytes list) (all_is : more ≡ all_of list) (put : IsPut old more new) where
   pub told_is : set_of more ≡ facts bytes

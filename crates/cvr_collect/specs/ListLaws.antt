@@ -1,23 +1,19 @@
 -- Laws of lists of facts in order, which offices keep: what is put in, what a record's run tells, and its conflicts. (This project's own.)
-use Rattle.std.specs.Prelude.{◌≡◌, ◌≤◌, ◌-◌, ℕ, List, [], map, length, reverse, true, false, Option, None}
+use Rattle.std.specs.Prelude.{◌≡◌, ◌≤◌, ◌-◌, List, [], map, length, reverse, true, false, Option, None}
 use Rattle.std.specs.List.{Contains, last_or}
 use Rattle.std.specs.List.Sorted.{IsStrictlySortedBy}
 use Rattle.std.specs.declared.cmp.Ordering.TheVariants.{Less}
 use Rattle.std.specs.Option.{option_cmp}
 use Rattle.std.specs.Ordering.{is_gt}
-use Rattle.std.specs.FinSet.{from_list}
-use Rattle.cdf_types.specs.declared.report.Report.{Report}
 use Rattle.cdf_form.specs.Places.{Contest}
 use Rattle.cdf_check.specs.Frame.{Frame}
 use Rattle.cdf_check.specs.Sound.{IsFrame}
-use Rattle.cdf_check.specs.Acceptance.{Valid, report_in}
 use Rattle.cvr_facts.specs.declared.name.RecordName.{RecordName}
 use Rattle.cvr_facts.specs.declared.header.HeaderFact.{HeaderFact}
 use Rattle.cvr_facts.specs.declared.snapshot.SnapshotFact.{SnapshotFact}
 use Rattle.cvr_facts.specs.declared.list.FactList.{FactList}
-use Rattle.cvr_facts.specs.Facts.{Fact, Device, fact_cmp, name_cmp}
-use Rattle.cvr_facts.specs.Lists.{facts_in, IsReportOf}
-use Rattle.cvr_facts.specs.Reports.{facts}
+use Rattle.cvr_facts.specs.Facts.{Fact, Device, name_cmp}
+use Rattle.cvr_facts.specs.Lists.{facts_in}
 use Rattle.cvr_facts.specs.Stands as stands
 use Rattle.cvr_facts.specs.Stands.{IsSpelledHeader}
 use Rattle.cvr_collect.specs.declared.any_fact.AnyFact.{AnyFact}
@@ -27,7 +23,7 @@ use Rattle.cvr_collect.specs.declared.record_facts.RecordFacts.{RecordFacts}
 use Rattle.cvr_collect.specs.Names.{name_of, is_named, record_of, records, conflicts, greatest_count}
 use Rattle.cvr_collect.specs.Keeps.{starting}
 use Rattle.cvr_collect.specs.Place.{fact_of, any_cmp}
-use Rattle.cvr_collect.specs.Plain.{set_of, all_of, IsSpelled, IsPlain, IsPut, IsTheFiles}
+use Rattle.cvr_collect.specs.Plain.{set_of, all_of, IsSpelled, IsPlain, IsPut}
 use Rattle.cvr_collect.specs.Readers.{growth, IsHeader, IsCurrent, AreFactsOf}
 use Rattle.cvr_collect.specs.Runs.{run, headers, snapshots, IsChosen, AreSpelled}
 use Rattle.cvr_collect.specs.Groups.{RisesById, AreGrouped}
@@ -63,12 +59,6 @@ AllOfLaw = (list : FactList) → map fact_of (all_of list) ≡ facts_in list
 
 abbrev pub AllSpelledLaw : Type 0
 AllSpelledLaw = (contests : List Contest) (list : FactList) → stands.AreSpelled contests list → (f : AnyFact) → Contains (all_of list) f → IsSpelled contests f
-
--- what a list tells of each file of an accepted report, it tells of this one
-abbrev pub OfFileLaw : Type 0
-OfFileLaw = (frame : Frame) (bytes : List ℕ) (report : Report) (list : FactList) → Valid frame bytes → report ≡ report_in frame.contests bytes
-    → ((bytes : List ℕ) → IsReportOf frame bytes report → from_list {R = fact_cmp} (facts_in list) ≡ facts bytes)
-    → ((bytes : List ℕ) → IsReportOf frame bytes report → stands.AreSpelled frame.contests list) → IsTheFiles frame bytes list
 
 -- ---- the run of a record
 

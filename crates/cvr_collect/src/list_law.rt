@@ -1,5 +1,5 @@
 //! Laws of lists of facts in order, which offices keep.
-ghost use Rattle.cvr_collect.specs.ListLaws.{SameListsLaw, PutGrowthLaw, SpelledPutLaw, StartSetLaw, PlainStartLaw, AllOfLaw, AllSpelledLaw, OfFileLaw};
+ghost use Rattle.cvr_collect.specs.ListLaws.{SameListsLaw, PutGrowthLaw, SpelledPutLaw, StartSetLaw, PlainStartLaw, AllOfLaw, AllSpelledLaw};
 ghost use Rattle.cvr_collect.specs.ListLaws.{LastHeaderLaw, GreatestSnapshotLaw, IdsRiseLaw, RecordsRiseLaw, NoRunLaw, WholeRunLaw, NamedLaw, ConflictRunsLaw, GreatestRunLaw};
 ghost use Rattle.cvr_collect.specs.SumLaws.{CurrentSumsLaw, SnapshotSumsLaw, SumsAtLaw, RowMoreLaw, AddedLaw, NoHeaderLaw, NoCurrentLaw};
 
@@ -21,7 +21,6 @@ pub fn starting()
 pub fn files()
     ensures all { AllOfLaw }
     ensures spelled { AllSpelledLaw }
-    ensures file { OfFileLaw }
 {}
 
 /// The run of a record has its header last of its headers, its current snapshot as the greatest of

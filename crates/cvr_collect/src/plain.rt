@@ -10,9 +10,9 @@ use crate::putting::{in_one, own_devices, put_copies, put_in};
 use crate::record_facts::RecordFacts;
 use crate::record_lists::record_facts_in;
 use crate::tallying::{row_in, tally_in, totals_in};
-use cdf_check::{Definition, check_report};
+use cdf_check::Definition;
 use cdf_types::{Body, Memory, ReadFault};
-use cvr_facts::{HeaderFact, RecordName, SnapshotFact, take_facts};
+use cvr_facts::{HeaderFact, RecordName, SnapshotFact, read_facts};
 use cvr_tally::{Row, RowKey, Totals};
 use std::alloc::Global;
 use std::marker::Model;
@@ -54,9 +54,7 @@ impl Office for PlainOffice {
 
     fn import(&mut self, bytes: &[u8]) -> Result<Receipt, ReadFault> {
         let alloc = *self.facts.allocator();
-        let report = check_report(alloc, &self.definition, bytes)?;
-        let cvrs = report.cvrs.as_slice().len();
-        let list = take_facts(alloc, &self.definition, report)?;
+        let (cvrs, list) = read_facts(alloc, &self.definition, bytes)?;
         let new_facts = put_in(&mut self.facts, in_one(alloc, list)?)?;
         Ok(Receipt { cvrs, new_facts })
     }

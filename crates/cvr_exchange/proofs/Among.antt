@@ -1,5 +1,5 @@
 -- What an office holds after imports of volumes among other events.
-use Rattle.std.proofs.Common.{◌≡◌, ℕ, List, [], ◌∷◌, ◌++◌, get_or, Contains, true, inl, inr, sym, ap, ◌∙◌, subst}
+use Rattle.std.proofs.Common.{◌≡◌, ℕ, List, [], ◌∷◌, ◌++◌, get_or, Contains, true, inl, inr, sym, ◌∙◌, subst}
 use Rattle.std.specs.FinSet.{contains, union, contains-union}
 use Rattle.cvr_facts.specs.Facts.{Fact, Facts, fact_total}
 use Rattle.cvr_facts.specs.Reports.{facts}

@@ -1,9 +1,8 @@
-use Rattle.cvr_collect.proofs.PlainLists.{map-all_of, all_spelled, of_file}
+use Rattle.cvr_collect.proofs.PlainLists.{map-all_of, all_spelled}
 use Rattle.cvr_collect.proofs.list_law.files.Goals as goal
 
 pub returns : goal.returns
 returns c = record {
   all = map-all_of;
   spelled = all_spelled;
-  file = of_file;
 }

@@ -1,20 +1,20 @@
 use Rattle.std.proofs.Common.{ap, ◌∙◌}
 use Rattle.cvr_collect.specs.Readers.{growth}
-use Rattle.cvr_collect.specs.Plain.{set_of}
-use Rattle.cvr_collect.proofs.PlainLists.{of_file, told_is, import_is, plain_import}
+use Rattle.cvr_collect.specs.Plain.{set_of, IsTheFiles}
+use Rattle.cvr_collect.proofs.PlainLists.{told_is, import_is, plain_import}
 use Rattle.cvr_collect.proofs.plain.PlainOfficeOffice.import.Goals as goal
 
 pub invariant_of-self-2 : goal.invariant_of-self-2
 invariant_of-self-2 c =
-    let files = of_file c.self.inside.definition c.args.bytes.now c.in_ok-report.report c.in_ok-list.list c.in_ok-report.ensures.valid c.in_ok-report.ensures.report c.in_ok-list.ensures.file c.in_ok-list.ensures.spelled in
-    plain_import _ _ _ _ _ _ files c.in_ok-in_one.ensures c.in_ok-new_facts.ensures.put c.in_ok-report.ensures.valid c.self.invariant
+    let files : IsTheFiles c.self.inside.definition c.args.bytes.now c.in_ok-cvrs.list = record { file = c.in_ok-cvrs.ensures.facts; spelled = c.in_ok-cvrs.ensures.spelled } in
+    plain_import _ _ _ _ _ _ files c.in_ok-in_one.ensures c.in_ok-new_facts.ensures.put c.in_ok-cvrs.ensures.valid c.self.invariant
 
 pub returns-clause-content : goal.returns-clause-content
 returns-clause-content c =
-    let files = of_file c.self.inside.definition c.args.bytes.now c.in_ok-report.report c.in_ok-list.list c.in_ok-report.ensures.valid c.in_ok-report.ensures.report c.in_ok-list.ensures.file c.in_ok-list.ensures.spelled in
+    let files : IsTheFiles c.self.inside.definition c.args.bytes.now c.in_ok-cvrs.list = record { file = c.in_ok-cvrs.ensures.facts; spelled = c.in_ok-cvrs.ensures.spelled } in
     rw (← c.self.view_is) (import_is _ _ _ _ _ _ files c.in_ok-in_one.ensures c.in_ok-new_facts.ensures.put)
 
 pub returns-clause-new_facts : goal.returns-clause-new_facts
 returns-clause-new_facts c =
-    let files = of_file c.self.inside.definition c.args.bytes.now c.in_ok-report.report c.in_ok-list.list c.in_ok-report.ensures.valid c.in_ok-report.ensures.report c.in_ok-list.ensures.file c.in_ok-list.ensures.spelled in
+    let files : IsTheFiles c.self.inside.definition c.args.bytes.now c.in_ok-cvrs.list = record { file = c.in_ok-cvrs.ensures.facts; spelled = c.in_ok-cvrs.ensures.spelled } in
     rw (← c.self.view_is) (c.in_ok-new_facts.ensures.new ∙ ap (growth (set_of c.self.inside.facts.items)) (told_is _ _ _ _ _ _ files c.in_ok-in_one.ensures c.in_ok-new_facts.ensures.put))
