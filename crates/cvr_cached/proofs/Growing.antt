@@ -1,5 +1,5 @@
 -- A content that facts were put into: by how many it grew, and the step that it is for a plan.
-use Rattle.std.proofs.Common.{◌≡◌, ℕ, ◌+◌, List, length, Contains, inr, false, arith}
+use Rattle.std.proofs.Common.{◌≡◌, ℕ, ◌+◌, ◌-◌, List, length, Contains, inr, false, arith}
 use Rattle.std.specs.Prelude.{OnOk}
 use Rattle.std.specs.declared.result.Result.{Result}
 use Rattle.std.specs.declared.result.Result.TheVariants.{Ok, Err}
@@ -9,26 +9,20 @@ use Rattle.cvr_facts.specs.declared.name.RecordName.{RecordName}
 use Rattle.cvr_collect.specs.declared.any_fact.AnyFact.{AnyFact}
 use Rattle.cvr_collect.specs.Place.{fact_of, any_cmp}
 use Rattle.cvr_collect.specs.Plain.{set_of, IsPut}
-use Rattle.cvr_collect.specs.Readers.{growth}
 use Rattle.cvr_collect.proofs.Laws.{put_growth}
-use Rattle.cvr_cached.specs.declared.change.Keys.{Keys}
 use Rattle.cvr_cached.specs.Contents.{Entries}
 use Rattle.cvr_cached.specs.Plans.{IsPushed, IsStep}
 use Rattle.cvr_cached.proofs.Listed.{len-set_of}
 use Rattle.cvr_cached.proofs.Searched.{grows}
 
--- the set grew by as many
-pub grown_set : (old more new : List AnyFact) (n : ℕ) → IsStrictlySortedBy any_cmp old → IsPut old more new → n ≡ growth (set_of old) (set_of more) → len (set_of old) + n ≡ len (set_of new)
-grown_set old more new n rises put is =
+-- the set grew by as many as the list
+pub grown_set : (old more new : List AnyFact) → IsStrictlySortedBy any_cmp old → IsPut old more new → len (set_of old) + (length new - length old) ≡ len (set_of new)
+grown_set old more new rises put =
     let by = put_growth old more new rises put in
-    omega (arith, is, by.0, by.1, len-set_of old rises, len-set_of new put.rises)
-
--- and so did the list
-pub grown_list : (old more new : List AnyFact) (n : ℕ) → IsStrictlySortedBy any_cmp old → IsPut old more new → len (set_of old) + n ≡ len (set_of new) → length old + n ≡ length new
-grown_list old more new n rises put is = omega (arith, is, len-set_of old rises, len-set_of new put.rises)
+    omega (arith, by.0, len-set_of old rises, len-set_of new put.rises)
 
 -- it is one change more, where something was new
-pub step_added : {T E : Type 0} (r : Result T E) (old group content : List AnyFact) (name : RecordName) (cs : Entries) (ks : List Keys) (n : ℕ) (cs' : Entries) (ks' : List Keys) (n' : ℕ) → IsStrictlySortedBy any_cmp old → IsPut old group content
-    → (x : AnyFact) × Contains group x × (contains (set_of old) (fact_of x) ≡ false) → OnOk r (IsPushed old content name cs ks n cs' ks' n') → OnOk r (IsStep old group name cs ks n cs' ks' n')
-step_added (Ok u) old group content name cs ks n cs' ks' n' rises put fresh pushed = inr record { content = content; put = put; more = grows old group content rises put fresh; pushed = pushed }
-step_added (Err e) old group content name cs ks n cs' ks' n' rises put fresh pushed = tt
+pub step_added : {T E : Type 0} (r : Result T E) (old group content : List AnyFact) (name : RecordName) (cs : Entries) (n : ℕ) (cs' : Entries) (n' : ℕ) → IsStrictlySortedBy any_cmp old → IsPut old group content
+    → (x : AnyFact) × Contains group x × (contains (set_of old) (fact_of x) ≡ false) → OnOk r (IsPushed old content name cs n cs' n') → OnOk r (IsStep old group name cs n cs' n')
+step_added (Ok u) old group content name cs n cs' n' rises put fresh pushed = inr record { content = content; put = put; more = grows old group content rises put fresh; pushed = pushed }
+step_added (Err e) old group content name cs n cs' n' rises put fresh pushed = tt

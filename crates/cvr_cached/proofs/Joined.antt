@@ -6,7 +6,6 @@ use Rattle.cvr_facts.specs.declared.name.RecordName.{RecordName}
 use Rattle.cvr_facts.specs.Facts.{name_cmp}
 use Rattle.cvr_collect.specs.declared.any_fact.AnyFact.{AnyFact}
 use Rattle.cvr_collect.specs.Plain.{IsPut}
-use Rattle.cvr_cached.specs.declared.change.Keys.{Keys}
 use Rattle.cvr_cached.specs.Contents.{Entries, facts_at, listed}
 use Rattle.cvr_cached.specs.Held.{AreOwn}
 use Rattle.cvr_cached.specs.Plans.{laid, IsPlan}
@@ -17,12 +16,12 @@ use Rattle.cvr_cached.proofs.Taken.{own_devices, own_runs}
 use Rattle.cvr_cached.proofs.Together.{was_in}
 
 module _ (d d' : List AnyFact) (es fs : Entries) (own : AreOwn d es) (rises : IsStrictlySortedBy name_cmp (keys_of fs)) (theirs : List AnyFact) (ts : Entries) (own_theirs : AreOwn theirs ts) (devices : IsPut d theirs d')
-    (cs : Entries) (ks : List Keys) (n : ℕ) (plan : IsPlan (λ k. at_name k es) (λ k. facts_at (at_name k ts)) cs ks n) (done : (k : RecordName) → at_name k fs ≡ laid cs (λ k. at_name k es) k) where
+    (cs : Entries) (n : ℕ) (plan : IsPlan (λ k. at_name k es) (λ k. facts_at (at_name k ts)) cs n) (done : (k : RecordName) → at_name k fs ≡ laid cs (λ k. at_name k es) k) where
   contents : (k : RecordName) → IsPut (facts_at (at_name k es)) (facts_at (at_name k ts)) (facts_at (at_name k fs))
-  contents = put_at d d' es fs own rises theirs (listed theirs ts) (λ k. facts_at (at_name k ts)) devices (own_devices theirs ts own_theirs) (own_runs theirs ts own_theirs) cs ks n plan done
+  contents = put_at d d' es fs own rises theirs (listed theirs ts) (λ k. facts_at (at_name k ts)) devices (own_devices theirs ts own_theirs) (own_runs theirs ts own_theirs) cs n plan done
 
   pub own_joined : AreOwn d' fs
-  own_joined = own_after d d' es fs own rises theirs (listed theirs ts) (λ k. facts_at (at_name k ts)) devices (own_devices theirs ts own_theirs) (own_runs theirs ts own_theirs) cs ks n plan done
+  own_joined = own_after d d' es fs own rises theirs (listed theirs ts) (λ k. facts_at (at_name k ts)) devices (own_devices theirs ts own_theirs) (own_runs theirs ts own_theirs) cs n plan done
 
   -- its facts are the join: the set of them is that of the devices' and the contents'
   pub put_joined : IsPut (listed d es) (listed theirs ts) (listed d' fs)

@@ -31,11 +31,10 @@ use Rattle.cvr_collect.specs.Readers.{IsHeader, IsCurrent}
 use Rattle.cvr_collect.specs.Tallied.{sums_of_body}
 use Rattle.cvr_collect.proofs.Laws.{name_total, name_exact}
 use Rattle.cvr_collect.proofs.Lemmas.{ordered-members, in_union, from_union}
-use Rattle.cvr_cached.specs.declared.change.Keys.{Keys}
-use Rattle.cvr_cached.specs.Contents.{Entries, facts_at, listed, header_in, current_in, keys_in}
+use Rattle.cvr_cached.specs.Contents.{Entries, facts_at, listed, header_in, current_in, pairs_of}
 use Rattle.cvr_cached.specs.Held.{AreOwn, IsHeld, IsTold}
 use Rattle.cvr_cached.specs.Moves.{contests_at, moved}
-use Rattle.cvr_cached.specs.Plans.{is_named, is_name_of, laid, all_moves, AreChanges, IsChange, IsPlan}
+use Rattle.cvr_cached.specs.Plans.{is_named, is_name_of, laid, all_moves, IsPlan}
 use Rattle.cvr_cached.proofs.KeyTests.{own_name, same_name}
 use Rattle.cvr_cached.proofs.Listed.{at_name, each_of, len-set_of, less_other}
 use Rattle.cvr_cached.proofs.Moving.{headed}
@@ -86,7 +85,7 @@ new_alone true true e = absurd (false≢true e)
 new_alone true false e = (refl, refl)
 new_alone false b e = absurd (false≢true e)
 
--- ---- the keys of a content are as many as the contests of the record's current snapshot
+-- ---- the sums of a content are as many as the contests of the record's current snapshot
 
 module _ (frame : Frame) (d : List AnyFact) (es : Entries) (plain : IsPlain frame (listed d es)) (own : AreOwn d es) (k : RecordName) where
   abbrev s : Facts
@@ -104,18 +103,17 @@ module _ (frame : Frame) (d : List AnyFact) (es : Entries) (plain : IsPlain fram
   nows : (n : Option SnapshotFact) → n ≡ current_in facts → IsCurrent frame.contests s k n
   nows n is = current_read frame d es plain own k (at_name k es) refl n is
 
-  keys_of_parts : (h : Option HeaderFact) (n : Option SnapshotFact) → h ≡ header_in facts → n ≡ current_in facts → length (keys_in facts) ≡ contests_at frame.contests s k
-  keys_of_parts None None a b = ap (λ ps. length (map (λ (p : RowKey × VoteSums). p.0) ps)) (pairs_are facts None None (sym a) (sym b)) ∙ ap many (nows None b).body
-  keys_of_parts None (Some n) a b = absurd (headed frame s plain.keeps k n.body (sym (nows (Some n) b).body) (sym (heads None a).body))
-  keys_of_parts (Some h) None a b = ap (λ ps. length (map (λ (p : RowKey × VoteSums). p.0) ps)) (pairs_are facts (Some h) None (sym a) (sym b)) ∙ ap many (nows None b).body
-  keys_of_parts (Some h) (Some n) a b =
+  sums_of_parts : (h : Option HeaderFact) (n : Option SnapshotFact) → h ≡ header_in facts → n ≡ current_in facts → length (pairs_of facts) ≡ contests_at frame.contests s k
+  sums_of_parts None None a b = ap length (pairs_are facts None None (sym a) (sym b)) ∙ ap many (nows None b).body
+  sums_of_parts None (Some n) a b = absurd (headed frame s plain.keeps k n.body (sym (nows (Some n) b).body) (sym (heads None a).body))
+  sums_of_parts (Some h) None a b = ap length (pairs_are facts (Some h) None (sym a) (sym b)) ∙ ap many (nows None b).body
+  sums_of_parts (Some h) (Some n) a b =
       let now = nows (Some n) b in
       let pair : VoteSums → RowKey × VoteSums = λ v. (key_for h.unit h.batch v, v) in
-      ap (λ ps. length (map (λ (p : RowKey × VoteSums). p.0) ps)) (pairs_are facts (Some h) (Some n) (sym a) (sym b))
-      ∙ (length-map (map pair n.votes) (λ (p : RowKey × VoteSums). p.0) ∙ (length-map n.votes pair ∙ (ap length (now.typed n refl).spelled.votes ∙ ap many now.body)))
+      ap length (pairs_are facts (Some h) (Some n) (sym a) (sym b)) ∙ (length-map n.votes pair ∙ (ap length (now.typed n refl).spelled.votes ∙ ap many now.body))
 
-  keys_are_contests : length (keys_in facts) ≡ contests_at frame.contests s k
-  keys_are_contests = keys_of_parts (header_in facts) (current_in facts) refl refl
+  sums_are_contests : length (pairs_of facts) ≡ contests_at frame.contests s k
+  sums_are_contests = sums_of_parts (header_in facts) (current_in facts) refl refl
 
 -- ---- a plan
 
@@ -139,35 +137,22 @@ named_listed (c ∷ cs) q e = elim (is_name_of c.0 q) as (λ b. is_name_of c.0 q
   | false ↦ λ _ later. at_tail c.0 q (map name_in cs) (named_listed cs q later)
 ] refl e
 
-module _ (f : RecordName → Option (List AnyFact)) (g : RecordName → List AnyFact) where
-  change_of : (cs : Entries) (ks : List Keys) → AreChanges f g cs ks → (c : RecordName × List AnyFact) → Contains cs c → (k : Keys) × IsChange f g c k
-  change_of [] ks h c at = absurd (none_listed c at)
-  change_of (x ∷ xs) [] h c at = absurd h
-  change_of (x ∷ xs) (k ∷ ks) h c at = elim (head_or_tail x c xs at) [
-    | inl is ↦ (k, subst (λ (y : RecordName × List AnyFact). IsChange f g y k) is h.0)
-    | inr more ↦ change_of xs ks h.1 c more
-  ]
-
-  sum_moves : (w : RecordName → ℕ) (cs : Entries) (ks : List Keys) → AreChanges f g cs ks → ((c : RecordName × List AnyFact) → Contains cs c → length (keys_in (facts_at (f c.0))) + length (keys_in c.1) ≡ w c.0)
-      → all_moves ks ≡ sum_by w (map name_in cs)
-  sum_moves w [] [] h is = refl
-  sum_moves w [] (k ∷ ks) h is = absurd h
-  sum_moves w (c ∷ cs) [] h is = absurd h
-  sum_moves w (c ∷ cs) (k ∷ ks) h is =
-      let one = sum_by-cons (λ (k : Keys). length k.old.items + length k.new.items) k ks in
-      let two = sum_by-cons w c.0 (map name_in cs) in
-      let old = ap length h.0.old in
-      let new = ap length h.0.new in
-      let here = is c (at_head c cs) in
-      let rest = sum_moves w cs ks h.1 (λ d at. is d (at_tail c d cs at)) in
-      omega (arith, one, two, old, new, here, rest)
+sum_moves : (f : RecordName → Option (List AnyFact)) (w : RecordName → ℕ) (cs : Entries) → ((c : RecordName × List AnyFact) → Contains cs c → length (pairs_of (facts_at (f c.0))) + length (pairs_of c.1) ≡ w c.0)
+    → all_moves f cs ≡ sum_by w (map name_in cs)
+sum_moves f w [] is = refl
+sum_moves f w (c ∷ cs) is =
+    let one = sum_by-cons (λ (c : RecordName × List AnyFact). length (pairs_of (facts_at (f c.0))) + length (pairs_of c.1)) c cs in
+    let two = sum_by-cons w c.0 (map name_in cs) in
+    let here = is c (at_head c cs) in
+    let rest = sum_moves f w cs (λ d at. is d (at_tail c d cs at)) in
+    omega (arith, one, two, here, rest)
 
 -- ---- the plan is carried out
 
 module _ (contests : List Contest) (d : List AnyFact) (es : Entries) (m : Rows) (count : ℕ) (more : List AnyFact) (held : IsHeld contests d es m count) (told : IsTold contests (listed d es) more)
     (d' : List AnyFact) (fs : Entries) (put : IsPut (listed d es) more (listed d' fs)) (own : AreOwn d' fs)
     (g : RecordName → List AnyFact) (group_is : (k : RecordName) (f : AnyFact) → Contains (g k) f ↔ (Contains more f × (record_of (fact_of f) ≡ Some k)))
-    (cs : Entries) (ks : List Keys) (n : ℕ) (plan : IsPlan (λ k. at_name k es) g cs ks n) (done : (k : RecordName) → at_name k fs ≡ laid cs (λ k. at_name k es) k) where
+    (cs : Entries) (n : ℕ) (plan : IsPlan (λ k. at_name k es) g cs n) (done : (k : RecordName) → at_name k fs ≡ laid cs (λ k. at_name k es) k) where
   abbrev before : Facts
   before = set_of (listed d es)
 
@@ -188,7 +173,7 @@ module _ (contests : List Contest) (d : List AnyFact) (es : Entries) (m : Rows) 
   -- what is planned gains a fact
   planned_gains : (c : RecordName × List AnyFact) → Contains cs c → Contains (filter_map record_of (items (difference after before))) c.0
   planned_gains c at =
-      let change = (change_of (λ k. at_name k es) g cs ks plan.changes c at).1 in
+      let change = plan.changes c at in
       let x = brings_new (facts_at (at_name c.0 es)) (g c.0) c.1 (rise_before contests d es m count more held told c.0) change.put change.more in
       let came = (group_is c.0 x.0).0 x.1 in
       let now : contains after (fact_of x.0) ≡ true = subst (λ u. contains u (fact_of x.0) ≡ true) (sym put.set) (in_union fact_total fact_exact before (set_of more) (fact_of x.0) (inr (in_set_of more x.0 came.0))) in
@@ -213,18 +198,18 @@ module _ (contests : List Contest) (d : List AnyFact) (es : Entries) (m : Rows) 
         | false ↦ λ e. absurd (false≢true (sym new.1 ∙ from_content k f.0 (subst (λ o. contains (set_of (facts_at o)) f.0 ≡ true) (laid_none (λ k. at_name k es) cs k e) there)))
       ] refl
 
-  -- and each key that it moves is of a contest
-  moved_at : (c : RecordName × List AnyFact) → Contains cs c → length (keys_in (facts_at (at_name c.0 es))) + length (keys_in c.1) ≡ contests_at contests before c.0 + contests_at contests after c.0
+  -- and each of its sums is of a contest
+  moved_at : (c : RecordName × List AnyFact) → Contains cs c → length (pairs_of (facts_at (at_name c.0 es))) + length (pairs_of c.1) ≡ contests_at contests before c.0 + contests_at contests after c.0
   moved_at c at =
-      let out = keys_are_contests told.frame d es told.before held.own c.0 ∙ ap (λ l. contests_at l before c.0) (sym told.contests_are) in
-      let back = ap (λ o. length (keys_in (facts_at o))) (sym (done c.0 ∙ laid_own (λ k. at_name k es) cs plan.names_rise c at))
-      ∙ (keys_are_contests told.frame d' fs (plain_after contests d es m count more held told d' fs m contests count n put own) own c.0 ∙ ap (λ l. contests_at l after c.0) (sym told.contests_are)) in
+      let out = sums_are_contests told.frame d es told.before held.own c.0 ∙ ap (λ l. contests_at l before c.0) (sym told.contests_are) in
+      let back = ap (λ o. length (pairs_of (facts_at o))) (sym (done c.0 ∙ laid_own (λ k. at_name k es) cs plan.names_rise c at))
+      ∙ (sums_are_contests told.frame d' fs (plain_after contests d es m count more held told d' fs m contests count n put own) own c.0 ∙ ap (λ l. contests_at l after c.0) (sym told.contests_are)) in
       λ i. out i + back i
 
-  pub moved_is : all_moves ks ≡ moved contests before after
+  pub moved_is : all_moves (λ k. at_name k es) cs ≡ moved contests before after
   moved_is =
       let w : RecordName → ℕ = λ r. contests_at contests before r + contests_at contests after r in
-      sum_moves (λ k. at_name k es) g w cs ks plan.changes moved_at
+      sum_moves (λ k. at_name k es) w cs moved_at
       ∙ ap (sum_by w) (sym (ordered-members name_total name_exact (filter_map record_of (items (difference after before))) (map name_in cs) plan.names_rise
       (λ k at. let c = from_map name_in k cs at in subst (Contains (filter_map record_of (items (difference after before)))) c.2 (planned_gains c.0 c.1))
       gaining_planned))

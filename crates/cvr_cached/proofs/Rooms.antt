@@ -2,7 +2,6 @@
 use Rattle.std.proofs.Common.{◌≡◌, ℕ, ◌+◌, ◌*◌, ◌^◌, ◌<◌, ◌≤◌, true, false, List, [], ◌∷◌, map, length, get_or, ◌||◌, ◌==◌, le_trans, le_of_eq, mul_comm, mul-le-mul_right, Contains, inl, inr, Option, Some, None, refl, sym, ap, ◌∙◌, subst, arith}
 use Rattle.std.proofs.lemmas.List.{get_or_past, length-map}
 use Rattle.std.proofs.lemmas.Map.Steps.{length-le_from_distinct_below}
-use Rattle.std.specs.Prelude.{◌⊎◌}
 use Rattle.std.specs.List.{sum_by, list_any}
 use Rattle.std.specs.Map.{values_of}
 use Rattle.std.specs.Option.{option_map_or}
@@ -19,7 +18,7 @@ use Rattle.cvr_facts.specs.declared.sums.VoteSums.{VoteSums}
 use Rattle.cvr_facts.specs.Facts.{Facts}
 use Rattle.cvr_facts.specs.Sums.{sum_limit}
 use Rattle.cvr_facts.proofs.Laws.{fact_total}
-use Rattle.cvr_facts.proofs.Lemmas.{greatest_is, at_head, at_tail, head_or_tail, none_listed, from_map, from-filter_map}
+use Rattle.cvr_facts.proofs.Lemmas.{greatest_is, at_head, at_tail, none_listed, from_map, from-filter_map}
 use Rattle.cvr_tally.specs.declared.key.RowKey.{RowKey}
 use Rattle.cvr_tally.specs.Keys.{is_key}
 use Rattle.cvr_collect.specs.declared.any_fact.AnyFact.{AnyFact}
@@ -31,11 +30,10 @@ use Rattle.cvr_collect.specs.Plain.{IsSpelled}
 use Rattle.cvr_collect.specs.Runs.{as_snapshot, snapshots}
 use Rattle.cvr_collect.proofs.Lemmas.{found}
 use Rattle.cvr_collect.proofs.Laws.{facts_are_sums}
-use Rattle.cvr_cached.specs.declared.change.Keys.{Keys}
-use Rattle.cvr_cached.specs.Contents.{Entries, facts_at, header_in, current_in, keys_in, pairs_of}
+use Rattle.cvr_cached.specs.Contents.{Entries, facts_at, header_in, current_in, pairs_of, pairs_of}
 use Rattle.cvr_cached.specs.Cells.{Column, Ballots, Overvotes, Undervotes, WriteIns, Pending, Unassigned, Vote, worth, cell_limit, shares, total, AreFit}
 use Rattle.cvr_cached.specs.Held.{IsRoomy, IsSummed}
-use Rattle.cvr_cached.specs.Plans.{all_moves, AreChanges, IsPlan}
+use Rattle.cvr_cached.specs.Plans.{all_moves, IsPlan}
 use Rattle.cvr_cached.proofs.Listed.{at_name, found_listed}
 use Rattle.cvr_cached.proofs.Pairs.{pairs_are}
 use Rattle.cvr_cached.proofs.RowLink.{sum_pairs, share_found}
@@ -120,17 +118,17 @@ module _ (contests : List Contest) (xs : List AnyFact) (told : (x : AnyFact) →
   pub shares_le : (q : RowKey) (j : Column) → shares (pairs_of xs) q j ≤ cap j
   shares_le q j = le_from q j (header_in xs) (current_in xs) refl refl
 
-  keys_few : (h : Option HeaderFact) (n : Option SnapshotFact) → header_in xs ≡ h → current_in xs ≡ n → length (keys_in xs) ≤ length contests
-  keys_few None n a b = subst (λ ps. length (map (λ (p : RowKey × VoteSums). p.0) ps) ≤ length contests) (sym (pairs_are xs None n a b)) (omega arith)
-  keys_few (Some h) None a b = subst (λ ps. length (map (λ (p : RowKey × VoteSums). p.0) ps) ≤ length contests) (sym (pairs_are xs (Some h) None a b)) (omega arith)
-  keys_few (Some h) (Some n) a b =
+  pairs_few : (h : Option HeaderFact) (n : Option SnapshotFact) → header_in xs ≡ h → current_in xs ≡ n → length (pairs_of xs) ≤ length contests
+  pairs_few None n a b = subst (λ ps. length ps ≤ length contests) (sym (pairs_are xs None n a b)) (omega arith)
+  pairs_few (Some h) None a b = subst (λ ps. length ps ≤ length contests) (sym (pairs_are xs (Some h) None a b)) (omega arith)
+  pairs_few (Some h) (Some n) a b =
       let pair : VoteSums → RowKey × VoteSums = λ v. (key_for h.unit h.batch v, v) in
-      subst (λ ps. length (map (λ (p : RowKey × VoteSums). p.0) ps) ≤ length contests) (sym (pairs_are xs (Some h) (Some n) a b))
-      (subst (λ k. k ≤ length contests) (sym (length-map (map pair n.votes) (λ (p : RowKey × VoteSums). p.0) ∙ length-map n.votes pair)) (votes_few contests n.votes (now_summed n b)))
+      subst (λ ps. length ps ≤ length contests) (sym (pairs_are xs (Some h) (Some n) a b))
+      (subst (λ k. k ≤ length contests) (sym (length-map n.votes pair)) (votes_few contests n.votes (now_summed n b)))
 
-  -- a content has at most one key of each contest
-  pub few_keys : length (keys_in xs) ≤ length contests
-  few_keys = keys_few (header_in xs) (current_in xs) refl refl
+  -- a content has at most one of each contest
+  pub few_pairs : length (pairs_of xs) ≤ length contests
+  few_pairs = pairs_few (header_in xs) (current_in xs) refl refl
 
 -- ---- added up
 
@@ -142,12 +140,12 @@ values_le f m (e ∷ es) h =
     let c = sum_by-cons f e.1 (values_of es) in
     omega (arith, a, b, c)
 
-given_le : (f : List AnyFact → ℕ) (m : ℕ) (es : Entries) → ((e : RecordName × List AnyFact) → Contains es e → f e.1 ≤ m) → sum_by (λ e. f e.1) es ≤ length es * m
+given_le : (f : RecordName × List AnyFact → ℕ) (m : ℕ) (es : Entries) → ((e : RecordName × List AnyFact) → Contains es e → f e ≤ m) → sum_by f es ≤ length es * m
 given_le f m [] h = omega arith
 given_le f m (e ∷ es) h =
     let a = h e (at_head e es) in
     let b = given_le f m es (λ d at. h d (at_tail e d es at)) in
-    let c = sum_by-cons (λ (e : RecordName × List AnyFact). f e.1) e es in
+    let c = sum_by-cons f e es in
     omega (arith, a, b, c)
 
 pub full_le : (es : Entries) → ((e : RecordName × List AnyFact) → Contains es e → 0 < length e.1) → length es ≤ sum_by length (values_of es)
@@ -170,46 +168,24 @@ below (Vote i) a b x y h k lt = omega (arith, h, k, lt)
 
 -- ---- a plan
 
-module _ (f : RecordName → Option (List AnyFact)) (g : RecordName → List AnyFact) where
-  pub changed : (cs : Entries) (ks : List Keys) → AreChanges f g cs ks → (c : RecordName × List AnyFact) → Contains cs c → (x : AnyFact) → Contains c.1 x → Contains (facts_at (f c.0)) x ⊎ Contains (g c.0) x
-  changed [] ks h c at x in_it = absurd (none_listed c at)
-  changed (d ∷ cs) [] h c at x in_it = absurd h
-  changed (d ∷ cs) (k ∷ ks) h c at x in_it = elim (head_or_tail d c cs at) [
-    | inl is ↦ subst (λ (p : RecordName × List AnyFact). Contains p.1 x → Contains (facts_at (f p.0)) x ⊎ Contains (g p.0) x) is (h.0.put.from x) in_it
-    | inr more ↦ changed cs ks h.1 c more x in_it
-  ]
-
-  pub grows : (cs : Entries) (ks : List Keys) → AreChanges f g cs ks → length cs + sum_by (λ c. length (facts_at (f c.0))) cs ≤ sum_by (λ c. length c.1) cs
-  grows [] ks h = omega arith
-  grows (c ∷ cs) [] h = absurd h
-  grows (c ∷ cs) (k ∷ ks) h =
+module _ (f : RecordName → Option (List AnyFact)) where
+  pub grows : (cs : Entries) → ((c : RecordName × List AnyFact) → Contains cs c → length (facts_at (f c.0)) < length c.1) → length cs + sum_by (λ c. length (facts_at (f c.0))) cs ≤ sum_by (λ c. length c.1) cs
+  grows [] more = omega arith
+  grows (c ∷ cs) more =
       let a = sum_by-cons (λ (c : RecordName × List AnyFact). length (facts_at (f c.0))) c cs in
       let b = sum_by-cons (λ (c : RecordName × List AnyFact). length c.1) c cs in
-      let more = h.0.more in
-      let rest = grows cs ks h.1 in
-      omega (arith, a, b, more, rest)
+      let here = more c (at_head c cs) in
+      let rest = grows cs (λ d at. more d (at_tail c d cs at)) in
+      omega (arith, a, b, here, rest)
 
-  -- a change moves each of its keys once
-  moves_le : (w : ℕ) (cs : Entries) (ks : List Keys) → AreChanges f g cs ks → ((c : RecordName × List AnyFact) → Contains cs c → length (keys_in (facts_at (f c.0))) + length (keys_in c.1) ≤ w) → all_moves ks ≤ length cs * w
-  moves_le w [] [] h few = omega arith
-  moves_le w [] (k ∷ ks) h few = absurd h
-  moves_le w (c ∷ cs) [] h few = absurd h
-  moves_le w (c ∷ cs) (k ∷ ks) h few =
-      let one = sum_by-cons (λ (k : Keys). length k.old.items + length k.new.items) k ks in
-      let old = ap length h.0.old in
-      let new = ap length h.0.new in
-      let here = few c (at_head c cs) in
-      let rest = moves_le w cs ks h.1 (λ d at. few d (at_tail c d cs at)) in
-      omega (arith, one, old, new, here, rest)
-
-module _ (contests : List Contest) (es cs : Entries) (ks : List Keys) (n : ℕ) (g : RecordName → List AnyFact) (full : (e : RecordName × List AnyFact) → Contains es e → 0 < length e.1) (plan : IsPlan (λ k. at_name k es) g cs ks n)
+module _ (contests : List Contest) (es cs : Entries) (n : ℕ) (g : RecordName → List AnyFact) (full : (e : RecordName × List AnyFact) → Contains es e → 0 < length e.1) (plan : IsPlan (λ k. at_name k es) g cs n)
     (old : (e : RecordName × List AnyFact) → Contains es e → (x : AnyFact) → Contains e.1 x → IsSummed contests x) (new : (k : RecordName) (x : AnyFact) → Contains (g k) x → IsSummed contests x) where
   old_at : (k : RecordName) (o : Option (List AnyFact)) → at_name k es ≡ o → (x : AnyFact) → Contains (facts_at o) x → IsSummed contests x
   old_at k None is x at = absurd (none_listed x at)
   old_at k (Some facts) is x at = old (k, facts) (found_listed es k facts is) x at
 
   new_at : (c : RecordName × List AnyFact) → Contains cs c → (x : AnyFact) → Contains c.1 x → IsSummed contests x
-  new_at c at x in_it = elim (changed (λ k. at_name k es) g cs ks plan.changes c at x in_it) [
+  new_at c at x in_it = elim ((plan.changes c at).put.from x in_it) [
     | inl was ↦ old_at c.0 (at_name c.0 es) refl x was
     | inr came ↦ new c.0 x came
   ]
@@ -220,20 +196,20 @@ module _ (contests : List Contest) (es cs : Entries) (ks : List Keys) (n : ℕ) 
     fit_new = λ c at. fit contests c.1 (new_at c at);
     room = λ q j.
         let a = values_le (λ facts. shares (pairs_of facts) q j) (cap j) es (λ e at. shares_le contests e.1 (old e at) q j) in
-        let b = given_le (λ facts. shares (pairs_of facts) q j) (cap j) cs (λ c at. shares_le contests c.1 (new_at c at) q j) in
+        let b = given_le (λ c. shares (pairs_of c.1) q j) (cap j) cs (λ c at. shares_le contests c.1 (new_at c at) q j) in
         let many = full_le es full in
-        let more = grows (λ k. at_name k es) g cs ks plan.changes in
+        let more = grows (λ k. at_name k es) cs (λ c at. (plan.changes c at).more) in
         let count = plan.count in
         below j _ _ (length es) (length cs) a b (omega (arith, many, more, count, few));
   }
 
-  -- each new fact moves at most two keys of each contest
-  pub moves_few : all_moves ks ≤ 2 * length contests * n
+  -- each new fact moves at most two sums of each contest
+  pub moves_few : all_moves (λ k. at_name k es) cs ≤ 2 * length contests * n
   moves_few =
-      let each = moves_le (λ k. at_name k es) g (2 * length contests) cs ks plan.changes (λ c at.
-      let old = few_keys contests (facts_at (at_name c.0 es)) (old_at c.0 (at_name c.0 es) refl) in
-      let new = few_keys contests c.1 (new_at c at) in
+      let each = given_le (λ (c : RecordName × List AnyFact). length (pairs_of (facts_at (at_name c.0 es))) + length (pairs_of c.1)) (2 * length contests) cs (λ c at.
+      let old = few_pairs contests (facts_at (at_name c.0 es)) (old_at c.0 (at_name c.0 es) refl) in
+      let new = few_pairs contests c.1 (new_at c at) in
       omega (arith, old, new)) in
-      let more = grows (λ k. at_name k es) g cs ks plan.changes in
+      let more = grows (λ k. at_name k es) cs (λ c at. (plan.changes c at).more) in
       let few : length cs ≤ n = omega (arith, more, plan.count) in
       le_trans each (le_trans (mul-le-mul_right (2 * length contests) few) (le_of_eq (mul_comm n (2 * length contests))))

@@ -87,9 +87,6 @@ contents_same (c ∷ es) (g ∷ fs) keys each =
     (and_true _ _ (own_name c.0 g.0 first) (equal_facts c.1 g.1 (each c g (at_head c es) (at_head g fs) first)))
     (contents_same es fs rest (λ d h a b. each d h (at_tail c d es a) (at_tail g h fs b)))
 
-is_device : Fact → Bool
-is_device f = is_none (record_of f)
-
 module _ (d : List AnyFact) (es : Entries) (own : AreOwn d es) where
   device_part : filter (λ x. is_none (record_of (fact_of x))) (listed d es) ≡ d
   device_part =

@@ -31,7 +31,6 @@ use Rattle.cvr_collect.specs.Runs.{is_of, run}
 use Rattle.cvr_collect.specs.Tallied.{rows}
 use Rattle.cvr_collect.proofs.Lemmas.{from_filter, in_filter, in_union}
 use Rattle.cvr_collect.proofs.Laws.{rows_law, ballots_law, currents_are_sums, spelled_put}
-use Rattle.cvr_cached.specs.declared.change.Keys.{Keys}
 use Rattle.cvr_cached.specs.Contents.{Entries, facts_at, standing, listed}
 use Rattle.cvr_cached.specs.Cells.{total, Agrees}
 use Rattle.cvr_cached.specs.Held.{AreOwn, IsHeld, IsRoomy, IsTold, IsSummed}
@@ -107,14 +106,14 @@ module _ (contests : List Contest) (d : List AnyFact) (es : Entries) (m : Rows) 
   held_summed e at x in_it = summed_of x (inl (Contains-append_right d (flat_map (λ (e : RecordName × List AnyFact). e.1) es) x (in_flat (λ (e : RecordName × List AnyFact). e.1) e x es at in_it)))
 
   -- a plan of what comes to records has room
-  pub room_before : (g : RecordName → List AnyFact) → ((k : RecordName) (x : AnyFact) → Contains (g k) x → Contains more x) → (cs : Entries) (ks : List Keys) (n : ℕ) → IsPlan (λ k. at_name k es) g cs ks n
+  pub room_before : (g : RecordName → List AnyFact) → ((k : RecordName) (x : AnyFact) → Contains (g k) x → Contains more x) → (cs : Entries) (n : ℕ) → IsPlan (λ k. at_name k es) g cs n
       → sum_by length (values_of es) + n < 2 ^ 64 → IsRoomy contests (λ k. at_name k es) (total es) cs
-  room_before g among cs ks n plan few =
-      roomy contests es cs ks n g full_each plan held_summed (λ k x at. summed_of x (inr (among k x at))) few
+  room_before g among cs n plan few =
+      roomy contests es cs n g full_each plan held_summed (λ k x at. summed_of x (inr (among k x at))) few
 
-  -- and moves few keys
-  pub moves_before : (g : RecordName → List AnyFact) → ((k : RecordName) (x : AnyFact) → Contains (g k) x → Contains more x) → (cs : Entries) (ks : List Keys) (n : ℕ) → IsPlan (λ k. at_name k es) g cs ks n → all_moves ks ≤ 2 * length contests * n
-  moves_before g among cs ks n plan = moves_few contests es cs ks n g full_each plan held_summed (λ k x at. summed_of x (inr (among k x at)))
+  -- and moves few sums
+  pub moves_before : (g : RecordName → List AnyFact) → ((k : RecordName) (x : AnyFact) → Contains (g k) x → Contains more x) → (cs : Entries) (n : ℕ) → IsPlan (λ k. at_name k es) g cs n → all_moves (λ k. at_name k es) cs ≤ 2 * length contests * n
+  moves_before g among cs n plan = moves_few contests es cs n g full_each plan held_summed (λ k x at. summed_of x (inr (among k x at)))
 
   -- ---- after
 

@@ -14,7 +14,6 @@ use Rattle.cvr_collect.specs.declared.any_fact.AnyFact.{AnyFact}
 use Rattle.cvr_collect.specs.Place.{any_cmp}
 use Rattle.cvr_collect.specs.Plain.{IsPut}
 use Rattle.cvr_collect.proofs.Laws.{name_exact, name_total}
-use Rattle.cvr_cached.specs.declared.change.Keys.{Keys}
 use Rattle.cvr_cached.specs.Contents.{Entries, facts_at}
 use Rattle.cvr_cached.specs.Plans.{IsPassed, IsPlanned, IsStep}
 use Rattle.cvr_cached.proofs.Listed.{at_name, each_of, all_of_each, less_other, turned}
@@ -75,7 +74,7 @@ module _ (f : RecordName → Option (List AnyFact)) (rise : (q : RecordName) →
   nothing_put : (q : RecordName) → at_name q all ≡ None → IsPut (facts_at (f q)) (theirs q) (facts_at (f q))
   nothing_put q none = put_nothing (facts_at (f q)) (theirs q) (rise q) (ap facts_at none)
 
-  pub theirs_begin : IsStrictlySortedBy name_cmp (keys_of all) → IsPlanned f (λ q. facts_at (at_name q all)) (first_name all) [] [] 0
+  pub theirs_begin : IsStrictlySortedBy name_cmp (keys_of all) → IsPlanned f (λ q. facts_at (at_name q all)) (first_name all) [] 0
   theirs_begin rises = planned_none f theirs (first_name all) (λ q passed. nothing_put q (none_before all q rises passed))
 
   module _ (e : RecordName × List AnyFact) (rest : Entries) (are : AreLeft all (e ∷ rest)) where
@@ -108,9 +107,9 @@ module _ (f : RecordName → Option (List AnyFact)) (rise : (q : RecordName) →
       ] refl;
     }
 
-    pub theirs_go_on : (cs : Entries) (ks : List Keys) (n : ℕ) → IsPlanned f (λ q. facts_at (at_name q all)) (Some e.0) cs ks n → (cs' : Entries) (ks' : List Keys) (n' : ℕ)
-        → IsStep (facts_at (f e.0)) e.1 e.0 cs ks n cs' ks' n' → IsPlanned f (λ q. facts_at (at_name q all)) (first_name rest) cs' ks' n'
-    theirs_go_on cs ks n was cs' ks' n' step =
-        planned_step f theirs e.0 cs ks n was (first_name rest) up
+    pub theirs_go_on : (cs : Entries) (n : ℕ) → IsPlanned f (λ q. facts_at (at_name q all)) (Some e.0) cs n → (cs' : Entries) (n' : ℕ)
+        → IsStep (facts_at (f e.0)) e.1 e.0 cs n cs' n' → IsPlanned f (λ q. facts_at (at_name q all)) (first_name rest) cs' n'
+    theirs_go_on cs n was cs' n' step =
+        planned_step f theirs e.0 cs n was (first_name rest) up
         (λ q passed above. nothing_put q (sym (behind q above) ∙ none_before rest q tail_rises passed))
-        cs' ks' n' (subst (λ g. IsStep (facts_at (f e.0)) g e.0 cs ks n cs' ks' n') (sym own_group) step)
+        cs' n' (subst (λ g. IsStep (facts_at (f e.0)) g e.0 cs n cs' n') (sym own_group) step)

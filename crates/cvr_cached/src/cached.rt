@@ -1,14 +1,14 @@
 use crate::content::RecordContent;
 use crate::listing::{conflicts_over, greatest_count_over, next_over};
 use crate::taking::{take_contents, take_in};
-use cdf_check::{Definition, check_report};
+use cdf_check::Definition;
 use cdf_types::{Body, Memory, ReadFault};
 use cvr_collect::any_fact::AnyFact;
 use cvr_collect::devices::{device_body_in, device_count_in, next_device_in};
 use cvr_collect::putting::{of_devices, of_records, own_devices, put_in};
 use cvr_collect::record_lists::{grouped, headers_down};
 use cvr_collect::{ConflictList, JoinFault, Office, Receipt, RecordFacts};
-use cvr_facts::{HeaderFact, RecordName, SnapshotFact, take_facts};
+use cvr_facts::{HeaderFact, RecordName, SnapshotFact, read_facts};
 use cvr_tally::{Row, RowKey, Totals, tally_text};
 use std::alloc::Global;
 use std::collections::BTreeMap;
@@ -115,9 +115,7 @@ impl Office for CachedOffice {
         ensures moves_stay { OnErr result (self.new.moves ≡ self.old.moves) }
     {
         let alloc = *self.devices.allocator();
-        let report = check_report(alloc, &self.definition, bytes)?;
-        let cvrs = report.cvrs.as_slice().len();
-        let list = take_facts(alloc, &self.definition, report)?;
+        let (cvrs, list) = read_facts(alloc, &self.definition, bytes)?;
         let theirs = of_devices(alloc, list.devices)?;
         let mut more = Vec::new(alloc);
         put_in(&mut more, of_records(alloc, list.headers, list.snapshots)?)?;

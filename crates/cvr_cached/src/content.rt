@@ -1,30 +1,39 @@
-ghost use Rattle.std.specs.Prelude.{◌≡◌, ◌<◌, ◌+◌, OnOk, OnErr, IfOk, [], option_map, map, drop, length};
+ghost use Rattle.std.specs.Prelude.{◌≡◌, ◌<◌, ◌≤◌, ◌+◌, ℕ, OnOk, OnErr, IfOk, [], true, false, if◌then◌else◌, option_map, length};
+ghost use Rattle.std.specs.FinMap.{get};
 ghost use Rattle.std.specs.FinSet.{empty, len, union};
-ghost use Rattle.std.specs.List.Sorted.{IsStrictlySortedBy};
 ghost use Rattle.std.specs.Ordering.{eq_by_cmp};
+ghost use Rattle.std.specs.List.Sorted.{IsStrictlySortedBy};
 ghost use Rattle.std.specs.Cmp.{partial_equiv_from_equiv, eq_by_cmp_equiv};
 ghost use Rattle.std.specs.Cmp.Lexicographic.{pointwise, lists_equiv};
+ghost use Rattle.cvr_tally.specs.Rows.{row_closed};
+ghost use Rattle.cvr_tally.specs.declared.key.RowKey.{RowKey};
 ghost use Rattle.cvr_collect.specs.Place.{any_cmp, any_total};
 ghost use Rattle.cvr_collect.specs.Plain.{set_of, IsPut};
 ghost use Rattle.cvr_facts.specs.Facts.{Facts, fact_total, fact_exact};
 ghost use Rattle.cvr_facts.specs.Unions.{union_laws};
-ghost use Rattle.cvr_cached.specs.Contents.{header_at, current_at, header_in, current_in, keys_in, sums_in};
+ghost use Rattle.cvr_cached.specs.Contents.{header_in, current_in, pairs_of};
+ghost use Rattle.cvr_cached.specs.Cells.{Column, cell, cell_limit, shares, stands, is_row_of, AreFit};
 
+use crate::remembered::{
+    current_place, header_fact_at, header_place, key_at, no_key, snapshot_at, votes_at,
+};
 use cdf_types::Memory;
 use cvr_collect::any_fact::AnyFact;
 use cvr_collect::putting::{copies, put_in};
-use cvr_facts::{HeaderFact, Join, SnapshotFact, VoteSums, choice_cmp};
-use cvr_tally::RowKey;
+use cvr_facts::{HeaderFact, Join, SnapshotFact};
+use cvr_tally::{RowKey, Totals};
 use std::alloc::Global;
 use std::marker::Model;
 
 // The facts of one record, each once and in order, with the places of its header and its current
-// snapshot. Contracts see it as the list of its facts.
+// snapshot, and a key of its rows. Contracts see it as the list of its facts.
 #[derive(Drop)]
 pub(crate) struct RecordContent {
     facts: Vec<AnyFact>,
     header: Option<usize>,
     current: Option<usize>,
+    // It has the header's unit and batch; its contest is that of the row that was touched last.
+    key: RowKey,
 }
 
 impl Model for RecordContent {
@@ -36,7 +45,7 @@ impl Model for RecordContent {
 
     ghost view = { λ a. a.facts.items };
 
-    ghost invariant = { λ a. IsRemembered a.facts.items a.header a.current };
+    ghost invariant = { λ a. IsRemembered a.facts.items a.header a.current a.key };
 }
 
 impl RecordContent {
@@ -48,21 +57,25 @@ impl RecordContent {
             facts: Vec::new(alloc),
             header: None,
             current: None,
+            key: no_key(),
         }
     }
 
-    // These facts. Takes no memory.
-    pub(crate) fn new(facts: Vec<AnyFact>) -> RecordContent
-        requires { IsStrictlySortedBy any_cmp facts.items }
-        ensures { result ≡ facts.items }
+    // Its facts with more put in.
+    pub(crate) fn with(&self, alloc: Global, more: Vec<AnyFact>) -> Result<RecordContent, Memory>
+        ensures { IfOk result (λ c. IsPut self.now more.items c) }
     {
+        let mut facts = copies(alloc, &self.facts)?;
+        put_in(&mut facts, more)?;
         let header = header_place(&facts);
         let current = current_place(&facts);
-        RecordContent {
+        let key = key_at(&facts, header)?;
+        Ok(RecordContent {
             facts,
             header,
             current,
-        }
+            key,
+        })
     }
 
     // Its facts, in order. Takes no memory.
@@ -87,52 +100,76 @@ impl RecordContent {
         snapshot_at(&self.facts, self.current)
     }
 
-    // The sums that it adds to the tally: those of its current snapshot, if it has a header. Takes
-    // no memory.
-    pub(crate) fn votes(&self) -> &[VoteSums]
-        ensures { result.now ≡ sums_in self.now }
+    // Makes its rows, of zeros where there are none. After an Err some may be open.
+    pub(crate) fn open_rows(&mut self, totals: &mut Totals) -> Result<(), Memory>
+        requires { AreFit totals.old.contests (pairs_of self.old) }
+        ensures same { self.new ≡ self.old }
+        ensures here { OnOk result ((q : RowKey) → is_row_of self.old q ≡ true → stands totals.new.rows q ≡ true) }
+        ensures kept { (q : RowKey) → stands totals.old.rows q ≡ true → stands totals.new.rows q ≡ true }
+        ensures cells { (q : RowKey) (j : Column) → cell totals.new.rows q j ≡ cell totals.old.rows q j }
+        ensures others { (q : RowKey) → is_row_of self.old q ≡ false → get totals.new.rows q ≡ get totals.old.rows q }
+        ensures closed { (q : RowKey) → row_closed (get totals.new.rows q) ≡ row_closed (get totals.old.rows q) }
+        ensures moves { totals.new.moves ≡ totals.old.moves }
+        ensures contests { totals.new.contests ≡ totals.old.contests }
     {
-        if self.header().is_none() {
-            return &[];
+        let key = &mut self.key;
+        for sums in votes_at(&self.facts, self.header, self.current) {
+            key.contest = sums.contest;
+            if let Err(refused) = totals.open_row(key) {
+                return Err(refused);
+            }
         }
-        let Some(snapshot) = self.current() else {
-            return &[];
-        };
-        snapshot.votes.as_slice()
+        Ok(())
     }
 
-    // The keys of the rows that these go to.
-    pub(crate) fn keys(&self, alloc: Global) -> Result<Vec<RowKey>, Memory>
-        ensures { IfOk result (λ keys. keys.items ≡ keys_in self.now) }
+    // Removes those of its rows that have no ballots. Takes no memory.
+    pub(crate) fn close_rows(&mut self, totals: &mut Totals)
+        ensures same { self.new ≡ self.old }
+        ensures rows { (q : RowKey) → get totals.new.rows q ≡ (if is_row_of self.old q then row_closed (get totals.old.rows q) else get totals.old.rows q) }
+        ensures moves { totals.new.moves ≡ totals.old.moves }
+        ensures contests { totals.new.contests ≡ totals.old.contests }
     {
-        let Some(header) = self.header() else {
-            return Ok(Vec::new(alloc));
-        };
-        keys_under(alloc, header, self.votes())
+        let key = &mut self.key;
+        for sums in votes_at(&self.facts, self.header, self.current) {
+            key.contest = sums.contest;
+            totals.close_empty(key);
+        }
     }
 
-    // An equal content.
-    pub(crate) fn copy(&self, alloc: Global) -> Result<RecordContent, Memory>
-        ensures { IfOk result (λ c. c ≡ self.now) }
+    // Adds its sums to its rows, which are open: those of its current snapshot, if it has a header.
+    // Takes no memory.
+    pub(crate) fn add_votes(&mut self, totals: &mut Totals)
+        requires fit { AreFit totals.old.contests (pairs_of self.old) }
+        requires open_at { (q : RowKey) → is_row_of self.old q ≡ true → stands totals.old.rows q ≡ true }
+        requires room { (q : RowKey) (j : Column) → cell totals.old.rows q j + shares (pairs_of self.old) q j < cell_limit j }
+        ensures same { self.new ≡ self.old }
+        ensures cells { (q : RowKey) (j : Column) → cell totals.new.rows q j ≡ cell totals.old.rows q j + shares (pairs_of self.old) q j }
+        ensures stand { (q : RowKey) → stands totals.new.rows q ≡ stands totals.old.rows q }
+        ensures moves { totals.new.moves ≡ totals.old.moves + length (pairs_of self.old) }
+        ensures contests { totals.new.contests ≡ totals.old.contests }
     {
-        let facts = copies(alloc, &self.facts)?;
-        Ok(RecordContent {
-            facts,
-            header: self.header,
-            current: self.current,
-        })
+        let key = &mut self.key;
+        for sums in votes_at(&self.facts, self.header, self.current) {
+            key.contest = sums.contest;
+            totals.add(key, sums);
+        }
     }
 
-    // Puts in facts, and answers how many are new.
-    pub(crate) fn put_in(&mut self, more: Vec<AnyFact>) -> Result<usize, Memory>
-        ensures put { OnOk result (IsPut self.old more.items self.new) }
-        ensures new { IfOk result (λ n. len (set_of self.old) + n ≡ len (set_of self.new)) }
-        ensures unchanged { OnErr result (self.new ≡ self.old) }
+    // Takes its sums out of its rows. Takes no memory.
+    pub(crate) fn take_votes(&mut self, totals: &mut Totals)
+        requires fit { AreFit totals.old.contests (pairs_of self.old) }
+        requires enough { (q : RowKey) (j : Column) → shares (pairs_of self.old) q j ≤ cell totals.old.rows q j }
+        ensures same { self.new ≡ self.old }
+        ensures cells { (q : RowKey) (j : Column) → cell totals.new.rows q j + shares (pairs_of self.old) q j ≡ cell totals.old.rows q j }
+        ensures stand { (q : RowKey) → stands totals.new.rows q ≡ stands totals.old.rows q }
+        ensures moves { totals.new.moves ≡ totals.old.moves + length (pairs_of self.old) }
+        ensures contests { totals.new.contests ≡ totals.old.contests }
     {
-        let new_facts = put_in(&mut self.facts, more)?;
-        self.header = header_place(&self.facts);
-        self.current = current_place(&self.facts);
-        Ok(new_facts)
+        let key = &mut self.key;
+        for sums in votes_at(&self.facts, self.header, self.current) {
+            key.contest = sums.contest;
+            totals.take(key, sums);
+        }
     }
 }
 
@@ -155,8 +192,11 @@ impl Join for RecordContent {
         ensures unchanged { OnErr result (self.new ≡ self.old) }
         ensures put { OnOk result (IsPut self.old other.now self.new) }
     {
-        let more = copies(*self.facts.allocator(), other.facts())?;
-        self.put_in(more)
+        let alloc = *self.facts.allocator();
+        let joined = self.with(alloc, copies(alloc, other.facts())?)?;
+        let new_facts = joined.facts.len() - self.facts.len();
+        *self = joined;
+        Ok(new_facts)
     }
 
     ghost laws = { union_laws fact_total fact_exact };
@@ -170,77 +210,5 @@ impl PartialEq for RecordContent {
 
     fn eq(&self, other: &RecordContent) -> bool {
         self.facts == other.facts
-    }
-}
-
-// The keys of the rows that sums go to under a header.
-fn keys_under(alloc: Global, header: &HeaderFact, votes: &[VoteSums]) -> Result<Vec<RowKey>, Memory>
-    ensures { IfOk result (λ keys. keys.items ≡ map (λ v. record { contest = v.contest; unit = header.now.unit; batch = header.now.batch }) votes.now) }
-{
-    let mut keys = Vec::with_capacity(alloc, votes.len())?;
-    for sums in votes {
-        keys.push(RowKey::under(header, sums.contest)?)?;
-    }
-    Ok(keys)
-}
-
-// The place of the last header.
-fn header_place(facts: &[AnyFact]) -> Option<usize>
-    ensures { header_at facts.now result ≡ header_in facts.now }
-{
-    let mut last = None;
-    for (place, fact) in facts.iter().enumerate() {
-        if let AnyFact::Header(_) = fact {
-            last = Some(place);
-        }
-    }
-    last
-}
-
-// The place of the greatest snapshot by the order of choosing.
-fn current_place(facts: &[AnyFact]) -> Option<usize>
-    ensures { current_at facts.now result ≡ current_in facts.now }
-{
-    let mut greatest = None;
-    let mut place = facts.len();
-    while place > 0 {
-        place -= 1;
-        greatest = greater_place(facts, place, greatest);
-    }
-    greatest
-}
-
-// The place of the greatest snapshot from a place on, given that of those behind it.
-fn greater_place(facts: &[AnyFact], place: usize, behind: Option<usize>) -> Option<usize>
-    requires within { place < length facts.now }
-    requires behind { current_at facts.now behind ≡ current_in (drop (place + 1) facts.now) }
-    ensures { current_at facts.now result ≡ current_in (drop place facts.now) }
-{
-    let AnyFact::Snapshot(snapshot) = &facts[place] else {
-        return behind;
-    };
-    match snapshot_at(facts, behind) {
-        Some(other) if !choice_cmp(snapshot, other).is_gt() => behind,
-        _ => Some(place),
-    }
-}
-
-// The header at a place.
-fn header_fact_at(facts: &[AnyFact], place: Option<usize>) -> Option<&HeaderFact>
-    ensures { option_map (λ h. h.now) result ≡ header_at facts.now place }
-{
-    match facts.get(place?)? {
-        AnyFact::Header(header) => Some(header),
-        _ => None,
-    }
-}
-
-// The snapshot at a place.
-fn snapshot_at(facts: &[AnyFact], place: Option<usize>) -> Option<&SnapshotFact>
-    ensures { option_map (λ s. s.now) result ≡ current_at facts.now place }
-{
-    match facts.get(place?)? {
-        AnyFact::Snapshot(snapshot) => Some(snapshot),
-        _ => None,
     }
 }

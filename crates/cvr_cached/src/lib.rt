@@ -2,7 +2,6 @@
 #![tactic(auto)]
 
 mod cached;
-mod change;
 mod commit;
 mod content;
 pub mod examples;
@@ -10,6 +9,7 @@ pub mod law;
 mod listing;
 mod names;
 mod plan;
+mod remembered;
 mod rows;
 mod taking;
 

@@ -1,4 +1,4 @@
-ghost use Rattle.std.specs.Prelude.{◌≡◌, ◌+◌, OnOk, IfOk, IsTrue, Some, false, length};
+ghost use Rattle.std.specs.Prelude.{◌≡◌, ◌≤◌, OnOk, IfOk, IsTrue, Some, false, length};
 ghost use Rattle.std.specs.List.{Contains};
 ghost use Rattle.std.specs.FinSet.{contains};
 ghost use Rattle.cvr_collect.specs.declared.any_fact.AnyFact.{AnyFact};
@@ -13,14 +13,22 @@ ghost use Rattle.cvr_collect.specs.Runs.{run};
 ghost use Rattle.cvr_cached.specs.Contents.{facts_at};
 ghost use Rattle.cvr_cached.specs.Plans.{IsPlan, IsPushed, IsStep};
 
-use crate::change::{Keys, Plan};
 use crate::content::RecordContent;
 use cdf_types::Memory;
 use cvr_collect::any_fact::AnyFact;
 use cvr_collect::one_record::{first_record, take_run};
-use cvr_facts::{Join, RecordName};
+use cvr_collect::putting::copies;
+use cvr_facts::RecordName;
 use std::alloc::Global;
 use std::collections::{BTreeMap, VecDeque};
+
+// New contents under their names, by place.
+#[derive(Drop)]
+pub(crate) struct Plan {
+    pub(crate) contents: Vec<(RecordName, RecordContent)>,
+    // How many facts are new.
+    pub(crate) new_facts: usize,
+}
 
 // What facts in order, all of records, change in the contents of these. The facts go there record by record.
 pub(crate) fn plan_of(
@@ -31,11 +39,10 @@ pub(crate) fn plan_of(
     requires more { IsStrictlySortedBy any_cmp more.items }
     requires named { (f : AnyFact) → Contains more.items f → (k : RecordName) × (record_of (fact_of f) ≡ Some k) }
     requires rise { (q : RecordName) → IsStrictlySortedBy any_cmp (facts_at (get name_cmp records.now q)) }
-    ensures { IfOk result (λ plan. IsPlan (get name_cmp records.now) (λ k. run k more.items) plan.contents.items plan.keys.items plan.new_facts) }
+    ensures { IfOk result (λ plan. IsPlan (get name_cmp records.now) (λ k. run k more.items) plan.contents.items plan.new_facts) }
 {
     let mut plan = Plan {
         contents: Vec::new(alloc),
-        keys: Vec::new(alloc),
         new_facts: 0,
     };
     let mut rest = VecDeque::from(more);
@@ -54,11 +61,10 @@ pub(crate) fn plan_of_contents(
     theirs: &BTreeMap<RecordName, RecordContent>,
 ) -> Result<Plan, Memory>
     requires { (q : RecordName) → IsStrictlySortedBy any_cmp (facts_at (get name_cmp records.now q)) }
-    ensures { IfOk result (λ plan. IsPlan (get name_cmp records.now) (λ k. facts_at (get name_cmp theirs.now k)) plan.contents.items plan.keys.items plan.new_facts) }
+    ensures { IfOk result (λ plan. IsPlan (get name_cmp records.now) (λ k. facts_at (get name_cmp theirs.now k)) plan.contents.items plan.new_facts) }
 {
     let mut plan = Plan {
         contents: Vec::new(alloc),
-        keys: Vec::new(alloc),
         new_facts: 0,
     };
     for (name, content) in theirs.iter() {
@@ -75,16 +81,15 @@ fn add_change(
     name: RecordName,
     group: Vec<AnyFact>,
 ) -> Result<(), Memory>
-    ensures { OnOk result (IsStep (facts_at (get name_cmp records.now name)) group.items name plan.old.contents.items plan.old.keys.items plan.old.new_facts plan.new.contents.items plan.new.keys.items plan.new.new_facts) }
+    ensures { OnOk result (IsStep (facts_at (get name_cmp records.now name)) group.items name plan.old.contents.items plan.old.new_facts plan.new.contents.items plan.new.new_facts) }
 {
     let none = RecordContent::empty(alloc);
     let old = records.get(&name).unwrap_or(&none);
     if has_all(old.facts(), &group) {
         return Ok(());
     }
-    let mut content = old.copy(alloc)?;
-    let grown = content.put_in(group)?;
-    push_change(alloc, plan, name, old, content, grown)
+    let content = old.with(alloc, group)?;
+    push_change(plan, name, old, content)
 }
 
 // Adds what another office's content of a record changes in its content, if it does.
@@ -95,39 +100,33 @@ fn add_join(
     name: &RecordName,
     theirs: &RecordContent,
 ) -> Result<(), Memory>
-    ensures { OnOk result (IsStep (facts_at (get name_cmp records.now name.now)) theirs.now name.now plan.old.contents.items plan.old.keys.items plan.old.new_facts plan.new.contents.items plan.new.keys.items plan.new.new_facts) }
+    ensures { OnOk result (IsStep (facts_at (get name_cmp records.now name.now)) theirs.now name.now plan.old.contents.items plan.old.new_facts plan.new.contents.items plan.new.new_facts) }
 {
     let none = RecordContent::empty(alloc);
     let old = records.get(name).unwrap_or(&none);
     if has_all(old.facts(), theirs.facts()) {
         return Ok(());
     }
-    let mut content = old.copy(alloc)?;
-    let grown = content.join(theirs)?;
-    push_change(alloc, plan, name.copy()?, old, content, grown)
+    let name = name.copy()?;
+    let content = old.with(alloc, copies(alloc, theirs.facts())?)?;
+    push_change(plan, name, old, content)
 }
 
-// Adds a record's new content to a plan, with the keys of the rows that it leaves and enters.
+// Adds a record's new content to a plan.
 fn push_change(
-    alloc: Global,
     plan: &mut Plan,
     name: RecordName,
     old: &RecordContent,
     content: RecordContent,
-    grown: usize,
 ) -> Result<(), Memory>
-    requires { length old.now + grown ≡ length content }
-    ensures { OnOk result (IsPushed old.now content name plan.old.contents.items plan.old.keys.items plan.old.new_facts plan.new.contents.items plan.new.keys.items plan.new.new_facts) }
+    requires { length old.now ≤ length content }
+    ensures { OnOk result (IsPushed old.now content name plan.old.contents.items plan.old.new_facts plan.new.contents.items plan.new.new_facts) }
 {
+    let grown = content.facts().len() - old.facts().len();
     let new_facts = match plan.new_facts.checked_add(grown) {
         Some(sum) => sum,
         None => return Err(Memory),
     };
-    let keys = Keys {
-        old: old.keys(alloc)?,
-        new: content.keys(alloc)?,
-    };
-    plan.keys.push(keys)?;
     plan.contents.push((name, content))?;
     plan.new_facts = new_facts;
     Ok(())

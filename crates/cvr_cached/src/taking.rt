@@ -19,12 +19,11 @@ ghost use Rattle.cvr_cached.specs.Plans.{IsPlan, laid, all_moves};
 ghost use Rattle.cvr_cached.specs.Held.{AreOwn, IsHeld, IsTold, IsRoomy};
 ghost use Rattle.cvr_cached.specs.Moves.{moved};
 
-use crate::change::Plan;
 use crate::commit::commit_all;
 use crate::content::RecordContent;
 use crate::names::{close_names, open_names};
-use crate::plan::{has_all, plan_of, plan_of_contents};
-use crate::rows::{close_rows, open_rows};
+use crate::plan::{Plan, has_all, plan_of, plan_of_contents};
+use crate::rows::{add_rows, close_rows, open_rows};
 use cdf_types::Memory;
 use cvr_collect::any_fact::AnyFact;
 use cvr_collect::putting::{copies, put_copies};
@@ -118,7 +117,7 @@ fn settle(
     requires counted { count.old ≡ length devices.old.items + sum_by length (values_of records.old.entries) }
     requires full { (q : RecordName) → standing (facts_at (get name_cmp records.old q)) ≡ get name_cmp records.old q }
     requires agrees { Agrees (total records.old.entries) totals.old.rows }
-    requires plan { (g : RecordName → List AnyFact) × IsPlan (get name_cmp records.old) g plan.contents.items plan.keys.items plan.new_facts }
+    requires plan { (g : RecordName → List AnyFact) × IsPlan (get name_cmp records.old) g plan.contents.items plan.new_facts }
     requires room { sum_by length (values_of records.old.entries) + plan.new_facts < 2 ^ 64 → IsRoomy totals.old.contests (get name_cmp records.old) (total records.old.entries) plan.contents.items }
     ensures devices { OnOk result (IsPut devices.old.items theirs.now devices.new.items) }
     ensures records { OnOk result ((q : RecordName) → get name_cmp records.new q ≡ laid plan.contents.items (get name_cmp records.old) q) }
@@ -127,7 +126,7 @@ fn settle(
     ensures fits { count.new < 2 ^ 64 }
     ensures new { IfOk result (λ n. count.old + n ≡ count.new) }
     ensures more { IfOk result (λ n. plan.new_facts ≤ n) }
-    ensures moves { totals.new.moves ≡ totals.old.moves + (if is_ok result then all_moves plan.keys.items else 0) }
+    ensures moves { totals.new.moves ≡ totals.old.moves + (if is_ok result then all_moves (get name_cmp records.old) plan.contents.items else 0) }
     ensures contests { totals.new.contests ≡ totals.old.contests }
     ensures err_devices { OnErr result (devices.new.items ≡ devices.old.items) }
     ensures err_records { OnErr result ((q : RecordName) → get name_cmp records.new q ≡ get name_cmp records.old q) }
@@ -178,16 +177,16 @@ fn put_in(
     alloc: Global,
     records: &mut BTreeMap<RecordName, RecordContent>,
     totals: &mut Totals,
-    plan: Plan,
+    mut plan: Plan,
 ) -> Result<(), Memory>
     requires full { (q : RecordName) → standing (facts_at (get name_cmp records.old q)) ≡ get name_cmp records.old q }
     requires agrees { Agrees (total records.old.entries) totals.old.rows }
-    requires plan { (g : RecordName → List AnyFact) × IsPlan (get name_cmp records.old) g plan.contents.items plan.keys.items plan.new_facts }
+    requires plan { (g : RecordName → List AnyFact) × IsPlan (get name_cmp records.old) g plan.contents.items plan.new_facts }
     requires room { IsRoomy totals.old.contests (get name_cmp records.old) (total records.old.entries) plan.contents.items }
     ensures records { OnOk result ((q : RecordName) → get name_cmp records.new q ≡ laid plan.contents.items (get name_cmp records.old) q) }
     ensures agrees { Agrees (total records.new.entries) totals.new.rows }
     ensures counted { sum_by length (values_of records.new.entries) ≡ sum_by length (values_of records.old.entries) + (if is_ok result then plan.new_facts else 0) }
-    ensures moves { totals.new.moves ≡ totals.old.moves + (if is_ok result then all_moves plan.keys.items else 0) }
+    ensures moves { totals.new.moves ≡ totals.old.moves + (if is_ok result then all_moves (get name_cmp records.old) plan.contents.items else 0) }
     ensures contests { totals.new.contests ≡ totals.old.contests }
     ensures err_records { OnErr result ((q : RecordName) → get name_cmp records.new q ≡ get name_cmp records.old q) }
     ensures err_rows { OnErr result (totals.new.rows ≡ totals.old.rows) }
@@ -196,13 +195,12 @@ fn put_in(
         close_names(records, &plan.contents);
         return Err(refused);
     }
-    if let Err(refused) = open_rows(totals, &plan.keys) {
-        close_rows(totals, &plan.keys);
+    if let Err(refused) = open_rows(totals, &mut plan.contents) {
+        close_rows(totals, &mut plan.contents);
         close_names(records, &plan.contents);
         return Err(refused);
     }
-    let Plan { contents, keys, .. } = plan;
-    commit_all(records, totals, contents, &keys);
-    close_rows(totals, &keys);
+    add_rows(totals, &mut plan.contents);
+    commit_all(records, totals, plan.contents);
     Ok(())
 }

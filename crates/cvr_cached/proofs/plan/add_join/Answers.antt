@@ -1,34 +1,34 @@
-use Rattle.std.proofs.Common.{◌≡◌, ◌+◌, false, subst}
+use Rattle.std.proofs.Common.{◌≡◌, ◌∙◌, false, subst}
 use Rattle.std.specs.Prelude.{OnOk}
 use Rattle.std.specs.BTreeMap.{get}
-use Rattle.std.specs.FinSet.{contains, len}
+use Rattle.std.specs.FinSet.{contains}
 use Rattle.std.specs.List.{Contains}
 use Rattle.cvr_facts.specs.Facts.{name_cmp}
 use Rattle.cvr_collect.specs.declared.any_fact.AnyFact.{AnyFact}
 use Rattle.cvr_collect.specs.Place.{fact_of}
 use Rattle.cvr_collect.specs.Plain.{set_of, IsPut}
+use Rattle.cvr_collect.proofs.Laws.{put_growth}
 use Rattle.cvr_cached.specs.Contents.{facts_at}
 use Rattle.cvr_cached.specs.Plans.{IsPushed, IsStep}
-use Rattle.cvr_cached.proofs.Growing.{grown_list, step_added}
+use Rattle.cvr_cached.proofs.Growing.{step_added}
 use Rattle.cvr_cached.proofs.Olds.{old_is}
 use Rattle.cvr_cached.proofs.plan.add_join.Goals as goal
 
 pub push_change-requires : goal.push_change-requires
 push_change-requires c =
     let old = c.unwrap_or-old.result.now in
-    let put = subst (λ o. IsPut o c.args.theirs.now c.join.new.self) c.in_ok-content.ensures c.in_ok-grown.ensures.put in
-    let new = subst (λ o. len (set_of o) + c.in_ok-grown.grown ≡ len (set_of c.join.new.self)) c.in_ok-content.ensures c.in_ok-grown.ensures.new in
-    grown_list old c.args.theirs.now c.join.new.self c.in_ok-grown.grown c.facts.ensures.rises put new
+    let put = subst (λ more. IsPut old more c.in_ok-content.content) (c.in_ok-copies.ensures ∙ c.facts-3.ensures.is) c.in_ok-content.ensures in
+    (put_growth old c.args.theirs.now c.in_ok-content.content c.facts.ensures.rises put).0
 
 pub returns : goal.returns
 returns c =
     let old = c.unwrap_or-old.result.now in
     let is : old ≡ facts_at (get name_cmp c.args.records.now c.args.name.now) = old_is c.get.result _ c.unwrap_or-old.result _ c.unwrap_or-old.ensures c.empty-none.ensures c.get.ensures.value in
-    let put = subst (λ o. IsPut o c.args.theirs.now c.join.new.self) c.in_ok-content.ensures c.in_ok-grown.ensures.put in
+    let put = subst (λ more. IsPut old more c.in_ok-content.content) (c.in_ok-copies.ensures ∙ c.facts-3.ensures.is) c.in_ok-content.ensures in
     let among = subst (λ o. (x : AnyFact) × Contains c.facts-2.result.now x × (contains (set_of o) (fact_of x) ≡ false)) c.facts.ensures.is (c.has_all.ensures.some c.if-has_all.false) in
     let fresh = subst (λ xs. (x : AnyFact) × Contains xs x × (contains (set_of old) (fact_of x) ≡ false)) c.facts-2.ensures.is among in
     let was = c.args.plan.now in
     let now = c.push_change.new.plan in
-    let pushed = subst (λ n. OnOk c.push_change.result (IsPushed old c.join.new.self n was.contents.items was.keys.items was.new_facts now.contents.items now.keys.items now.new_facts)) c.in_ok-copy.ensures c.push_change.ensures in
-    subst (λ o. OnOk c.push_change.result (IsStep o c.args.theirs.now c.args.name.now was.contents.items was.keys.items was.new_facts now.contents.items now.keys.items now.new_facts)) is
-    (step_added c.push_change.result old c.args.theirs.now c.join.new.self c.args.name.now was.contents.items was.keys.items was.new_facts now.contents.items now.keys.items now.new_facts c.facts.ensures.rises put fresh pushed)
+    let pushed = subst (λ n. OnOk c.push_change.result (IsPushed old c.in_ok-content.content n was.contents.items was.new_facts now.contents.items now.new_facts)) c.in_ok-name.ensures c.push_change.ensures in
+    subst (λ o. OnOk c.push_change.result (IsStep o c.args.theirs.now c.args.name.now was.contents.items was.new_facts now.contents.items now.new_facts)) is
+    (step_added c.push_change.result old c.args.theirs.now c.in_ok-content.content c.args.name.now was.contents.items was.new_facts now.contents.items now.new_facts c.facts.ensures.rises put fresh pushed)

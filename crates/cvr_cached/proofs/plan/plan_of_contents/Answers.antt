@@ -17,7 +17,7 @@ loop-name-init c =
     let is : c.into_iter-name-iterator.result ≡ all = c.into_iter-name-iterator.ensures.into_iter_gives ∙ c.iter-name-items.ensures.rest in
     let ordered = c.iter-name-items.ensures.ordered in
     record {
-      planned = rw (c.new.ensures.items, c.new-2.ensures.items, is) (theirs_begin (get name_cmp c.args.records.now) c.requires all ordered);
+      planned = rw (c.new.ensures.items, is) (theirs_begin (get name_cmp c.args.records.now) c.requires all ordered);
       left = rw is (all_left all ordered);
     }
 
@@ -29,15 +29,15 @@ loop-name-preserved c =
     let rest = c.next.new.self in
     let is = rest_more deref_pair c.loop-name.name-iterator c.next.new.self c.next.result _ c.in-Some.is c.next.ensures.steps in
     let are = subst (AreLeft all) is c.loop-name.invariant.left in
-    let was = subst (λ left. IsPlanned f (λ k. facts_at (get name_cmp c.args.theirs.now k)) (first_name left) c.loop-name.plan.contents.items c.loop-name.plan.keys.items c.loop-name.plan.new_facts) is c.loop-name.invariant.planned in
+    let was = subst (λ left. IsPlanned f (λ k. facts_at (get name_cmp c.args.theirs.now k)) (first_name left) c.loop-name.plan.contents.items c.loop-name.plan.new_facts) is c.loop-name.invariant.planned in
     record {
-      planned = theirs_go_on f c.requires all e rest are c.loop-name.plan.contents.items c.loop-name.plan.keys.items c.loop-name.plan.new_facts was
-          c.add_join.new.plan.contents.items c.add_join.new.plan.keys.items c.add_join.new.plan.new_facts c.in_ok-add_join.ensures;
+      planned = theirs_go_on f c.requires all e rest are c.loop-name.plan.contents.items c.loop-name.plan.new_facts was
+          c.add_join.new.plan.contents.items c.add_join.new.plan.new_facts c.in_ok-add_join.ensures;
       left = rest_left f c.requires all e rest are;
     }
 
 pub returns : goal.returns
 returns c =
     let none = rest_all deref_pair c.loop-name.name-iterator c.next.new.self c.next.result c.in-None.is c.next.ensures.steps in
-    all_planned (get name_cmp c.args.records.now) (λ k. facts_at (get name_cmp c.args.theirs.now k)) (first_name c.loop-name.name-iterator) c.loop-name.plan.contents.items c.loop-name.plan.keys.items c.loop-name.plan.new_facts
+    all_planned (get name_cmp c.args.records.now) (λ k. facts_at (get name_cmp c.args.theirs.now k)) (first_name c.loop-name.name-iterator) c.loop-name.plan.contents.items c.loop-name.plan.new_facts
     (ap first_name none) c.loop-name.invariant.planned

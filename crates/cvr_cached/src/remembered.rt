@@ -1,0 +1,111 @@
+// What a content remembers of its facts: where its header and its current snapshot stand, and a key
+// of its rows.
+ghost use Rattle.std.specs.Prelude.{◌≡◌, ◌<◌, ◌+◌, IfOk, None, option_map, drop, length};
+ghost use Rattle.cvr_cached.specs.Contents.{header_at, current_at, header_in, current_in, sums_in, IsKeyOf};
+
+use cdf_types::Memory;
+use cvr_collect::any_fact::AnyFact;
+use cvr_facts::{HeaderFact, SnapshotFact, VoteSums, choice_cmp};
+use cvr_tally::RowKey;
+
+// The place of the last header.
+pub(crate) fn header_place(facts: &[AnyFact]) -> Option<usize>
+    ensures { header_at facts.now result ≡ header_in facts.now }
+{
+    let mut last = None;
+    for (place, fact) in facts.iter().enumerate() {
+        if let AnyFact::Header(_) = fact {
+            last = Some(place);
+        }
+    }
+    last
+}
+
+// The place of the greatest snapshot by the order of choosing.
+pub(crate) fn current_place(facts: &[AnyFact]) -> Option<usize>
+    ensures { current_at facts.now result ≡ current_in facts.now }
+{
+    let mut greatest = None;
+    let mut place = facts.len();
+    while place > 0 {
+        place -= 1;
+        greatest = greater_place(facts, place, greatest);
+    }
+    greatest
+}
+
+// The place of the greatest snapshot from a place on, given that of those behind it.
+fn greater_place(facts: &[AnyFact], place: usize, behind: Option<usize>) -> Option<usize>
+    requires within { place < length facts.now }
+    requires behind { current_at facts.now behind ≡ current_in (drop (place + 1) facts.now) }
+    ensures { current_at facts.now result ≡ current_in (drop place facts.now) }
+{
+    let AnyFact::Snapshot(snapshot) = &facts[place] else {
+        return behind;
+    };
+    match snapshot_at(facts, behind) {
+        Some(other) if !choice_cmp(snapshot, other).is_gt() => behind,
+        _ => Some(place),
+    }
+}
+
+// The header at a place.
+pub(crate) fn header_fact_at(facts: &[AnyFact], place: Option<usize>) -> Option<&HeaderFact>
+    ensures { option_map (λ h. h.now) result ≡ header_at facts.now place }
+{
+    match facts.get(place?)? {
+        AnyFact::Header(header) => Some(header),
+        _ => None,
+    }
+}
+
+// The snapshot at a place.
+pub(crate) fn snapshot_at(facts: &[AnyFact], place: Option<usize>) -> Option<&SnapshotFact>
+    ensures { option_map (λ s. s.now) result ≡ current_at facts.now place }
+{
+    match facts.get(place?)? {
+        AnyFact::Snapshot(snapshot) => Some(snapshot),
+        _ => None,
+    }
+}
+
+// A key of no unit and no batch.
+pub(crate) fn no_key() -> RowKey
+    ensures { result ≡ record { contest = 0; unit = None; batch = None } }
+{
+    RowKey {
+        contest: 0,
+        unit: None,
+        batch: None,
+    }
+}
+
+// A key of the unit and the batch of the header at a place.
+pub(crate) fn key_at(facts: &[AnyFact], place: Option<usize>) -> Result<RowKey, Memory>
+    requires { header_at facts.now place ≡ header_in facts.now }
+    ensures { IfOk result (IsKeyOf facts.now) }
+{
+    match header_fact_at(facts, place) {
+        Some(header) => RowKey::under(header, 0),
+        None => Ok(no_key()),
+    }
+}
+
+// The sums that a content adds to the tally, by the places of its header and its current snapshot.
+pub(crate) fn votes_at(
+    facts: &[AnyFact],
+    header: Option<usize>,
+    current: Option<usize>,
+) -> &[VoteSums]
+    requires head { header_at facts.now header ≡ header_in facts.now }
+    requires current { current_at facts.now current ≡ current_in facts.now }
+    ensures { result.now ≡ sums_in facts.now }
+{
+    if header_fact_at(facts, header).is_none() {
+        return &[];
+    }
+    let Some(snapshot) = snapshot_at(facts, current) else {
+        return &[];
+    };
+    snapshot.votes.as_slice()
+}
