@@ -4,6 +4,7 @@
 //! Another byte, or none, and the next script follows.
 #![tactic(auto)]
 
+mod arena;
 mod changes;
 mod files;
 mod lines;

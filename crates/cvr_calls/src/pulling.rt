@@ -1,60 +1,68 @@
+use bumpalo::Bump;
+use cdf_node::Node;
 use cdf_pull::{Fold, read_text_fold};
 use cdf_types::ReadFault;
 use json::Scratch;
-use serde_json::Value;
 use std::alloc::{AllocError, Global};
 
-// Keeps each item as it is.
+// Keeps the texts of the items, with commas between.
 #[derive(Drop)]
-struct Keeping;
+struct Texts;
 
-impl Fold for Keeping {
-    type Kept = Vec<Value>;
+impl Fold for Texts {
+    type Kept = String;
 
     ghost use Rattle.std.specs.Prelude.{⊤};
 
     ghost keeps = { λ _ _ _. ⊤ };
 
-    fn none(&self, alloc: Global) -> Vec<Value> {
-        Vec::new(alloc)
+    fn none(&self, alloc: Global) -> String {
+        String::new(alloc)
     }
 
-    fn take(&self, _alloc: Global, items: &mut Vec<Value>, item: Value) -> Result<(), AllocError> {
-        items.push(item)?;
+    fn take(
+        &self,
+        alloc: Global,
+        kept: &mut String,
+        _place: usize,
+        item: Node<'_>,
+    ) -> Result<(), AllocError> {
+        if !kept.is_empty() {
+            kept.push_str(",")?;
+        }
+        kept.push_str(item.to_string(alloc)?.as_str())?;
         Ok(())
     }
 }
 
-/// Whether a file's records, taken one at a time and put back into what is left, make the file's value,
-/// and whether the beginning of a file is read as none.
+// The text of what is left of an object, with the text of its records put back.
+fn with_records(alloc: Global, left: &Node<'_>, records: &str) -> Result<String, AllocError> {
+    let mut array = String::new(alloc);
+    array.push_str("\"CVR\":[")?;
+    array.push_str(records)?;
+    array.push_str("]")?;
+    left.to_string(alloc)?
+        .replace(alloc, "\"CVR\":[]", array.as_str())
+}
+
+/// Whether a file's records, taken one at a time and put back into what is left, make the file's
+/// text, which has no space and its members in order; and whether a text that breaks off is none.
 pub fn is_read_apart(alloc: Global, bytes: &[u8]) -> Result<bool, ReadFault> {
     let Ok(text) = str::from_utf8(bytes) else {
         return Ok(false);
     };
+    let bump = Bump::new(alloc);
     let mut scratch = Scratch::new(alloc);
-    let Some((left, records)) = read_text_fold(alloc, text, &mut scratch, "CVR", &Keeping)? else {
+    let found = read_text_fold(alloc, &bump, text, &mut scratch, "CVR", &Texts)?;
+    let Some((left, records)) = found else {
         return Ok(false);
     };
-    let is_whole = with_records(alloc, left, records)? == value_of(alloc, text)?;
-    Ok(is_whole && read_text_fold(alloc, "{", &mut scratch, "CVR", &Keeping)?.is_none())
+    let is_whole = with_records(alloc, &left, records.as_str())?.as_str() == text;
+    Ok(is_whole && is_none(alloc, "{")?)
 }
 
-// What is left of an object, with the records put back.
-fn with_records(alloc: Global, mut left: Value, records: Vec<Value>) -> Result<Value, ReadFault> {
-    let name = String::from_str(alloc, "CVR")?;
-    if let Some(members) = left.as_object_mut() {
-        drop(members.insert(name, Value::Array(records))?);
-    }
-    Ok(left)
-}
-
-fn value_of(alloc: Global, text: &str) -> Result<Value, ReadFault> {
-    match Value::from_str(alloc, text) {
-        Ok(value) => Ok(value),
-        Err(e) => if e.is_memory() {
-            Err(ReadFault::Memory)
-        } else {
-            Err(ReadFault::NotJson)
-        },
-    }
+fn is_none(alloc: Global, text: &str) -> Result<bool, AllocError> {
+    let bump = Bump::new(alloc);
+    let mut scratch = Scratch::new(alloc);
+    Ok(read_text_fold(alloc, &bump, text, &mut scratch, "CVR", &Texts)?.is_none())
 }

@@ -1,3 +1,4 @@
+use crate::arena::{are_members_sorted, is_last_kept, is_text_read, is_text_written};
 use crate::changes::joined_of;
 use crate::files::facts_in;
 use crate::pulling::is_read_apart;
@@ -15,7 +16,7 @@ use cdf_types::{Body, Memory, ReadFault, Rule};
 use cvr_cached::CachedOffice;
 use cvr_collect::{Office, PlainOffice};
 use cvr_facts::text::{push_quoted, push_word, quoted};
-use cvr_facts::{BodySet, DeviceFact, HeaderFact, RecordName, SnapshotFact, VoteSums, take_facts};
+use cvr_facts::{BodySet, DeviceFact, HeaderFact, RecordName, SnapshotFact, VoteSums, read_facts};
 use cvr_report::{HeadFault, Heading};
 use cvr_tally::{RowKey, tally_text};
 use std::alloc::Global;
@@ -117,6 +118,10 @@ fn is_definition_copied(alloc: Global, definition: &Definition) -> Result<bool, 
 /// What is made of a file.
 pub enum Filing {
     ReadFile,
+    Text,
+    Falling,
+    Twice,
+    Written,
     Apart,
     Definition,
     Taken,
@@ -131,9 +136,13 @@ impl Reading for Filing {
     fn is_right(&self, alloc: Global, records: &Records<'_>) -> Result<bool, ReadFault> {
         match self {
             Filing::ReadFile => is_file_read(alloc, records.bytes),
+            Filing::Text => Ok(is_text_read(alloc, text_in(records.bytes))?),
+            Filing::Falling => Ok(are_members_sorted(alloc)?),
+            Filing::Twice => Ok(is_last_kept(alloc)?),
+            Filing::Written => Ok(is_text_written(alloc, text_in(records.bytes))?),
             Filing::Apart => is_read_apart(alloc, records.bytes),
             Filing::Definition => is_definition_read(alloc, records),
-            Filing::Taken => is_report_taken(alloc, records),
+            Filing::Taken => are_facts_read(alloc, records),
             Filing::OfAParty => is_party_read(alloc, records.bytes),
             Filing::Fault => is_fault_told(alloc, records),
             Filing::Fraction => is_fraction_told(alloc, records),
@@ -147,14 +156,18 @@ fn is_file_read(alloc: Global, bytes: &[u8]) -> Result<bool, ReadFault> {
     Ok(read_whole(alloc, bytes)?.as_slice() == bytes)
 }
 
+// The text of a file; none where it has none.
+fn text_in(bytes: &[u8]) -> &str {
+    str::from_utf8(bytes).unwrap_or("")
+}
+
 fn is_definition_read(alloc: Global, records: &Records<'_>) -> Result<bool, ReadFault> {
     let definition = Definition::read(alloc, records.bytes)?;
     Ok(are_same_definitions(&definition, records.definition))
 }
 
-fn is_report_taken(alloc: Global, records: &Records<'_>) -> Result<bool, ReadFault> {
-    let report = check_report(alloc, records.definition, records.bytes)?;
-    let facts = take_facts(alloc, records.definition, report)?;
+fn are_facts_read(alloc: Global, records: &Records<'_>) -> Result<bool, ReadFault> {
+    let (_, facts) = read_facts(alloc, records.definition, records.bytes)?;
     Ok(are_same_facts(&facts, records.facts))
 }
 

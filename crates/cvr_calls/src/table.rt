@@ -29,11 +29,15 @@ static COPIES: [(&str, Copying); 11] = [
     ("Definition::copy", Copying::Definition),
 ];
 
-static FILINGS: [(&str, Filing); 9] = [
+static FILINGS: [(&str, Filing); 13] = [
     ("read_file", Filing::ReadFile),
+    ("read_text, Node::to_string", Filing::Text),
+    ("read_text, names that fall", Filing::Falling),
+    ("read_text, a name twice", Filing::Twice),
+    ("Node::write", Filing::Written),
     ("read_text_fold", Filing::Apart),
     ("Definition::read", Filing::Definition),
-    ("check_report, take_facts", Filing::Taken),
+    ("read_facts", Filing::Taken),
     ("check_report, of a party", Filing::OfAParty),
     ("check_report, a fault of form", Filing::Fault),
     ("check_report, of a number", Filing::Fraction),

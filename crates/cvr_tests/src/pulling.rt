@@ -1,7 +1,8 @@
 //! A text read once, with the items of one array handed to a fold.
+use bumpalo::Bump;
+use cdf_node::Node;
 use cdf_pull::{Fold, read_text_fold};
 use json::Scratch;
-use serde_json::Value;
 use std::alloc::{AllocError, Global};
 use std::process::Abort;
 
@@ -20,7 +21,13 @@ impl Fold for AsLines {
         String::new(alloc)
     }
 
-    fn take(&self, alloc: Global, kept: &mut String, item: Value) -> Result<(), AllocError> {
+    fn take(
+        &self,
+        alloc: Global,
+        kept: &mut String,
+        _place: usize,
+        item: Node<'_>,
+    ) -> Result<(), AllocError> {
         let line = item.to_string(alloc)?;
         kept.push_str("\n")?;
         kept.push_str(line.as_str())?;
@@ -30,8 +37,9 @@ impl Fold for AsLines {
 
 // What is left beside the array "CVR", and then each item of it, a line each.
 fn lines_of(alloc: Global, text: &str) -> Result<Option<String>, AllocError> {
+    let bump = Bump::new(alloc);
     let mut scratch = Scratch::new(alloc);
-    match read_text_fold(alloc, text, &mut scratch, "CVR", &AsLines)? {
+    match read_text_fold(alloc, &bump, text, &mut scratch, "CVR", &AsLines)? {
         Some((left, kept)) => {
             let mut lines = left.to_string(alloc)?;
             lines.push_str(kept.as_str())?;
@@ -46,6 +54,14 @@ fn gives(rt: &(impl Abort + AllocGlobal), text: &str, lines: &str) {
         .expect(rt, "no memory")
         .expect(rt, "unread");
     assert!(rt; read.as_str() == lines);
+}
+
+// Two texts of one value.
+fn gives_the_same(rt: &(impl Abort + AllocGlobal), text: &str, other: &str) {
+    let read = lines_of(rt.alloc(), text)
+        .expect(rt, "no memory")
+        .expect(rt, "unread");
+    gives(rt, other, read.as_str());
 }
 
 fn is_unread(rt: &(impl Abort + AllocGlobal), text: &str) {
@@ -150,4 +166,17 @@ fn what_serde_json_refuses_is_none(rt: HostRuntime) {
         )
     );
     is_unread(&rt, nested(&rt, "CVR", 127).as_str());
+}
+
+#[test]
+fn many_names_twice(rt: HostRuntime) {
+    gives_the_same(
+        &rt,
+        r#"{"d":0,"j":1,"t":2,"a":3,"z":4,"f":5,"h":6,"w":7,"a":8,"o":9,"i":10,"p":11,
+            "x":12,"y":13,"v":14,"n":15,"z":16,"m":17,"g":18,"q":19,"d":20,"s":21,"l":22,
+            "d":23,"r":24,"c":25,"b":26,"u":27,"m":28,"e":29,"k":30}"#,
+        r#"{"a":8,"b":26,"c":25,"d":23,"e":29,"f":5,"g":18,"h":6,"i":10,"j":1,"k":30,
+            "l":22,"m":28,"n":15,"o":9,"p":11,"q":19,"r":24,"s":21,"t":2,"u":27,"v":14,
+            "w":7,"x":12,"y":13,"z":16}"#,
+    );
 }
