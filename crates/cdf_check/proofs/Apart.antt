@@ -19,13 +19,13 @@ use Rattle.cdf_form.specs.declared.table.Kind.TheVariants.{One, Array}
 use Rattle.cdf_form.specs.Tables.{Entry, table, any, classes_of}
 use Rattle.cdf_form.specs.Form.{find_class}
 use Rattle.cdf_form.specs.HasForm.{HasForm, class, items, IsRow}
-use Rattle.cdf_form.specs.Parts.{array_at, list_of}
-use Rattle.cdf_form.proofs.Laws.{list_of-items_of}
+use Rattle.cdf_parts.specs.Parts.{array_at, list_of}
+use Rattle.cdf_parts.proofs.Laws.{list_of-items_of}
 use Rattle.cdf_form.proofs.Lemmas.{class_of_group}
-use Rattle.cdf_check.specs.References.{scope_of}
-use Rattle.cdf_check.specs.Resolves.{CvrResolves, Resolves}
+use Rattle.cdf_definition.specs.References.{scope_of}
+use Rattle.cdf_definition.specs.Resolves.{CvrResolves, Resolves}
 use Rattle.cdf_check.specs.Apart.{with_records, RecordsLaw, AgreesApartLaw, TypedApartLaw}
-use Rattle.cdf_check.proofs.Empty.{at_head, at_tail}
+use Rattle.cdf_definition.proofs.Lemmas.{at_head, at_tail}
 
 abbrev pub records : List ℕ
 records = codes "CVR"

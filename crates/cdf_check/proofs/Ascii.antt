@@ -10,8 +10,8 @@ use Rattle.serde_json.specs.Read.{read}
 use Rattle.cdf_types.specs.declared.fault.ReadFault.{ReadFault}
 use Rattle.cdf_form.specs.Reading.{max_file, value_of}
 use Rattle.cdf_form.proofs.Lemmas.{and-left, and-right}
-use Rattle.cdf_check.specs.Frame.{Frame, frame_of, IsSame}
-use Rattle.cdf_check.specs.Acceptance.{of_value, own_refusal, value_refusal, first_unsound, first_refusal, frame_in}
+use Rattle.cdf_definition.specs.Frame.{Frame, frame_of, IsSame}
+use Rattle.cdf_definition.specs.Acceptance.{of_value, own_refusal, value_refusal, first_unsound, first_refusal, frame_in}
 
 abbrev pub all_ascii : List ℕ → Bool
 all_ascii [] = true

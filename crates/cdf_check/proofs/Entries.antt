@@ -9,7 +9,7 @@ use Rattle.std.specs.BTreeMap.{insert_entry}
 use Rattle.std.proofs.lemmas.Cmp.{nat_list_cmp_total}
 use Rattle.std.proofs.lemmas.Map.Text.{is_eq-slice_cmp}
 use Rattle.std.proofs.lemmas.Slice.Eq.{bytes_eq-Decides}
-use Rattle.cdf_check.specs.Named.{Entry, ids_of, put_all, sorted}
+use Rattle.cdf_definition.specs.Named.{Entry, ids_of, put_all, sorted}
 
 -- ---- the order of ids
 

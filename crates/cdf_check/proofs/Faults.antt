@@ -23,13 +23,15 @@ use Rattle.cdf_form.specs.Form.{at_member, Fault, deeper, first, find_class, cla
 use Rattle.cdf_form.specs.Found.{fault_of}
 use Rattle.cdf_form.specs.Reading.{document_faults, refusal_of}
 use Rattle.cdf_form.specs.Records.{cvrs_faults}
-use Rattle.cdf_form.proofs.Laws.{records_apart, records_first, no_float_faults, whole_array, whole_document, whole_of}
+use Rattle.cdf_form.proofs.Laws.{records_apart, records_first, no_float_faults, whole_document, whole_of}
+use Rattle.cdf_parts.proofs.Laws.{whole_array}
 use Rattle.cdf_check.specs.declared.seen.Seen.{Seen}
-use Rattle.cdf_check.specs.Frame.{Frame}
+use Rattle.cdf_definition.specs.Frame.{Frame}
 use Rattle.cdf_check.specs.Apart.{with_records}
 use Rattle.cdf_check.specs.Seen.{in_file, file_fraction, first_of_file, form_refusal, IsSeen}
 use Rattle.cdf_check.proofs.Apart.{items_len-items_of, records_there}
-use Rattle.cdf_check.proofs.Numbers.{path_of, append_first, first_rule, all_of, first_filled, unmapped}
+use Rattle.cdf_check.proofs.Numbers.{path_of, append_first, first_rule, all_of, first_filled}
+use Rattle.cdf_definition.proofs.Lemmas.{none_right, unmapped}
 
 abbrev records : List ℕ
 records = codes "CVR"
@@ -54,10 +56,6 @@ type_class (Some d) e = text_class (as_str d) e
     text_class : (o : Option (List ℕ)) → type_text_faults group.Reports o ≡ [] → option_and_then (find_class (classes_of group.Reports)) o ≡ Some class_of.CastVoteRecordReport
     text_class None p = cc
     text_class (Some s) p = one_class (bytes_eq s (type_text class_of.CastVoteRecordReport)) p
-
-pub none_right : (xs : List Fault) → first xs ≡ None → xs ≡ []
-none_right [] e = refl
-none_right (x ∷ xs) e = cc
 
 floats_at : (b : Bool) (ds : Items) (d : Data) → items_floats ds 0 ≡ [] → (if b then array no_items else d) ≡ d → float_faults (if b then array ds else d) ≡ float_faults d
 floats_at true ds d whole e = whole ∙ ap float_faults e

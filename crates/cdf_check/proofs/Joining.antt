@@ -9,22 +9,24 @@ use Rattle.serde_json.specs.Data.{Data, object, Members}
 use Rattle.serde_json.specs.Read.{read}
 use Rattle.cdf_node.specs.View.{items_of}
 use Rattle.serde_json.specs.Written.{has_float}
-use Rattle.cdf_form.specs.Parts.{array_at}
-use Rattle.cdf_form.proofs.Laws.{proper_read}
+use Rattle.cdf_parts.specs.Parts.{array_at}
+use Rattle.cdf_parts.proofs.Laws.{proper_read}
 use Rattle.cdf_check.specs.declared.record_names.RecordNames.{RecordNames}
-use Rattle.cdf_check.specs.References.{Scope, scope_of, one, in_snapshot, in_cvr}
-use Rattle.cdf_check.specs.Scoped.{contests_alone}
-use Rattle.cdf_check.specs.Named.{ids_of}
-use Rattle.cdf_check.specs.Frame.{Frame, frame_of, entries_at}
-use Rattle.cdf_check.specs.Agreement.{AreListed, Agrees}
-use Rattle.cdf_check.specs.Sound.{IsSound, IsFrame, WasRead}
-use Rattle.cdf_check.specs.Acceptance.{IsReport}
+use Rattle.cdf_definition.specs.References.{Scope, scope_of, one, in_snapshot, in_cvr}
+use Rattle.cdf_definition.specs.Scoped.{contests_alone}
+use Rattle.cdf_definition.specs.Named.{ids_of}
+use Rattle.cdf_definition.specs.Frame.{Frame, frame_of, entries_at}
+use Rattle.cdf_definition.specs.Agreement.{AreListed, Agrees}
+use Rattle.cdf_definition.specs.Sound.{IsSound, IsFrame, WasRead}
+use Rattle.cdf_definition.specs.Acceptance.{IsReport}
 use Rattle.cdf_check.specs.Wider.{Includes}
 use Rattle.cdf_check.specs.Apart.{with_records}
-use Rattle.cdf_check.specs.Within.{device_of, lists, parties_of, unit_of, AreNamed, ListsNamed, NamesOwn}
+use Rattle.cdf_check.specs.Within.{device_of, lists, parties_of, unit_of, AreNamed, ListsNamed}
+use Rattle.cdf_definition.specs.Naming.{NamesOwn}
 use Rattle.cdf_check.proofs.NamedTexts.{listed_all, listed_at, many_listed, one_listed}
-use Rattle.cdf_check.proofs.Sounding.{sound}
-use Rattle.cdf_check.proofs.Reports.{one_election, election_is}
+use Rattle.cdf_definition.proofs.Laws.{sound}
+use Rattle.cdf_definition.proofs.Laws.{one_election}
+use Rattle.cdf_definition.proofs.Lemmas.{election_is}
 use Rattle.cdf_check.proofs.SameElection.{proper_report, same_election}
 use Rattle.cdf_check.proofs.Wider.{each_wider, one_wider, snapshot_wider, cvr_parts, parts_cvr}
 use Rattle.cdf_check.proofs.Apart.{array_stays, agrees_apart}

@@ -22,8 +22,8 @@ use Rattle.cdf_form.specs.declared.found.Path.{Path as Found}
 use Rattle.cdf_form.specs.Form as form
 use Rattle.cdf_form.specs.Form.{Fault, at_member, deeper}
 use Rattle.cdf_form.specs.Found.{fault_of, path_of}
-use Rattle.cdf_form.specs.Parts as parts
-use Rattle.cdf_form.specs.Parts.{array_at}
+use Rattle.cdf_parts.specs.Parts as parts
+use Rattle.cdf_parts.specs.Parts.{array_at}
 use Rattle.cdf_form.specs.Path.{path_text}
 use Rattle.cdf_form.specs.Reading.{document_faults, refusal_of, IsMemory, value_of, max_file}
 use Rattle.cdf_form.proofs.Laws.{whole_document}
@@ -31,25 +31,27 @@ use Rattle.cdf_typed.specs.Typed.{report_of}
 use Rattle.cdf_typed.specs.Range.{ReportInRange}
 use Rattle.cdf_check.specs.declared.seen.Kept.{Kept}
 use Rattle.cdf_check.specs.declared.seen.Seen.{Seen}
-use Rattle.cdf_check.specs.Paths.{Path, first, below, places, each}
-use Rattle.cdf_check.specs.References.{Scope, scope_of, many, in_cvr, in_election, in_report, missing}
-use Rattle.cdf_check.specs.Frame.{Frame}
-use Rattle.cdf_check.specs.Agreement.{disagreements, Agrees}
-use Rattle.cdf_check.specs.Acceptance.{Holds, IsReport, value_refusal, first_refusal, of_file, report_in, Valid}
-use Rattle.cdf_check.specs.Sound.{IsFrame}
+use Rattle.cdf_definition.specs.Paths.{Path, first, below, places, each}
+use Rattle.cdf_definition.specs.References.{Scope, scope_of, many, in_cvr, in_election, in_report, missing}
+use Rattle.cdf_definition.specs.Frame.{Frame}
+use Rattle.cdf_definition.specs.Agreement.{disagreements, Agrees}
+use Rattle.cdf_definition.specs.Acceptance.{Holds, IsReport, value_refusal, first_refusal, of_file, report_in, Valid}
+use Rattle.cdf_definition.specs.Sound.{IsFrame}
 use Rattle.cdf_check.specs.Apart.{with_records}
 use Rattle.cdf_check.specs.Seen.{Accepts, AreKept, IsUnnamed, IsJudged, HasForms, IsSeen, form_refusal, first_of_file, is_array, Settles, Refuses, IsRefusedFor}
 use Rattle.cdf_check.proofs.Apart.{records, typed_apart, array_stays, found_records, records_there, scope_stays}
-use Rattle.cdf_check.proofs.Accepting.{either, none_value, value_none, file_holds, is_short, valid_file}
-use Rattle.cdf_check.proofs.Agreeing.{agreement}
-use Rattle.cdf_check.proofs.Empty.{at_head, at_tail}
-use Rattle.cdf_check.proofs.Faults.{none_right, form_law, no_fraction_seen, records_right}
+use Rattle.cdf_definition.proofs.Lemmas.{either, file_holds, is_short}
+use Rattle.cdf_definition.proofs.Laws.{valid_file, value_law}
+use Rattle.cdf_definition.proofs.Laws.{agreement}
+use Rattle.cdf_definition.proofs.Lemmas.{at_head, at_tail}
+use Rattle.cdf_definition.proofs.Lemmas.{none_right}
+use Rattle.cdf_check.proofs.Faults.{form_law, no_fraction_seen, records_right}
 use Rattle.cdf_check.proofs.Joining.{all_listed, all_resolved, all_settled, own_contests, own_elections}
-use Rattle.cdf_check.proofs.Numbers.{unmapped}
+use Rattle.cdf_definition.proofs.Lemmas.{unmapped}
 use Rattle.cdf_check.proofs.Ranges.{in_range}
-use Rattle.cdf_check.proofs.Resolving.{cvr_law}
+use Rattle.cdf_definition.proofs.Laws.{cvr_law}
 use Rattle.cdf_check.proofs.SameElection.{value_is, contests_agree}
-use Rattle.cdf_check.proofs.Sounding.{sound}
+use Rattle.cdf_definition.proofs.Laws.{sound}
 use Rattle.cdf_check.proofs.Wider.{agreed_wider}
 
 -- ---- lists of paths, and the refusal for them
@@ -150,7 +152,7 @@ module _ (frame : Frame) (text : List ℕ) (left : Data) (h : HasForms text left
         let contests = own_contests frame text ds ms h.whole whole r a of in
         let elections = own_elections frame text ds ms h.whole whole r a of in
         let none = all_resolved (object ms) ds kept.names (k.names s.settled) frame contests elections (k.settled.0 s.settled) s.listed in
-        rw (refusal_own, absent_none (own ms) ds 0 none) (none_value frame (object ms) r a)
+        rw (refusal_own, absent_none (own ms) ds 0 none) ((value_law frame (object ms)).1 (r, a))
 
     pub judged_joined : (devices : List ReportingDevice) → Settles frame left kept → devices ≡ (report_of frame.contests left).devices → (d : Data) → read text ≡ Some d → IsJudged keeps frame d (Ok (devices, kept.records))
     judged_joined devices s is d value =
@@ -166,10 +168,10 @@ module _ (frame : Frame) (text : List ℕ) (left : Data) (h : HasForms text left
 
     module _ (none : value_refusal frame all ≡ None) where
       all_is : IsReport all × Agrees frame all
-      all_is = value_none frame all none
+      all_is = (value_law frame all).0 none
 
       left_is : IsReport (object ms) × Agrees frame (object ms)
-      left_is = value_none frame (object ms) (either _ _ (sym refusal_own ∙ none)).1
+      left_is = (value_law frame (object ms)).0 (either _ _ (sym refusal_own ∙ none)).1
 
       named_there : (d : Data) → Contains ds d → in_cvr (own ms) d ≡ []
       named_there d at =
@@ -304,9 +306,6 @@ IsAnswered keeps frame bytes answer = record {
   first : IfErr answer (λ e. ¬ IsMemory e → first_refusal frame bytes ≡ Some e);
 }
 
-pub value_of_text : (bytes text : List ℕ) (d : Data) → text ≡ bytes → IsUtf8 bytes → read text ≡ Some d → value_of bytes ≡ Some d
-value_of_text bytes text d same utf8 value = rw (is_utf8-from_IsUtf8 bytes utf8) (ap read (sym same) ∙ value)
-
 pub answered : {T : Type 0} (keeps : List Cvr → T → Type 0) (frame : Frame) (bytes : List ℕ) (d : Data) → Holds bytes d → (answer : Result (List ReportingDevice × T) ReadFault) → IsJudged keeps frame d answer → IsAnswered keeps frame bytes answer
 answered keeps frame bytes d v (Ok p) j =
     let is = sym (value_is bytes d v.1) in
@@ -317,10 +316,6 @@ answered keeps frame bytes d v (Ok p) j =
       first = tt;
     }
 answered keeps frame bytes d v (Err e) j = record { valid = tt; devices = tt; kept = tt; first = λ other. file_holds (value_refusal frame) bytes d v ∙ j.err other }
-
--- what is no text has no value
-pub no_text : (bytes : List ℕ) → length bytes ≤ max_file → (IsUtf8 bytes → ⊥) → (refusal : Data → Option ReadFault) → of_file refusal bytes ≡ Some NotJson
-no_text bytes short never refusal = rw (is_short (length bytes) max_file short, false_from_ne_true (is_utf8 bytes) (λ is. never (IsUtf8-from_is_utf8 bytes is))) refl
 
 pub range_at : {E : Type 0} (frame : Frame) (bytes : List ℕ) (answer : Result Report E) → IsFrame frame → OnOk answer (Valid frame bytes) → IfOk answer (λ r. r ≡ report_in frame.contests bytes) → IfOk answer (λ r. ReportInRange frame.contests r)
 range_at frame bytes (Ok r) of v is = rw is (in_range contests_agree frame bytes of v)

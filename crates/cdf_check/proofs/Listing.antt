@@ -7,21 +7,31 @@ use Rattle.cdf_form.specs.declared.table.Group.{Group}
 use Rattle.cdf_form.specs.declared.table.Group.TheVariants as group
 use Rattle.cdf_form.specs.declared.table.Leaf.TheVariants as leaf
 use Rattle.cdf_form.specs.declared.table.Key.TheVariants as key
-use Rattle.cdf_form.specs.declared.table.Kind.TheVariants.{Array}
+use Rattle.cdf_form.specs.declared.table.Kind.TheVariants.{Array, One}
 use Rattle.cdf_form.specs.Tables as tables
 use Rattle.cdf_form.specs.Tables.{table, classes_of, any, required, optional}
 use Rattle.cdf_form.specs.Form.{key_text}
-use Rattle.cdf_form.specs.Parts.{array_at, id_of, the_election}
+use Rattle.cdf_parts.specs.Parts.{array_at, id_of, the_election}
 use Rattle.cdf_form.specs.ByRow.{AllClasses, find_row, HasRow, ListApart}
 use Rattle.cdf_form.proofs.Laws.{row_of, items_have_form, items_are_apart}
-use Rattle.cdf_check.specs.Named.{Entry, named}
-use Rattle.cdf_check.specs.Frame.{entries_at}
-use Rattle.cdf_check.specs.Acceptance.{IsReport}
+use Rattle.cdf_definition.specs.Named.{Entry, named}
+use Rattle.cdf_definition.specs.Frame.{entries_at}
+use Rattle.cdf_definition.specs.Acceptance.{IsReport}
 use Rattle.cdf_check.specs.Laws.{IsListOf, ListsLaw, AreFoundByIds, PlacesLaw}
-use Rattle.cdf_check.proofs.Empty.{at_head, at_tail}
+use Rattle.cdf_definition.proofs.Lemmas.{at_head, at_tail, election_is, election_listed}
 use Rattle.cdf_check.proofs.Entries.{IsAmong, AreAlone, sorted_rises, sorted_same}
-use Rattle.cdf_check.specs.Depths.{id_row}
-use Rattle.cdf_check.proofs.Reports.{contest_row, report_row, has_id, one_election, election_form}
+use Rattle.cdf_definition.specs.Depths.{id_row, election_row}
+use Rattle.cdf_definition.proofs.Laws.{report_row, has_id, one_election}
+use Rattle.cdf_form.specs.HasForm.{HasForm}
+
+abbrev contest_row : tables.Entry
+contest_row = required (codes "Contest") (Array (leaf.Object group.Contests) 0 any key.Id)
+
+election_form : (d : Data) → IsReport d → HasForm (One (leaf.Object group.Elections)) (the_election d)
+election_form d h =
+    let one = one_election d h in
+    subst (λ e. HasForm (One (leaf.Object group.Elections)) e) (sym (election_is d one.0 one.1))
+    (items_have_form (report_row election_row d refl h) one.0 (election_listed d one.0 one.1))
 
 -- each value has an id
 abbrev HaveIds : List Data → Type 0

@@ -16,14 +16,14 @@ use Rattle.std.proofs.lemmas.Slice.Eq.{bytes_eq-Decides}
 use Rattle.serde_json.specs.Data.{Data}
 use Rattle.serde_json.specs.Find.{as_str}
 use Rattle.cdf_form.specs.Form.{Step, at_member, at_item}
-use Rattle.cdf_form.specs.Kept.{bytes_of}
-use Rattle.cdf_form.specs.Parts.{array_at, text_in}
-use Rattle.cdf_form.specs.Places.{Texts}
+use Rattle.cdf_parts.specs.Kept.{bytes_of}
+use Rattle.cdf_parts.specs.Parts.{array_at, text_in}
+use Rattle.cdf_parts.specs.Places.{Texts}
 use Rattle.cdf_form.proofs.Lemmas.{and-left, and-right}
-use Rattle.cdf_check.specs.Paths.{Path, below, unless, places}
-use Rattle.cdf_check.specs.References.{unknown, one, many}
+use Rattle.cdf_definition.specs.Paths.{Path, below, unless, places}
+use Rattle.cdf_definition.specs.References.{unknown, one, many}
 use Rattle.cdf_check.specs.Within.{lists, parties_of, SameTexts}
-use Rattle.cdf_check.proofs.Empty.{inner}
+use Rattle.cdf_definition.proofs.Lemmas.{inner}
 
 -- ---- texts, each once
 

@@ -23,15 +23,15 @@ use Rattle.cdf_form.specs.declared.table.Kind.TheVariants.{One, Array}
 use Rattle.cdf_form.specs.Tables.{listed_in, required, optional, any}
 use Rattle.cdf_form.specs.Form.{is_moment}
 use Rattle.cdf_form.specs.HasForm.{HasForm}
-use Rattle.cdf_form.specs.Parts.{text_at, instant_of, ok_of}
-use Rattle.cdf_form.specs.Places.{Texts, place_in, contest_ids}
+use Rattle.cdf_parts.specs.Parts.{text_at, instant_of, ok_of}
+use Rattle.cdf_parts.specs.Places.{Texts, place_in, contest_ids}
 use Rattle.cdf_form.proofs.Lemmas.{some_of}
 use Rattle.cdf_form.specs.ByRow.{HasRow, IsTextual}
 use Rattle.cdf_form.proofs.Laws.{row_of, is_object, text_has_form, may_be_text, must_text_in, must_have_form, moment_is_read, listed_is_among, count_form, is_an_array, items_have_form, items_are_few, items_are_some}
 use Rattle.cdf_typed.specs.Typed.{kind_named, indication_named, allocation_named}
-use Rattle.cdf_check.specs.References.{Scope, scope_of}
-use Rattle.cdf_check.specs.Resolves.{Names, VoteResolves, SnapshotResolves, CvrResolves, Resolves}
-use Rattle.cdf_check.specs.Acceptance.{value_in}
+use Rattle.cdf_definition.specs.References.{Scope, scope_of}
+use Rattle.cdf_definition.specs.Resolves.{Names, VoteResolves, SnapshotResolves, CvrResolves, Resolves}
+use Rattle.cdf_definition.specs.Acceptance.{value_in}
 use Rattle.cdf_check.specs.Defaults.{HasText, HasCount, MayHaveCount}
 use Rattle.cdf_check.specs.Defaults.{PositionIsRead, SelectionIsRead, ContestIsRead, AnnotationIsRead, SnapshotIsRead, CvrIsRead, ReportIsRead, NoDefaultLaw}
 use Rattle.cdf_check.specs.Laws.{SameElectionLaw}

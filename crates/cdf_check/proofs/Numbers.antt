@@ -69,7 +69,3 @@ module _ (ds : Items) (told : Option (List ℕ)) (is_told : option_map in_file (
 pub append_first : (xs ys : List Fault) (f : Fault) → first xs ≡ Some f → first (xs ++ ys) ≡ Some f
 append_first [] ys f e = cc
 append_first (x ∷ xs) ys f e = e
-
-pub unmapped : {A B : Type 0} (f : A → B) (o : Option A) → option_map f o ≡ None → o ≡ None
-unmapped f None e = refl
-unmapped f (Some a) e = cc

@@ -19,13 +19,14 @@ use Rattle.cdf_typed.specs.Typed.{cvr_of}
 use Rattle.cdf_form.specs.declared.found.Path.{Path as Found}
 use Rattle.cdf_check.specs.declared.seen.Kept.{Kept}
 use Rattle.cdf_check.specs.declared.seen.Seen.{Seen}
-use Rattle.cdf_check.specs.Paths as paths
-use Rattle.cdf_check.specs.Paths.{Path, below, places}
-use Rattle.cdf_check.specs.Frame.{Frame}
-use Rattle.cdf_check.specs.Within.{AreNamed, NamesOwn}
+use Rattle.cdf_definition.specs.Paths as paths
+use Rattle.cdf_definition.specs.Paths.{Path, below, places}
+use Rattle.cdf_definition.specs.Frame.{Frame}
+use Rattle.cdf_check.specs.Within.{AreNamed}
+use Rattle.cdf_definition.specs.Naming.{NamesOwn}
 use Rattle.cdf_check.specs.Seen.{in_file, AreKept, AreWhole, IsSeen}
-use Rattle.cdf_check.proofs.Faults.{none_right}
-use Rattle.cdf_check.proofs.Items.{first_below, first_or}
+use Rattle.cdf_definition.proofs.Lemmas.{none_right}
+use Rattle.cdf_definition.proofs.Lemmas.{first_below, first_or}
 
 pub or_none : {A : Type 0} (o p q : Option A) → o ≡ None → q ≡ p → q ≡ option_or o p
 or_none o p q none is = rw none is

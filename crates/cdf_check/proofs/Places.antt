@@ -2,7 +2,7 @@
 use Rattle.std.proofs.Common.{◌≡◌, ◌<◌, ℕ, zero, suc, ◌+◌, List, [], ◌∷◌, length, slice_index_or, Bool, true, false, cond, Some, bytes_eq, refl, sym, subst, ◌∙◌, arith}
 use Rattle.std.specs.List.{position_from}
 use Rattle.std.proofs.lemmas.Slice.Eq.{bytes_eq-Decides}
-use Rattle.cdf_form.specs.Places.{Texts, place_in}
+use Rattle.cdf_parts.specs.Places.{Texts, place_in}
 
 abbrev IsAt : List ℕ → ℕ → Texts → ℕ → Type 0
 IsAt s i ids p = (k : ℕ) × (p ≡ i + k) × (k < length ids) × (slice_index_or ids k [] ≡ s)

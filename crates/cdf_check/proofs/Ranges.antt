@@ -17,24 +17,24 @@ use Rattle.cdf_form.specs.declared.table.Key.TheVariants as key
 use Rattle.cdf_form.specs.declared.table.Kind.TheVariants.{One, Array}
 use Rattle.cdf_form.specs.Tables.{required, optional, any}
 use Rattle.cdf_form.specs.HasForm.{HasForm}
-use Rattle.cdf_form.specs.Parts.{array_at, text_at, text_in}
-use Rattle.cdf_form.specs.Places.{Texts, place_in, Contest, contest_ids, selections_at}
+use Rattle.cdf_parts.specs.Parts.{array_at, text_at, text_in}
+use Rattle.cdf_parts.specs.Places.{Texts, place_in, Contest, contest_ids, selections_at}
 use Rattle.cdf_form.proofs.Lemmas.{some_of}
 use Rattle.cdf_form.proofs.Laws.{fits_of, row_of, items_have_form, items_are_apart}
 use Rattle.cdf_form.specs.ByRow.{ListApart}
 use Rattle.cdf_typed.specs.Typed.{count_at, position_of, selection_place, selection_vote_of, contest_vote_of, snapshot_of, cvr_of, report_of}
 use Rattle.cdf_typed.specs.Range.{IsCount, SelectionInRange, ContestInRange, SnapshotInRange, CvrInRange, ReportInRange}
-use Rattle.cdf_check.specs.Acceptance.{value_in}
+use Rattle.cdf_definition.specs.Acceptance.{value_in}
 use Rattle.cdf_check.specs.Defaults.{HasText, HasCount, MayHaveCount}
 use Rattle.cdf_check.specs.Defaults.{SelectionIsRead, ContestIsRead, SnapshotIsRead, CvrIsRead, ReportIsRead, InRangeLaw, RecordInRangeLaw}
-use Rattle.cdf_check.specs.References.{in_snapshot}
-use Rattle.cdf_check.specs.Resolves.{SnapshotResolves}
-use Rattle.cdf_check.specs.Scoped.{contests_alone}
+use Rattle.cdf_definition.specs.References.{in_snapshot}
+use Rattle.cdf_definition.specs.Resolves.{SnapshotResolves}
+use Rattle.cdf_definition.specs.Scoped.{contests_alone}
 use Rattle.cdf_check.specs.Laws.{SameElectionLaw}
-use Rattle.cdf_check.proofs.Empty.{all_items}
-use Rattle.cdf_check.proofs.Faults.{none_right}
+use Rattle.cdf_definition.proofs.Lemmas.{all_items}
+use Rattle.cdf_definition.proofs.Lemmas.{none_right}
 use Rattle.cdf_check.proofs.NoDefault.{no_default, snapshot_read}
-use Rattle.cdf_check.proofs.Resolving.{snapshot_law}
+use Rattle.cdf_definition.proofs.Laws.{snapshot_law}
 use Rattle.cdf_check.proofs.Places.{placed_in, one_place}
 
 -- ---- lists

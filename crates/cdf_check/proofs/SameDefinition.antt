@@ -11,21 +11,22 @@ use Rattle.std.proofs.lemmas.Cmp.{nat_list_cmp_total}
 use Rattle.serde_json.specs.Data.{Data}
 use Rattle.serde_json.specs.Read.{max_depth}
 use Rattle.serde_json.specs.Written.{compact_text}
-use Rattle.cdf_form.specs.Parts.{array_at, the_election}
-use Rattle.cdf_form.specs.Places.{contest_of}
-use Rattle.cdf_form.specs.Proper.{IsProper}
-use Rattle.cdf_form.proofs.Laws.{part_proper, listed_part, same_text}
-use Rattle.cdf_check.specs.Named.{Entry, named, ids_of, texts_of, sorted}
-use Rattle.cdf_check.specs.Frame.{Frame, frame_of, entries_at, IsSame}
-use Rattle.cdf_check.specs.Sound.{IsSound, IsFrame, WasRead}
-use Rattle.cdf_check.specs.Acceptance.{IsReport}
+use Rattle.cdf_parts.specs.Parts.{array_at, the_election}
+use Rattle.cdf_parts.specs.Places.{contest_of}
+use Rattle.cdf_parts.specs.Proper.{IsProper}
+use Rattle.cdf_parts.proofs.Laws.{part_proper, listed_part, same_text}
+use Rattle.cdf_definition.specs.Named.{Entry, named, ids_of, texts_of, sorted}
+use Rattle.cdf_definition.specs.Frame.{Frame, frame_of, entries_at, IsSame}
+use Rattle.cdf_definition.specs.Sound.{IsSound, IsFrame, WasRead}
+use Rattle.cdf_definition.specs.Acceptance.{IsReport}
 use Rattle.cdf_check.specs.Laws.{IsListOf}
 use Rattle.cdf_check.specs.Same.{HaveSameTexts, AgreeInTexts, AreEqualButDevices, SameTextsLaw, SameDefinitionsLaw, OneDefinitionLaw}
 use Rattle.cdf_check.proofs.Entries.{IsAmong, among_from, from_among}
 use Rattle.cdf_check.proofs.Listing.{lists}
-use Rattle.cdf_check.proofs.Reports.{one_election, election_is, election_listed}
+use Rattle.cdf_definition.proofs.Laws.{one_election}
+use Rattle.cdf_definition.proofs.Lemmas.{election_is, election_listed}
 use Rattle.cdf_check.proofs.SameElection.{proper_report}
-use Rattle.cdf_check.proofs.Sounding.{sound}
+use Rattle.cdf_definition.proofs.Laws.{sound}
 
 -- ---- entries by their texts
 

@@ -9,18 +9,19 @@ use Rattle.serde_json.specs.Data.{Data, null}
 use Rattle.serde_json.specs.Read.{read, max_depth}
 use Rattle.serde_json.specs.Written.{compact_text}
 use Rattle.cdf_form.specs.Reading.{value_of}
-use Rattle.cdf_form.specs.Parts.{array_at, the_election, id_of}
-use Rattle.cdf_form.specs.Places.{contest_of}
-use Rattle.cdf_form.specs.Proper.{IsProper}
-use Rattle.cdf_form.proofs.Laws.{part_proper, listed_part, proper_read, same_text}
-use Rattle.cdf_check.specs.Named.{named, text_of, sorted}
-use Rattle.cdf_check.specs.Frame.{Frame, frame_of, entries_at}
-use Rattle.cdf_check.specs.Agreement.{AreListed}
-use Rattle.cdf_check.specs.Sound.{IsSound, WasRead}
-use Rattle.cdf_check.specs.Acceptance.{IsReport, Valid, value_in}
+use Rattle.cdf_parts.specs.Parts.{array_at, the_election, id_of}
+use Rattle.cdf_parts.specs.Places.{contest_of}
+use Rattle.cdf_parts.specs.Proper.{IsProper}
+use Rattle.cdf_parts.proofs.Laws.{part_proper, listed_part, proper_read, same_text}
+use Rattle.cdf_definition.specs.Named.{named, text_of, sorted}
+use Rattle.cdf_definition.specs.Frame.{Frame, frame_of, entries_at}
+use Rattle.cdf_definition.specs.Agreement.{AreListed}
+use Rattle.cdf_definition.specs.Sound.{IsSound, WasRead}
+use Rattle.cdf_definition.specs.Acceptance.{IsReport, Valid, value_in}
 use Rattle.cdf_check.specs.Laws.{SameElectionLaw}
-use Rattle.cdf_check.proofs.Sounding.{sound}
-use Rattle.cdf_check.proofs.Reports.{one_election, election_is, election_listed}
+use Rattle.cdf_definition.proofs.Laws.{sound}
+use Rattle.cdf_definition.proofs.Laws.{one_election}
+use Rattle.cdf_definition.proofs.Lemmas.{election_is, election_listed}
 
 -- ---- what was read
 

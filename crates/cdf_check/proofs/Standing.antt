@@ -1,9 +1,9 @@
 -- The bodies of an accepted file stand.
-use Rattle.std.proofs.Common.{◌≡◌, ℕ, List, [], map, Contains, Some, IsSome}
+use Rattle.std.proofs.Common.{◌≡◌, ℕ, List, [], map, Contains, Some, IsSome, ◌≤◌}
 use Rattle.std.proofs.Common.{option_and_then, unwrap_or, codes, refl, sym, ap, ◌∙◌, subst, arith}
 use Rattle.serde_json.specs.Data.{Data, null, string, object, Members}
 use Rattle.serde_json.specs.Find.{get, as_str}
-use Rattle.serde_json.specs.Read.{read}
+use Rattle.serde_json.specs.Read.{read, max_depth}
 use Rattle.serde_json.specs.Written.{compact_text}
 use Rattle.cdf_form.specs.declared.table.Class.TheVariants as class
 use Rattle.cdf_form.specs.declared.table.Group.TheVariants as group
@@ -13,26 +13,34 @@ use Rattle.cdf_form.specs.declared.table.Kind.TheVariants.{One, Array}
 use Rattle.cdf_form.specs.Tables.{Entry, table, required, optional, any, classes_of}
 use Rattle.cdf_form.specs.Form.{find_class}
 use Rattle.cdf_form.specs.HasForm.{HasForm, IsRow}
-use Rattle.cdf_form.specs.Parts.{array_at, ids_at, id_of, text_at, the_election}
-use Rattle.cdf_form.specs.Places.{Texts, contest_of}
-use Rattle.cdf_form.specs.Proper.{MembersAreWell, IsProper}
-use Rattle.cdf_form.specs.Removing.{without}
+use Rattle.cdf_parts.specs.Parts.{array_at, ids_at, id_of, text_at, the_election}
+use Rattle.cdf_parts.specs.Places.{Texts, contest_of}
+use Rattle.cdf_parts.specs.Proper.{MembersAreWell, IsProper}
+use Rattle.cdf_parts.specs.Removing.{without}
 use Rattle.cdf_form.specs.Reading.{value_of}
 use Rattle.cdf_form.specs.ByRow.{HasRow}
-use Rattle.cdf_form.proofs.Laws.{has_class, only_class, row_of, is_object, must_be_text, items_have_form, gone, others_stay, without_well, without_proper}
+use Rattle.cdf_form.proofs.Laws.{has_class, only_class, row_of, is_object, must_be_text, items_have_form}
+use Rattle.cdf_parts.proofs.Laws.{gone, others_stay, without_well, without_proper, read-proper, proper_deeper}
 use Rattle.cdf_form.proofs.Lemmas.{class_of_group}
 use Rattle.cdf_typed.specs.Typed.{header_of}
-use Rattle.cdf_check.specs.References.{Scope, scope_of, in_cvr, in_snapshot}
-use Rattle.cdf_check.specs.Paths.{each}
-use Rattle.cdf_check.specs.Frame.{Frame, scope_in}
-use Rattle.cdf_check.specs.Sound.{IsFrame}
-use Rattle.cdf_check.specs.Acceptance.{IsReport, Valid, value_in}
-use Rattle.cdf_check.specs.Bodies.{HasHeaderForm, DeviceStands, HeaderStands, SnapshotStands}
-use Rattle.cdf_check.specs.Laws.{ReferencesLaw, SameElectionLaw, DevicesStandLaw, HeadersStandLaw, SnapshotsStandLaw}
-use Rattle.cdf_check.proofs.Empty.{left_nil}
+use Rattle.cdf_definition.specs.References.{Scope, scope_of, in_cvr, in_snapshot}
+use Rattle.cdf_definition.specs.Paths.{each}
+use Rattle.cdf_definition.specs.Frame.{Frame, scope_in}
+use Rattle.cdf_definition.specs.Sound.{IsFrame}
+use Rattle.cdf_definition.specs.Acceptance.{IsReport, Valid, value_in}
+use Rattle.cdf_definition.specs.Bodies.{HasHeaderForm, DeviceStands, HeaderStands, SnapshotStands}
+use Rattle.cdf_definition.specs.Laws.{ReferencesLaw}
+use Rattle.cdf_check.specs.Laws.{SameElectionLaw, DevicesStandLaw, HeadersStandLaw, SnapshotsStandLaw}
+use Rattle.cdf_definition.proofs.Lemmas.{left_nil}
 use Rattle.cdf_check.specs.Wider.{Includes, Wider}
-use Rattle.cdf_check.proofs.Wider.{IsHeaderOf, cvr_parts, differ, is_kept, each_at, snapshot_wider, header_wider, agreed_wider}
-use Rattle.cdf_check.proofs.Depths.{report_proper, listed_proper, reads_back}
+use Rattle.cdf_check.proofs.Wider.{IsHeaderOf, cvr_parts, each_at, snapshot_wider, header_wider, agreed_wider}
+use Rattle.cdf_definition.proofs.Lemmas.{differ}
+use Rattle.cdf_definition.proofs.Laws.{is_kept}
+use Rattle.cdf_definition.proofs.Laws.{report_proper, listed_proper}
+
+-- what nests no deeper than what can be read is read back
+reads_back : (n : ℕ) (d : Data) → n ≤ max_depth → IsProper n d → read (compact_text d) ≡ Some d
+reads_back n d h p = read-proper d (proper_deeper n max_depth d h p)
 
 -- ---- rows
 

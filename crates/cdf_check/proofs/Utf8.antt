@@ -13,19 +13,19 @@ use Rattle.serde_json.specs.Data.{Num, unsigned, negative, float}
 use Rattle.serde_json.specs.Data.{Data, null, boolean, number, string, array, object, Items, no_items, item, Members, no_members, member}
 use Rattle.serde_json.specs.Find.{get, at, get_member, get_item, as_str, is_float}
 use Rattle.serde_json.specs.Written.{number_text, comma_if, compact_text, items_text, members_text, has_float, items_have_float, members_have_float}
-use Rattle.cdf_form.specs.Parts.{array_at}
-use Rattle.cdf_form.specs.PartOf.{IsPart, itself, of_member, of_item}
-use Rattle.cdf_form.specs.Proper.{NumFits, IsWell, ItemsAreWell, MembersAreWell, IsProper}
+use Rattle.cdf_parts.specs.Parts.{array_at}
+use Rattle.cdf_parts.specs.PartOf.{IsPart, itself, of_member, of_item}
+use Rattle.cdf_parts.specs.Proper.{NumFits, IsWell, ItemsAreWell, MembersAreWell, IsProper}
 use Rattle.cdf_form.specs.Reading.{value_of}
-use Rattle.cdf_form.specs.Removing.{without}
-use Rattle.cdf_form.proofs.Lemmas.{found_at, inside}
-use Rattle.cdf_form.proofs.Laws.{part_proper, part_of_part, listed_part, without_proper, proper_read}
+use Rattle.cdf_parts.specs.Removing.{without}
+use Rattle.cdf_parts.proofs.Lemmas.{found_at, inside}
+use Rattle.cdf_parts.proofs.Laws.{part_proper, part_of_part, listed_part, without_proper, proper_read}
 use Rattle.cdf_typed.specs.Typed.{header_of}
-use Rattle.cdf_check.specs.Acceptance.{value_in}
+use Rattle.cdf_definition.specs.Acceptance.{value_in}
 use Rattle.cdf_check.specs.Utf8.{HasUtf8, ItemsHaveUtf8, MembersHaveUtf8, PartUtf8Law, TextUtf8Law}
 use Rattle.cdf_check.specs.Utf8.{DeviceIsUtf8, HeaderIsUtf8, SnapshotIsUtf8, BodiesUtf8Law}
 use Rattle.cdf_check.proofs.Contents.{of_ascii}
-use Rattle.cdf_check.proofs.Depths.{was_read}
+use Rattle.cdf_definition.proofs.Laws.{was_read}
 use Rattle.cdf_check.proofs.Spelling.{file_utf8}
 
 -- ---- parts

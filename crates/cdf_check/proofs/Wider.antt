@@ -9,17 +9,18 @@ use Rattle.serde_json.specs.Data.{Data}
 use Rattle.serde_json.specs.Find.{get, as_str, as_array}
 use Rattle.serde_json.specs.Written.{compact_text}
 use Rattle.cdf_form.specs.Form.{at_member}
-use Rattle.cdf_form.specs.Parts.{array_at, ids_at, id_of, list_of, text_at, text_in}
-use Rattle.cdf_form.specs.Places.{Texts, Contest, contest_ids, selections_of}
-use Rattle.cdf_check.specs.Paths.{Path, below, unless, places, each}
-use Rattle.cdf_check.specs.References.{Scope, scope_of, unknown, one, many}
-use Rattle.cdf_check.specs.References.{in_selection_vote, in_contest_vote, in_snapshot, in_cvr}
-use Rattle.cdf_check.specs.Named.{Entry, ids_of, text_of}
-use Rattle.cdf_check.specs.Frame.{Frame, scope_in}
-use Rattle.cdf_check.specs.Agreement.{Agrees}
-use Rattle.cdf_check.specs.Bodies.{IsKept}
+use Rattle.cdf_parts.specs.Parts.{array_at, ids_at, id_of, list_of, text_at, text_in}
+use Rattle.cdf_parts.specs.Places.{Texts, Contest, contest_ids, selections_of}
+use Rattle.cdf_definition.specs.Paths.{Path, below, unless, places, each}
+use Rattle.cdf_definition.specs.References.{Scope, scope_of, unknown, one, many}
+use Rattle.cdf_definition.specs.References.{in_selection_vote, in_contest_vote, in_snapshot, in_cvr}
+use Rattle.cdf_definition.specs.Named.{Entry, ids_of, text_of}
+use Rattle.cdf_definition.specs.Frame.{Frame, scope_in}
+use Rattle.cdf_definition.specs.Agreement.{Agrees}
+use Rattle.cdf_definition.specs.Bodies.{IsKept}
 use Rattle.cdf_check.specs.Wider.{Includes, Wider, IsResolved}
-use Rattle.cdf_check.proofs.Empty.{left_nil, right_nil, two, inner, unless_nil, all_items, at_head, at_tail}
+use Rattle.cdf_definition.proofs.Lemmas.{left_nil, right_nil, two, inner, unless_nil, all_items, at_head, at_tail}
+use Rattle.cdf_definition.proofs.Laws.{is_kept}
 
 -- ---- lists of paths
 
@@ -91,10 +92,6 @@ parts_cvr a d h = nil_six _ _ _ _ _ _ h.unit h.snapshots h.device h.current h.el
 
 -- ---- a CVR without its snapshots
 
--- two names that computing tells apart
-pub differ : (a b : List ℕ) → bytes_eq a b ≡ false → a ≡ b → ⊥
-differ a b h e = true≢false (sym ((bytes_eq-Decides a b).1 e) ∙ h)
-
 -- the value has no snapshots, and the other members of the CVR
 pub record IsHeaderOf (d h : Data) : Type 0 where
   pub others : (name : List ℕ) → IsKept name → get name h ≡ get name d
@@ -116,10 +113,6 @@ none_each f name h none = ap (λ o. below (at_member name) (places f (array_in o
 
 none_one : (ids : Texts) (name : List ℕ) (h : Data) → get name h ≡ None → one ids name h ≡ []
 none_one ids name h none = ap (λ o. below (at_member name) (unknown ids (option_and_then as_str o))) none
-
-pub is_kept : (name : List ℕ) → bytes_eq name (codes "CVRSnapshot") ≡ false
-    → bytes_eq name (codes "CurrentSnapshotId") ≡ false → IsKept name
-is_kept name p q = (differ name (codes "CVRSnapshot") p, differ name (codes "CurrentSnapshotId") q)
 
 -- a CVR's header has only references that the CVR has
 pub header_wider : (a b : Scope) → Wider a b → (d h : Data) → IsHeaderOf d h → in_cvr a d ≡ [] → in_cvr b h ≡ []

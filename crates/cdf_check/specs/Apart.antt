@@ -11,13 +11,13 @@ use Rattle.cdf_form.specs.declared.table.Leaf.TheVariants as leaf
 use Rattle.cdf_form.specs.declared.table.Kind.TheVariants.{One}
 use Rattle.cdf_form.specs.Tables.{any}
 use Rattle.cdf_form.specs.HasForm.{HasForm}
-use Rattle.cdf_form.specs.Places.{Contest}
+use Rattle.cdf_parts.specs.Places.{Contest}
 use Rattle.cdf_typed.specs.Typed.{report_of, cvr_of}
-use Rattle.cdf_check.specs.References.{Scope, scope_of}
-use Rattle.cdf_check.specs.Resolves.{CvrResolves}
-use Rattle.cdf_check.specs.Frame.{Frame}
-use Rattle.cdf_check.specs.Agreement.{Agrees}
-use Rattle.cdf_check.specs.Acceptance.{IsReport}
+use Rattle.cdf_definition.specs.References.{Scope, scope_of}
+use Rattle.cdf_definition.specs.Resolves.{CvrResolves}
+use Rattle.cdf_definition.specs.Frame.{Frame}
+use Rattle.cdf_definition.specs.Agreement.{Agrees}
+use Rattle.cdf_definition.specs.Acceptance.{IsReport}
 
 -- the object with these records at CVR, where it has such a member
 abbrev pub with_records : List Data → Members → Data

@@ -9,17 +9,17 @@ use Rattle.cdf_form.specs.declared.table.Kind.TheVariants.{One}
 use Rattle.cdf_form.specs.Form.{first}
 use Rattle.cdf_form.specs.Records.{cvr_faults}
 use Rattle.cdf_form.specs.HasForm.{HasForm}
-use Rattle.cdf_form.specs.Parts.{array_at, text_at, text_in, instant_of}
-use Rattle.cdf_form.specs.Places.{Texts, place_in, Contest, contest_ids, selections_of}
+use Rattle.cdf_parts.specs.Parts.{array_at, text_at, text_in, instant_of}
+use Rattle.cdf_parts.specs.Places.{Texts, place_in, Contest, contest_ids, selections_of}
 use Rattle.cdf_typed.specs.Typed.{kind_named, indication_named, allocation_named, count_in, cvr_of}
 use Rattle.cdf_typed.specs.Range.{CvrInRange, ReportInRange}
-use Rattle.cdf_check.specs.Paths.{each}
-use Rattle.cdf_check.specs.References.{scope_of, in_snapshot}
-use Rattle.cdf_check.specs.Scoped.{contests_alone}
-use Rattle.cdf_check.specs.Resolves.{Resolves}
-use Rattle.cdf_check.specs.Frame.{Frame}
-use Rattle.cdf_check.specs.Sound.{IsFrame}
-use Rattle.cdf_check.specs.Acceptance.{Valid, value_in, report_in}
+use Rattle.cdf_definition.specs.Paths.{each}
+use Rattle.cdf_definition.specs.References.{scope_of, in_snapshot}
+use Rattle.cdf_definition.specs.Scoped.{contests_alone}
+use Rattle.cdf_definition.specs.Resolves.{Resolves}
+use Rattle.cdf_definition.specs.Frame.{Frame}
+use Rattle.cdf_definition.specs.Sound.{IsFrame}
+use Rattle.cdf_definition.specs.Acceptance.{Valid, value_in, report_in}
 
 -- ---- one member
 

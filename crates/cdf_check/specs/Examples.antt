@@ -5,9 +5,9 @@ use Rattle.serde_json.specs.Read.{read}
 use Rattle.cdf_types.specs.declared.fault.ReadFault.{ReadFault}
 use Rattle.cdf_types.specs.declared.fault.ReadFault.TheVariants.{TooLong, NotJson, Disagrees}
 use Rattle.cdf_form.specs.Path.{path_text}
-use Rattle.cdf_check.specs.References.{missing}
-use Rattle.cdf_check.specs.Frame.{IsSame}
-use Rattle.cdf_check.specs.Acceptance.{first_unsound, first_refusal, frame_in}
+use Rattle.cdf_definition.specs.References.{missing}
+use Rattle.cdf_definition.specs.Frame.{IsSame}
+use Rattle.cdf_definition.specs.Acceptance.{first_unsound, first_refusal, frame_in}
 
 -- ---- the report
 

@@ -1,5 +1,5 @@
--- Laws of acceptance and of definitions. (This project's own.)
-use Rattle.std.specs.Prelude.{◌≡◌, ◌↔◌, ◌<◌, ℕ, List, [], ◌∷◌, map, length, slice_index_or, Some, None, codes}
+-- Laws of definitions and of the bodies of accepted files. (This project's own.)
+use Rattle.std.specs.Prelude.{◌≡◌, ◌↔◌, ◌<◌, ℕ, List, [], map, length, slice_index_or, Some, codes}
 use Rattle.std.specs.List.{Contains}
 use Rattle.std.specs.List.Sorted.{IsStrictlySortedBy}
 use Rattle.std.specs.Ordering.{nat_cmp}
@@ -7,45 +7,16 @@ use Rattle.std.specs.Cmp.Lexicographic.{slice_cmp}
 use Rattle.serde_json.specs.Data.{Data}
 use Rattle.serde_json.specs.Read.{read}
 use Rattle.serde_json.specs.Written.{compact_text}
-use Rattle.cdf_form.specs.Parts.{array_at, ids_at, id_of, text_at, the_election}
-use Rattle.cdf_form.specs.Places.{place_in, contest_of}
+use Rattle.cdf_parts.specs.Parts.{array_at, ids_at, id_of, text_at, the_election}
+use Rattle.cdf_parts.specs.Places.{place_in, contest_of}
 use Rattle.cdf_typed.specs.Typed.{header_of}
-use Rattle.cdf_check.specs.References.{missing}
-use Rattle.cdf_check.specs.Resolves.{Resolves}
-use Rattle.cdf_check.specs.Named.{Entry, named, ids_of}
-use Rattle.cdf_check.specs.Frame.{Frame, entries_at, scope_in}
-use Rattle.cdf_check.specs.Agreement.{disagreements, Agrees}
-use Rattle.cdf_check.specs.Sound.{IsSound, IsFrame}
-use Rattle.cdf_check.specs.Acceptance.{IsReport, Sound, Valid, value_in, first_unsound, first_refusal}
-use Rattle.cdf_check.specs.Bodies.{DeviceStands, HeaderStands, SnapshotStands}
-
--- ---- acceptance
-
--- every reference names something exactly where no path is missing
-abbrev pub ReferencesLaw : Type 0
-ReferencesLaw = (d : Data) → (missing d ≡ []) ↔ Resolves d
-
--- every object is the definition's exactly where none differs
-abbrev pub AgreementLaw : Type 0
-AgreementLaw = (frame : Frame) (d : Data) → (disagreements frame d ≡ []) ↔ Agrees frame d
-
--- a value has no fault exactly where it is a report
-abbrev pub SoundLaw : Type 0
-SoundLaw = (d : Data) → IsSound d ↔ IsReport d
-
--- a file can serve as a definition exactly where there is no cause to refuse it
-abbrev pub SoundFileLaw : Type 0
-SoundFileLaw = (bytes : List ℕ) → (first_unsound bytes ≡ None) ↔ Sound bytes
-
--- a file is accepted beside a definition exactly where there is no cause to refuse it
-abbrev pub ValidFileLaw : Type 0
-ValidFileLaw = (frame : Frame) (bytes : List ℕ) → (first_refusal frame bytes ≡ None) ↔ Valid frame bytes
+use Rattle.cdf_definition.specs.Named.{Entry, named, ids_of}
+use Rattle.cdf_definition.specs.Frame.{Frame, entries_at, scope_in}
+use Rattle.cdf_definition.specs.Sound.{IsFrame}
+use Rattle.cdf_definition.specs.Acceptance.{IsReport, Valid, value_in}
+use Rattle.cdf_definition.specs.Bodies.{DeviceStands, HeaderStands, SnapshotStands}
 
 -- ---- definitions
-
--- a report has one election
-abbrev pub OneElectionLaw : Type 0
-OneElectionLaw = (d : Data) → IsReport d → (e : Data) × (array_at (codes "Election") d ≡ e ∷ [])
 
 -- what agrees with a definition has its election, and so its contests
 abbrev pub SameElectionLaw : Type 0

@@ -25,15 +25,16 @@ use Rattle.cdf_form.specs.Records.{cvrs_faults}
 use Rattle.cdf_typed.specs.Typed.{cvr_of, report_of}
 use Rattle.cdf_check.specs.declared.seen.Kept.{Kept}
 use Rattle.cdf_check.specs.declared.seen.Seen.{Seen}
-use Rattle.cdf_check.specs.Paths as paths
-use Rattle.cdf_check.specs.Paths.{places}
-use Rattle.cdf_check.specs.References.{Scope, in_cvr}
-use Rattle.cdf_check.specs.Frame.{Frame}
-use Rattle.cdf_check.specs.Sound.{IsSound}
-use Rattle.cdf_check.specs.Agreement.{disagreements}
-use Rattle.cdf_check.specs.Acceptance.{value_refusal}
+use Rattle.cdf_definition.specs.Paths as paths
+use Rattle.cdf_definition.specs.Paths.{places}
+use Rattle.cdf_definition.specs.References.{Scope, in_cvr}
+use Rattle.cdf_definition.specs.Frame.{Frame}
+use Rattle.cdf_definition.specs.Sound.{IsSound}
+use Rattle.cdf_definition.specs.Agreement.{disagreements}
+use Rattle.cdf_definition.specs.Acceptance.{value_refusal}
 use Rattle.cdf_check.specs.Apart.{with_records}
-use Rattle.cdf_check.specs.Within.{AreNamed, ListsNamed, NamesOwn}
+use Rattle.cdf_check.specs.Within.{AreNamed, ListsNamed}
+use Rattle.cdf_definition.specs.Naming.{NamesOwn}
 
 -- ---- numbers and form
 

@@ -5,12 +5,12 @@ use Rattle.std.specs.Str.{IsUtf8}
 use Rattle.serde_json.specs.Data.{Data, null, boolean, number, string, array, object, Items, no_items, item, Members, no_members, member}
 use Rattle.serde_json.specs.Written.{has_float, compact_text}
 use Rattle.cdf_form.specs.Reading.{value_of}
-use Rattle.cdf_form.specs.PartOf.{IsPart}
-use Rattle.cdf_form.specs.Parts.{array_at, id_of, text_at}
-use Rattle.cdf_form.specs.Proper.{IsProper}
+use Rattle.cdf_parts.specs.PartOf.{IsPart}
+use Rattle.cdf_parts.specs.Parts.{array_at, id_of, text_at}
+use Rattle.cdf_parts.specs.Proper.{IsProper}
 use Rattle.cdf_typed.specs.Typed.{header_of}
-use Rattle.cdf_check.specs.Frame.{Frame}
-use Rattle.cdf_check.specs.Acceptance.{Valid, value_in}
+use Rattle.cdf_definition.specs.Frame.{Frame}
+use Rattle.cdf_definition.specs.Acceptance.{Valid, value_in}
 
 -- each text and each name in a value is UTF-8
 abbrev mutual

@@ -1,13 +1,13 @@
 -- Scopes that name more, and laws of what stands in them. (This project's own.)
-use Rattle.std.specs.Prelude.{◌≡◌, ℕ, List, [], true, false, bytes_eq, codes}
+use Rattle.std.specs.Prelude.{◌≡◌, ℕ, List, [], true, bytes_eq, codes}
 use Rattle.std.specs.List.{list_any, Contains}
 use Rattle.serde_json.specs.Data.{Data}
-use Rattle.cdf_form.specs.Parts.{array_at, ids_at}
-use Rattle.cdf_form.specs.Places.{Texts}
-use Rattle.cdf_check.specs.Paths.{Path, each}
-use Rattle.cdf_check.specs.References.{Scope, one, many, in_snapshot, in_cvr}
-use Rattle.cdf_check.specs.Frame.{Frame, scope_in}
-use Rattle.cdf_check.specs.Bodies.{IsKept, HeaderStands, SnapshotStands}
+use Rattle.cdf_parts.specs.Parts.{array_at, ids_at}
+use Rattle.cdf_parts.specs.Places.{Texts}
+use Rattle.cdf_definition.specs.Paths.{Path, each}
+use Rattle.cdf_definition.specs.References.{Scope, one, many, in_snapshot, in_cvr}
+use Rattle.cdf_definition.specs.Frame.{Frame, scope_in}
+use Rattle.cdf_definition.specs.Bodies.{HeaderStands, SnapshotStands}
 
 -- each text of the first list is in the second
 abbrev pub Includes : Texts → Texts → Type 0
@@ -51,7 +51,3 @@ ResolvedLaw = (a : Scope) (d : Data) → in_cvr a d ≡ [] → IsResolved a d
 -- where an array has none missing, no item of it has
 abbrev pub EachLaw : Type 0
 EachLaw = (paths : Data → List Path) (name : List ℕ) (d e : Data) → each paths name d ≡ [] → Contains (array_at name d) e → paths e ≡ []
-
--- a header keeps each member but for the two that it leaves out
-abbrev pub KeptLaw : Type 0
-KeptLaw = (name : List ℕ) → bytes_eq name (codes "CVRSnapshot") ≡ false → bytes_eq name (codes "CurrentSnapshotId") ≡ false → IsKept name

@@ -1,26 +1,13 @@
--- What a record can name before the rest of its report is known, and what the rest has to list. (This project's own.)
+-- What the records of a report name, which the rest of it has to list. (This project's own.)
 use Rattle.std.specs.Prelude.{◌≡◌, ℕ, List, [], Bool, true, bytes_eq, codes}
 use Rattle.std.specs.List.{list_any, list_all, cons_option, filter_map, flat_map}
 use Rattle.serde_json.specs.Data.{Data}
 use Rattle.serde_json.specs.Find.{as_str}
-use Rattle.cdf_form.specs.Parts.{array_at, ids_at, text_in}
-use Rattle.cdf_form.specs.Places.{Texts}
+use Rattle.cdf_parts.specs.Parts.{array_at, ids_at, text_in}
+use Rattle.cdf_parts.specs.Places.{Texts}
 use Rattle.cdf_check.specs.declared.record_names.RecordNames.{RecordNames}
-use Rattle.cdf_check.specs.Paths.{each}
-use Rattle.cdf_check.specs.References.{one, in_snapshot}
-use Rattle.cdf_check.specs.Scoped.{contests_alone}
-use Rattle.cdf_check.specs.Named.{ids_of}
-use Rattle.cdf_check.specs.Frame.{Frame}
-
--- ---- before the rest is known
-
--- a record's contests, selections and election are the definition's, and its current snapshot is its own
-pub record NamesOwn (frame : Frame) (cvr : Data) : Type 0 where
-  pub snapshots : each (in_snapshot (contests_alone frame.contests)) (codes "CVRSnapshot") cvr ≡ []
-  pub current : one (ids_at (codes "CVRSnapshot") cvr) (codes "CurrentSnapshotId") cvr ≡ []
-  pub election : one (ids_of frame.elections) (codes "ElectionId") cvr ≡ []
-
--- ---- once the rest is known
+use Rattle.cdf_definition.specs.Paths.{each}
+use Rattle.cdf_definition.specs.References.{one}
 
 -- the device, the unit and the parties that a record names
 abbrev pub device_of : Data → Texts

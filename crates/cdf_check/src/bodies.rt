@@ -1,8 +1,7 @@
 // Laws of the bodies of an accepted file. Each is the contract of a function that does nothing.
 ghost use Rattle.cdf_check.specs.Laws.{DevicesStandLaw, HeadersStandLaw, SnapshotsStandLaw};
 ghost use Rattle.cdf_check.specs.Utf8.{ReadUtf8Law, PartUtf8Law, PartHasUtf8Law, ProperUtf8Law, TextUtf8Law, BodiesUtf8Law};
-ghost use Rattle.cdf_check.specs.Wider.{MoreDevicesLaw, HeaderStaysLaw, SnapshotStaysLaw, ResolvedLaw, EachLaw, KeptLaw};
-ghost use Rattle.cdf_check.specs.Depths.{WasReadLaw, ReportIsProperLaw, ListedIsProperLaw};
+ghost use Rattle.cdf_check.specs.Wider.{MoreDevicesLaw, HeaderStaysLaw, SnapshotStaysLaw, ResolvedLaw, EachLaw};
 
 /// Each device's body of an accepted file is read back as an object that would stand in a report.
 pub fn device_bodies_stand()
@@ -26,19 +25,10 @@ pub fn bodies_stay()
     ensures snapshot { SnapshotStaysLaw }
 {}
 
-/// Where no reference of a cast vote record is missing, none of its parts has one that is; and its
-/// header keeps each member but for two.
+/// Where no reference of a cast vote record is missing, none of its parts has one that is.
 pub fn parts_refer()
     ensures parts { ResolvedLaw }
     ensures items { EachLaw }
-    ensures kept { KeptLaw }
-{}
-
-/// A report's value nests at most 127 deep, and an item of an array in it two less.
-pub fn bodies_are_shallow()
-    ensures value { WasReadLaw }
-    ensures report { ReportIsProperLaw }
-    ensures listed { ListedIsProperLaw }
 {}
 
 /// What a file holds is UTF-8: each text and name of its value, the compact text of each part, and

@@ -1,28 +1,6 @@
-ghost use Rattle.cdf_check.specs.Laws.{ReferencesLaw, AgreementLaw, SoundLaw, SoundFileLaw, ValidFileLaw, OneElectionLaw, SameElectionLaw, ListsLaw, PlacesLaw};
-ghost use Rattle.cdf_check.specs.Depths.{ReportRowLaw, HasIdLaw};
+ghost use Rattle.cdf_check.specs.Laws.{SameElectionLaw, ListsLaw, PlacesLaw};
 ghost use Rattle.cdf_check.specs.Apart.{RecordsLaw, AgreesApartLaw, TypedApartLaw};
 ghost use Rattle.cdf_check.specs.Same.{SameTextsLaw, SameDefinitionsLaw, OneDefinitionLaw};
-
-/// A list of faults is empty exactly where what the faults tell of holds: of references, of
-/// agreement, of a value, and of a file alone and beside a definition.
-pub fn acceptance()
-    ensures references { ReferencesLaw }
-    ensures agreement { AgreementLaw }
-    ensures sound { SoundLaw }
-    ensures sound_file { SoundFileLaw }
-    ensures valid_file { ValidFileLaw }
-{}
-
-/// A report has one election.
-pub fn one_election()
-    ensures { OneElectionLaw }
-{}
-
-/// Each row of a report says so of it, and an object of a group whose classes have ids has one.
-pub fn report_rows()
-    ensures each_row { ReportRowLaw }
-    ensures id { HasIdLaw }
-{}
 
 /// What agrees with a definition has its election, and so its contests.
 pub fn same_election()

@@ -1,13 +1,13 @@
 ghost use Rattle.std.specs.Prelude.{◌≡◌, ◌↔◌, ◌∷◌, ◌++◌, [], codes, IfOk, IsTrue, List, OnOk};
 ghost use Rattle.serde_json.specs.Data.{Data};
 ghost use Rattle.cdf_node.specs.View.{view};
-ghost use Rattle.cdf_form.specs.Parts.{ids_at};
+ghost use Rattle.cdf_parts.specs.Parts.{ids_at};
 ghost use Rattle.cdf_check.specs.Within.{lists, AreNamed, ListsNamed};
 
 use crate::text_set::TextSet;
-use cdf_form::ids::Ids;
-use cdf_form::{items_at, text_in};
 use cdf_node::Node;
+use cdf_parts::ids::Ids;
+use cdf_parts::{items_at, text_in};
 use cdf_types::Memory;
 use std::alloc::{AllocError, Global};
 

@@ -1,4 +1,4 @@
-ghost use Rattle.std.specs.Prelude.{◌≡◌, ◌↔◌, ◌<◌, ◌^◌, ◌∷◌, ◌++◌, [], false, length, IfOk, IsTrue, List, None, OnOk, option_map};
+ghost use Rattle.std.specs.Prelude.{◌≡◌, ◌<◌, ◌^◌, ◌∷◌, ◌++◌, [], false, length, IfOk, List, None, OnOk, option_map};
 ghost use Rattle.serde_json.specs.Data.{Data};
 ghost use Rattle.serde_json.specs.Written.{has_float};
 ghost use Rattle.cdf_node.specs.View.{view};
@@ -6,14 +6,10 @@ ghost use Rattle.cdf_form.specs.Form.{at_item, deeper, first, float_faults};
 ghost use Rattle.cdf_form.specs.Found.{fault_of};
 ghost use Rattle.cdf_form.specs.Records.{cvr_faults};
 ghost use Rattle.cdf_check.specs.Seen.{in_file, AreKept, IsSeen};
-ghost use Rattle.cdf_check.specs.Within.{NamesOwn};
 
 use crate::defaults::places_of_a_record;
-use crate::definition::Definition;
-use crate::keep::Keep;
-use crate::look::look_at_one;
 use crate::record_names::RecordNames;
-use crate::references::{look_at_current, look_in_snapshots};
+use cdf_definition::{Definition, Keep, names_own};
 use cdf_form::float::find_float;
 use cdf_form::found::{Found, Step, Stop};
 use cdf_form::path::pointer;
@@ -101,20 +97,6 @@ fn fraction_in(
         Stop::Memory => Err(AllocError),
         Stop::Fault(found) => Ok(Some(pointer(alloc, &found.path)?)),
     }
-}
-
-// Whether the contests, selections and election that a record names are the definition's, and its
-// current snapshot is its own.
-fn names_own(alloc: Global, definition: &Definition, cvr: &Node<'_>) -> Result<bool, Memory>
-    ensures { IfOk result (λ is. IsTrue is ↔ NamesOwn definition.now (view cvr.now)) }
-{
-    if look_in_snapshots(alloc, definition.contests(), cvr)?.is_some() {
-        return Ok(false);
-    }
-    if look_at_current(alloc, cvr)?.is_some() {
-        return Ok(false);
-    }
-    Ok(look_at_one(alloc, definition.elections().ids(), "ElectionId", cvr)?.is_none())
 }
 
 // Keeps the next record, which has no fault of numbers or form.

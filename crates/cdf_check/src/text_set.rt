@@ -1,5 +1,5 @@
-use cdf_form::ids::Ids;
 use cdf_node::Node;
+use cdf_parts::ids::Ids;
 use std::alloc::{AllocError, Global};
 use std::collections::BTreeSet;
 use std::marker::Model;
@@ -11,8 +11,8 @@ pub(crate) struct TextSet {
 }
 
 impl Model for TextSet {
-    ghost use Rattle.cdf_form.specs.Places.{Texts};
-    ghost use Rattle.cdf_form.specs.Kept.{bytes_of};
+    ghost use Rattle.cdf_parts.specs.Places.{Texts};
+    ghost use Rattle.cdf_parts.specs.Kept.{bytes_of};
 
     ghost Value = { Texts };
 

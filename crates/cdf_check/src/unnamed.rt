@@ -4,18 +4,14 @@ ghost use Rattle.cdf_types.specs.declared.fault.ReadFault.TheVariants.{Reference
 ghost use Rattle.cdf_form.specs.Form.{at_member, at_item};
 ghost use Rattle.cdf_form.specs.Path.{path_text};
 ghost use Rattle.cdf_form.specs.Found.{path_of};
-ghost use Rattle.cdf_check.specs.Paths.{first};
-ghost use Rattle.cdf_check.specs.References.{in_cvr};
-ghost use Rattle.cdf_check.specs.Scoped.{scope_view};
-ghost use Rattle.cdf_check.specs.Acceptance.{value_refusal};
+ghost use Rattle.cdf_definition.specs.Paths.{first};
+ghost use Rattle.cdf_definition.specs.References.{in_cvr};
+ghost use Rattle.cdf_definition.specs.Scoped.{scope_view};
+ghost use Rattle.cdf_definition.specs.Acceptance.{value_refusal};
 ghost use Rattle.cdf_check.specs.Seen.{IsUnnamed, HasForms, Refuses, IsRefusedFor};
 
-use crate::check::check_value;
-use crate::definition::Definition;
-use crate::look::Look;
-use crate::references::InCvr;
-use crate::scope::Scope;
 use bumpalo::Bump;
+use cdf_definition::{Definition, InCvr, Look, Scope, check_value};
 use cdf_form::found::{Path, Step};
 use cdf_form::path::pointer;
 use cdf_node::Node;

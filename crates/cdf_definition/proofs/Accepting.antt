@@ -10,18 +10,24 @@ use Rattle.cdf_form.specs.Form.{Fault}
 use Rattle.cdf_form.specs.Form as form
 use Rattle.cdf_form.specs.Path.{path_text}
 use Rattle.cdf_form.specs.Reading.{value_of, max_file, document_faults, refusal_of}
-use Rattle.cdf_check.specs.Paths.{Path, first}
-use Rattle.cdf_check.specs.References.{missing}
-use Rattle.cdf_check.specs.Agreement.{disagreements, Agrees}
-use Rattle.cdf_check.specs.Frame.{Frame}
-use Rattle.cdf_check.specs.Acceptance.{Holds, IsReport, own_refusal, value_refusal, of_value, of_file}
-use Rattle.cdf_check.specs.Laws.{SoundFileLaw, ValidFileLaw}
-use Rattle.cdf_check.proofs.Agreeing.{agreement}
-use Rattle.cdf_check.proofs.Faults.{none_right}
-use Rattle.cdf_check.proofs.Numbers.{unmapped}
-use Rattle.cdf_check.proofs.Sounding.{sound}
+use Rattle.cdf_definition.specs.Paths.{Path, first}
+use Rattle.cdf_definition.specs.References.{missing}
+use Rattle.cdf_definition.specs.Agreement.{disagreements, Agrees}
+use Rattle.cdf_definition.specs.Frame.{Frame}
+use Rattle.cdf_definition.specs.Acceptance.{Holds, IsReport, own_refusal, value_refusal, of_value, of_file}
+use Rattle.cdf_definition.specs.Laws.{ValueLaw, SoundFileLaw, ValidFileLaw}
+use Rattle.cdf_definition.proofs.Agreeing.{agreement}
+use Rattle.cdf_definition.proofs.Sounding.{sound}
 
 -- ---- values
+
+pub none_right : (xs : List Fault) → form.first xs ≡ None → xs ≡ []
+none_right [] e = refl
+none_right (x ∷ xs) e = cc
+
+pub unmapped : {A B : Type 0} (f : A → B) (o : Option A) → option_map f o ≡ None → o ≡ None
+unmapped f None e = refl
+unmapped f (Some a) e = cc
 
 pub either : {A : Type 0} (a b : Option A) → option_or a b ≡ None → (a ≡ None) × (b ≡ None)
 either None b e = (refl, e)
@@ -39,13 +45,16 @@ own_none d e =
 none_own : (d : Data) → IsReport d → own_refusal d ≡ None
 none_own d r = let s = (sound d).1 r in rw (s.0, s.1) refl
 
-pub value_none : (frame : Frame) (d : Data) → value_refusal frame d ≡ None → IsReport d × Agrees frame d
+value_none : (frame : Frame) (d : Data) → value_refusal frame d ≡ None → IsReport d × Agrees frame d
 value_none frame d e =
     let v = either (own_refusal d) (option_map (λ p. Disagrees (path_text p)) (first (disagreements frame d))) e in
     (own_none d v.0, (agreement frame d).0 (no_path (disagreements frame d) (unmapped (λ p. Disagrees (path_text p)) _ v.1)))
 
-pub none_value : (frame : Frame) (d : Data) → IsReport d → Agrees frame d → value_refusal frame d ≡ None
+none_value : (frame : Frame) (d : Data) → IsReport d → Agrees frame d → value_refusal frame d ≡ None
 none_value frame d r a = rw (none_own d r, (agreement frame d).1 a) refl
+
+pub value_law : ValueLaw
+value_law frame d = (value_none frame d, λ h. none_value frame d h.0 h.1)
 
 -- ---- files
 

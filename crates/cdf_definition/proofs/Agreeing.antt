@@ -3,12 +3,12 @@ use Rattle.std.proofs.Common.{◌≡◌, ◌↔◌, ℕ, List, [], true, false, 
 use Rattle.std.proofs.lemmas.Slice.Eq.{bytes_eq-Decides}
 use Rattle.serde_json.specs.Data.{Data}
 use Rattle.serde_json.specs.Written.{compact_text}
-use Rattle.cdf_form.specs.Parts.{id_of}
-use Rattle.cdf_check.specs.Paths.{each}
-use Rattle.cdf_check.specs.Named.{Entry, text_of}
-use Rattle.cdf_check.specs.Agreement.{differing, AreListed}
-use Rattle.cdf_check.specs.Laws.{AgreementLaw}
-use Rattle.cdf_check.proofs.Empty.{two, unless_nil, nil_unless, all_items}
+use Rattle.cdf_parts.specs.Parts.{id_of}
+use Rattle.cdf_definition.specs.Paths.{each}
+use Rattle.cdf_definition.specs.Named.{Entry, text_of}
+use Rattle.cdf_definition.specs.Agreement.{differing, AreListed}
+use Rattle.cdf_definition.specs.Laws.{AgreementLaw}
+use Rattle.cdf_definition.proofs.Empty.{two, unless_nil, nil_unless, all_items}
 
 own_text : (s : List ℕ) (o : Option (List ℕ)) → (unwrap_or (option_map (bytes_eq s) o) false ≡ true) ↔ (o ≡ Some s)
 own_text s None = ((λ e. absurd (cc)), λ e. absurd (cc))

@@ -1,16 +1,15 @@
 -- How deep the parts of a file's value nest.
-use Rattle.std.proofs.Common.{◌≡◌, ◌≤◌, ◌<◌, ℕ, zero, suc, List, [], length, slice_index_or, Contains, Bool, true, false, cond}
+use Rattle.std.proofs.Common.{◌≡◌, ◌<◌, ℕ, zero, suc, List, [], length, slice_index_or, Contains, Bool, true, false, cond}
 use Rattle.std.proofs.Common.{Option, Some, None, option_map, option_and_then, unwrap_or, refl, ap, arith}
 use Rattle.std.specs.Str.{is_utf8}
 use Rattle.serde_json.specs.Data.{Data, null, boolean, number, string, array, object, Items, no_items, item}
 use Rattle.serde_json.specs.Find.{get, get_item, as_array}
-use Rattle.serde_json.specs.Read.{read, max_depth}
-use Rattle.serde_json.specs.Written.{compact_text}
-use Rattle.cdf_form.specs.Parts.{list_of, array_at}
-use Rattle.cdf_form.specs.Proper.{IsProper}
+use Rattle.serde_json.specs.Read.{read}
+use Rattle.cdf_parts.specs.Parts.{list_of, array_at}
+use Rattle.cdf_parts.specs.Proper.{IsProper}
 use Rattle.cdf_form.specs.Reading.{value_of}
-use Rattle.cdf_form.proofs.Laws.{member_proper, item_proper, proper_deeper, read-proper, proper_read}
-use Rattle.cdf_check.specs.Acceptance.{IsReport}
+use Rattle.cdf_parts.proofs.Laws.{member_proper, item_proper, proper_read}
+use Rattle.cdf_definition.specs.Acceptance.{IsReport}
 
 -- ---- files
 
@@ -46,7 +45,3 @@ proper_in n (Some (array ds)) e h a = item_proper n a.0 (array ds) e (item_in ds
 -- an item of the array under a name nests two less deep
 pub listed_proper : (n : ℕ) (name : List ℕ) (d e : Data) → Contains (array_at name d) e → IsProper (suc (suc n)) d → IsProper n e
 listed_proper n name d e a h = proper_in n (get name d) e (λ f is. member_proper (suc n) name d f is h) a
-
--- what nests no deeper than what can be read is read back
-pub reads_back : (n : ℕ) (d : Data) → n ≤ max_depth → IsProper n d → read (compact_text d) ≡ Some d
-reads_back n d h p = read-proper d (proper_deeper n max_depth d h p)

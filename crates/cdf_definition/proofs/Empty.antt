@@ -2,9 +2,9 @@
 use Rattle.std.proofs.Common.{◌≡◌, ◌↔◌, ◌<◌, ℕ, zero, suc, ◌+◌, List, [], ◌∷◌, ◌++◌, length, slice_index_or, Bool, true, false, Contains, refl, ap, subst, arith}
 use Rattle.serde_json.specs.Data.{Data}
 use Rattle.cdf_form.specs.Form.{Step, at_member, at_item}
-use Rattle.cdf_form.specs.Parts.{array_at}
-use Rattle.cdf_check.specs.Paths.{Path, below, unless, places, each}
-use Rattle.cdf_check.specs.Resolves.{Each}
+use Rattle.cdf_parts.specs.Parts.{array_at}
+use Rattle.cdf_definition.specs.Paths.{Path, below, unless, places, each}
+use Rattle.cdf_definition.specs.Resolves.{Each}
 
 -- ---- lists
 

@@ -8,10 +8,10 @@ use Rattle.std.specs.Cmp.Lexicographic.{slice_cmp}
 use Rattle.std.proofs.lemmas.List.{take_more, map-append, append_assoc}
 use Rattle.cdf_node.specs.View.{view}
 use Rattle.cdf_node.specs.declared.node.Node.{Node}
-use Rattle.cdf_form.specs.Places.{Texts, place_in}
-use Rattle.cdf_form.specs.Kept.{bytes_of}
-use Rattle.cdf_form.proofs.Lemmas.{length-bytes_of}
-use Rattle.cdf_check.specs.Named.{Entry, named, put_all, sorted, entries_of, ids_of, texts_of, text_of}
+use Rattle.cdf_parts.specs.Places.{Texts, place_in}
+use Rattle.cdf_parts.specs.Kept.{bytes_of}
+use Rattle.cdf_parts.proofs.Lemmas.{length-bytes_of}
+use Rattle.cdf_definition.specs.Named.{Entry, named, put_all, sorted, entries_of, ids_of, texts_of, text_of}
 
 -- ---- gathering
 

@@ -2,7 +2,7 @@
 use Rattle.std.proofs.Common.{◌≡◌, List, [], ◌∷◌, ◌++◌, option_map, refl}
 use Rattle.std.specs.Option.{option_or}
 use Rattle.cdf_form.specs.Form.{Step}
-use Rattle.cdf_check.specs.Paths.{Path, first, below}
+use Rattle.cdf_definition.specs.Paths.{Path, first, below}
 
 -- that of two lists
 pub first_or : (xs ys : List Path) → first (xs ++ ys) ≡ option_or (first xs) (first ys)

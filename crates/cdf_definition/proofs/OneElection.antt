@@ -5,16 +5,17 @@ use Rattle.std.specs.Coded.{Coded-set, coded_ℕ}
 use Rattle.std.proofs.Math.Logic.{∥∥₁_elim}
 use Rattle.serde_json.specs.Data.{Data}
 use Rattle.serde_json.specs.Written.{has_float}
-use Rattle.cdf_form.specs.Parts.{array_at}
-use Rattle.cdf_form.specs.Places.{Texts}
+use Rattle.cdf_parts.specs.Parts.{array_at}
+use Rattle.cdf_parts.specs.Places.{Texts}
 use Rattle.cdf_form.specs.Reading.{document_faults}
 use Rattle.cdf_form.proofs.Lemmas.{left_nil}
-use Rattle.cdf_form.proofs.Laws.{whole_of, whole_array}
-use Rattle.cdf_check.specs.Named.{named, sorted, texts_of}
-use Rattle.cdf_check.specs.Frame.{Frame, frame_of}
-use Rattle.cdf_check.specs.Sound.{IsSound, IsFrame}
-use Rattle.cdf_check.proofs.Sounding.{sound}
-use Rattle.cdf_check.proofs.Reports.{one_election}
+use Rattle.cdf_form.proofs.Laws.{whole_of}
+use Rattle.cdf_parts.proofs.Laws.{whole_array}
+use Rattle.cdf_definition.specs.Named.{named, sorted, texts_of}
+use Rattle.cdf_definition.specs.Frame.{Frame, frame_of}
+use Rattle.cdf_definition.specs.Sound.{IsSound, IsFrame}
+use Rattle.cdf_definition.proofs.Sounding.{sound}
+use Rattle.cdf_definition.proofs.Reports.{one_election}
 
 pub whole_at : (name : List ℕ) (d : Data) → document_faults d ≡ [] → list_any has_float (array_at name d) ≡ false
 whole_at name d h = whole_array d name (whole_of d (left_nil _ _ h))

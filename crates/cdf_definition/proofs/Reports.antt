@@ -6,20 +6,17 @@ use Rattle.cdf_form.specs.declared.table.Group.{Group}
 use Rattle.cdf_form.specs.declared.table.Group.TheVariants as group
 use Rattle.cdf_form.specs.declared.table.Leaf.TheVariants as leaf
 use Rattle.cdf_form.specs.declared.table.Key.TheVariants as key
-use Rattle.cdf_form.specs.declared.table.Kind.TheVariants.{One, Array}
-use Rattle.cdf_form.specs.Tables.{Entry, table, classes_of, any, required}
+use Rattle.cdf_form.specs.declared.table.Kind.TheVariants.{One}
+use Rattle.cdf_form.specs.Tables.{Entry, table, classes_of, required}
 use Rattle.cdf_form.specs.HasForm.{HasForm}
 use Rattle.cdf_form.specs.Form.{key_text}
-use Rattle.cdf_form.specs.Parts.{array_at, id_of, the_election}
+use Rattle.cdf_parts.specs.Parts.{array_at, id_of, the_election}
 use Rattle.cdf_form.specs.ByRow.{AllClasses, find_row, HasRow}
-use Rattle.cdf_form.proofs.Laws.{row_of, items_are_some, items_are_few, items_have_form, must_text_in}
-use Rattle.cdf_check.specs.Acceptance.{IsReport}
-use Rattle.cdf_check.specs.Laws.{OneElectionLaw}
-use Rattle.cdf_check.specs.Depths.{election_row, id_row}
-use Rattle.cdf_check.proofs.Empty.{at_head}
-
-abbrev pub contest_row : Entry
-contest_row = required (codes "Contest") (Array (leaf.Object group.Contests) 0 any key.Id)
+use Rattle.cdf_form.proofs.Laws.{row_of, items_are_some, items_are_few, must_text_in}
+use Rattle.cdf_definition.specs.Acceptance.{IsReport}
+use Rattle.cdf_definition.specs.Laws.{OneElectionLaw}
+use Rattle.cdf_definition.specs.Depths.{election_row, id_row}
+use Rattle.cdf_definition.proofs.Empty.{at_head}
 
 -- a row of reports
 pub report_row : (r : Entry) (d : Data) → find_row r.name (table class.CastVoteRecordReport) ≡ Some r → IsReport d → HasRow r.required r.name r.kind d
@@ -47,9 +44,3 @@ election_is d e is = rw is refl
 
 pub election_listed : (d e : Data) → array_at (codes "Election") d ≡ e ∷ [] → Contains (array_at (codes "Election") d) e
 election_listed d e is = subst (λ xs. Contains xs e) (sym is) (at_head e [])
-
-pub election_form : (d : Data) → IsReport d → HasForm (One (leaf.Object group.Elections)) (the_election d)
-election_form d h =
-    let one = one_election d h in
-    subst (λ e. HasForm (One (leaf.Object group.Elections)) e) (sym (election_is d one.0 one.1))
-    (items_have_form (report_row election_row d refl h) one.0 (election_listed d one.0 one.1))

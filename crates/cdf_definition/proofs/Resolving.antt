@@ -10,13 +10,13 @@ use Rattle.cdf_form.specs.declared.table.Class.{Class}
 use Rattle.cdf_form.specs.declared.table.Class.TheVariants as class
 use Rattle.cdf_form.specs.declared.table.Group.TheVariants as group
 use Rattle.cdf_form.specs.Form.{at_member, class_in}
-use Rattle.cdf_form.specs.Parts.{ids_at, text_in, text_at}
-use Rattle.cdf_form.specs.Places.{Texts, contest_ids, selections_of}
-use Rattle.cdf_check.specs.Paths.{unless, each}
-use Rattle.cdf_check.specs.References.{Scope, scope_of, unknown, one, many, in_selection_vote, in_votes, in_contest_vote, in_snapshot, in_cvr, in_class, in_selection, in_contest, in_candidate, in_election}
-use Rattle.cdf_check.specs.Resolves.{Names, AllName, Each, VoteResolves, SnapshotResolves, CvrResolves, SelectionResolves, ElectionResolves}
-use Rattle.cdf_check.specs.Laws.{ReferencesLaw}
-use Rattle.cdf_check.proofs.Empty.{two, inner, unless_nil, nil_unless, all_items}
+use Rattle.cdf_parts.specs.Parts.{ids_at, text_in, text_at}
+use Rattle.cdf_parts.specs.Places.{Texts, contest_ids, selections_of}
+use Rattle.cdf_definition.specs.Paths.{unless, each}
+use Rattle.cdf_definition.specs.References.{Scope, scope_of, unknown, one, many, in_selection_vote, in_votes, in_contest_vote, in_snapshot, in_cvr, in_class, in_selection, in_contest, in_candidate, in_election}
+use Rattle.cdf_definition.specs.Resolves.{Names, AllName, Each, VoteResolves, SnapshotResolves, CvrResolves, SelectionResolves, ElectionResolves}
+use Rattle.cdf_definition.specs.Laws.{ReferencesLaw}
+use Rattle.cdf_definition.proofs.Empty.{two, inner, unless_nil, nil_unless, all_items}
 
 -- ---- one text
 

@@ -7,10 +7,10 @@ use Rattle.cdf_form.specs.declared.table.Key.TheVariants as key
 use Rattle.cdf_form.specs.declared.table.Kind.TheVariants.{One}
 use Rattle.cdf_form.proofs.Lemmas.{left_nil, right_nil}
 use Rattle.cdf_form.proofs.Laws.{fits_of, no_faults, whole_of, no_float_faults}
-use Rattle.cdf_check.specs.Sound.{IsSound}
-use Rattle.cdf_check.specs.Acceptance.{IsReport}
-use Rattle.cdf_check.specs.Laws.{SoundLaw}
-use Rattle.cdf_check.proofs.Resolving.{references}
+use Rattle.cdf_definition.specs.Sound.{IsSound}
+use Rattle.cdf_definition.specs.Acceptance.{IsReport}
+use Rattle.cdf_definition.specs.Laws.{SoundLaw}
+use Rattle.cdf_definition.proofs.Resolving.{references}
 
 report_of : (d : Data) → IsSound d → IsReport d
 report_of d s = record {

@@ -3,10 +3,10 @@ use Rattle.std.specs.Prelude.{◌≡◌, ℕ, List, ◌++◌, Bool, false, Some,
 use Rattle.std.specs.List.{Contains}
 use Rattle.serde_json.specs.Data.{Data}
 use Rattle.serde_json.specs.Written.{compact_text}
-use Rattle.cdf_form.specs.Parts.{array_at, id_of}
-use Rattle.cdf_check.specs.Paths.{Path, unless, each}
-use Rattle.cdf_check.specs.Named.{Entry, text_of}
-use Rattle.cdf_check.specs.Frame.{Frame}
+use Rattle.cdf_parts.specs.Parts.{array_at, id_of}
+use Rattle.cdf_definition.specs.Paths.{Path, unless, each}
+use Rattle.cdf_definition.specs.Named.{Entry, text_of}
+use Rattle.cdf_definition.specs.Frame.{Frame}
 
 -- whether an object has the text that stands beside its id
 abbrev pub agrees : List Entry → Data → Bool

@@ -9,8 +9,8 @@ use Rattle.cdf_form.specs.declared.table.Kind.TheVariants.{One}
 use Rattle.cdf_form.specs.Tables.{Entry, table}
 use Rattle.cdf_form.specs.Form.{class_in}
 use Rattle.cdf_form.specs.HasForm.{HasForm, IsRow}
-use Rattle.cdf_form.specs.Proper.{IsProper}
-use Rattle.cdf_check.specs.References.{Scope, in_snapshot, in_cvr}
+use Rattle.cdf_parts.specs.Proper.{IsProper}
+use Rattle.cdf_definition.specs.References.{Scope, in_snapshot, in_cvr}
 
 -- a member of a CVR that its header keeps
 abbrev pub IsKept : List ℕ → Type 0

@@ -13,10 +13,10 @@ use Rattle.cdf_form.specs.Tables.{Entry, table, classes_of, required}
 use Rattle.cdf_form.specs.Form.{key_text}
 use Rattle.cdf_form.specs.HasForm.{HasForm}
 use Rattle.cdf_form.specs.ByRow.{AllClasses, find_row, HasRow}
-use Rattle.cdf_form.specs.Parts.{array_at, id_of}
-use Rattle.cdf_form.specs.Proper.{IsProper}
+use Rattle.cdf_parts.specs.Parts.{array_at, id_of}
+use Rattle.cdf_parts.specs.Proper.{IsProper}
 use Rattle.cdf_form.specs.Reading.{value_of}
-use Rattle.cdf_check.specs.Acceptance.{IsReport}
+use Rattle.cdf_definition.specs.Acceptance.{IsReport}
 
 -- a file's value was read from its bytes
 abbrev pub WasReadLaw : Type 0

@@ -1,10 +1,10 @@
 -- What is kept of a definition: the texts of its objects by their ids, and its contests and selections by place. (NIST SP 1500-103, classes Election, GpUnit, Party, ReportingDevice; that they make a definition is this project's own.)
 use Rattle.std.specs.Prelude.{◌≡◌, ℕ, List, map, codes}
 use Rattle.serde_json.specs.Data.{Data}
-use Rattle.cdf_form.specs.Parts.{array_at, the_election}
-use Rattle.cdf_form.specs.Places.{Texts, Contest, contest_of}
-use Rattle.cdf_check.specs.Named.{Entry, named, sorted, ids_of, texts_of}
-use Rattle.cdf_check.specs.References.{Scope}
+use Rattle.cdf_parts.specs.Parts.{array_at, the_election}
+use Rattle.cdf_parts.specs.Places.{Texts, Contest, contest_of}
+use Rattle.cdf_definition.specs.Named.{Entry, named, sorted, ids_of, texts_of}
+use Rattle.cdf_definition.specs.References.{Scope}
 
 pub record Frame : Type 0 where
   pub elections : List Entry

@@ -7,8 +7,8 @@ use Rattle.std.specs.BTreeMap.{insert_entry}
 use Rattle.std.specs.declared.alloc.Global.{Global}
 use Rattle.serde_json.specs.Data.{Data}
 use Rattle.serde_json.specs.Written.{compact_text}
-use Rattle.cdf_form.specs.Parts.{id_of}
-use Rattle.cdf_form.specs.Places.{Texts}
+use Rattle.cdf_parts.specs.Parts.{id_of}
+use Rattle.cdf_parts.specs.Places.{Texts}
 
 -- an object's id and compact text
 abbrev pub Entry : Type 0

@@ -2,7 +2,7 @@
 use Rattle.std.specs.Prelude.{ℕ, ◌+◌, List, [], ◌∷◌, ◌++◌, map, Bool, if◌then◌else◌, Option, Some, None}
 use Rattle.serde_json.specs.Data.{Data}
 use Rattle.cdf_form.specs.Form.{Step, at_member, at_item}
-use Rattle.cdf_form.specs.Parts.{array_at}
+use Rattle.cdf_parts.specs.Parts.{array_at}
 
 -- the steps from a value, outermost first
 abbrev pub Path : Type 0

@@ -7,9 +7,9 @@ use Rattle.cdf_form.specs.declared.table.Class.{Class}
 use Rattle.cdf_form.specs.declared.table.Class.TheVariants as class
 use Rattle.cdf_form.specs.declared.table.Group.TheVariants as group
 use Rattle.cdf_form.specs.Form.{at_member, class_in}
-use Rattle.cdf_form.specs.Parts.{array_at, ids_at, text_in, text_at, the_election}
-use Rattle.cdf_form.specs.Places.{Texts, Contest, contest_of, contest_ids, selections_of}
-use Rattle.cdf_check.specs.Paths.{Path, below, unless, each}
+use Rattle.cdf_parts.specs.Parts.{array_at, ids_at, text_in, text_at, the_election}
+use Rattle.cdf_parts.specs.Places.{Texts, Contest, contest_of, contest_ids, selections_of}
+use Rattle.cdf_definition.specs.Paths.{Path, below, unless, each}
 
 -- the ids that can be named
 pub record Scope : Type 0 where

@@ -6,9 +6,9 @@ use Rattle.serde_json.specs.Find.{as_str}
 use Rattle.cdf_form.specs.declared.table.Class.TheVariants as class
 use Rattle.cdf_form.specs.declared.table.Group.TheVariants as group
 use Rattle.cdf_form.specs.Form.{class_in}
-use Rattle.cdf_form.specs.Parts.{array_at, ids_at, text_in, text_at}
-use Rattle.cdf_form.specs.Places.{Texts, contest_ids, selections_of}
-use Rattle.cdf_check.specs.References.{Scope, scope_of}
+use Rattle.cdf_parts.specs.Parts.{array_at, ids_at, text_in, text_at}
+use Rattle.cdf_parts.specs.Places.{Texts, contest_ids, selections_of}
+use Rattle.cdf_definition.specs.References.{Scope, scope_of}
 
 -- the text under a name, if there is one, is one of the ids
 abbrev pub Names : Texts → List ℕ → Data → Type 0

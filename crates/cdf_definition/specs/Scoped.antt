@@ -1,8 +1,8 @@
 -- What the ids that are kept of a report stand for.
 use Rattle.std.specs.Prelude.{List, []}
-use Rattle.cdf_form.specs.Places.{Contest}
-use Rattle.cdf_check.specs.References.{Scope}
-use Rattle.cdf_check.specs.declared.scope.Scope.{Scope as Held}
+use Rattle.cdf_parts.specs.Places.{Contest}
+use Rattle.cdf_definition.specs.References.{Scope}
+use Rattle.cdf_definition.specs.declared.scope.Scope.{Scope as Held}
 
 -- the ids that can be named
 abbrev pub scope_view : Held → Scope

@@ -2,9 +2,9 @@
 use Rattle.std.specs.Prelude.{◌≡◌, ℕ, List, []}
 use Rattle.serde_json.specs.Data.{Data}
 use Rattle.cdf_form.specs.Reading.{document_faults}
-use Rattle.cdf_check.specs.References.{missing}
-use Rattle.cdf_check.specs.Frame.{Frame, frame_of}
-use Rattle.cdf_check.specs.Acceptance.{Holds}
+use Rattle.cdf_definition.specs.References.{missing}
+use Rattle.cdf_definition.specs.Frame.{Frame, frame_of}
+use Rattle.cdf_definition.specs.Acceptance.{Holds}
 
 -- no fault of numbers, of form or of references
 abbrev pub IsSound : Data → Type 0

@@ -2,13 +2,13 @@ ghost use Rattle.std.specs.Prelude.{◌≡◌, option_map, IfOk, false};
 ghost use Rattle.cdf_node.specs.View.{view};
 ghost use Rattle.serde_json.specs.Written.{has_float};
 ghost use Rattle.cdf_form.specs.Found.{path_of};
-ghost use Rattle.cdf_check.specs.Paths.{first, each};
-ghost use Rattle.cdf_check.specs.Agreement.{agrees, differing};
+ghost use Rattle.cdf_definition.specs.Paths.{first, each};
+ghost use Rattle.cdf_definition.specs.Agreement.{agrees, differing};
 
 use crate::named::Named;
 use cdf_form::found::{Path, Step};
-use cdf_form::{items_at, text_at};
 use cdf_node::Node;
+use cdf_parts::{items_at, text_at};
 use cdf_types::Memory;
 use std::alloc::Global;
 

@@ -6,11 +6,11 @@ ghost use Rattle.cdf_form.specs.Form as form;
 ghost use Rattle.cdf_form.specs.Found.{fault_of, path_of};
 ghost use Rattle.cdf_form.specs.Path.{path_text};
 ghost use Rattle.cdf_form.specs.Reading.{IsMemory, refusal_of, document_faults};
-ghost use Rattle.cdf_check.specs.Paths.{first};
-ghost use Rattle.cdf_check.specs.References.{missing};
-ghost use Rattle.cdf_check.specs.Agreement.{disagreements};
-ghost use Rattle.cdf_check.specs.Sound.{IsSound};
-ghost use Rattle.cdf_check.specs.Acceptance.{own_refusal, value_refusal};
+ghost use Rattle.cdf_definition.specs.Paths.{first};
+ghost use Rattle.cdf_definition.specs.References.{missing};
+ghost use Rattle.cdf_definition.specs.Agreement.{disagreements};
+ghost use Rattle.cdf_definition.specs.Sound.{IsSound};
+ghost use Rattle.cdf_definition.specs.Acceptance.{own_refusal, value_refusal};
 
 use crate::agreement::first_differing;
 use crate::definition::Definition;
@@ -22,8 +22,11 @@ use cdf_node::Node;
 use cdf_types::{Memory, ReadFault};
 use std::alloc::Global;
 
-// The answer that tells a fault of form.
-pub(crate) fn told_fault(alloc: Global, found: Found<'_>) -> Result<ReadFault, Memory>
+/// The answer that tells a fault of form.
+///
+/// # Errors
+/// `Memory` where a growth was refused.
+pub fn told_fault(alloc: Global, found: Found<'_>) -> Result<ReadFault, Memory>
     ensures { IfOk result (λ e. e ≡ refusal_of (fault_of found.entry)) }
 {
     Ok(ReadFault::Schema {

@@ -1,7 +1,7 @@
 use crate::named::Named;
-use cdf_form::contests::Contests;
-use cdf_form::{election_items, items_at};
 use cdf_node::Node;
+use cdf_parts::contests::Contests;
+use cdf_parts::{election_items, items_at};
 use cdf_types::{Body, Memory};
 use std::alloc::Global;
 use std::marker::Model;
@@ -19,8 +19,8 @@ pub struct Definition {
 }
 
 impl Model for Definition {
-    ghost use Rattle.cdf_check.specs.Frame.{Frame};
-    ghost use Rattle.cdf_check.specs.Sound.{IsFrame};
+    ghost use Rattle.cdf_definition.specs.Frame.{Frame};
+    ghost use Rattle.cdf_definition.specs.Sound.{IsFrame};
 
     ghost Value = { Frame };
 
@@ -33,10 +33,10 @@ impl Definition {
     ghost use Rattle.std.specs.Prelude.{◌≡◌, ◌<◌, length, slice_index_or, IfOk, [], ◌∷◌, bytes_eq, IsTrue, ◌↔◌};
     ghost use Rattle.std.specs.List.{list_any};
     ghost use Rattle.cdf_node.specs.View.{view};
-    ghost use Rattle.cdf_form.specs.Places.{place_in, contest_ids, selections_at};
-    ghost use Rattle.cdf_check.specs.Named.{ids_of, texts_of};
-    ghost use Rattle.cdf_check.specs.Frame.{frame_of, IsSame};
-    ghost use Rattle.cdf_check.specs.Sound.{IsSound, WasRead, IsFrame};
+    ghost use Rattle.cdf_parts.specs.Places.{place_in, contest_ids, selections_at};
+    ghost use Rattle.cdf_definition.specs.Named.{ids_of, texts_of};
+    ghost use Rattle.cdf_definition.specs.Frame.{frame_of, IsSame};
+    ghost use Rattle.cdf_definition.specs.Sound.{IsSound, WasRead, IsFrame};
 
     /// What is kept of a report.
     ///

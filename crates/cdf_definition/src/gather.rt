@@ -2,10 +2,10 @@ ghost use Rattle.std.specs.Prelude.{◌≡◌, IfOk, false, map};
 ghost use Rattle.std.specs.List.{list_any};
 ghost use Rattle.cdf_node.specs.View.{view};
 ghost use Rattle.serde_json.specs.Written.{has_float};
-ghost use Rattle.cdf_check.specs.Named.{named, sorted, entries_of};
+ghost use Rattle.cdf_definition.specs.Named.{named, sorted, entries_of};
 
-use cdf_form::text_at;
 use cdf_node::Node;
+use cdf_parts::text_at;
 use cdf_types::{Body, Memory};
 use std::alloc::Global;
 use std::collections::BTreeMap;

@@ -3,14 +3,13 @@ ghost use Rattle.serde_json.specs.Written.{has_float};
 ghost use Rattle.cdf_node.specs.View.{view};
 ghost use Rattle.cdf_types.specs.declared.report.Cvr.{Cvr};
 ghost use Rattle.cdf_form.specs.Form.{first};
-ghost use Rattle.cdf_form.specs.Places.{Contest};
+ghost use Rattle.cdf_parts.specs.Places.{Contest};
 ghost use Rattle.cdf_form.specs.Records.{cvr_faults};
 ghost use Rattle.cdf_typed.specs.Range.{CvrInRange};
 ghost use Rattle.cdf_typed.specs.Typed.{cvr_of};
 
-use cdf_form::contests::Contests;
 use cdf_node::Node;
-use cdf_typed::read_cvr;
+use cdf_parts::contests::Contests;
 use cdf_types::{Cvr, Memory};
 use std::alloc::Global;
 
@@ -44,30 +43,4 @@ pub trait Keep {
         ensures { OnOk result ((cs : List Cvr) → place ≡ length cs
             → keeps self.now contests.now cs kept.old
             → keeps self.now contests.now (cs ++ cvr_of contests.now (view cvr.now) ∷ []) kept.new) };
-}
-
-/// Keeps the typed records, in order.
-#[derive(Drop)]
-pub(crate) struct Typed;
-
-impl Keep for Typed {
-    type Kept = Vec<Cvr>;
-
-    ghost keeps = { λ _ _ cs kept. kept.items ≡ cs };
-
-    fn none(&self, alloc: Global) -> Vec<Cvr> {
-        Vec::new(alloc)
-    }
-
-    fn keep(
-        &self,
-        alloc: Global,
-        contests: &Contests,
-        kept: &mut Vec<Cvr>,
-        _place: usize,
-        cvr: &Node<'_>,
-    ) -> Result<(), Memory> {
-        kept.push(read_cvr(alloc, contests, cvr)?)?;
-        Ok(())
-    }
 }

@@ -2,15 +2,15 @@ ghost use Rattle.std.specs.Prelude.{◌≡◌, List, ℕ, option_map, IfOk};
 ghost use Rattle.serde_json.specs.Data.{Data};
 ghost use Rattle.serde_json.specs.Find.{as_str};
 ghost use Rattle.cdf_node.specs.View.{view};
-ghost use Rattle.cdf_check.specs.Paths as paths;
+ghost use Rattle.cdf_definition.specs.Paths as paths;
 ghost use Rattle.cdf_form.specs.Found.{path_of};
-ghost use Rattle.cdf_check.specs.Paths.{first, each};
-ghost use Rattle.cdf_check.specs.References.{unknown, one, many};
+ghost use Rattle.cdf_definition.specs.Paths.{first, each};
+ghost use Rattle.cdf_definition.specs.References.{unknown, one, many};
 
 use cdf_form::found::{Path, Step};
-use cdf_form::ids::Ids;
-use cdf_form::items_at;
 use cdf_node::Node;
+use cdf_parts::ids::Ids;
+use cdf_parts::items_at;
 use cdf_types::Memory;
 use std::alloc::Global;
 

@@ -1,6 +1,6 @@
 use crate::gather::{copy_bodies, gather};
-use cdf_form::ids::Ids;
 use cdf_node::Node;
+use cdf_parts::ids::Ids;
 use cdf_types::{Body, Memory};
 use std::alloc::Global;
 use std::collections::BTreeMap;
@@ -17,7 +17,7 @@ pub struct Named {
 impl Model for Named {
     ghost use Rattle.std.specs.Prelude.{List, ◌≡◌, length};
     ghost use Rattle.std.specs.List.{zip};
-    ghost use Rattle.cdf_check.specs.Named.{Entry};
+    ghost use Rattle.cdf_definition.specs.Named.{Entry};
 
     ghost Value = { List Entry };
 
@@ -31,8 +31,8 @@ impl Named {
     ghost use Rattle.std.specs.List.{list_any, zip};
     ghost use Rattle.cdf_node.specs.View.{view};
     ghost use Rattle.serde_json.specs.Written.{has_float};
-    ghost use Rattle.cdf_form.specs.Kept.{bytes_of};
-    ghost use Rattle.cdf_check.specs.Named.{named, sorted, entries_of, ids_of, texts_of, text_of};
+    ghost use Rattle.cdf_parts.specs.Kept.{bytes_of};
+    ghost use Rattle.cdf_definition.specs.Named.{named, sorted, entries_of, ids_of, texts_of, text_of};
 
     /// The texts of objects, in byte order of their ids; of several with one id the last.
     ///

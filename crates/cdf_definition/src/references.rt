@@ -2,21 +2,21 @@ ghost use Rattle.std.specs.Prelude.{◌≡◌, option_map, IfOk, codes, map, byt
 ghost use Rattle.std.specs.List.{list_any};
 ghost use Rattle.cdf_node.specs.View.{view};
 ghost use Rattle.cdf_form.specs.Form.{class_in};
-ghost use Rattle.cdf_form.specs.Parts.{ids_at, id_of};
+ghost use Rattle.cdf_parts.specs.Parts.{ids_at, id_of};
 ghost use Rattle.cdf_form.specs.Found.{path_of};
-ghost use Rattle.cdf_check.specs.Paths.{first, each};
-ghost use Rattle.cdf_check.specs.Scoped.{scope_view, contests_alone};
-ghost use Rattle.cdf_check.specs.References.{in_selection_vote, in_votes, in_contest_vote, in_snapshot, in_cvr, in_selection, in_contest, in_candidate, in_election, in_report, one, missing};
+ghost use Rattle.cdf_definition.specs.Paths.{first, each};
+ghost use Rattle.cdf_definition.specs.Scoped.{scope_view, contests_alone};
+ghost use Rattle.cdf_definition.specs.References.{in_selection_vote, in_votes, in_contest_vote, in_snapshot, in_cvr, in_selection, in_contest, in_candidate, in_election, in_report, one, missing};
 
 use crate::look::{Look, look_at_many, look_at_one, look_in_each};
 use crate::scope::Scope;
-use cdf_form::contests::Contests;
 use cdf_form::found::{Path, Step};
-use cdf_form::ids::Ids;
 use cdf_form::leaf::find_class;
 use cdf_form::table::{Class, Group, classes};
-use cdf_form::{items_at, text_at};
 use cdf_node::Node;
+use cdf_parts::contests::Contests;
+use cdf_parts::ids::Ids;
+use cdf_parts::{items_at, text_at};
 use cdf_types::Memory;
 use std::alloc::Global;
 
@@ -79,7 +79,7 @@ impl Look for InSnapshot<'_> {
 }
 
 #[derive(Drop)]
-pub(crate) struct InCvr<'a>(pub(crate) &'a Scope);
+pub struct InCvr<'a>(pub &'a Scope);
 
 impl Look for InCvr<'_> {
     ghost missing = { λ s d. in_cvr (scope_view s.0.now) d };

@@ -1,7 +1,7 @@
-use cdf_form::contests::Contests;
-use cdf_form::ids::Ids;
-use cdf_form::{election_items, items_at};
 use cdf_node::Node;
+use cdf_parts::contests::Contests;
+use cdf_parts::ids::Ids;
+use cdf_parts::{election_items, items_at};
 use cdf_types::Memory;
 use std::alloc::Global;
 
@@ -23,8 +23,8 @@ pub struct Scope {
 impl Scope {
     ghost use Rattle.std.specs.Prelude.{◌≡◌, IfOk};
     ghost use Rattle.cdf_node.specs.View.{view};
-    ghost use Rattle.cdf_check.specs.References.{scope_of};
-    ghost use Rattle.cdf_check.specs.Scoped.{scope_view};
+    ghost use Rattle.cdf_definition.specs.References.{scope_of};
+    ghost use Rattle.cdf_definition.specs.Scoped.{scope_view};
 
     /// The ids of a report.
     ///

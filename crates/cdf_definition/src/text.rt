@@ -2,7 +2,7 @@ ghost use Rattle.std.specs.Prelude.{◌≡◌, ◌≤◌, Option, Some, IfOk, If
 ghost use Rattle.serde_json.specs.Data.{Data};
 ghost use Rattle.cdf_types.specs.declared.fault.ReadFault.{ReadFault};
 ghost use Rattle.cdf_form.specs.Reading.{max_file};
-ghost use Rattle.cdf_check.specs.Acceptance.{of_file};
+ghost use Rattle.cdf_definition.specs.Acceptance.{of_file};
 
 use cdf_form::read::MAX_FILE;
 use cdf_types::ReadFault;

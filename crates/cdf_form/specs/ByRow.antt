@@ -14,7 +14,7 @@ use Rattle.cdf_form.specs.declared.table.Kind.TheVariants.{One, Array}
 use Rattle.cdf_form.specs.Tables.{Entry, table, classes_of, listed_in}
 use Rattle.cdf_form.specs.Form.{is_moment, class_in, key_text}
 use Rattle.cdf_form.specs.HasForm.{IsRow, HasForm}
-use Rattle.cdf_form.specs.Parts.{array_at, text_in, text_at}
+use Rattle.cdf_parts.specs.Parts.{array_at, text_in, text_at}
 
 -- ---- classes and rows
 

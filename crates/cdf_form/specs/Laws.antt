@@ -1,12 +1,8 @@
 -- Laws of the form: no fault is found exactly where a value has the form; tables are in order; no fault of numbers, no float.
-use Rattle.std.specs.Prelude.{◌≡◌, ℕ, ◌↔◌, ◌<◌, ◌||◌, List, [], ◌∷◌, length, map, get_or, Bool, true, false, ◌&&◌, Some, bytes_eq, codes}
-use Rattle.std.specs.List.{list_any}
+use Rattle.std.specs.Prelude.{◌≡◌, ℕ, ◌↔◌, ◌||◌, List, [], ◌∷◌, Bool, true, false, ◌&&◌, bytes_eq, codes}
 use Rattle.std.specs.Ordering.{nat_cmp, is_lt}
 use Rattle.std.specs.Cmp.Lexicographic.{slice_cmp}
 use Rattle.serde_json.specs.Data.{Data}
-use Rattle.serde_json.specs.Find.{get}
-use Rattle.cdf_node.specs.View.{view}
-use Rattle.cdf_node.specs.declared.node.Node.{Node}
 use Rattle.serde_json.specs.Written.{has_float}
 use Rattle.cdf_form.specs.declared.table.Class.{Class}
 use Rattle.cdf_form.specs.declared.table.Leaf.{Leaf}
@@ -18,7 +14,6 @@ use Rattle.cdf_form.specs.declared.table.Kind.TheVariants.{One, Array}
 use Rattle.cdf_form.specs.Tables.{Entry, table, classes_of}
 use Rattle.cdf_form.specs.Form.{faults, float_faults}
 use Rattle.cdf_form.specs.HasForm.{HasForm}
-use Rattle.cdf_form.specs.Parts.{array_at}
 use Rattle.cdf_form.specs.Reading.{document_faults}
 
 abbrev pub has_row : List ℕ → List Entry → Bool
@@ -74,16 +69,3 @@ NoFloatFaults = (d : Data) → has_float d ≡ false → float_faults d ≡ []
 -- a whole document with no fault has no float
 abbrev pub WholeDocument : Type 0
 WholeDocument = (d : Data) → document_faults d ≡ [] → has_float d ≡ false
-
--- a member of a value with no float has none
-abbrev pub WholeMembers : Type 0
-WholeMembers = (d : Data) (name : List ℕ) (e : Data) → has_float d ≡ false → get name d ≡ Some e → has_float e ≡ false
-
--- nor has an item of the array under a name
-abbrev pub WholeItems : Type 0
-WholeItems = (d : Data) (name : List ℕ) → has_float d ≡ false → list_any has_float (array_at name d) ≡ false
-
--- nor has a value of a list where none has
-abbrev pub WholeValues : Type 0
-WholeValues = (values : List Node) (i : ℕ) (value : Node) → i < length values → value ≡ get_or values i value
-    → list_any has_float (map view values) ≡ false → has_float (view value) ≡ false

@@ -8,7 +8,7 @@ ghost use Rattle.cdf_form.specs.declared.table.Listing.TheVariants as listing;
 ghost use Rattle.cdf_form.specs.Listings.{HasTextsOf};
 ghost use Rattle.cdf_form.specs.Reading.{max_file};
 ghost use Rattle.cdf_form.specs.Records.{RecordsFirstLaw, RecordsApartLaw};
-ghost use Rattle.cdf_form.specs.Laws.{FormLaw, TablesInOrder, WholeLaw, WholeMembers, WholeItems, WholeValues, NoFloatFaults, WholeDocument};
+ghost use Rattle.cdf_form.specs.Laws.{FormLaw, TablesInOrder, WholeLaw, NoFloatFaults, WholeDocument};
 ghost use Rattle.cdf_form.specs.ByRow.{HasClassLaw, OnlyClassLaw, RowLaw, ObjectLaw, TextLaw, MayBeTextLaw, MustBeTextLaw, MustBeFoundLaw, MustHaveFormLaw};
 ghost use Rattle.cdf_form.specs.ByRow.{MomentFormLaw, ListedFormLaw, CountFormLaw, ArrayLaw, ItemsLaw, FewLaw, SomeLaw, ApartLaw};
 
@@ -22,15 +22,11 @@ pub fn tables_in_order()
     ensures { TablesInOrder }
 {}
 
-/// A value with no fault of rule 14 holds no float, nor do its members and items; and one that
-/// holds none has no such fault.
+/// A value with no fault of rule 14 holds no float, and one that holds none has no such fault.
 pub fn whole_law()
     ensures all { WholeLaw }
     ensures none { NoFloatFaults }
     ensures document { WholeDocument }
-    ensures members { WholeMembers }
-    ensures items { WholeItems }
-    ensures values { WholeValues }
 {}
 
 /// Records stand first in a report's table: where all else that the table says of its records holds,

@@ -3,8 +3,8 @@ use Rattle.std.proofs.Common.{◌≡◌, ℕ, List, refl, ap, ◌∙◌}
 use Rattle.std.specs.Ordering.{match_ordering}
 use Rattle.std.specs.Prelude.{⊤}
 use Rattle.serde_json.specs.Data.{Data, Members, no_members, member, put}
-use Rattle.cdf_form.specs.Proper.{Before, Below}
-use Rattle.cdf_form.proofs.Order.{Before-trans, after_is}
+use Rattle.cdf_parts.specs.Proper.{Before, Below}
+use Rattle.cdf_parts.proofs.Order.{Before-trans, after_is}
 
 -- the first members, then the others
 abbrev pub append : Members → Members → Members

@@ -2,8 +2,8 @@
 use Rattle.std.proofs.Common.{◌≡◌, ℕ, zero, suc, ◌+◌, ◌<◌, List, [], ◌∷◌, length, get_or, map, Bool, true, false, cond, Option, Some, bytes_eq, refl, ap, arith}
 use Rattle.std.specs.List.{position_from, zip}
 use Rattle.serde_json.specs.Data.{Data}
-use Rattle.cdf_form.specs.Parts.{id_of, ids_at}
-use Rattle.cdf_form.specs.Places.{Contest, contest_of, contest_ids, selections_at}
+use Rattle.cdf_parts.specs.Parts.{id_of, ids_at}
+use Rattle.cdf_parts.specs.Places.{Contest, contest_of, contest_ids, selections_at}
 use Rattle.std.specs.Prelude.{codes}
 
 pub contest_ids-zip : (xs : List (List ℕ)) (ys : List (List (List ℕ))) → length xs ≡ length ys → contest_ids (zip xs ys) ≡ xs

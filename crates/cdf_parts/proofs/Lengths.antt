@@ -9,9 +9,9 @@ use Rattle.serde_json.specs.Data.{Items, no_items, item, Members, no_members, me
 use Rattle.serde_json.specs.Find.{get, at, get_member, get_item}
 use Rattle.serde_json.specs.Written.{compact_text, items_text, members_text, comma_if}
 use Rattle.serde_json.specs.Events.{items_len}
-use Rattle.cdf_form.specs.PartOf.{IsPart, itself, of_member, of_item}
-use Rattle.cdf_form.proofs.PartLaws.{found_at}
-use Rattle.cdf_form.proofs.ReadsBack.{inside}
+use Rattle.cdf_parts.specs.PartOf.{IsPart, itself, of_member, of_item}
+use Rattle.cdf_parts.proofs.PartLaws.{found_at}
+use Rattle.cdf_parts.proofs.ReadsBack.{inside}
 
 later_short : (ds : Items) → items_len ds < length (items_text true ds)
 later_short no_items = omega arith

@@ -6,7 +6,7 @@ use Rattle.std.proofs.lemmas.Slice.Eq.{bytes_eq-Decides}
 use Rattle.std.specs.Cmp.Lexicographic.{slice_cmp}
 use Rattle.std.specs.Ordering.{match_ordering, ordering_reverse}
 use Rattle.serde_json.specs.Data.{Data, Members, no_members, member, put}
-use Rattle.cdf_form.specs.Proper.{Before, Below, IsWell, MembersAreWell}
+use Rattle.cdf_parts.specs.Proper.{Before, Below, IsWell, MembersAreWell}
 
 pub Before-trans : (a b c : List ℕ) → Before a b → Before b c → Before a c
 Before-trans a b c p q = nat_list_cmp_total.trans a b c p q

@@ -12,11 +12,11 @@ use Rattle.serde_json.specs.Find.{get, at, get_member, get_item, as_array}
 use Rattle.serde_json.specs.Read.{read, max_depth}
 use Rattle.serde_json.specs.Written.{has_float, items_have_float, members_have_float}
 use Rattle.serde_json.specs.Written.{compact_text}
-use Rattle.cdf_form.specs.Proper.{IsWell, ItemsAreWell, MembersAreWell, IsProper}
-use Rattle.cdf_form.specs.Parts.{list_of, array_at}
-use Rattle.cdf_form.specs.PartOf.{IsPart, itself, of_member, of_item}
-use Rattle.cdf_form.proofs.ReadsBack.{inside, read-proper}
-use Rattle.cdf_form.proofs.WasRead.{proper_read}
+use Rattle.cdf_parts.specs.Proper.{IsWell, ItemsAreWell, MembersAreWell, IsProper}
+use Rattle.cdf_parts.specs.Parts.{list_of, array_at}
+use Rattle.cdf_parts.specs.PartOf.{IsPart, itself, of_member, of_item}
+use Rattle.cdf_parts.proofs.ReadsBack.{inside, read-proper}
+use Rattle.cdf_parts.proofs.WasRead.{proper_read}
 
 -- ---- members
 

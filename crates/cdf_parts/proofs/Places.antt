@@ -13,9 +13,9 @@ use Rattle.std.proofs.lemmas.List.{map-append, take_more, length-map, length-tak
 use Rattle.std.proofs.lemmas.Map.Text.{btree_map_updates_text}
 use Rattle.cdf_node.specs.View.{view}
 use Rattle.cdf_node.specs.declared.node.Node.{Node}
-use Rattle.cdf_form.specs.Parts.{id_of}
-use Rattle.cdf_form.specs.Places.{place_in}
-use Rattle.cdf_form.specs.Kept.{bytes_of, HasPlaces}
+use Rattle.cdf_parts.specs.Parts.{id_of}
+use Rattle.cdf_parts.specs.Places.{place_in}
+use Rattle.cdf_parts.specs.Kept.{bytes_of, HasPlaces}
 
 pub get_or-bytes_of : (xs : List (String Global)) (i : ℕ) (d : String Global) → get_or (bytes_of xs) i (string_bytes d) ≡ string_bytes (get_or xs i d)
 get_or-bytes_of [] i d = refl

@@ -21,8 +21,8 @@ use Rattle.serde_json.specs.Written.{number_text, outline, items_outline, member
 use Rattle.serde_json.specs.Written.{has_float, items_have_float, members_have_float}
 use Rattle.serde_json.proofs.Numbers.{number_of-decimal, number_of-negative}
 use Rattle.serde_json.proofs.Texts.{print-outline}
-use Rattle.cdf_form.specs.Proper.{NumFits, IsWell, ItemsAreWell, MembersAreWell, IsProper}
-use Rattle.cdf_form.proofs.Appending.{append, UnderFirst, from_none, put_above, append_assoc, append_none, next_first}
+use Rattle.cdf_parts.specs.Proper.{NumFits, IsWell, ItemsAreWell, MembersAreWell, IsProper}
+use Rattle.cdf_parts.proofs.Appending.{append, UnderFirst, from_none, put_above, append_assoc, append_none, next_first}
 
 pub number_back : (n : Num) → NumFits n → is_float n ≡ false → number_of (number_text n) ≡ Some n
 number_back (unsigned n) h f = number_of-decimal n h

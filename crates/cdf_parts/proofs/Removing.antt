@@ -8,10 +8,10 @@ use Rattle.std.specs.Ordering.{match_ordering}
 use Rattle.serde_json.specs.Data.{Data, object, Members, no_members, member, put, depth, members_depth}
 use Rattle.serde_json.specs.Find.{get_member}
 use Rattle.serde_json.specs.Written.{has_float, members_have_float}
-use Rattle.cdf_form.specs.Proper.{Below, MembersAreWell, IsProper}
-use Rattle.cdf_form.specs.Removing.{without}
-use Rattle.cdf_form.proofs.Order.{Below-trans, equal_is, same_name, put_well}
-use Rattle.cdf_form.proofs.ReadsBack.{inside}
+use Rattle.cdf_parts.specs.Proper.{Below, MembersAreWell, IsProper}
+use Rattle.cdf_parts.specs.Removing.{without}
+use Rattle.cdf_parts.proofs.Order.{Below-trans, equal_is, same_name, put_well}
+use Rattle.cdf_parts.proofs.ReadsBack.{inside}
 
 -- ---- taken out
 

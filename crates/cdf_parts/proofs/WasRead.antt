@@ -12,9 +12,9 @@ use Rattle.serde_json.specs.Read.{number_of, number_from, float_of, is_integer, 
 use Rattle.serde_json.specs.Read.{read, max_depth}
 use Rattle.serde_json.specs.Written.{has_float, compact_text}
 use Rattle.serde_json.proofs.Nesting.{depth-read}
-use Rattle.cdf_form.specs.Proper.{NumFits, IsWell, ItemsAreWell, MembersAreWell, IsProper}
-use Rattle.cdf_form.proofs.Order.{put_well}
-use Rattle.cdf_form.proofs.ReadsBack.{read-proper}
+use Rattle.cdf_parts.specs.Proper.{NumFits, IsWell, ItemsAreWell, MembersAreWell, IsProper}
+use Rattle.cdf_parts.proofs.Order.{put_well}
+use Rattle.cdf_parts.proofs.ReadsBack.{read-proper}
 
 -- P holds of what is there
 abbrev Within : {A : Type 0} → (A → Type 0) → Option A → Type 0

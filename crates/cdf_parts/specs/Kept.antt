@@ -2,7 +2,7 @@
 use Rattle.std.specs.Prelude.{◌≡◌, ℕ, List, map, string_bytes, String}
 use Rattle.std.specs.BTreeMap.{BTreeMap, get_by_text}
 use Rattle.std.specs.declared.alloc.Global.{Global}
-use Rattle.cdf_form.specs.Places.{Texts, place_in}
+use Rattle.cdf_parts.specs.Places.{Texts, place_in}
 
 -- the bytes of each text
 abbrev pub bytes_of : List (String Global) → Texts

@@ -3,8 +3,8 @@ use Rattle.std.specs.Prelude.{◌≡◌, ◌≢◌, ℕ, suc, List, Some, None, 
 use Rattle.serde_json.specs.Data.{Data, object, Members, put}
 use Rattle.serde_json.specs.Find.{get_member}
 use Rattle.serde_json.specs.Written.{members_have_float}
-use Rattle.cdf_form.specs.Proper.{MembersAreWell, IsProper}
-use Rattle.cdf_form.specs.Removing.{without}
+use Rattle.cdf_parts.specs.Proper.{MembersAreWell, IsProper}
+use Rattle.cdf_parts.specs.Removing.{without}
 
 -- A member that was taken out is not there.
 abbrev pub GoneLaw : Type 0

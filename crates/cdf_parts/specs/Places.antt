@@ -2,7 +2,7 @@
 use Rattle.std.specs.Prelude.{ℕ, zero, suc, List, [], ◌∷◌, map, bytes_eq, Option, option_map, codes}
 use Rattle.std.specs.List.{position_from}
 use Rattle.serde_json.specs.Data.{Data}
-use Rattle.cdf_form.specs.Parts.{id_of, ids_at}
+use Rattle.cdf_parts.specs.Parts.{id_of, ids_at}
 
 -- a list of texts
 abbrev pub Texts : Type 0

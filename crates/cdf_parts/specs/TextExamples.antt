@@ -4,10 +4,10 @@ use Rattle.serde_json.specs.Data.{unsigned, negative, Data, number, string, arra
 use Rattle.serde_json.specs.Data.{no_items, item, Members, no_members, member, put}
 use Rattle.serde_json.specs.Read.{read, max_depth}
 use Rattle.serde_json.specs.Written.{has_float, compact_text}
-use Rattle.cdf_form.specs.Proper.{IsWell, IsProper}
-use Rattle.cdf_form.specs.Removing.{without}
-use Rattle.cdf_form.specs.Parts.{array_at}
-use Rattle.cdf_form.specs.PartOf.{IsPart}
+use Rattle.cdf_parts.specs.Proper.{IsWell, IsProper}
+use Rattle.cdf_parts.specs.Removing.{without}
+use Rattle.cdf_parts.specs.Parts.{array_at}
+use Rattle.cdf_parts.specs.PartOf.{IsPart}
 
 -- `{"@id":"s","Count":-2}`
 abbrev pub snapshot : Data

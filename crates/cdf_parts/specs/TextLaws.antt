@@ -3,7 +3,7 @@ use Rattle.std.specs.Prelude.{◌≡◌, ◌≤◌, ◌↔◌, ℕ, List, Some, 
 use Rattle.serde_json.specs.Data.{Data, depth}
 use Rattle.serde_json.specs.Read.{read, max_depth}
 use Rattle.serde_json.specs.Written.{has_float, compact_text}
-use Rattle.cdf_form.specs.Proper.{IsWell, IsProper}
+use Rattle.cdf_parts.specs.Proper.{IsWell, IsProper}
 
 -- What is read is well.
 abbrev pub ReadIsWellLaw : Type 0

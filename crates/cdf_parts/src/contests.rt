@@ -15,7 +15,7 @@ pub struct Contests {
 
 impl Model for Contests {
     ghost use Rattle.std.specs.Prelude.{List, ◌≡◌, length};
-    ghost use Rattle.cdf_form.specs.Places.{Contest};
+    ghost use Rattle.cdf_parts.specs.Places.{Contest};
     ghost use Rattle.std.specs.List.{zip};
 
     ghost Value = { List Contest };
@@ -28,7 +28,7 @@ impl Model for Contests {
 impl Contests {
     ghost use Rattle.std.specs.Prelude.{◌≡◌, ◌<◌, length, map, IfOk, option_map};
     ghost use Rattle.cdf_node.specs.View.{view};
-    ghost use Rattle.cdf_form.specs.Places.{contest_of, contest_ids, selections_at, selections_of};
+    ghost use Rattle.cdf_parts.specs.Places.{contest_of, contest_ids, selections_at, selections_of};
 
     /// The contests of an Election's array, in order.
     ///

@@ -15,8 +15,8 @@ pub struct Ids {
 }
 
 impl Model for Ids {
-    ghost use Rattle.cdf_form.specs.Places.{Texts};
-    ghost use Rattle.cdf_form.specs.Kept.{bytes_of, HasPlaces};
+    ghost use Rattle.cdf_parts.specs.Places.{Texts};
+    ghost use Rattle.cdf_parts.specs.Kept.{bytes_of, HasPlaces};
 
     ghost Value = { Texts };
 
@@ -29,9 +29,9 @@ impl Ids {
     ghost use Rattle.std.specs.Prelude.{◌≡◌, ◌<◌, length, slice_index_or, map, IfOk, [], bytes_eq};
     ghost use Rattle.std.specs.List.{list_any};
     ghost use Rattle.cdf_node.specs.View.{view};
-    ghost use Rattle.cdf_form.specs.Parts.{id_of};
-    ghost use Rattle.cdf_form.specs.Places.{place_in};
-    ghost use Rattle.cdf_form.specs.Kept.{bytes_of};
+    ghost use Rattle.cdf_parts.specs.Parts.{id_of};
+    ghost use Rattle.cdf_parts.specs.Places.{place_in};
+    ghost use Rattle.cdf_parts.specs.Kept.{bytes_of};
 
     /// The ids in the order that is given.
     ///

@@ -1,12 +1,12 @@
 // Laws of JSON data and its compact text (RFC 8259). Each is the contract of a function that does nothing.
-ghost use Rattle.cdf_form.specs.TextLaws.{ReadIsWellLaw, ReadIsShallowLaw, ReadIsProperLaw, ReadsBackLaw, ReadAgainLaw, OneTextLaw};
-ghost use Rattle.cdf_form.specs.MemberLaws.{GoneLaw, OthersStayLaw, AbsentLaw, FoundLaw, OthersKeptLaw};
-ghost use Rattle.cdf_form.specs.MemberLaws.{TakenOutLaw, PutBackLaw, WithoutIsWellLaw, WithoutIsWholeLaw, WithoutIsProperLaw, PutIsProperLaw};
-ghost use Rattle.cdf_form.specs.PartLaws.{MemberIsProperLaw, ItemIsProperLaw, ArrayIsProperLaw, PartIsProperLaw, DeeperIsProperLaw};
-ghost use Rattle.cdf_form.specs.PartLaws.{ArrayListLaw, PartOfPartLaw, ListedIsPartLaw, PartIsShorterLaw, ItemsAreShorterLaw};
-ghost use Rattle.cdf_form.specs.PartLaws.{PartReadsBackLaw, ListedReadsBackLaw};
-ghost use Rattle.cdf_form.specs.TextExamples.{ReportExample, SpellingExample, PartExample, RemovingExample};
-ghost use Rattle.cdf_form.specs.TextExamples.{UnorderedExample, RepeatedExample, FloatExample};
+ghost use Rattle.cdf_parts.specs.TextLaws.{ReadIsWellLaw, ReadIsShallowLaw, ReadIsProperLaw, ReadsBackLaw, ReadAgainLaw, OneTextLaw};
+ghost use Rattle.cdf_parts.specs.MemberLaws.{GoneLaw, OthersStayLaw, AbsentLaw, FoundLaw, OthersKeptLaw};
+ghost use Rattle.cdf_parts.specs.MemberLaws.{TakenOutLaw, PutBackLaw, WithoutIsWellLaw, WithoutIsWholeLaw, WithoutIsProperLaw, PutIsProperLaw};
+ghost use Rattle.cdf_parts.specs.PartLaws.{MemberIsProperLaw, ItemIsProperLaw, ArrayIsProperLaw, PartIsProperLaw, DeeperIsProperLaw};
+ghost use Rattle.cdf_parts.specs.PartLaws.{ArrayListLaw, PartOfPartLaw, ListedIsPartLaw, PartIsShorterLaw, ItemsAreShorterLaw};
+ghost use Rattle.cdf_parts.specs.PartLaws.{PartReadsBackLaw, ListedReadsBackLaw};
+ghost use Rattle.cdf_parts.specs.TextExamples.{ReportExample, SpellingExample, PartExample, RemovingExample};
+ghost use Rattle.cdf_parts.specs.TextExamples.{UnorderedExample, RepeatedExample, FloatExample};
 
 /// What is read is well, and nests at most 127 deep; with no float it is proper.
 pub fn was_read()

@@ -13,8 +13,8 @@ use Rattle.serde_json.specs.Written.{has_float}
 use Rattle.cdf_node.specs.View.{view, members_view}
 use Rattle.cdf_node.specs.declared.node.Node as made
 use Rattle.cdf_node.specs.declared.node.Node.{Node}
-use Rattle.cdf_form.specs.Removing.{without}
-use Rattle.cdf_form.proofs.Laws.{whole-without}
+use Rattle.cdf_parts.specs.Removing.{without}
+use Rattle.cdf_parts.proofs.Laws.{whole-without}
 use Rattle.cdf_typed.specs.Typed.{header_of}
 
 abbrev pub Entry : Type 0

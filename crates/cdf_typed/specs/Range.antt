@@ -7,7 +7,7 @@ use Rattle.cdf_types.specs.declared.report.ContestVote.{ContestVote}
 use Rattle.cdf_types.specs.declared.report.Snapshot.{Snapshot}
 use Rattle.cdf_types.specs.declared.report.Cvr.{Cvr}
 use Rattle.cdf_types.specs.declared.report.Report.{Report}
-use Rattle.cdf_form.specs.Places.{Contest, selections_at}
+use Rattle.cdf_parts.specs.Places.{Contest, selections_at}
 
 -- a count of the format
 abbrev pub IsCount : ℕ → Type 0

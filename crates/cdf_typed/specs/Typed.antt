@@ -20,9 +20,9 @@ use Rattle.cdf_types.specs.declared.report.Snapshot.{Snapshot}
 use Rattle.cdf_types.specs.declared.report.Cvr.{Cvr}
 use Rattle.cdf_types.specs.declared.report.ReportingDevice.{ReportingDevice}
 use Rattle.cdf_types.specs.declared.report.Report.{Report}
-use Rattle.cdf_form.specs.Parts.{array_at, text_at, text_in, id_of, instant_of}
-use Rattle.cdf_form.specs.Places.{Texts, place_in, Contest, contest_ids, selections_of}
-use Rattle.cdf_form.specs.Removing.{without}
+use Rattle.cdf_parts.specs.Parts.{array_at, text_at, text_in, id_of, instant_of}
+use Rattle.cdf_parts.specs.Places.{Texts, place_in, Contest, contest_ids, selections_of}
+use Rattle.cdf_parts.specs.Removing.{without}
 use Rattle.cdf_typed.specs.Greatest.{greatest}
 
 -- ---- listed texts and numbers

@@ -4,15 +4,15 @@ ghost use Rattle.cdf_node.specs.View.{view};
 ghost use Rattle.cdf_types.specs.declared.report.Position.{Position};
 ghost use Rattle.cdf_types.specs.declared.report.SelectionVote.{SelectionVote};
 ghost use Rattle.cdf_types.specs.declared.report.ContestVote.{ContestVote};
-ghost use Rattle.cdf_form.specs.Parts.{text_at};
-ghost use Rattle.cdf_form.specs.Places.{Texts, Contest, selections_of};
+ghost use Rattle.cdf_parts.specs.Parts.{text_at};
+ghost use Rattle.cdf_parts.specs.Places.{Texts, Contest, selections_of};
 ghost use Rattle.cdf_typed.specs.Typed.{position_of, selection_place, selection_vote_of, contest_vote_of};
 
 use crate::listed::{allocation_named, count_at, indication_named};
-use cdf_form::contests::Contests;
-use cdf_form::ids::Ids;
-use cdf_form::{items_at, text_at, text_in};
 use cdf_node::Node;
+use cdf_parts::contests::Contests;
+use cdf_parts::ids::Ids;
+use cdf_parts::{items_at, text_at, text_in};
 use cdf_types::{ContestVote, Indication, Position, SelectionVote};
 
 /// A mark's place on the ballot (NIST SP 1500-103, class SelectionPosition).

@@ -2,15 +2,15 @@ ghost use Rattle.std.specs.Prelude.{◌≡◌, IfOk, map, false, bytes_eq, optio
 ghost use Rattle.std.specs.List.{list_any, position};
 ghost use Rattle.serde_json.specs.Written.{has_float, compact_text};
 ghost use Rattle.cdf_node.specs.View.{view, members_view};
-ghost use Rattle.cdf_form.specs.Removing.{without};
+ghost use Rattle.cdf_parts.specs.Removing.{without};
 ghost use Rattle.cdf_typed.specs.Instants.{later};
 ghost use Rattle.cdf_typed.specs.Typed.{kind_of, instant_in, moment_of, snapshot_of, header_of, cvr_of, device_of, report_of};
 
 use crate::listed::kind_named;
 use crate::votes::read_contests;
-use cdf_form::contests::Contests;
-use cdf_form::{instant, items_at, text_at, text_in};
 use cdf_node::Node;
+use cdf_parts::contests::Contests;
+use cdf_parts::{instant, items_at, text_at, text_in};
 use cdf_types::{Body, Cvr, Memory, Moment, Report, ReportingDevice, Seq, Snapshot, SnapshotKind};
 use std::alloc::Global;
 

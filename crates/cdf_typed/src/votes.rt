@@ -3,9 +3,9 @@ ghost use Rattle.cdf_node.specs.View.{view};
 ghost use Rattle.cdf_typed.specs.Typed.{position_of, selection_vote_of, contest_vote_of};
 
 use crate::as_vote::{AsContestVote, AsPosition, AsSelectionVote};
-use cdf_form::contests::Contests;
-use cdf_form::ids::Ids;
 use cdf_node::Node;
+use cdf_parts::contests::Contests;
+use cdf_parts::ids::Ids;
 use cdf_types::{ContestVote, Memory, Position, SelectionVote, Seq};
 use std::alloc::Global;
 

@@ -2,9 +2,9 @@
 use Rattle.std.proofs.Common.{◌≡◌, ◌<◌, ◌^◌, ℕ, List, [], length, map, Contains, inl, inr, None, sym, ap, ◌∙◌, subst, append-nil}
 use Rattle.std.specs.FinMap.{empty, same_map, get-empty}
 use Rattle.std.specs.Map.{keys_of}
-use Rattle.cdf_form.specs.Places.{Contest}
-use Rattle.cdf_check.specs.Named.{Entry}
-use Rattle.cdf_check.specs.Frame.{Frame}
+use Rattle.cdf_parts.specs.Places.{Contest}
+use Rattle.cdf_definition.specs.Named.{Entry}
+use Rattle.cdf_definition.specs.Frame.{Frame}
 use Rattle.cvr_facts.specs.Facts.{Device, name_cmp}
 use Rattle.cvr_facts.proofs.Lemmas.{none_listed, in_map, from_map}
 use Rattle.cvr_tally.specs.Rows.{Rows}

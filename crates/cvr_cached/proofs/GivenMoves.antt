@@ -5,7 +5,7 @@ use Rattle.std.specs.Option.{option_map_or}
 use Rattle.std.specs.Ordering.{eq_by_cmp}
 use Rattle.std.specs.FinSet.{contains, difference, from_list, contains-difference, contains-from_list}
 use Rattle.std.proofs.lemmas.Bool.{false≢true}
-use Rattle.cdf_form.specs.Places.{Contest}
+use Rattle.cdf_parts.specs.Places.{Contest}
 use Rattle.cdf_typed.specs.Greatest.{greatest}
 use Rattle.cvr_facts.specs.Facts.{Fact, Facts, fact_cmp, name_cmp, fact_total, fact_exact}
 use Rattle.cvr_facts.specs.Choosing.{choice_cmp, snapshot_body}

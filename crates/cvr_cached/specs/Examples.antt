@@ -1,7 +1,7 @@
 -- A worked example: facts of four records, others that come, and how often rows are changed. (This project's own.)
 use Rattle.std.specs.Prelude.{◌≡◌, ℕ, List, [], ◌∷◌, ◌++◌, map, codes}
 use Rattle.std.specs.FinSet.{from_list, empty}
-use Rattle.cdf_form.specs.Places.{Contest}
+use Rattle.cdf_parts.specs.Places.{Contest}
 use Rattle.cvr_facts.specs.Facts.{Fact, Device, Header, Snapshot, Facts}
 use Rattle.cvr_collect.specs.Examples.{contest, snapshot, header}
 use Rattle.cvr_cached.specs.Moves.{moved}

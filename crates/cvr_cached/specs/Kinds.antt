@@ -1,7 +1,7 @@
 -- Offices of two kinds that play the same events. (This project's own.)
 use Rattle.std.specs.Prelude.{◌≡◌, ◌<◌, ℕ, List, length, map, get_or}
 use Rattle.std.specs.FinSet.{empty}
-use Rattle.cdf_check.specs.Frame.{Frame}
+use Rattle.cdf_definition.specs.Frame.{Frame}
 use Rattle.cvr_facts.specs.Facts.{Facts}
 use Rattle.cvr_collect.specs.Alike.{ArePlayed}
 use Rattle.cvr_collect.specs.Reach.{History}

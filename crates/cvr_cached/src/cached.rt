@@ -7,8 +7,8 @@ use cvr_collect::any_fact::AnyFact;
 use cvr_collect::devices::{device_body_in, device_count_in, next_device_in};
 use cvr_collect::putting::{of_devices, of_records, own_devices, put_in};
 use cvr_collect::record_lists::{grouped, headers_down};
-use cvr_collect::{ConflictList, JoinFault, Office, Receipt, RecordFacts};
-use cvr_facts::{HeaderFact, RecordName, SnapshotFact, read_facts};
+use cvr_collect::{ConflictList, JoinFault, Office, Receipt, RecordFacts, read_facts};
+use cvr_facts::{HeaderFact, RecordName, SnapshotFact};
 use cvr_tally::{Row, RowKey, Totals, tally_text};
 use std::alloc::Global;
 use std::collections::BTreeMap;
@@ -68,10 +68,10 @@ impl CachedOffice {
 impl Office for CachedOffice {
     ghost use Rattle.std.specs.Prelude.{◌≡◌, ◌≤◌, ◌+◌, ◌*◌, ◌⊎◌, OnOk, OnErr, IfOk, IfErr, length, Some};
     ghost use Rattle.std.specs.FinSet.{union};
-    ghost use Rattle.cdf_form.specs.Parts.{record_count};
+    ghost use Rattle.cdf_parts.specs.Parts.{record_count};
     ghost use Rattle.cdf_form.specs.Reading.{IsMemory};
-    ghost use Rattle.cdf_check.specs.Acceptance.{Valid, first_refusal, value_in};
-    ghost use Rattle.cdf_check.specs.Frame.{IsSame};
+    ghost use Rattle.cdf_definition.specs.Acceptance.{Valid, first_refusal, value_in};
+    ghost use Rattle.cdf_definition.specs.Frame.{IsSame};
     ghost use Rattle.cvr_facts.specs.Reports.{facts};
     ghost use Rattle.cvr_collect.specs.Readers.{growth};
     ghost use Rattle.cvr_collect.specs.declared.fault.JoinFault.TheVariants as join_fault;

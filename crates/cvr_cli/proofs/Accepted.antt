@@ -2,9 +2,9 @@
 use Rattle.std.proofs.Common.{◌≡◌, ℕ, List, [], ◌++◌, Bool, false, Some, None, refl, ap, ◌∙◌}
 use Rattle.std.specs.Prelude.{is_some, if◌then◌else◌}
 use Rattle.cdf_types.specs.declared.fault.ReadFault.{ReadFault}
-use Rattle.cdf_check.specs.Frame.{Frame}
-use Rattle.cdf_check.specs.Acceptance.{Sound, Valid, first_refusal, first_unsound, frame_in}
-use Rattle.cdf_check.proofs.Laws.{sound_file, valid_file}
+use Rattle.cdf_definition.specs.Frame.{Frame}
+use Rattle.cdf_definition.specs.Acceptance.{Sound, Valid, first_refusal, first_unsound, frame_in}
+use Rattle.cdf_definition.proofs.Laws.{sound_file, valid_file}
 use Rattle.cvr_words.specs.declared.request.Task.{Task}
 use Rattle.cvr_cli.specs.Accepted.{is_unsound}
 use Rattle.cvr_cli.specs.Outcome.{task_text, run_text, task_fault, run_fault, task_refused, any_refused}

@@ -8,9 +8,9 @@ use Rattle.std.proofs.lemmas.List.{map-append, reverse-append, get_or-replicate}
 use Rattle.std.proofs.lemmas.List.FromFn.{length-range_with_len, get_or-range_with_len, get_or-map-range_with_len}
 use Rattle.std.proofs.lemmas.List.Sorted.{Contains-permutation, IsPermutation-reverse}
 use Rattle.serde_json.specs.Data.{Data}
-use Rattle.cdf_check.specs.Frame.{Frame}
-use Rattle.cdf_check.specs.Acceptance.{value_in}
-use Rattle.cdf_check.proofs.Laws.{valid_file}
+use Rattle.cdf_definition.specs.Frame.{Frame}
+use Rattle.cdf_definition.specs.Acceptance.{value_in}
+use Rattle.cdf_definition.proofs.Laws.{valid_file}
 use Rattle.cvr_facts.specs.Facts.{Facts, fact_total, fact_exact}
 use Rattle.cvr_facts.specs.Unions.{union_empty}
 use Rattle.cvr_facts.proofs.Lemmas.{in_map, from_map}

@@ -10,9 +10,9 @@ use Rattle.std.proofs.lemmas.List.{get_or-replicate}
 use Rattle.std.proofs.lemmas.Map.Views.{Contains-from_any, list_any-from_Contains}
 use Rattle.serde_json.specs.Data.{Data}
 use Rattle.cdf_types.specs.declared.fault.ReadFault.{ReadFault}
-use Rattle.cdf_check.specs.Frame.{Frame}
-use Rattle.cdf_check.specs.Acceptance.{first_refusal, value_in}
-use Rattle.cdf_check.proofs.Laws.{valid_file}
+use Rattle.cdf_definition.specs.Frame.{Frame}
+use Rattle.cdf_definition.specs.Acceptance.{first_refusal, value_in}
+use Rattle.cdf_definition.proofs.Laws.{valid_file}
 use Rattle.cvr_facts.specs.Facts.{Fact, Facts, fact_cmp, fact_total, fact_exact}
 use Rattle.cvr_facts.specs.Reports.{facts}
 use Rattle.cvr_facts.specs.Unions.{union_empty}

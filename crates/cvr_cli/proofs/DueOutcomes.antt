@@ -3,8 +3,8 @@ use Rattle.std.proofs.Common.{◌≡◌, ℕ, ◌==◌, ◌<◌, ◌||◌, inl, 
 use Rattle.std.specs.Prelude.{nat_le, replicate, if◌then◌else◌}
 use Rattle.std.proofs.lemmas.Bool.{lt-leb, le-leb, or_from, or_right}
 use Rattle.std.proofs.lemmas.List.{length-replicate, get_or-replicate}
-use Rattle.cdf_check.specs.Frame.{Frame, IsSame}
-use Rattle.cdf_check.specs.Acceptance.{first_refusal}
+use Rattle.cdf_definition.specs.Frame.{Frame, IsSame}
+use Rattle.cdf_definition.specs.Acceptance.{first_refusal}
 use Rattle.cvr_facts.specs.Facts.{Facts}
 use Rattle.cvr_collect.specs.declared.event.Cause.TheVariants.{NoOffice, NoFile}
 use Rattle.cvr_collect.specs.declared.event.Event.{Event}

@@ -6,10 +6,10 @@ use Rattle.std.proofs.lemmas.Str.{IsUtf8-from_ascii, is_utf8-from_IsUtf8}
 use Rattle.serde_json.specs.Data.{Data}
 use Rattle.serde_json.specs.Read.{read}
 use Rattle.cdf_types.specs.declared.fault.ReadFault.{ReadFault}
-use Rattle.cdf_form.specs.Parts.{record_count}
+use Rattle.cdf_parts.specs.Parts.{record_count}
 use Rattle.cdf_form.specs.Reading.{value_of}
-use Rattle.cdf_check.specs.Frame.{Frame}
-use Rattle.cdf_check.specs.Acceptance.{frame_in, first_refusal, first_unsound}
+use Rattle.cdf_definition.specs.Frame.{Frame}
+use Rattle.cdf_definition.specs.Acceptance.{frame_in, first_refusal, first_unsound}
 use Rattle.cvr_words.specs.declared.request.Task.TheVariants.{Check}
 use Rattle.cvr_cli.specs.Outcome.{count_line, check_line, run_text}
 use Rattle.cvr_cli.proofs.GivenDrills.{all_ascii, ascii}

@@ -8,8 +8,8 @@ use Rattle.std.proofs.lemmas.Bool.{and_parts}
 use Rattle.std.proofs.lemmas.Bool.Decides.{nat_tests}
 use Rattle.std.proofs.lemmas.Str.{IsUtf8-from_ascii, is_utf8-from_IsUtf8}
 use Rattle.std.proofs.lemmas.Str.Ascii.{IsAscii-nil, IsAscii-cons}
-use Rattle.cdf_check.specs.Frame.{Frame, frame_of}
-use Rattle.cdf_check.specs.Acceptance.{value_in, frame_in, first_unsound}
+use Rattle.cdf_definition.specs.Frame.{Frame, frame_of}
+use Rattle.cdf_definition.specs.Acceptance.{value_in, frame_in, first_unsound}
 use Rattle.cdf_check.specs.Rows as file
 use Rattle.cvr_facts.specs.Facts.{Fact, Device, Header, Snapshot, Facts, fact_cmp, fact_total, fact_exact}
 use Rattle.cvr_facts.specs.Choosing.{data_of}

@@ -2,9 +2,9 @@
 use Rattle.std.proofs.Common.{◌≡◌, ℕ, zero, suc, List, [], ◌∷◌, Some, None, refl, sym, ◌∙◌, arith}
 use Rattle.serde_json.specs.Data.{Data}
 use Rattle.cdf_types.specs.declared.fault.ReadFault.{ReadFault}
-use Rattle.cdf_check.specs.Frame.{Frame}
-use Rattle.cdf_check.specs.Acceptance.{first_refusal, value_in}
-use Rattle.cdf_check.proofs.Laws.{valid_file}
+use Rattle.cdf_definition.specs.Frame.{Frame}
+use Rattle.cdf_definition.specs.Acceptance.{first_refusal, value_in}
+use Rattle.cdf_definition.proofs.Laws.{valid_file}
 use Rattle.cvr_cli.specs.Laws.{HasAccepted, HaveSameValues}
 use Rattle.cvr_cli.proofs.Members.{HasPlace, placed}
 

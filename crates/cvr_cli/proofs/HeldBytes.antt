@@ -5,10 +5,10 @@ use Rattle.std.specs.List.{list_any}
 use Rattle.std.specs.FinSet.{union, empty}
 use Rattle.std.specs.Option.{option_map_or}
 use Rattle.cdf_types.specs.declared.fault.ReadFault.TheVariants.{TooLong}
-use Rattle.cdf_form.specs.Parts.{record_count}
+use Rattle.cdf_parts.specs.Parts.{record_count}
 use Rattle.cdf_form.specs.Reading.{value_of}
-use Rattle.cdf_check.specs.Frame.{Frame}
-use Rattle.cdf_check.specs.Acceptance.{own_refusal, first_unsound, frame_in}
+use Rattle.cdf_definition.specs.Frame.{Frame}
+use Rattle.cdf_definition.specs.Acceptance.{own_refusal, first_unsound, frame_in}
 use Rattle.cvr_facts.specs.Reports.{facts}
 use Rattle.cvr_collect.specs.Keeps.{starting}
 use Rattle.cvr_collect.specs.Reach.{union_over}

@@ -7,8 +7,8 @@ use Rattle.serde_json.specs.Data.{Data}
 use Rattle.cdf_types.specs.declared.fault.ReadFault.{ReadFault}
 use Rattle.cdf_types.specs.declared.fault.ReadFault.TheVariants.{TooLong}
 use Rattle.cdf_form.specs.Reading.{max_file, value_of}
-use Rattle.cdf_check.specs.Frame.{Frame}
-use Rattle.cdf_check.specs.Acceptance.{own_refusal, value_refusal, of_value, of_file, first_refusal}
+use Rattle.cdf_definition.specs.Frame.{Frame}
+use Rattle.cdf_definition.specs.Acceptance.{own_refusal, value_refusal, of_value, of_file, first_refusal}
 use Rattle.cvr_cli.specs.Accepted.{is_unsound, is_refused}
 use Rattle.cvr_cli.specs.File.{held_bytes}
 use Rattle.cvr_cli.specs.HeldBytes.{held_part}

@@ -4,8 +4,8 @@ use Rattle.std.specs.Prelude.{nat_le, if◌then◌else◌}
 use Rattle.std.specs.List.{range_with_len}
 use Rattle.std.specs.FinSet.{union, empty}
 use Rattle.std.proofs.lemmas.List.{length-map, take_all}
-use Rattle.cdf_check.specs.Frame.{Frame}
-use Rattle.cdf_check.specs.Acceptance.{value_refusal, first_refusal}
+use Rattle.cdf_definition.specs.Frame.{Frame}
+use Rattle.cdf_definition.specs.Acceptance.{value_refusal, first_refusal}
 use Rattle.cvr_facts.specs.Facts.{Facts}
 use Rattle.cvr_facts.specs.Reports.{facts}
 use Rattle.cvr_collect.specs.declared.event.Cause.{Cause}

@@ -9,9 +9,9 @@ use Rattle.std.specs.Cmp.{both_ways}
 use Rattle.std.specs.FinSet.{contains, empty, from_list, same_set, contains-union, contains-empty}
 use Rattle.serde_json.specs.Data.{Data}
 use Rattle.cdf_types.specs.declared.fault.ReadFault.{ReadFault}
-use Rattle.cdf_check.specs.Frame.{Frame}
-use Rattle.cdf_check.specs.Acceptance.{Valid, first_refusal, value_in}
-use Rattle.cdf_check.proofs.Laws.{valid_file}
+use Rattle.cdf_definition.specs.Frame.{Frame}
+use Rattle.cdf_definition.specs.Acceptance.{Valid, first_refusal, value_in}
+use Rattle.cdf_definition.proofs.Laws.{valid_file}
 use Rattle.cvr_facts.specs.Facts.{Fact, Facts, fact_cmp, fact_total, fact_exact}
 use Rattle.cvr_facts.specs.Reports.{report_facts, facts}
 use Rattle.cvr_facts.proofs.Lemmas.{at_head, at_tail}

@@ -6,7 +6,7 @@ use Rattle.std.specs.Int.NonZero.{non_zero_u32_get}
 use Rattle.std.proofs.lemmas.Bool.Decides.{nat_tests}
 use Rattle.cdf_types.specs.Device.{appended}
 use Rattle.cdf_form.specs.Form.{is_moment}
-use Rattle.cdf_check.specs.Frame.{Frame}
+use Rattle.cdf_definition.specs.Frame.{Frame}
 use Rattle.cvr_facts.specs.Facts.{Facts}
 use Rattle.cvr_report.specs.declared.heading.HeadFault.{HeadFault}
 use Rattle.cvr_report.specs.declared.heading.HeadFault.TheVariants as head

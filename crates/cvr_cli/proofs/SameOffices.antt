@@ -7,7 +7,7 @@ use Rattle.std.specs.FinSet.{empty, contains, is_subset, is_subset-contains, con
 use Rattle.std.proofs.lemmas.Bool.{and_parts, and_from}
 use Rattle.std.proofs.lemmas.List.{drop_all, drop_more, get_or-replicate, length-replicate}
 use Rattle.std.proofs.lemmas.List.FromFn.{length-range_with_len, get_or-range_with_len}
-use Rattle.cdf_check.specs.Frame.{Frame, IsSame}
+use Rattle.cdf_definition.specs.Frame.{Frame, IsSame}
 use Rattle.cvr_facts.specs.Facts.{Facts, fact_total, fact_exact}
 use Rattle.cvr_collect.specs.Outcomes.{no_frame}
 use Rattle.cvr_cli.specs.Drill.{are_same, office_line, AreOfOne}

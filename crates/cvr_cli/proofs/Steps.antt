@@ -11,8 +11,8 @@ use Rattle.std.specs.FinSet.{empty, len}
 use Rattle.std.specs.Option.{option_map_or}
 use Rattle.cdf_types.specs.declared.fault.ReadFault.{ReadFault}
 use Rattle.cdf_types.specs.declared.fault.ReadFault.TheVariants as read
-use Rattle.cdf_check.specs.Frame.{Frame, IsSame}
-use Rattle.cdf_check.specs.Acceptance.{first_refusal}
+use Rattle.cdf_definition.specs.Frame.{Frame, IsSame}
+use Rattle.cdf_definition.specs.Acceptance.{first_refusal}
 use Rattle.cvr_facts.specs.Facts.{Facts, fact_total, fact_exact}
 use Rattle.cvr_facts.specs.Unions.{union_same}
 use Rattle.cvr_collect.specs.declared.event.Event.{Event}

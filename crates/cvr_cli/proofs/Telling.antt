@@ -11,8 +11,8 @@ use Rattle.cdf_types.specs.Device.{appended, AppendsPrefix}
 use Rattle.cdf_types.specs.declared.fault.ReadFault.{ReadFault}
 use Rattle.cdf_types.specs.declared.fault.ReadFault.TheVariants.{TooLong, NotJson, Schema, Reference, Disagrees, Memory}
 use Rattle.cdf_types.proofs.Lemmas.{appended_twice}
-use Rattle.cdf_check.specs.Frame.{Frame}
-use Rattle.cdf_check.specs.Acceptance.{frame_in, first_refusal, first_unsound}
+use Rattle.cdf_definition.specs.Frame.{Frame}
+use Rattle.cdf_definition.specs.Acceptance.{frame_in, first_refusal, first_unsound}
 use Rattle.cvr_collect.specs.declared.event.Cause.{Cause}
 use Rattle.cvr_collect.specs.declared.event.Cause.TheVariants.{Read, Join, NoOffice, NoFile}
 use Rattle.cvr_words.specs.declared.request.Task.{Task}

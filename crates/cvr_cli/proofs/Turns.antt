@@ -7,8 +7,8 @@ use Rattle.std.proofs.lemmas.Bool.{or_parts}
 use Rattle.std.proofs.lemmas.List.Folds.{list_any-append}
 use Rattle.cdf_types.specs.declared.fault.ReadFault.{ReadFault}
 use Rattle.cdf_types.specs.declared.fault.ReadFault.TheVariants as read
-use Rattle.cdf_check.specs.Frame.{Frame}
-use Rattle.cdf_check.specs.Acceptance.{first_refusal}
+use Rattle.cdf_definition.specs.Frame.{Frame}
+use Rattle.cdf_definition.specs.Acceptance.{first_refusal}
 use Rattle.cvr_facts.specs.Facts.{Facts, fact_total, fact_exact}
 use Rattle.cvr_facts.specs.Reports.{facts}
 use Rattle.cvr_facts.specs.Unions.{union_assoc, union_empty}

@@ -2,8 +2,8 @@
 use Rattle.std.specs.Prelude.{ℕ, List, Bool, if◌then◌else◌, is_some, Option, None}
 use Rattle.serde_json.specs.Data.{Data}
 use Rattle.cdf_form.specs.Reading.{value_of}
-use Rattle.cdf_check.specs.Frame.{Frame}
-use Rattle.cdf_check.specs.Acceptance.{first_unsound, first_refusal}
+use Rattle.cdf_definition.specs.Frame.{Frame}
+use Rattle.cdf_definition.specs.Acceptance.{first_unsound, first_refusal}
 
 -- whether a file is refused as a definition
 abbrev pub is_unsound : List ℕ → Bool

@@ -2,7 +2,7 @@
 use Rattle.std.specs.Prelude.{ℕ, List, [], ◌∷◌, ◌++◌, map, codes, decimal, Option, Some, None}
 use Rattle.std.specs.List.{flat_map}
 use Rattle.cdf_types.specs.SnapshotKind.{snapshot_kind_text}
-use Rattle.cdf_form.specs.Parts.{id_of}
+use Rattle.cdf_parts.specs.Parts.{id_of}
 use Rattle.cdf_typed.specs.Typed.{kind_of}
 use Rattle.cvr_facts.specs.declared.name.RecordName.{RecordName}
 use Rattle.cvr_facts.specs.Facts.{Facts}

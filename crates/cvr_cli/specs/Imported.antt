@@ -2,8 +2,8 @@
 use Rattle.std.specs.Prelude.{◌≡◌, ◌⊎◌, ℕ, List, false}
 use Rattle.std.specs.List.{list_any}
 use Rattle.cdf_types.specs.declared.fault.ReadFault.TheVariants as read
-use Rattle.cdf_check.specs.Frame.{Frame}
-use Rattle.cdf_check.specs.Acceptance.{first_refusal}
+use Rattle.cdf_definition.specs.Frame.{Frame}
+use Rattle.cdf_definition.specs.Acceptance.{first_refusal}
 use Rattle.cvr_facts.specs.Facts.{Facts}
 use Rattle.cvr_facts.specs.Reports.{facts}
 use Rattle.cvr_collect.specs.declared.event.Outcome.{Outcome}

@@ -1,6 +1,6 @@
 -- Worked examples: what a run tells of refused files, and what a drill prints. (This project's own.)
 use Rattle.std.specs.Prelude.{◌≡◌, ℕ, List, [], ◌∷◌, ◌++◌, codes}
-use Rattle.cdf_check.specs.Acceptance.{frame_in}
+use Rattle.cdf_definition.specs.Acceptance.{frame_in}
 use Rattle.cdf_check.specs.Rows as file
 use Rattle.cvr_words.specs.declared.request.Task.TheVariants.{Currents, Check, Drill}
 use Rattle.cvr_words.specs.declared.request.Act.TheVariants.{Import, Exchange}

@@ -2,8 +2,8 @@
 use Rattle.std.specs.Prelude.{◌≡◌, ◌⊎◌, ◌&&◌, ◌||◌, ◌<◌, ℕ, List, [], ◌∷◌, ◌++◌, length, map, get_or, codes, Bool, true, false, if◌then◌else◌, Option, Some, None, is_some}
 use Rattle.std.specs.List.{list_any}
 use Rattle.std.specs.Option.{option_map_or}
-use Rattle.cdf_check.specs.Frame.{Frame}
-use Rattle.cdf_check.specs.Acceptance.{frame_in, first_refusal, first_unsound}
+use Rattle.cdf_definition.specs.Frame.{Frame}
+use Rattle.cdf_definition.specs.Acceptance.{frame_in, first_refusal, first_unsound}
 use Rattle.cvr_collect.specs.declared.event.Cause.{Cause}
 use Rattle.cvr_cli.specs.declared.refusals.Refusals.{Refusals}
 use Rattle.cvr_words.specs.declared.request.Task.{Task}

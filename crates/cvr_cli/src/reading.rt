@@ -1,11 +1,11 @@
 ghost use Rattle.std.specs.Prelude.{◌≡◌, IfOk, IfErr, OnOk, None, Some, length};
 ghost use Rattle.cdf_form.specs.Reading.{IsMemory};
-ghost use Rattle.cdf_form.specs.Parts.{record_count};
-ghost use Rattle.cdf_check.specs.Acceptance.{first_refusal, value_in};
+ghost use Rattle.cdf_parts.specs.Parts.{record_count};
+ghost use Rattle.cdf_definition.specs.Acceptance.{first_refusal, value_in};
 
 use cdf_check::{Definition, Keep, check_file};
-use cdf_form::contests::Contests;
 use cdf_node::Node;
+use cdf_parts::contests::Contests;
 use cdf_types::{Memory, ReadFault};
 use std::alloc::Global;
 

@@ -8,14 +8,15 @@ use native.Mathlib.Bridge.{le_prop}
 use Rattle.serde_json.specs.Data.{Data, null}
 use Rattle.serde_json.specs.Read.{read}
 use Rattle.serde_json.specs.Written.{compact_text}
-use Rattle.cdf_form.specs.Places.{Contest}
-use Rattle.cdf_form.proofs.Laws.{listed_reads_back}
+use Rattle.cdf_parts.specs.Places.{Contest}
+use Rattle.cdf_parts.proofs.Laws.{listed_reads_back}
 use Rattle.cdf_typed.specs.Range.{SnapshotInRange}
 use Rattle.cdf_typed.specs.Typed.{snapshot_of, cvr_of}
-use Rattle.cdf_check.specs.Acceptance.{Valid, value_in}
-use Rattle.cdf_check.specs.Frame.{Frame}
-use Rattle.cdf_check.specs.Sound.{IsFrame}
-use Rattle.cdf_check.proofs.Laws.{was_read, in_range, contests_agree}
+use Rattle.cdf_definition.specs.Acceptance.{Valid, value_in}
+use Rattle.cdf_definition.specs.Frame.{Frame}
+use Rattle.cdf_definition.specs.Sound.{IsFrame}
+use Rattle.cdf_definition.proofs.Laws.{was_read}
+use Rattle.cdf_check.proofs.Laws.{in_range, contests_agree}
 use Rattle.cvr_facts.specs.declared.name.RecordName.{RecordName}
 use Rattle.cvr_facts.specs.Facts.{Fact, Device, Header, Snapshot, Facts}
 use Rattle.cvr_facts.specs.Choosing.{data_of, is_name, snapshot_body}

@@ -4,17 +4,17 @@ use Rattle.std.specs.Prelude.{unwrap_or}
 use Rattle.std.specs.FinSet.{contains}
 use Rattle.serde_json.specs.Data.{Data, null}
 use Rattle.serde_json.specs.Written.{compact_text}
-use Rattle.cdf_form.specs.Parts.{id_of, text_at, text_in}
+use Rattle.cdf_parts.specs.Parts.{id_of, text_at, text_in}
 use Rattle.cdf_form.proofs.Lemmas.{some_of}
-use Rattle.cdf_check.specs.Acceptance.{IsReport, value_in}
+use Rattle.cdf_definition.specs.Acceptance.{IsReport, value_in}
 use Rattle.cdf_check.proofs.Laws.{report_read}
 use Rattle.cvr_facts.specs.Facts.{Fact, Device}
 use Rattle.cvr_facts.specs.Stands.{IsWhole, IsOfWhole}
-use Rattle.cvr_facts.specs.Laws.{RecordsWholeLaw}
+use Rattle.cvr_collect.specs.FileFacts.{RecordsWholeLaw}
 use Rattle.cvr_facts.specs.Reports.{device_fact, header_fact, snapshot_fact, facts}
-use Rattle.cvr_facts.proofs.Members.{one_listed, from_map}
+use Rattle.cvr_facts.proofs.Lemmas.{one_listed, from_map}
 use Rattle.cvr_facts.specs.Sources.{devices_in, cvrs_in, snapshots_in, Source, of_device, of_header, of_snapshot}
-use Rattle.cvr_facts.proofs.Sources.{device_listed, header_listed, snapshot_listed, fact_source, fact_held}
+use Rattle.cvr_facts.proofs.Laws.{device_listed, header_listed, snapshot_listed, fact_source, fact_held}
 
 -- ---- parts of a record
 

@@ -9,7 +9,7 @@ use Rattle.std.specs.FinMap.{IsAntisymmetric, from_entries}
 use Rattle.std.specs.FinSet.{items, from_list, union, same_set, contains-items, contains-from_list, contains-union}
 use Rattle.std.proofs.lemmas.Map.Views.{Contains-from_any, list_any-from_Contains, tells_apart}
 use Rattle.std.proofs.lemmas.List.Folds.{list_any-append}
-use Rattle.cdf_form.specs.Places.{Contest, selections_at}
+use Rattle.cdf_parts.specs.Places.{Contest, selections_at}
 use Rattle.cdf_typed.specs.Greatest.{greatest}
 use Rattle.cvr_facts.specs.declared.name.RecordName.{RecordName}
 use Rattle.cvr_facts.specs.declared.sums.VoteSums.{VoteSums}

@@ -5,8 +5,8 @@ use Rattle.std.specs.FinSet.{contains, items, union, contains-union}
 use Rattle.std.proofs.lemmas.Cmp.{nat_list_eq_equiv}
 use Rattle.std.proofs.lemmas.Map.Views.{Contains-from_any, list_any-from_Contains}
 use Rattle.std.proofs.lemmas.Slice.Eq.{bytes_eq-Decides}
-use Rattle.cdf_form.specs.Places.{Texts}
-use Rattle.cdf_check.specs.References.{Scope}
+use Rattle.cdf_parts.specs.Places.{Texts}
+use Rattle.cdf_definition.specs.References.{Scope}
 use Rattle.cdf_check.proofs.Laws.{header_stays, snapshot_stays}
 use Rattle.cdf_check.specs.Wider.{Includes, Wider}
 use Rattle.cvr_facts.specs.Facts.{Fact, Device, Header, Snapshot, Facts, fact_total}

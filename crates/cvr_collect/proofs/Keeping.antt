@@ -4,11 +4,11 @@ use Rattle.std.specs.FinSet.{contains, union}
 use Rattle.std.specs.List.{AllByRecursion}
 use Rattle.std.proofs.Math.Logic.{∥∥₁_map}
 use Rattle.serde_json.specs.Written.{compact_text}
-use Rattle.cdf_form.specs.Parts.{ids_at, id_of}
-use Rattle.cdf_check.specs.Acceptance.{Valid, value_in}
-use Rattle.cdf_check.specs.Frame.{Frame, scope_in}
+use Rattle.cdf_parts.specs.Parts.{ids_at, id_of}
+use Rattle.cdf_definition.specs.Acceptance.{Valid, value_in}
+use Rattle.cdf_definition.specs.Frame.{Frame, scope_in}
 use Rattle.cdf_check.specs.Same.{AreEqualButDevices}
-use Rattle.cdf_check.specs.Sound.{IsFrame}
+use Rattle.cdf_definition.specs.Sound.{IsFrame}
 use Rattle.cdf_check.proofs.Laws.{same_definitions, more_devices, bodies_utf8}
 use Rattle.cdf_check.specs.Wider.{Includes}
 use Rattle.cvr_facts.specs.Facts.{Fact, Facts, texts}
@@ -16,7 +16,9 @@ use Rattle.cvr_facts.specs.Reports.{facts, device_fact}
 use Rattle.cvr_facts.specs.Stands.{Stands, IsOfWhole}
 use Rattle.cvr_facts.proofs.Lemmas.{from_map}
 use Rattle.cvr_facts.specs.Sources.{devices_in, Source, of_device, of_header, of_snapshot}
-use Rattle.cvr_facts.proofs.Laws.{device_listed, fact_source, fact_held, facts_stand, records_whole}
+use Rattle.cvr_facts.proofs.Laws.{device_listed, fact_source, fact_held}
+use Rattle.cvr_collect.proofs.Standing.{facts_stand}
+use Rattle.cvr_collect.proofs.FileRecords.{records_whole}
 use Rattle.cvr_collect.specs.Keeps.{Keeps, content_scope}
 use Rattle.cvr_collect.specs.Laws.{ImportLaw, JoinLaw}
 use Rattle.cvr_collect.specs.Under.{device_ids}

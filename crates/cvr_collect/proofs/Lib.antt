@@ -58,5 +58,7 @@ pub mod SeveralBodies
 pub mod BallotCounts
 pub mod GivenFacts
 pub mod InParts
+pub mod Standing
+pub mod FileRecords
 pub mod Laws
 pub mod Lemmas

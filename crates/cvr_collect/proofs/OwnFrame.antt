@@ -10,11 +10,11 @@ use Rattle.std.proofs.lemmas.Map.Text.{is_eq-slice_cmp}
 use Rattle.std.proofs.lemmas.Map.Views.{lookup-from_Contains}
 use Rattle.serde_json.specs.Data.{Data}
 use Rattle.serde_json.specs.Written.{compact_text}
-use Rattle.cdf_form.specs.Parts.{array_at, id_of}
-use Rattle.cdf_check.specs.Named.{Entry, named, ids_of, text_of}
-use Rattle.cdf_check.specs.Frame.{frame_of, entries_at}
-use Rattle.cdf_check.specs.Agreement.{AreListed, Agrees}
-use Rattle.cdf_check.specs.Acceptance.{Holds, IsReport, Valid}
+use Rattle.cdf_parts.specs.Parts.{array_at, id_of}
+use Rattle.cdf_definition.specs.Named.{Entry, named, ids_of, text_of}
+use Rattle.cdf_definition.specs.Frame.{frame_of, entries_at}
+use Rattle.cdf_definition.specs.Agreement.{AreListed, Agrees}
+use Rattle.cdf_definition.specs.Acceptance.{Holds, IsReport, Valid}
 use Rattle.cdf_check.specs.Laws.{IsListOf}
 use Rattle.cdf_check.proofs.Laws.{lists}
 use Rattle.cvr_facts.proofs.Lemmas.{in_map, from_map}

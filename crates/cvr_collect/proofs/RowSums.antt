@@ -5,7 +5,7 @@ use Rattle.std.proofs.lemmas.Bool.{eqb-true}
 use Rattle.std.proofs.lemmas.List.Elements.{Contains-append_cases}
 use Rattle.std.proofs.lemmas.Map.Keys.{IsDistinct-head, IsDistinct-tail, IsDistinct-cons}
 use Rattle.cdf_types.specs.declared.report.ContestVote.{ContestVote}
-use Rattle.cdf_form.specs.Places.{Texts, Contest, selections_at}
+use Rattle.cdf_parts.specs.Places.{Texts, Contest, selections_at}
 use Rattle.cvr_facts.specs.Sums.{votes_from, sums_of, by_place, sums_in, AreInRange}
 use Rattle.cvr_facts.proofs.Laws.{sums_of_are_below}
 use Rattle.cvr_facts.proofs.Lemmas.{none_listed, at_tail, head_or_tail, from_map}

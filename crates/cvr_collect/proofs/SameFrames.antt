@@ -1,9 +1,9 @@
 -- The same definitions agree with the same reports, and name the same.
 use Rattle.std.proofs.Common.{◌≡◌, codes, sym, subst}
 use Rattle.serde_json.specs.Data.{Data}
-use Rattle.cdf_form.specs.Places.{Texts}
-use Rattle.cdf_check.specs.Agreement.{AreListed, Agrees}
-use Rattle.cdf_check.specs.Frame.{Frame, scope_in}
+use Rattle.cdf_parts.specs.Places.{Texts}
+use Rattle.cdf_definition.specs.Agreement.{AreListed, Agrees}
+use Rattle.cdf_definition.specs.Frame.{Frame, scope_in}
 use Rattle.cdf_check.specs.Same.{AreEqualButDevices}
 
 -- they agree with the same reports

@@ -1,17 +1,18 @@
 -- The bodies of a valid file's facts stand.
 use Rattle.std.proofs.Common.{ℕ, List, codes, refl}
-use Rattle.cdf_form.specs.Parts.{ids_at}
+use Rattle.cdf_parts.specs.Parts.{ids_at}
 use Rattle.cdf_typed.specs.Typed.{header_of}
-use Rattle.cdf_check.specs.Frame.{Frame, scope_in}
-use Rattle.cdf_check.specs.References.{Scope}
-use Rattle.cdf_check.specs.Sound.{IsFrame}
-use Rattle.cdf_check.specs.Acceptance.{Valid, value_in}
-use Rattle.cdf_check.proofs.Laws.{references, contests_agree, devices_stand, headers_stand, snapshots_stand}
+use Rattle.cdf_definition.specs.Frame.{Frame, scope_in}
+use Rattle.cdf_definition.specs.References.{Scope}
+use Rattle.cdf_definition.specs.Sound.{IsFrame}
+use Rattle.cdf_definition.specs.Acceptance.{Valid, value_in}
+use Rattle.cdf_definition.proofs.Laws.{references}
+use Rattle.cdf_check.proofs.Laws.{contests_agree, devices_stand, headers_stand, snapshots_stand}
 use Rattle.cvr_facts.specs.Facts.{Fact}
 use Rattle.cvr_facts.specs.Stands.{Stands}
-use Rattle.cvr_facts.specs.Laws.{FactsStandLaw}
+use Rattle.cvr_collect.specs.FileFacts.{FactsStandLaw}
 use Rattle.cvr_facts.specs.Sources.{Source, of_device, of_header, of_snapshot}
-use Rattle.cvr_facts.proofs.Sources.{fact_source}
+use Rattle.cvr_facts.proofs.Laws.{fact_source}
 
 abbrev scope_of_file : Frame → List ℕ → Scope
 scope_of_file frame bytes = scope_in frame (ids_at (codes "ReportingDevice") (value_in bytes))

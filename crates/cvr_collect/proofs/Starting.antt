@@ -5,11 +5,12 @@ use Rattle.std.specs.FinSet.{contains}
 use Rattle.std.specs.List.{AllByRecursion}
 use Rattle.std.proofs.Math.Logic.{∥∥₁_map}
 use Rattle.serde_json.specs.Data.{Data, null}
-use Rattle.cdf_check.specs.Acceptance.{IsReport, Valid, value_in}
-use Rattle.cdf_check.specs.Frame.{Frame, frame_of}
-use Rattle.cdf_check.specs.Named.{Entry, named}
-use Rattle.cdf_check.specs.Sound.{IsFrame, WasRead}
-use Rattle.cdf_check.proofs.Laws.{lists, sound, devices_stand, bodies_utf8}
+use Rattle.cdf_definition.specs.Acceptance.{IsReport, Valid, value_in}
+use Rattle.cdf_definition.specs.Frame.{Frame, frame_of}
+use Rattle.cdf_definition.specs.Named.{Entry, named}
+use Rattle.cdf_definition.specs.Sound.{IsFrame, WasRead}
+use Rattle.cdf_check.proofs.Laws.{lists, devices_stand, bodies_utf8}
+use Rattle.cdf_definition.proofs.Laws.{sound}
 use Rattle.cvr_facts.specs.Facts.{Fact, Device, fact_total, fact_exact, texts}
 use Rattle.cvr_facts.specs.Reports.{facts, device_fact}
 use Rattle.cvr_facts.specs.Stands.{Stands, IsOfWhole}

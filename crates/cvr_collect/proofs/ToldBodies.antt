@@ -18,12 +18,13 @@ use Rattle.cdf_form.specs.declared.table.Kind.TheVariants.{One}
 use Rattle.cdf_form.specs.declared.table.Leaf.TheVariants as leaf
 use Rattle.cdf_form.specs.Form.{Fault, faults}
 use Rattle.cdf_form.specs.HasForm.{HasForm}
-use Rattle.cdf_form.specs.Parts.{id_of}
-use Rattle.cdf_form.specs.Proper.{IsProper}
-use Rattle.cdf_form.proofs.Laws.{fits_of, no_faults, must_be_text, row_of, proper_read}
-use Rattle.cdf_form.proofs.Lemmas.{inside}
-use Rattle.cdf_check.specs.Bodies.{DeviceStands}
-use Rattle.cdf_check.specs.Depths.{id_row}
+use Rattle.cdf_parts.specs.Parts.{id_of}
+use Rattle.cdf_parts.specs.Proper.{IsProper}
+use Rattle.cdf_form.proofs.Laws.{fits_of, no_faults, must_be_text, row_of}
+use Rattle.cdf_parts.proofs.Laws.{proper_read}
+use Rattle.cdf_parts.proofs.Lemmas.{inside}
+use Rattle.cdf_definition.specs.Bodies.{DeviceStands}
+use Rattle.cdf_definition.specs.Depths.{id_row}
 use Rattle.cvr_facts.specs.Stands.{Spells}
 
 -- a device's body that stands

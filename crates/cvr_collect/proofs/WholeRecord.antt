@@ -10,7 +10,7 @@ use Rattle.std.specs.Cmp.{eq_by_cmp_equiv}
 use Rattle.std.proofs.lemmas.List.Elements.{Contains-get_or}
 use Rattle.std.proofs.lemmas.List.Sorted.{IsPermutation-map, IsPermutation-sym, IsPermutation-reverse, Contains-permutation}
 use Rattle.std.proofs.lemmas.Map.Keys.{IsDistinct-from_sorted, IsDistinct-from_apart, IsDistinct-IsPermutation, apart_from_distinct}
-use Rattle.cdf_form.specs.Places.{Contest}
+use Rattle.cdf_parts.specs.Places.{Contest}
 use Rattle.cvr_facts.specs.declared.name.RecordName.{RecordName}
 use Rattle.cvr_facts.specs.declared.header.HeaderFact.{HeaderFact}
 use Rattle.cvr_facts.specs.declared.snapshot.SnapshotFact.{SnapshotFact}

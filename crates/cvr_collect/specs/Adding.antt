@@ -3,7 +3,7 @@ use Rattle.std.specs.Prelude.{◌≡◌, ◌==◌, ◌<◌, ℕ, List, map, leng
 use Rattle.std.specs.List.{Contains, IsDistinct}
 use Rattle.std.specs.Option.{IfSome}
 use Rattle.std.specs.FinMap as map_of
-use Rattle.cdf_form.specs.Places.{Contest, selections_at}
+use Rattle.cdf_parts.specs.Places.{Contest, selections_at}
 use Rattle.cvr_facts.specs.declared.name.RecordName.{RecordName}
 use Rattle.cvr_facts.specs.declared.sums.VoteSums.{VoteSums}
 use Rattle.cvr_facts.specs.Facts.{Facts}

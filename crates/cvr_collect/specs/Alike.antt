@@ -3,10 +3,10 @@ use Rattle.std.specs.Prelude.{◌≡◌, ◌↔◌, ◌<◌, ℕ, List, [], leng
 use Rattle.std.specs.List.{All, slice_get}
 use Rattle.std.specs.FinSet.{contains, union, empty}
 use Rattle.serde_json.specs.Data.{Data}
-use Rattle.cdf_check.specs.Acceptance.{value_in}
-use Rattle.cdf_check.specs.Frame.{Frame, IsSame}
+use Rattle.cdf_definition.specs.Acceptance.{value_in}
+use Rattle.cdf_definition.specs.Frame.{Frame, IsSame}
 use Rattle.cdf_check.specs.Same.{IsOne}
-use Rattle.cdf_check.specs.Sound.{IsFrame}
+use Rattle.cdf_definition.specs.Sound.{IsFrame}
 use Rattle.cvr_facts.specs.declared.name.RecordName.{RecordName}
 use Rattle.cvr_facts.specs.declared.header.HeaderFact.{HeaderFact}
 use Rattle.cvr_facts.specs.declared.snapshot.SnapshotFact.{SnapshotFact}

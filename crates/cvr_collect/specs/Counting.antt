@@ -3,8 +3,8 @@ use Rattle.std.specs.Prelude.{◌≡◌, ◌↔◌, ◌+◌, ◌==◌, ◌≤◌
 use Rattle.std.specs.List.{Contains, filter, sum_by}
 use Rattle.std.specs.FinMap.{entries}
 use Rattle.std.specs.FinSet.{len, union}
-use Rattle.cdf_form.specs.Places.{Contest}
-use Rattle.cdf_check.specs.Frame.{Frame}
+use Rattle.cdf_parts.specs.Places.{Contest}
+use Rattle.cdf_definition.specs.Frame.{Frame}
 use Rattle.cvr_facts.specs.declared.name.RecordName.{RecordName}
 use Rattle.cvr_facts.specs.Facts.{Facts}
 use Rattle.cvr_tally.specs.Rows.{Rows}

@@ -3,10 +3,10 @@ use Rattle.std.specs.Prelude.{◌≡◌, ℕ, List, map, true}
 use Rattle.std.specs.List.{AllByRecursion, filter_map}
 use Rattle.std.specs.FinSet.{contains, items, from_list}
 use Rattle.std.specs.Str.{IsUtf8}
-use Rattle.cdf_check.specs.References.{Scope}
-use Rattle.cdf_check.specs.Frame.{Frame, scope_in}
-use Rattle.cdf_check.specs.Sound.{IsFrame}
-use Rattle.cdf_check.specs.Acceptance.{Valid}
+use Rattle.cdf_definition.specs.References.{Scope}
+use Rattle.cdf_definition.specs.Frame.{Frame, scope_in}
+use Rattle.cdf_definition.specs.Sound.{IsFrame}
+use Rattle.cdf_definition.specs.Acceptance.{Valid}
 use Rattle.cvr_facts.specs.Facts.{Fact, Device, Facts, texts}
 use Rattle.cvr_facts.specs.Reports.{facts}
 use Rattle.cvr_facts.specs.Stands.{Stands, IsOfWhole}

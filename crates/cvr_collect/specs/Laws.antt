@@ -5,10 +5,10 @@ use Rattle.std.specs.declared.cmp.Ordering.{Ordering}
 use Rattle.std.specs.declared.cmp.Ordering.TheVariants.{Less, Greater}
 use Rattle.std.specs.FinMap.{get}
 use Rattle.std.specs.FinSet.{contains, union}
-use Rattle.cdf_form.specs.Places.{Contest}
-use Rattle.cdf_check.specs.Frame.{Frame, IsSame}
-use Rattle.cdf_check.specs.Sound.{IsFrame}
-use Rattle.cdf_check.specs.Acceptance.{Valid}
+use Rattle.cdf_parts.specs.Places.{Contest}
+use Rattle.cdf_definition.specs.Frame.{Frame, IsSame}
+use Rattle.cdf_definition.specs.Sound.{IsFrame}
+use Rattle.cdf_definition.specs.Acceptance.{Valid}
 use Rattle.cvr_facts.specs.Facts.{Fact, Facts}
 use Rattle.cvr_facts.specs.Reports.{facts}
 use Rattle.cvr_collect.specs.Readers.{next}

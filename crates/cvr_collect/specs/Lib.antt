@@ -22,3 +22,4 @@ pub mod Counting
 pub mod Parts
 pub mod Examples
 pub mod PartExamples
+pub mod FileFacts

@@ -2,12 +2,12 @@
 use Rattle.std.specs.Prelude.{◌≡◌, ℕ, List}
 use Rattle.std.specs.List.{Contains}
 use Rattle.serde_json.specs.Data.{Data}
-use Rattle.cdf_form.specs.Parts.{array_at}
-use Rattle.cdf_check.specs.Acceptance.{IsReport}
-use Rattle.cdf_check.specs.Agreement.{Agrees}
-use Rattle.cdf_check.specs.Frame.{Frame, frame_of, entries_at}
+use Rattle.cdf_parts.specs.Parts.{array_at}
+use Rattle.cdf_definition.specs.Acceptance.{IsReport}
+use Rattle.cdf_definition.specs.Agreement.{Agrees}
+use Rattle.cdf_definition.specs.Frame.{Frame, frame_of, entries_at}
 use Rattle.cdf_check.specs.Laws.{IsListOf}
-use Rattle.cdf_check.specs.Named.{Entry, named}
+use Rattle.cdf_definition.specs.Named.{Entry, named}
 use Rattle.cdf_check.specs.Same.{AreEqualButDevices}
 
 -- a report agrees with the definition that is made of it

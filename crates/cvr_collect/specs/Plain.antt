@@ -5,9 +5,9 @@ use Rattle.std.specs.List.Sorted.{IsStrictlySortedBy}
 use Rattle.std.specs.Coded.{Coded, code_by, coded×, coded_list, coded_ℕ}
 use Rattle.std.specs.FinSet.{from_list, union}
 use Rattle.std.proofs.Common.{refl}
-use Rattle.cdf_form.specs.Places.{Contest}
-use Rattle.cdf_check.specs.Named.{Entry}
-use Rattle.cdf_check.specs.Frame.{Frame}
+use Rattle.cdf_parts.specs.Places.{Contest}
+use Rattle.cdf_definition.specs.Named.{Entry}
+use Rattle.cdf_definition.specs.Frame.{Frame}
 use Rattle.cvr_facts.specs.declared.list.FactList.{FactList}
 use Rattle.cvr_facts.specs.Facts.{Facts, fact_cmp, coded_facts}
 use Rattle.cvr_facts.specs.Lists.{facts_in}

@@ -4,7 +4,7 @@ use Rattle.std.specs.List.{Contains, filter, filter_map}
 use Rattle.std.specs.Cmp.{IsTotalOrder}
 use Rattle.std.specs.FinMap.{IsAntisymmetric}
 use Rattle.std.specs.FinSet.{contains, items}
-use Rattle.cdf_form.specs.Places.{Texts}
+use Rattle.cdf_parts.specs.Places.{Texts}
 use Rattle.cdf_check.specs.Wider.{Includes}
 use Rattle.cvr_facts.specs.declared.name.RecordName.{RecordName}
 use Rattle.cvr_facts.specs.Facts.{Device, Header, Snapshot, Facts, name_cmp}

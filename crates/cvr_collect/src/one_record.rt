@@ -1,5 +1,5 @@
 ghost use Rattle.std.specs.Prelude.{◌≡◌, List, OnOk, IfOk, take, drop, option_map, None, false, not};
-ghost use Rattle.cdf_form.specs.Places.{Contest};
+ghost use Rattle.cdf_parts.specs.Places.{Contest};
 ghost use Rattle.std.specs.List.{last_or, filter, Contains};
 ghost use Rattle.std.specs.List.Sorted.{IsStrictlySortedBy};
 ghost use Rattle.std.specs.Ordering.{is_lt};

@@ -1,8 +1,8 @@
 ghost use Rattle.std.specs.Prelude.{◌≡◌, ℕ, ◌<◌, ◌≢◌, ◌⊎◌, [], map, get_or, length, OnErr, IfOk};
 ghost use Rattle.std.specs.FinSet.{empty};
 ghost use Rattle.cdf_types.specs.declared.fault.ReadFault.TheVariants as read;
-ghost use Rattle.cdf_check.specs.Frame.{IsSame};
-ghost use Rattle.cdf_check.specs.Acceptance.{first_refusal};
+ghost use Rattle.cdf_definition.specs.Frame.{IsSame};
+ghost use Rattle.cdf_definition.specs.Acceptance.{first_refusal};
 ghost use Rattle.cvr_facts.specs.Reports.{facts};
 ghost use Rattle.cvr_collect.specs.declared.fault.JoinFault.TheVariants as join_fault;
 ghost use Rattle.cvr_collect.specs.Readers.{growth};

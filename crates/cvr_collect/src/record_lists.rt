@@ -1,6 +1,6 @@
 ghost use Rattle.std.specs.Prelude.{◌≡◌, ℕ, List, IfOk, map, reverse, Some};
 ghost use Rattle.std.specs.List.{dedup};
-ghost use Rattle.cdf_form.specs.Places.{Contest};
+ghost use Rattle.cdf_parts.specs.Places.{Contest};
 ghost use Rattle.std.specs.List.Sorted.{IsStrictlySortedBy};
 ghost use Rattle.std.specs.Prelude.{bytes_eq};
 ghost use Rattle.cvr_collect.specs.Place.{any_cmp};

@@ -16,11 +16,11 @@ use Rattle.cdf_form.specs.declared.table.Kind.TheVariants.{One, Array}
 use Rattle.cdf_form.specs.Tables.{table, classes_of, any}
 use Rattle.cdf_form.specs.Form.{key_text}
 use Rattle.cdf_form.specs.HasForm.{HasForm, items}
-use Rattle.cdf_form.specs.Parts.{id_of}
+use Rattle.cdf_parts.specs.Parts.{id_of}
 use Rattle.cdf_form.specs.ByRow.{AllClasses, find_row}
-use Rattle.cdf_form.proofs.Lemmas.{inside}
-use Rattle.cdf_check.specs.Depths.{id_row}
-use Rattle.cdf_check.proofs.Laws.{has_id}
+use Rattle.cdf_parts.proofs.Lemmas.{inside}
+use Rattle.cdf_definition.specs.Depths.{id_row}
+use Rattle.cdf_definition.proofs.Laws.{has_id}
 use Rattle.cvr_facts.specs.Facts.{text_cmp}
 use Rattle.cvr_facts.proofs.Laws.{text_total}
 use Rattle.cvr_facts.proofs.Lemmas.{at_head, at_tail, head_or_tail, none_listed}

@@ -2,8 +2,8 @@
 use Rattle.std.proofs.Common.{◌≡◌, ◌<◌, ℕ, List, Contains, true, codes, sym, subst}
 use Rattle.std.specs.FinSet.{contains}
 use Rattle.serde_json.specs.Data.{Data}
-use Rattle.cdf_form.specs.Parts.{array_at}
-use Rattle.cdf_check.specs.Frame.{Frame}
+use Rattle.cdf_parts.specs.Parts.{array_at}
+use Rattle.cdf_definition.specs.Frame.{Frame}
 use Rattle.cvr_facts.specs.declared.name.RecordName.{RecordName}
 use Rattle.cvr_facts.specs.Choosing.{data_of}
 use Rattle.cvr_facts.specs.Facts.{Fact, Device, Header, Snapshot, Facts}

@@ -10,9 +10,9 @@ use Rattle.serde_json.specs.Data.{Data, string, array, object, Members, no_membe
 use Rattle.serde_json.specs.Read.{read, max_depth}
 use Rattle.serde_json.specs.View.{items_of}
 use Rattle.serde_json.specs.Written.{compact_text}
-use Rattle.cdf_form.specs.Proper.{IsProper}
+use Rattle.cdf_parts.specs.Proper.{IsProper}
 use Rattle.cdf_form.specs.Reading.{value_of}
-use Rattle.cdf_form.proofs.Laws.{array_proper, proper_deeper, read-proper, put_proper}
+use Rattle.cdf_parts.proofs.Laws.{array_proper, proper_deeper, read-proper, put_proper}
 use Rattle.cdf_check.specs.Utf8.{HasUtf8, ItemsHaveUtf8, MembersHaveUtf8}
 use Rattle.cdf_check.proofs.Laws.{file_utf8, proper_utf8}
 use Rattle.cvr_facts.proofs.Lemmas.{at_head, at_tail}

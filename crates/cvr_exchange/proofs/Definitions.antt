@@ -4,17 +4,18 @@ use Rattle.std.proofs.Math.Logic.{∥∥₁_elim}
 use mathlib.Core.Bool.{Bool-set}
 use Rattle.serde_json.specs.Data.{Data, null}
 use Rattle.serde_json.specs.Written.{compact_text}
-use Rattle.cdf_form.specs.Parts.{array_at, id_of, the_election}
-use Rattle.cdf_form.specs.Places.{contest_of}
-use Rattle.cdf_form.proofs.Laws.{part_reads_back, listed_part}
-use Rattle.cdf_check.specs.Acceptance.{Holds, IsReport}
-use Rattle.cdf_check.specs.Agreement.{Agrees}
-use Rattle.cdf_check.specs.Frame.{Frame, frame_of, entries_at}
+use Rattle.cdf_parts.specs.Parts.{array_at, id_of, the_election}
+use Rattle.cdf_parts.specs.Places.{contest_of}
+use Rattle.cdf_parts.proofs.Laws.{part_reads_back, listed_part}
+use Rattle.cdf_definition.specs.Acceptance.{Holds, IsReport}
+use Rattle.cdf_definition.specs.Agreement.{Agrees}
+use Rattle.cdf_definition.specs.Frame.{Frame, frame_of, entries_at}
 use Rattle.cdf_check.specs.Laws.{IsListOf}
-use Rattle.cdf_check.specs.Named.{Entry, named, sorted, ids_of, texts_of}
-use Rattle.cdf_check.specs.Sound.{IsFrame}
-use Rattle.cdf_check.proofs.Laws.{was_read, report_proper, listed_proper, lists, one_election, sound, file_utf8, part_utf8}
-use Rattle.cdf_check.proofs.Lemmas.{election_listed}
+use Rattle.cdf_definition.specs.Named.{Entry, named, sorted, ids_of, texts_of}
+use Rattle.cdf_definition.specs.Sound.{IsFrame}
+use Rattle.cdf_definition.proofs.Laws.{was_read, report_proper, listed_proper, one_election, sound}
+use Rattle.cdf_check.proofs.Laws.{lists, file_utf8, part_utf8}
+use Rattle.cdf_definition.proofs.Lemmas.{election_listed}
 use Rattle.cvr_facts.specs.Choosing.{data_of}
 use Rattle.cvr_facts.proofs.Lemmas.{at_head, at_tail, in_map, from_map}
 use Rattle.cvr_collect.proofs.Laws.{entry_source, own_agrees}

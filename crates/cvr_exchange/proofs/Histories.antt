@@ -3,9 +3,9 @@ use Rattle.std.proofs.Common.{◌≡◌, ◌==◌, ℕ, List, [], ◌∷◌, ◌
 use Rattle.std.specs.List.{list_any}
 use Rattle.std.specs.Cmp.{both_ways}
 use Rattle.std.specs.FinSet.{contains, union, empty, insert, items, same_set, contains-union}
-use Rattle.cdf_check.specs.Acceptance.{first_refusal}
-use Rattle.cdf_check.specs.Frame.{Frame}
-use Rattle.cdf_check.proofs.Laws.{valid_file}
+use Rattle.cdf_definition.specs.Acceptance.{first_refusal}
+use Rattle.cdf_definition.specs.Frame.{Frame}
+use Rattle.cdf_definition.proofs.Laws.{valid_file}
 use Rattle.cvr_facts.specs.Facts.{Facts, fact_total, fact_exact}
 use Rattle.cvr_facts.specs.Reports.{facts}
 use Rattle.cvr_facts.specs.Unions.{union_laws}

@@ -5,12 +5,12 @@ use Rattle.std.proofs.lemmas.Map.Views.{Contains-from_any}
 use Rattle.serde_json.specs.Data.{Data}
 use Rattle.serde_json.specs.Find.{as_str}
 use Rattle.cdf_form.specs.Form.{at_member}
-use Rattle.cdf_form.specs.Parts.{text_in, text_at}
-use Rattle.cdf_form.specs.Places.{Texts, contest_ids, selections_of}
-use Rattle.cdf_check.specs.Paths.{each}
-use Rattle.cdf_check.specs.References.{Scope, unknown, one, many, in_selection_vote, in_votes, in_contest_vote, in_snapshot}
-use Rattle.cdf_check.specs.Resolves.{Names, AllName, Each, VoteResolves, SnapshotResolves, SelectionResolves, ElectionResolves}
-use Rattle.cdf_check.proofs.Lemmas.{left_nil, right_nil, inner, unless_nil}
+use Rattle.cdf_parts.specs.Parts.{text_in, text_at}
+use Rattle.cdf_parts.specs.Places.{Texts, contest_ids, selections_of}
+use Rattle.cdf_definition.specs.Paths.{each}
+use Rattle.cdf_definition.specs.References.{Scope, unknown, one, many, in_selection_vote, in_votes, in_contest_vote, in_snapshot}
+use Rattle.cdf_definition.specs.Resolves.{Names, AllName, Each, VoteResolves, SnapshotResolves, SelectionResolves, ElectionResolves}
+use Rattle.cdf_definition.proofs.Lemmas.{left_nil, right_nil, inner, unless_nil}
 use Rattle.cdf_check.proofs.Laws.{each_at}
 
 -- ---- no path is missing

@@ -15,17 +15,18 @@ use Rattle.cdf_form.specs.declared.table.Kind.TheVariants.{One, Array}
 use Rattle.cdf_form.specs.Tables.{Entry, table, classes_of, required, any}
 use Rattle.cdf_form.specs.Form.{class_in, find_class}
 use Rattle.cdf_form.specs.HasForm.{HasForm, IsRow, text, class}
-use Rattle.cdf_form.specs.Parts.{list_of, array_at, ids_at, id_of, text_at}
-use Rattle.cdf_form.specs.Places.{Texts}
-use Rattle.cdf_form.specs.Removing.{without}
-use Rattle.cdf_form.proofs.Laws.{list_of-items_of, without-put}
-use Rattle.cdf_form.proofs.Lemmas.{inside}
+use Rattle.cdf_parts.specs.Parts.{list_of, array_at, ids_at, id_of, text_at}
+use Rattle.cdf_parts.specs.Places.{Texts}
+use Rattle.cdf_parts.specs.Removing.{without}
+use Rattle.cdf_parts.proofs.Laws.{list_of-items_of, without-put}
+use Rattle.cdf_parts.proofs.Lemmas.{inside}
 use Rattle.cdf_typed.specs.Typed.{header_of}
-use Rattle.cdf_check.specs.Bodies.{IsKept, HeaderStands, SnapshotStands}
-use Rattle.cdf_check.specs.References.{Scope, one, many}
-use Rattle.cdf_check.specs.Resolves.{Names, AllName, CvrResolves}
-use Rattle.cdf_check.proofs.Lemmas.{differ}
-use Rattle.cdf_check.proofs.Laws.{is_kept, cvr_parts}
+use Rattle.cdf_definition.specs.Bodies.{IsKept, HeaderStands, SnapshotStands}
+use Rattle.cdf_definition.specs.References.{Scope, one, many}
+use Rattle.cdf_definition.specs.Resolves.{Names, AllName, CvrResolves}
+use Rattle.cdf_definition.proofs.Lemmas.{differ}
+use Rattle.cdf_definition.proofs.Laws.{is_kept}
+use Rattle.cdf_check.proofs.Laws.{cvr_parts}
 use Rattle.cvr_report.specs.Record.{snapshots_name, current_name, record_members}
 use Rattle.cvr_exchange.proofs.Arrays.{IsRising, objects_form}
 use Rattle.cvr_exchange.proofs.Clean.{IsClean, clean_string, clean_array, clean_put}

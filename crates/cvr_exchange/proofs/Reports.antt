@@ -19,20 +19,21 @@ use Rattle.cdf_form.specs.declared.table.Kind.TheVariants.{One, Array}
 use Rattle.cdf_form.specs.Tables.{Entry as Row, table, classes_of, required, optional, any}
 use Rattle.cdf_form.specs.Form.{class_in, find_class}
 use Rattle.cdf_form.specs.HasForm.{HasForm, text, moment, listed, class}
-use Rattle.cdf_form.specs.PartOf.{IsPart, itself, of_member}
-use Rattle.cdf_form.specs.Parts.{list_of, array_at, ids_at, id_of, first_or_null}
-use Rattle.cdf_form.specs.Places.{contest_of}
+use Rattle.cdf_parts.specs.PartOf.{IsPart, itself, of_member}
+use Rattle.cdf_parts.specs.Parts.{list_of, array_at, ids_at, id_of, first_or_null}
+use Rattle.cdf_parts.specs.Places.{contest_of}
 use Rattle.cdf_form.specs.Reading.{value_of, max_file}
-use Rattle.cdf_form.proofs.Laws.{items_have_form, items_short, part_short, list_of-items_of, listed_part, part_of_part}
-use Rattle.cdf_form.proofs.Lemmas.{inside}
-use Rattle.cdf_check.specs.Acceptance.{Valid, value_in}
-use Rattle.cdf_check.specs.Agreement.{Agrees}
-use Rattle.cdf_check.specs.Frame.{Frame}
-use Rattle.cdf_check.specs.Named.{Entry, ids_of}
-use Rattle.cdf_check.specs.References.{Scope, scope_of}
-use Rattle.cdf_check.specs.Resolves.{Resolves, CvrResolves, ElectionResolves}
-use Rattle.cdf_check.specs.Depths.{election_row}
-use Rattle.cdf_check.proofs.Laws.{report_row, one_election}
+use Rattle.cdf_form.proofs.Laws.{items_have_form}
+use Rattle.cdf_parts.proofs.Laws.{items_short, part_short, list_of-items_of, listed_part, part_of_part}
+use Rattle.cdf_parts.proofs.Lemmas.{inside}
+use Rattle.cdf_definition.specs.Acceptance.{Valid, value_in}
+use Rattle.cdf_definition.specs.Agreement.{Agrees}
+use Rattle.cdf_definition.specs.Frame.{Frame}
+use Rattle.cdf_definition.specs.Named.{Entry, ids_of}
+use Rattle.cdf_definition.specs.References.{Scope, scope_of}
+use Rattle.cdf_definition.specs.Resolves.{Resolves, CvrResolves, ElectionResolves}
+use Rattle.cdf_definition.specs.Depths.{election_row}
+use Rattle.cdf_definition.proofs.Laws.{report_row, one_election}
 use Rattle.cvr_facts.specs.declared.name.RecordName.{RecordName}
 use Rattle.cvr_facts.specs.Facts.{Device, Facts, fact_total, fact_exact}
 use Rattle.cvr_facts.proofs.Lemmas.{in_map, from_map, in_set}

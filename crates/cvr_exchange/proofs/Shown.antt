@@ -14,7 +14,7 @@ use Rattle.cvr_facts.specs.Choosing.{choice_cmp}
 use Rattle.cvr_facts.specs.Stands.{IsWhole}
 use Rattle.cvr_facts.proofs.Laws.{text_total, text_exact, choice_total, choice_exact, contains_iff}
 use Rattle.cvr_facts.proofs.Lemmas.{at_head, at_tail, in_map, from_map}
-use Rattle.cdf_check.specs.Frame.{Frame}
+use Rattle.cdf_definition.specs.Frame.{Frame}
 use Rattle.cvr_collect.specs.declared.conflict.ConflictName.TheVariants as name
 use Rattle.cvr_collect.specs.Keeps.{Keeps}
 use Rattle.cvr_collect.specs.Names.{records, devices, snapshot_ids, is_named, body_of}

@@ -15,12 +15,13 @@ use Rattle.cdf_form.specs.declared.table.Kind.TheVariants.{One}
 use Rattle.cdf_form.specs.Tables.{any}
 use Rattle.cdf_form.specs.Form.{class_in}
 use Rattle.cdf_form.specs.HasForm.{HasForm}
-use Rattle.cdf_form.specs.Parts.{array_at, id_of, text_at}
-use Rattle.cdf_check.specs.Bodies.{DeviceStands, HeaderStands, SnapshotStands}
-use Rattle.cdf_check.specs.Frame.{Frame, scope_in}
-use Rattle.cdf_check.specs.References.{Scope}
-use Rattle.cdf_check.specs.Resolves.{CvrResolves}
-use Rattle.cdf_check.proofs.Laws.{more_devices, header_stays, snapshot_stays, is_kept}
+use Rattle.cdf_parts.specs.Parts.{array_at, id_of, text_at}
+use Rattle.cdf_definition.specs.Bodies.{DeviceStands, HeaderStands, SnapshotStands}
+use Rattle.cdf_definition.specs.Frame.{Frame, scope_in}
+use Rattle.cdf_definition.specs.References.{Scope}
+use Rattle.cdf_definition.specs.Resolves.{CvrResolves}
+use Rattle.cdf_check.proofs.Laws.{more_devices, header_stays, snapshot_stays}
+use Rattle.cdf_definition.proofs.Laws.{is_kept}
 use Rattle.cdf_check.specs.Wider.{Wider}
 use Rattle.cvr_facts.specs.declared.name.RecordName.{RecordName}
 use Rattle.cvr_facts.specs.Facts.{Device, Header, Snapshot, Facts, text_cmp}

@@ -1,9 +1,10 @@
 -- A volume that is short enough is accepted beside its definition, and beside any that is the same.
 use Rattle.std.proofs.Common.{◌≡◌, Bool, true, false, Option, Some, None, refl, sym, ap}
 use Rattle.cdf_types.specs.declared.fault.ReadFault.{ReadFault}
-use Rattle.cdf_check.specs.Acceptance.{first_refusal}
-use Rattle.cdf_check.specs.Frame.{Frame, IsSame}
-use Rattle.cdf_check.proofs.Laws.{valid_file, same_definitions}
+use Rattle.cdf_definition.specs.Acceptance.{first_refusal}
+use Rattle.cdf_definition.specs.Frame.{Frame, IsSame}
+use Rattle.cdf_definition.proofs.Laws.{valid_file}
+use Rattle.cdf_check.proofs.Laws.{same_definitions}
 use Rattle.cvr_collect.proofs.Laws.{agrees_alike}
 use Rattle.cvr_report.specs.Volume.{volume}
 use Rattle.cvr_exchange.specs.Laws.{ValidLaw, ValidForSameLaw}

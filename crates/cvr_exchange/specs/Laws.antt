@@ -4,9 +4,9 @@ use Rattle.std.specs.List.{slice_get, range_with_len}
 use Rattle.std.specs.FinSet.{contains, union, empty}
 use Rattle.cdf_types.specs.declared.fault.ReadFault.TheVariants as read
 use Rattle.cdf_form.specs.Reading.{max_file}
-use Rattle.cdf_check.specs.Frame.{Frame, IsSame}
-use Rattle.cdf_check.specs.Sound.{IsFrame}
-use Rattle.cdf_check.specs.Acceptance.{Valid}
+use Rattle.cdf_definition.specs.Frame.{Frame, IsSame}
+use Rattle.cdf_definition.specs.Sound.{IsFrame}
+use Rattle.cdf_definition.specs.Acceptance.{Valid}
 use Rattle.cvr_facts.specs.Facts.{Fact, Facts}
 use Rattle.cvr_facts.specs.Reports.{facts}
 use Rattle.cvr_collect.specs.declared.event.Event.TheVariants.{Exchange}

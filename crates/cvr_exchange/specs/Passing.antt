@@ -1,7 +1,7 @@
 -- Volumes that offices pass on as files, in place of exchanges. (This project's own.)
 use Rattle.std.specs.Prelude.{◌≡◌, ◌↔◌, ◌<◌, ◌≤◌, ℕ, List, [], ◌∷◌, ◌++◌, length, get_or, true}
 use Rattle.std.specs.List.{Contains}
-use Rattle.cdf_check.specs.Frame.{Frame}
+use Rattle.cdf_definition.specs.Frame.{Frame}
 use Rattle.cvr_facts.specs.Facts.{Facts}
 use Rattle.cvr_facts.specs.Reports.{facts}
 use Rattle.cvr_collect.specs.declared.event.Event.{Event}

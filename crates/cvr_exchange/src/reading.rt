@@ -2,7 +2,7 @@
 ghost use Rattle.std.specs.Prelude.{◌≡◌, ◌<◌, ◌≤◌, length, true};
 ghost use Rattle.std.specs.FinSet.{contains};
 ghost use Rattle.cdf_form.specs.Reading.{max_file};
-ghost use Rattle.cdf_check.specs.Acceptance.{Valid};
+ghost use Rattle.cdf_definition.specs.Acceptance.{Valid};
 ghost use Rattle.cvr_facts.specs.Facts.{Fact};
 ghost use Rattle.cvr_facts.specs.Reports.{facts};
 ghost use Rattle.cvr_report.specs.Head.{is_device_of};

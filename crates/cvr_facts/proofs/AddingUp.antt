@@ -7,7 +7,7 @@ use Rattle.std.proofs.lemmas.Bool.{cases_eq}
 use Rattle.std.proofs.lemmas.List.Sums.{sum_by-cons}
 use Rattle.cdf_types.specs.declared.report.SelectionVote.{SelectionVote}
 use Rattle.cdf_types.specs.declared.report.ContestVote.{ContestVote}
-use Rattle.cdf_form.specs.Places.{Texts, selections_at}
+use Rattle.cdf_parts.specs.Places.{Texts, selections_at}
 use Rattle.cvr_facts.specs.Sums.{counts, votes_of, names, names_none, votes_for, votes_from}
 use Rattle.cvr_facts.specs.SumLaws.{VotesLaw}
 use Rattle.cvr_facts.proofs.Members.{at_head, at_tail}

@@ -8,7 +8,7 @@ use Rattle.cdf_types.specs.declared.report.Position.{Position}
 use Rattle.cdf_types.specs.declared.report.SelectionVote.{SelectionVote}
 use Rattle.cdf_types.specs.declared.report.ContestVote.{ContestVote}
 use Rattle.cdf_types.specs.declared.report.Snapshot.{Snapshot}
-use Rattle.cdf_form.specs.Places.{Texts, Contest, selections_at}
+use Rattle.cdf_parts.specs.Places.{Texts, Contest, selections_at}
 use Rattle.cdf_typed.specs.Range.{IsCount, SelectionInRange, ContestInRange, SnapshotInRange}
 use Rattle.cvr_facts.specs.Sums.{counts, votes_of, names, names_none, votes_from, sums_of, sum_limit, AreBelow, AreInRange}
 

@@ -10,7 +10,7 @@ use Rattle.std.specs.Cmp.{IsTotalOrder, nat_cmp_is, int_cmp_is}
 use Rattle.std.specs.Cmp.Lexicographic.{options_total}
 use Rattle.std.specs.FinMap.{IsAntisymmetric, nat_cmp-IsAntisymmetric, int_cmp-IsAntisymmetric, slice_cmp-IsAntisymmetric}
 use Rattle.cdf_types.specs.SnapshotKind.{snapshot_kind_rank}
-use Rattle.cdf_form.specs.Parts.{id_of}
+use Rattle.cdf_parts.specs.Parts.{id_of}
 use Rattle.cdf_typed.specs.Typed.{kind_of, moment_of, snapshot_of}
 use Rattle.cvr_facts.specs.declared.snapshot.SnapshotFact.{SnapshotFact}
 use Rattle.cvr_facts.specs.Facts.{text_cmp}

@@ -10,7 +10,7 @@ use Rattle.std.proofs.lemmas.List.Sums.{sum_by-append, sum_by_more, sum_by_more_
 use Rattle.cdf_types.specs.declared.report.Position.{Position}
 use Rattle.cdf_types.specs.declared.report.SelectionVote.{SelectionVote}
 use Rattle.cdf_types.specs.declared.report.ContestVote.{ContestVote}
-use Rattle.cdf_form.specs.Places.{Texts, Contest, selections_at}
+use Rattle.cdf_parts.specs.Places.{Texts, Contest, selections_at}
 use Rattle.cdf_typed.specs.Range.{SelectionInRange, ContestInRange}
 use Rattle.cvr_facts.specs.Sums.{counts, is_pending, votes_among, votes_of, names, names_none, votes_for, votes_from, sum_limit}
 use Rattle.cvr_facts.proofs.Bounds.{positions-le, votes_are_below, sum_by-filter_next-lt}

@@ -3,5 +3,3 @@ pub use Rattle.cvr_facts.proofs.Bounds.{AreInRange-from_snapshot, sums_of_are_be
 pub use Rattle.cvr_facts.proofs.Choosing.{bodies, choice_exact, choice_total, current, fact_total, text_exact, text_total}
 pub use Rattle.cvr_facts.proofs.Records.{Contains-header_bodies, Contains-snapshot_bodies, contains_iff}
 pub use Rattle.cvr_facts.proofs.Sources.{device_listed, fact_held, fact_source, header_listed, snapshot_listed}
-pub use Rattle.cvr_facts.proofs.Standing.{facts_stand}
-pub use Rattle.cvr_facts.proofs.Whole.{records_whole}

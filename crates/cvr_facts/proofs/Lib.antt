@@ -7,8 +7,6 @@ pub mod Members
 pub mod Sources
 pub mod Told
 pub mod Spelled
-pub mod Standing
-pub mod Whole
 pub mod Greatest
 pub mod Choosing
 pub mod Records

@@ -6,7 +6,7 @@ use Rattle.std.specs.Cmp.{int_cmp_is, int_ranks}
 use Rattle.std.specs.FinMap.{int_cmp-IsAntisymmetric}
 use Rattle.std.proofs.lemmas.Cmp.{int_cmp_total}
 use Rattle.serde_json.specs.Data.{Data}
-use Rattle.cdf_form.specs.Parts.{array_at}
+use Rattle.cdf_parts.specs.Parts.{array_at}
 use Rattle.cdf_typed.specs.Greatest.{greatest}
 use Rattle.cdf_typed.specs.Typed.{instant_in}
 use Rattle.cvr_facts.specs.Laws.{IsAnnotatedAt, MomentLaw, NoMomentLaw}

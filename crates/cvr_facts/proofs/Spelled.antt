@@ -7,16 +7,16 @@ use Rattle.serde_json.specs.Find.{get, as_str}
 use Rattle.serde_json.specs.Read.{read, max_depth}
 use Rattle.serde_json.specs.Written.{compact_text, has_float}
 use Rattle.cdf_types.specs.declared.report.Report.{Report}
-use Rattle.cdf_form.specs.Parts.{text_in, text_at}
-use Rattle.cdf_form.specs.Places.{Contest}
-use Rattle.cdf_form.specs.Proper.{IsProper}
-use Rattle.cdf_form.specs.Removing.{without}
-use Rattle.cdf_form.proofs.Laws.{listed_part, listed_reads_back, part_proper, part_reads_back, read-proper, others_stay, without_proper, proper_read}
+use Rattle.cdf_parts.specs.Parts.{text_in, text_at}
+use Rattle.cdf_parts.specs.Places.{Contest}
+use Rattle.cdf_parts.specs.Proper.{IsProper}
+use Rattle.cdf_parts.specs.Removing.{without}
+use Rattle.cdf_parts.proofs.Laws.{listed_part, listed_reads_back, part_proper, part_reads_back, read-proper, others_stay, without_proper, proper_read}
 use Rattle.cdf_typed.specs.Typed.{device_of, snapshot_of, header_of, cvr_of, report_of}
-use Rattle.cdf_check.specs.Frame.{Frame}
-use Rattle.cdf_check.specs.Acceptance.{value_in}
-use Rattle.cdf_check.specs.Bodies.{IsKept}
-use Rattle.cdf_check.proofs.Laws.{valid_file, was_read, is_kept}
+use Rattle.cdf_definition.specs.Frame.{Frame}
+use Rattle.cdf_definition.specs.Acceptance.{value_in}
+use Rattle.cdf_definition.specs.Bodies.{IsKept}
+use Rattle.cdf_definition.proofs.Laws.{valid_file, was_read, is_kept}
 use Rattle.cvr_facts.specs.declared.device.DeviceFact.{DeviceFact}
 use Rattle.cvr_facts.specs.declared.header.HeaderFact.{HeaderFact}
 use Rattle.cvr_facts.specs.declared.snapshot.SnapshotFact.{SnapshotFact}

@@ -6,10 +6,10 @@ use Rattle.std.proofs.lemmas.List.{map-append}
 use Rattle.std.proofs.lemmas.List.Elements.{Contains-append_left, Contains-append_right, Contains-append_cases}
 use Rattle.serde_json.specs.Data.{Data}
 use Rattle.cdf_types.specs.declared.report.Report.{Report}
-use Rattle.cdf_form.specs.Places.{Contest}
+use Rattle.cdf_parts.specs.Places.{Contest}
 use Rattle.cdf_typed.specs.Typed.{device_of, snapshot_of, cvr_of, report_of}
-use Rattle.cdf_check.specs.Frame.{Frame}
-use Rattle.cdf_check.specs.Acceptance.{value_in}
+use Rattle.cdf_definition.specs.Frame.{Frame}
+use Rattle.cdf_definition.specs.Acceptance.{value_in}
 use Rattle.cvr_facts.specs.Facts.{Fact, fact_cmp, fact_total, fact_exact}
 use Rattle.cvr_facts.specs.Reports.{device_fact, header_fact, snapshot_fact, report_facts, facts}
 use Rattle.cvr_facts.specs.Lists.{told_device, told_header, told_snapshot, told_snapshots, fact_of_device, fact_of_header, fact_of_snapshot, told_facts, IsReportOf}

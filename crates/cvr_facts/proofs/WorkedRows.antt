@@ -15,7 +15,7 @@ use Rattle.std.specs.FinMap.{IsAntisymmetric}
 use Rattle.std.specs.FinSet.{contains-items, contains-union, contains-from_list, same_set, from_list, union, len, len-empty, len-insert, items}
 use Rattle.serde_json.specs.Data.{Data}
 use Rattle.cdf_typed.specs.Greatest.{greatest}
-use Rattle.cdf_check.specs.Acceptance.{value_in}
+use Rattle.cdf_definition.specs.Acceptance.{value_in}
 use Rattle.cvr_facts.specs.declared.name.RecordName.{RecordName}
 use Rattle.cvr_facts.specs.Facts.{Fact, fact_cmp, fact_total, fact_exact, text_cmp}
 use Rattle.cvr_facts.specs.Reports.{facts, report_facts}

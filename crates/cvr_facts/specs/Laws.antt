@@ -1,27 +1,24 @@
 -- Laws of the order of choosing, of sums and of facts. (This project's own.)
-use Rattle.std.specs.Prelude.{◌≡◌, ◌≢◌, ◌↔◌, ◌<◌, ◌<ℤ◌, ℕ, ℤ, List, [], true, Some, None, codes}
+use Rattle.std.specs.Prelude.{◌≡◌, ◌≢◌, ◌↔◌, ◌<◌, ◌<ℤ◌, ℕ, ℤ, List, [], Some, None, codes}
 use Rattle.std.specs.List.{Contains}
 use Rattle.std.specs.declared.cmp.Ordering.TheVariants.{Less, Equal}
 use Rattle.std.specs.Cmp.{IsTotalOrder}
-use Rattle.std.specs.FinSet.{contains, union, empty}
+use Rattle.std.specs.FinSet.{union, empty}
 use Rattle.serde_json.specs.Data.{Data}
 use Rattle.cdf_types.specs.declared.report.ContestVote.{ContestVote}
 use Rattle.cdf_types.specs.SnapshotKind.{snapshot_kind_rank}
-use Rattle.cdf_form.specs.Parts.{array_at, ids_at}
-use Rattle.cdf_form.specs.Places.{Contest}
+use Rattle.cdf_parts.specs.Parts.{array_at}
+use Rattle.cdf_parts.specs.Places.{Contest}
 use Rattle.cdf_typed.specs.Range.{ContestInRange}
 use Rattle.cdf_typed.specs.Typed.{instant_in, moment_of}
-use Rattle.cdf_check.specs.Sound.{IsFrame}
-use Rattle.cdf_check.specs.Frame.{Frame, scope_in}
-use Rattle.cdf_check.specs.Acceptance.{Valid, value_in}
 use Rattle.cvr_facts.specs.declared.name.RecordName.{RecordName}
 use Rattle.cvr_facts.specs.declared.snapshot.SnapshotFact.{SnapshotFact}
-use Rattle.cvr_facts.specs.Facts.{Fact, Facts, fact_cmp, text_cmp}
+use Rattle.cvr_facts.specs.Facts.{Facts, fact_cmp, text_cmp}
 use Rattle.cvr_facts.specs.Sets.{JoinLaws}
 use Rattle.cvr_facts.specs.Reports.{facts}
 use Rattle.cvr_facts.specs.Choosing.{choice_cmp, fact_choice, snapshot_bodies, current, IsGreatest}
 use Rattle.cvr_facts.specs.Sums.{sums_of, sum_limit, AreBelow}
-use Rattle.cvr_facts.specs.Stands.{IsSpelledSnapshot, Stands, IsOfWhole}
+use Rattle.cvr_facts.specs.Stands.{IsSpelledSnapshot}
 
 -- ---- joining
 
@@ -91,14 +88,3 @@ NoMomentLaw = (snapshot : Data) → (moment_of snapshot ≡ None) ↔ ((m : ℤ)
 -- the sums of a contest in one snapshot stay below 2^54
 abbrev pub SumsLaw : Type 0
 SumsLaw = (contests : List Contest) (vote : ContestVote) → ContestInRange contests vote → AreBelow sum_limit (sums_of contests vote)
-
--- ---- facts of a file
-
--- the bodies of an accepted file's facts would stand in a written report, by the definition and the report's devices alone
-abbrev pub FactsStandLaw : Type 0
-FactsStandLaw = (frame : Frame) (bytes : List ℕ) (f : Fact) → IsFrame frame → Valid frame bytes → contains (facts bytes) f ≡ true
-    → Stands (scope_in frame (ids_at (codes "ReportingDevice") (value_in bytes))) f
-
--- each record that an accepted file has a fact of is whole
-abbrev pub RecordsWholeLaw : Type 0
-RecordsWholeLaw = (frame : Frame) (bytes : List ℕ) (f : Fact) → Valid frame bytes → contains (facts bytes) f ≡ true → IsOfWhole (facts bytes) f

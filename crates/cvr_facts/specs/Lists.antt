@@ -9,9 +9,9 @@ use Rattle.cdf_types.specs.declared.report.Cvr.{Cvr}
 use Rattle.cdf_types.specs.declared.report.Snapshot.{Snapshot as ReportSnapshot}
 use Rattle.cdf_types.specs.declared.report.ReportingDevice.{ReportingDevice}
 use Rattle.cdf_types.specs.declared.report.Report.{Report}
-use Rattle.cdf_form.specs.Places.{Contest}
-use Rattle.cdf_check.specs.Frame.{Frame}
-use Rattle.cdf_check.specs.Acceptance.{first_refusal, report_in}
+use Rattle.cdf_parts.specs.Places.{Contest}
+use Rattle.cdf_definition.specs.Frame.{Frame}
+use Rattle.cdf_definition.specs.Acceptance.{first_refusal, report_in}
 use Rattle.cvr_facts.specs.declared.name.RecordName.{RecordName}
 use Rattle.cvr_facts.specs.declared.device.DeviceFact.{DeviceFact}
 use Rattle.cvr_facts.specs.declared.header.HeaderFact.{HeaderFact}
@@ -113,3 +113,9 @@ pub record AreOfRecords (contests : List Contest) (cvrs : List Cvr) (records : K
 pub record IsReportOf (frame : Frame) (bytes : List ℕ) (report : Report) : Type 0 where
   pub accepted : first_refusal frame bytes ≡ None
   pub report_is : report ≡ report_in frame.contests bytes
+
+-- the devices of the report of such a file, and the facts that are kept of its records
+pub record IsKeptOf (frame : Frame) (bytes : List ℕ) (devices : List ReportingDevice) (kept : KeptFacts) : Type 0 where
+  pub accepted : first_refusal frame bytes ≡ None
+  pub devices_are : devices ≡ (report_in frame.contests bytes).devices
+  pub records : AreOfRecords frame.contests (report_in frame.contests bytes).cvrs kept

@@ -4,9 +4,9 @@ use Rattle.std.specs.List.{flat_map}
 use Rattle.std.specs.FinSet as set
 use Rattle.serde_json.specs.Data.{Data}
 use Rattle.serde_json.specs.Written.{compact_text}
-use Rattle.cdf_form.specs.Parts.{array_at, text_at, id_of}
+use Rattle.cdf_parts.specs.Parts.{array_at, text_at, id_of}
 use Rattle.cdf_typed.specs.Typed.{header_of}
-use Rattle.cdf_check.specs.Acceptance.{value_in}
+use Rattle.cdf_definition.specs.Acceptance.{value_in}
 use Rattle.cvr_facts.specs.Facts.{Fact, Device, Header, Snapshot, Facts}
 
 abbrev pub device_fact : Data → Fact

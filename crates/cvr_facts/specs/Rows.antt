@@ -5,9 +5,9 @@ use Rattle.std.specs.declared.cmp.Ordering.TheVariants.{Less, Equal}
 use Rattle.std.specs.FinSet.{empty, from_list, union, len}
 use Rattle.cdf_types.specs.declared.snapshot_kind.SnapshotKind.TheVariants.{Interpreted}
 use Rattle.cdf_types.specs.declared.report.Report.{Report}
-use Rattle.cdf_form.specs.Places.{Contest}
-use Rattle.cdf_check.specs.Acceptance.{frame_in, report_in}
-use Rattle.cdf_check.specs.Rows.{report, definition_file}
+use Rattle.cdf_parts.specs.Places.{Contest}
+use Rattle.cdf_definition.specs.Acceptance.{frame_in, report_in}
+use Rattle.cdf_definition.specs.Sample.{report, definition_file}
 use Rattle.cvr_facts.specs.declared.name.RecordName.{RecordName}
 use Rattle.cvr_facts.specs.declared.sums.VoteSums.{VoteSums}
 use Rattle.cvr_facts.specs.Facts.{Fact, Device, Header, Snapshot, Facts}

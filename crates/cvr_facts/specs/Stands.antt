@@ -5,11 +5,11 @@ use Rattle.std.specs.FinSet.{contains}
 use Rattle.serde_json.specs.Data.{Data}
 use Rattle.serde_json.specs.Read.{read}
 use Rattle.serde_json.specs.Written.{compact_text}
-use Rattle.cdf_form.specs.Parts.{id_of, text_at, text_in}
-use Rattle.cdf_form.specs.Places.{Contest}
+use Rattle.cdf_parts.specs.Parts.{id_of, text_at, text_in}
+use Rattle.cdf_parts.specs.Places.{Contest}
 use Rattle.cdf_typed.specs.Typed.{kind_of, moment_of, snapshot_of}
-use Rattle.cdf_check.specs.References.{Scope}
-use Rattle.cdf_check.specs.Bodies.{DeviceStands, HeaderStands, SnapshotStands}
+use Rattle.cdf_definition.specs.References.{Scope}
+use Rattle.cdf_definition.specs.Bodies.{DeviceStands, HeaderStands, SnapshotStands}
 use Rattle.cvr_facts.specs.declared.device.DeviceFact.{DeviceFact}
 use Rattle.cvr_facts.specs.declared.header.HeaderFact.{HeaderFact}
 use Rattle.cvr_facts.specs.declared.snapshot.SnapshotFact.{SnapshotFact}

@@ -6,7 +6,7 @@ use Rattle.std.specs.Ordering.{nat_cmp}
 use Rattle.cdf_types.specs.declared.mark.Indication.TheVariants.{Yes}
 use Rattle.cdf_types.specs.declared.report.Position.{Position}
 use Rattle.cdf_types.specs.declared.report.ContestVote.{ContestVote}
-use Rattle.cdf_form.specs.Places.{Contest}
+use Rattle.cdf_parts.specs.Places.{Contest}
 use Rattle.cdf_types.specs.declared.report.Snapshot.{Snapshot}
 use Rattle.cdf_typed.specs.Range.{ContestInRange, SnapshotInRange}
 use Rattle.cvr_facts.specs.Sums.{counts, is_pending, votes_of, sums_of, sums_in, AreInRange}

@@ -9,7 +9,7 @@ use Rattle.cdf_types.specs.declared.mark.Allocation.TheVariants as allocation
 use Rattle.cdf_types.specs.declared.report.Position.{Position}
 use Rattle.cdf_types.specs.declared.report.SelectionVote.{SelectionVote}
 use Rattle.cdf_types.specs.declared.report.ContestVote.{ContestVote}
-use Rattle.cdf_form.specs.Places.{Texts, Contest, selections_at}
+use Rattle.cdf_parts.specs.Places.{Texts, Contest, selections_at}
 use Rattle.cdf_typed.specs.Range.{ContestInRange}
 use Rattle.cvr_facts.specs.declared.sums.VoteSums.{VoteSums}
 

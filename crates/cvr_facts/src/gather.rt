@@ -16,7 +16,7 @@ use crate::name::RecordName;
 use crate::snapshot::SnapshotFact;
 use crate::sums::sums_in;
 use crate::text::copy_optional;
-use cdf_check::Definition;
+use cdf_definition::Definition;
 use cdf_types::{Cvr, Memory, Report, ReportingDevice, Snapshot};
 use std::alloc::Global;
 

@@ -1,18 +1,16 @@
-ghost use Rattle.std.specs.Prelude.{◌≡◌, ◌++◌, IfErr, IfOk, None, List, OnOk, Some, false, map};
+ghost use Rattle.std.specs.Prelude.{ℕ, ◌≡◌, ◌++◌, IfOk, List, OnOk, false, map};
 ghost use Rattle.std.specs.List.{Contains, list_any};
 ghost use Rattle.std.specs.FinSet.{from_list};
 ghost use Rattle.serde_json.specs.Written.{has_float};
 ghost use Rattle.cdf_node.specs.View.{view};
 ghost use Rattle.cdf_types.specs.declared.report.Snapshot.{Snapshot};
-ghost use Rattle.cdf_form.specs.Parts.{record_count};
-ghost use Rattle.cdf_form.specs.Places.{Contest};
-ghost use Rattle.cdf_form.specs.Reading.{IsMemory};
+ghost use Rattle.cdf_parts.specs.Places.{Contest};
 ghost use Rattle.cdf_typed.specs.Typed.{cvr_of, snapshot_of};
 ghost use Rattle.cdf_typed.specs.Range.{SnapshotInRange};
-ghost use Rattle.cdf_check.specs.Acceptance.{Valid, first_refusal, value_in};
-ghost use Rattle.cvr_facts.specs.Lists.{told_device, told_header, told_under, facts_in, AreOfRecords, Rises};
+ghost use Rattle.cvr_facts.specs.Lists.{IsKeptOf, told_device, told_header, told_under, facts_in, AreOfRecords, Rises};
 ghost use Rattle.cvr_facts.specs.Reports.{facts};
 ghost use Rattle.cvr_facts.specs.Stands.{AreSpelled};
+ghost use Rattle.cdf_definition.specs.Frame.{Frame};
 
 use crate::device::DeviceFact;
 use crate::header::HeaderFact;
@@ -20,24 +18,26 @@ use crate::list::{FactList, list_of};
 use crate::name::RecordName;
 use crate::snapshot::SnapshotFact;
 use crate::sums::sums_in;
-use cdf_check::{Definition, Keep, check_file};
-use cdf_form::contests::Contests;
-use cdf_form::{items_at, text_at, text_in};
+use cdf_definition::Keep;
 use cdf_node::Node;
+use cdf_parts::contests::Contests;
+use cdf_parts::{items_at, text_at, text_in};
 use cdf_typed::{compact, header_text, kind_of, moment_of, own_text, own_text_in};
-use cdf_types::{Memory, ReadFault, ReportingDevice, Seq};
+use cdf_types::{Memory, ReportingDevice, Seq};
 use std::alloc::Global;
 
-// The facts of cast vote records, as the records come: of each its header, and its snapshots in order.
+/// The facts of cast vote records, as the records come.
 #[derive(Drop)]
-pub(crate) struct KeptFacts {
+pub struct KeptFacts {
+    /// One of each record.
     pub headers: Vec<HeaderFact>,
+    /// Those of each record, in order.
     pub snapshots: Vec<SnapshotFact>,
 }
 
-// Keeps the facts of records.
+/// Keeps the facts of the records of a file, and no typed record of it.
 #[derive(Drop)]
-struct Facts;
+pub struct Facts;
 
 impl Keep for Facts {
     type Kept = KeptFacts;
@@ -67,27 +67,24 @@ impl Keep for Facts {
     }
 }
 
-/// The number of cast vote records of a file that is accepted beside a definition, and its facts, as
-/// `facts_of` gives them of its report. They are made as the file is read, and no typed record of it.
+/// The facts of a file that was accepted beside a definition, as `facts_of` gives them of its report: of
+/// its devices, and of its records as they were kept.
 ///
 /// # Errors
-/// As `check_report`.
-pub fn read_facts(
+/// `Memory` where a growth was refused.
+pub fn facts_of_kept(
     alloc: Global,
-    definition: &Definition,
-    bytes: &[u8],
-) -> Result<(usize, FactList), ReadFault>
-    ensures valid { OnOk result (Valid definition.now bytes.now) }
-    ensures cvrs { IfOk result (λ p. p.0 ≡ record_count (value_in bytes.now)) }
-    ensures facts { IfOk result (λ p. from_list (facts_in p.1) ≡ facts bytes.now) }
-    ensures once { IfOk result (λ p. Rises p.1) }
-    ensures spelled { IfOk result (λ p. AreSpelled definition.now.contests p.1) }
-    ensures first { IfErr result (λ e. ¬ IsMemory e → first_refusal definition.now bytes.now ≡ Some e) }
+    devices: Seq<ReportingDevice>,
+    kept: KeptFacts,
+) -> Result<FactList, Memory>
+    ensures once { IfOk result Rises }
+    ensures facts { IfOk result (λ list. (frame : Frame) (bytes : List ℕ)
+        → IsKeptOf frame bytes devices kept → from_list (facts_in list) ≡ facts bytes) }
+    ensures spelled { IfOk result (λ list. (frame : Frame) (bytes : List ℕ)
+        → IsKeptOf frame bytes devices kept → AreSpelled frame.contests list) }
 {
-    let (devices, kept) = check_file(alloc, definition, bytes, &Facts)?;
-    let cvrs = kept.headers.len();
     let devices = take_devices(alloc, devices.into_vec())?;
-    Ok((cvrs, list_of(devices, kept)))
+    Ok(list_of(devices, kept))
 }
 
 // The header of a record, straight from its value.

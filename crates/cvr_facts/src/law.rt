@@ -2,7 +2,7 @@
 ghost use Rattle.std.specs.Prelude.{◌≡◌};
 ghost use Rattle.cvr_facts.specs.Facts.{name_cmp};
 ghost use Rattle.cvr_facts.specs.Lists.{device_cmp};
-ghost use Rattle.cvr_facts.specs.Laws.{ChoosingLaw, EqualLaw, RankLaw, UndatedLaw, EarlierLaw, BytesLaw, BodiesLaw, ExactLaw, CurrentLaw, OneCurrentLaw, MomentLaw, NoMomentLaw, FactsStandLaw, JoiningLaw, RecordsWholeLaw, SumsLaw};
+ghost use Rattle.cvr_facts.specs.Laws.{ChoosingLaw, EqualLaw, RankLaw, UndatedLaw, EarlierLaw, BytesLaw, BodiesLaw, ExactLaw, CurrentLaw, OneCurrentLaw, MomentLaw, NoMomentLaw, JoiningLaw, SumsLaw};
 ghost use Rattle.cvr_facts.specs.SumLaws.{ApartLaw, MarkedLaw, AbsentLaw, VotesLaw, InRangeLaw, EachOnceLaw, InOrderLaw};
 ghost use Rattle.cvr_facts.specs.Sources.{FactSourceLaw, DeviceListedLaw, HeaderListedLaw, SnapshotListedLaw, FactHeldLaw};
 ghost use Rattle.cvr_facts.specs.Sources.{ItemsLaw, HeaderBodiesLaw, SnapshotBodiesLaw, TextsInOrder, TextsAreExact, BodiesInOrder, BodiesAreExact};
@@ -96,11 +96,4 @@ pub fn bodies_of_records()
     ensures items { ItemsLaw }
     ensures headers { HeaderBodiesLaw }
     ensures snapshots { SnapshotBodiesLaw }
-{}
-
-/// The bodies of a valid file's facts would stand in a written report, by the definition and the
-/// file's devices alone; and each of its records has a header, a snapshot and a device.
-pub fn facts_stand()
-    ensures bodies { FactsStandLaw }
-    ensures records { RecordsWholeLaw }
 {}

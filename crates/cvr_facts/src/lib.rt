@@ -23,7 +23,7 @@ pub use device::DeviceFact;
 pub use gather::facts_of;
 pub use header::HeaderFact;
 pub use join::{Join, join_both};
-pub use kept::read_facts;
+pub use kept::{Facts, KeptFacts, facts_of_kept};
 pub use list::FactList;
 pub use name::RecordName;
 pub use snapshot::SnapshotFact;

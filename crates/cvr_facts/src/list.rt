@@ -3,7 +3,7 @@ ghost use Rattle.std.specs.List.{Any, Contains};
 ghost use Rattle.std.specs.List.Sorted.{IsStrictlySortedBy};
 ghost use Rattle.std.specs.declared.cmp.Ordering.TheVariants.{Equal};
 ghost use Rattle.cdf_types.specs.declared.report.Report.{Report};
-ghost use Rattle.cdf_form.specs.Places.{Contest};
+ghost use Rattle.cdf_parts.specs.Places.{Contest};
 ghost use Rattle.cvr_facts.specs.Lists.{told_device, AreOfRecords, IsListOf, Rises};
 
 use crate::device::DeviceFact;

@@ -3,7 +3,7 @@ ghost use Rattle.std.specs.List.{sum_by};
 ghost use Rattle.cdf_typed.specs.Range.{ContestInRange};
 ghost use Rattle.cvr_facts.specs.Sums.{counts, is_pending, votes_among, sums_of, sums_in, sum_limit, AreInRange};
 
-use cdf_form::contests::Contests;
+use cdf_parts::contests::Contests;
 use cdf_typed::{AsContestVote, AsPosition, AsSelectionVote};
 use cdf_types::{Allocation, Indication, Memory, Position, Seq};
 use std::alloc::Global;

@@ -8,7 +8,7 @@ use Rattle.std.specs.Ordering.{match_ordering, is_lt, ordering_reverse}
 use Rattle.json.specs.Print.{escape}
 use Rattle.serde_json.specs.Data.{Data, Members, no_members, member}
 use Rattle.serde_json.specs.Written.{compact_text, members_text}
-use Rattle.cdf_form.specs.Proper.{MembersAreWell}
+use Rattle.cdf_parts.specs.Proper.{MembersAreWell}
 use Rattle.cvr_report.specs.Record.{front, back, some, IsCut}
 use Rattle.cvr_report.specs.Scan.{InString, after, is_before, IsPlain, start_of}
 use Rattle.cvr_report.proofs.Names.{is_before-escape}

@@ -10,9 +10,9 @@ use Rattle.serde_json.specs.Written.{compact_text}
 use Rattle.cdf_form.specs.declared.table.Class.{Class}
 use Rattle.cdf_form.specs.declared.table.Group.TheVariants as group
 use Rattle.cdf_form.specs.Form.{class_in, find_class}
-use Rattle.cdf_form.specs.Proper.{IsWell, MembersAreWell}
+use Rattle.cdf_parts.specs.Proper.{IsWell, MembersAreWell}
 use Rattle.cdf_form.specs.Tables.{classes_of}
-use Rattle.cdf_check.specs.Frame.{Frame}
+use Rattle.cdf_definition.specs.Frame.{Frame}
 use Rattle.cvr_facts.specs.declared.name.RecordName.{RecordName}
 use Rattle.cvr_facts.specs.Facts.{Fact, Device, Header, Snapshot, Facts}
 use Rattle.cvr_facts.specs.Stands.{Stands, IsWhole, IsOfWhole}

@@ -1,8 +1,8 @@
 -- What two offices write alike.
 use Rattle.std.proofs.Common.{map, ap}
 use Rattle.serde_json.specs.Written.{compact_text}
-use Rattle.cdf_check.specs.Frame.{Frame}
-use Rattle.cdf_check.specs.Named.{texts_of}
+use Rattle.cdf_definition.specs.Frame.{Frame}
+use Rattle.cdf_definition.specs.Named.{texts_of}
 use Rattle.cvr_facts.specs.Facts.{Facts}
 use Rattle.cvr_collect.proofs.Laws.{answer_alike, same_content, same_definition}
 use Rattle.cvr_report.specs.Page.{Shown, page, volumes}

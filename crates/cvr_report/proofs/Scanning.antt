@@ -7,7 +7,7 @@ use Rattle.json.specs.Print.{escape, escape_byte, quoted}
 use Rattle.json.proofs.Printed.Strings.{escape_byte_plain}
 use Rattle.serde_json.specs.Data.{Num, unsigned, negative, float, Data, null, boolean, number, string, array, object, Items, no_items, item, Members, no_members, member}
 use Rattle.serde_json.specs.Written.{number_text, compact_text, items_text, members_text, comma_if}
-use Rattle.cdf_form.specs.Proper.{NumFits, IsWell, ItemsAreWell, MembersAreWell}
+use Rattle.cdf_parts.specs.Proper.{NumFits, IsWell, ItemsAreWell, MembersAreWell}
 use Rattle.cvr_report.specs.Scan.{Between, InString, after, stops, next_mode, next_depth}
 
 -- ---- strings

@@ -4,9 +4,9 @@ use Rattle.std.specs.Option.{option_map_or}
 use Rattle.std.specs.Ordering.{on}
 use Rattle.std.proofs.lemmas.List.{length-map}
 use Rattle.serde_json.specs.Written.{compact_text}
-use Rattle.cdf_form.specs.Places.{Contest}
+use Rattle.cdf_parts.specs.Places.{Contest}
 use Rattle.cdf_typed.specs.Greatest.{greatest}
-use Rattle.cdf_check.specs.Frame.{Frame}
+use Rattle.cdf_definition.specs.Frame.{Frame}
 use Rattle.cvr_facts.specs.declared.name.RecordName.{RecordName}
 use Rattle.cvr_facts.specs.declared.header.HeaderFact.{HeaderFact}
 use Rattle.cvr_facts.specs.declared.snapshot.SnapshotFact.{SnapshotFact}

@@ -6,8 +6,8 @@ use Rattle.json.specs.Print.{quoted}
 use Rattle.serde_json.specs.Data.{Data, Members, no_members, member, put}
 use Rattle.serde_json.specs.Find.{get_member}
 use Rattle.serde_json.specs.Written.{compact_text, members_text, comma_if}
-use Rattle.cdf_form.specs.Proper.{Before}
-use Rattle.cdf_form.proofs.Lemmas.{Before-trans, after_is, greater_is, append}
+use Rattle.cdf_parts.specs.Proper.{Before}
+use Rattle.cdf_parts.proofs.Lemmas.{Before-trans, after_is, greater_is, append}
 use Rattle.cvr_report.specs.Record.{front, back, some, inner}
 
 absent_at : (o : Ordering) (k l : List ℕ) (e : Data) (ms : Members) → match_ordering o (get_member k ms) (Some e) (get_member k ms) ≡ None → (o ≡ Equal → ⊥) × (get_member k ms ≡ None)

@@ -7,8 +7,8 @@ use Rattle.json.specs.Print.{escape_byte, quoted}
 use Rattle.serde_json.specs.Data.{Data, object, array, string, Items, no_items, item, Members, no_members, member}
 use Rattle.serde_json.specs.Find.{get_member}
 use Rattle.serde_json.specs.Written.{compact_text, items_text, members_text, comma_if}
-use Rattle.cdf_form.specs.Proper.{Before, Below, MembersAreWell}
-use Rattle.cdf_form.proofs.Lemmas.{Before-trans, after_is, equal_is, greater_is, Below-trans, append}
+use Rattle.cdf_parts.specs.Proper.{Before, Below, MembersAreWell}
+use Rattle.cdf_parts.proofs.Lemmas.{Before-trans, after_is, equal_is, greater_is, Below-trans, append}
 use Rattle.cvr_report.specs.Record.{snapshots_name, current_name, record_of, IsHeader, front, back, some, inner, joined, texts_of, IsCut}
 use Rattle.cvr_report.proofs.Splitting.{put_twice, text-append}
 

@@ -12,14 +12,15 @@ use Rattle.serde_json.specs.Data.{Data, null}
 use Rattle.serde_json.specs.Read.{read}
 use Rattle.serde_json.specs.View.{items_of}
 use Rattle.serde_json.specs.Written.{compact_text, has_float}
-use Rattle.cdf_form.specs.Parts.{array_at}
+use Rattle.cdf_parts.specs.Parts.{array_at}
 use Rattle.cdf_form.specs.Reading.{value_of}
-use Rattle.cdf_form.proofs.Laws.{part_reads_back, listed_part}
-use Rattle.cdf_check.specs.Frame.{Frame}
+use Rattle.cdf_parts.proofs.Laws.{part_reads_back, listed_part}
+use Rattle.cdf_definition.specs.Frame.{Frame}
 use Rattle.cdf_check.specs.Laws.{IsListOf}
-use Rattle.cdf_check.specs.Named.{Entry, named, texts_of}
-use Rattle.cdf_check.specs.Sound.{IsFrame}
-use Rattle.cdf_check.proofs.Laws.{lists, sound}
+use Rattle.cdf_definition.specs.Named.{Entry, named, texts_of}
+use Rattle.cdf_definition.specs.Sound.{IsFrame}
+use Rattle.cdf_check.proofs.Laws.{lists}
+use Rattle.cdf_definition.proofs.Laws.{sound}
 use Rattle.cvr_facts.specs.Facts.{Fact, Device, Header, Snapshot, Facts}
 use Rattle.cvr_facts.specs.Choosing.{data_of}
 use Rattle.cvr_facts.specs.Stands.{Stands}

@@ -1,7 +1,7 @@
 -- Worked examples: the whole text of each volume of what six files bring. (This project's own.)
 use Rattle.std.specs.Prelude.{◌≡◌, ℕ, List, [], ◌∷◌, ◌++◌, map, codes}
 use Rattle.std.specs.FinSet.{from_list}
-use Rattle.cdf_check.specs.Frame.{Frame}
+use Rattle.cdf_definition.specs.Frame.{Frame}
 use Rattle.cvr_facts.specs.declared.name.RecordName.{RecordName}
 use Rattle.cvr_facts.specs.Facts.{Fact, Facts, Device, Header, Snapshot}
 use Rattle.cvr_report.specs.Head.{Head}

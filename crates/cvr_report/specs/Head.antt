@@ -3,8 +3,8 @@ use Rattle.std.specs.Prelude.{◌≡◌, ℕ, List, Bool, true, false, bytes_eq}
 use Rattle.std.specs.List.{list_any}
 use Rattle.std.specs.Str.{IsUtf8}
 use Rattle.cdf_form.specs.Form.{is_moment}
-use Rattle.cdf_check.specs.Frame.{Frame}
-use Rattle.cdf_check.specs.Named.{ids_of}
+use Rattle.cdf_definition.specs.Frame.{Frame}
+use Rattle.cdf_definition.specs.Named.{ids_of}
 use Rattle.cvr_report.specs.declared.heading.HeadFault.{HeadFault}
 use Rattle.cvr_report.specs.declared.heading.HeadFault.TheVariants.{NotMoment, NoDevice, Memory}
 

@@ -1,7 +1,7 @@
 -- Offices that write the same volumes: those that are the same, and those of one definition that the same files have reached, which are alike in all else, too. (This project's own.)
 use Rattle.std.specs.Prelude.{◌≡◌, ℕ, List, Some}
 use Rattle.std.specs.List.{slice_get}
-use Rattle.cdf_check.specs.Frame.{Frame, IsSame}
+use Rattle.cdf_definition.specs.Frame.{Frame, IsSame}
 use Rattle.cvr_facts.specs.Facts.{Facts}
 use Rattle.cvr_collect.specs.Reach.{History}
 use Rattle.cvr_collect.specs.Alike.{AreNewOfOne, ArePlayed, HaveSameFiles, AreAlike}

@@ -6,7 +6,7 @@ use Rattle.json.specs.Print.{quoted}
 use Rattle.serde_json.specs.Data.{Data, object, array, string, Items, no_items, item, Members, no_members, member, put}
 use Rattle.serde_json.specs.Find.{get_member}
 use Rattle.serde_json.specs.Written.{compact_text, comma_if, members_text}
-use Rattle.cdf_form.specs.Proper.{MembersAreWell}
+use Rattle.cdf_parts.specs.Proper.{MembersAreWell}
 
 abbrev pub snapshots_name : List ℕ
 snapshots_name = codes "CVRSnapshot"

@@ -1,7 +1,7 @@
 -- What a volume shows of the bodies under a name. (This project's own.)
 use Rattle.std.specs.Prelude.{◌≡◌, ◌-◌, ◌<◌, ℕ, List, length, min, get_or}
 use Rattle.std.specs.List.{Contains}
-use Rattle.cdf_check.specs.Frame.{Frame}
+use Rattle.cdf_definition.specs.Frame.{Frame}
 use Rattle.cvr_facts.specs.declared.name.RecordName.{RecordName}
 use Rattle.cvr_facts.specs.Facts.{Facts}
 use Rattle.cvr_collect.specs.Keeps.{Keeps}

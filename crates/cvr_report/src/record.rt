@@ -2,8 +2,8 @@
 ghost use Rattle.std.specs.Prelude.{◌≡◌, ◌<◌, ◌++◌, length, OnOk, false};
 ghost use Rattle.serde_json.specs.Data.{object, Items, Members};
 ghost use Rattle.serde_json.specs.Written.{compact_text, comma_if};
-ghost use Rattle.cdf_form.specs.Proper.{MembersAreWell};
-ghost use Rattle.cdf_check.specs.Frame.{Frame};
+ghost use Rattle.cdf_parts.specs.Proper.{MembersAreWell};
+ghost use Rattle.cdf_definition.specs.Frame.{Frame};
 ghost use Rattle.cvr_facts.specs.declared.name.RecordName.{RecordName};
 ghost use Rattle.cvr_facts.specs.Facts.{Facts};
 ghost use Rattle.cvr_collect.specs.Keeps.{Keeps};

@@ -1,6 +1,6 @@
 -- The ids of the contest at a place.
 use Rattle.std.proofs.Common.{◌≡◌, ℕ, zero, suc, ◌<◌, List, [], ◌∷◌, length, get_or, slice_index_or, refl, arith}
-use Rattle.cdf_form.specs.Places.{contest_ids, selections_at}
+use Rattle.cdf_parts.specs.Places.{contest_ids, selections_at}
 use Rattle.cvr_tally.specs.declared.contest_ids.ContestIds.{ContestIds}
 use Rattle.cvr_tally.specs.Contests.{contests_of}
 use Rattle.cvr_tally.proofs.Contests.{selections_at-map}

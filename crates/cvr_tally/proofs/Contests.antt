@@ -1,7 +1,7 @@
 -- Contests by place.
 use Rattle.std.proofs.Common.{◌≡◌, ℕ, zero, suc, ◌+◌, ◌<◌, List, [], ◌∷◌, ◌++◌, length, get_or, take, map, refl, sym, ap, ◌∙◌, arith}
 use Rattle.std.proofs.lemmas.List.{take_more}
-use Rattle.cdf_form.specs.Places.{Contest, contest_ids, selections_at}
+use Rattle.cdf_parts.specs.Places.{Contest, contest_ids, selections_at}
 
 -- the contest at a place is its id beside its selections
 at_place : (cs : List Contest) (i : ℕ) (d : Contest) → i < length cs → get_or cs i d ≡ (get_or (contest_ids cs) i [], selections_at cs i)

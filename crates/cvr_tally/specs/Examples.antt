@@ -1,7 +1,7 @@
 -- A worked example: rows of three contests, and the text of their tally. (This project's own.)
 use Rattle.std.specs.Prelude.{◌≡◌, ℕ, List, [], ◌∷◌, ◌++◌, get_or, Option, Some, None, codes}
 use Rattle.std.specs.FinMap.{from_entries}
-use Rattle.cdf_form.specs.Places.{Contest}
+use Rattle.cdf_parts.specs.Places.{Contest}
 use Rattle.cvr_tally.specs.declared.key.RowKey.{RowKey}
 use Rattle.cvr_tally.specs.declared.row.Row.{Row}
 use Rattle.cvr_tally.specs.Text.{tally_text}

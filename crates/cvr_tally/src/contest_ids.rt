@@ -1,7 +1,7 @@
 ghost use Rattle.std.specs.Prelude.{◌≡◌, ◌<◌, length, map, slice_index_or, IfOk, []};
-ghost use Rattle.cdf_form.specs.Places.{contest_ids, selections_at};
+ghost use Rattle.cdf_parts.specs.Places.{contest_ids, selections_at};
 
-use cdf_check::Definition;
+use cdf_definition::Definition;
 use cdf_types::{Body, Memory, Seq};
 use std::alloc::Global;
 

@@ -1,4 +1,4 @@
-use Rattle.cdf_check.proofs.Resolving.{references}
+use Rattle.cdf_definition.proofs.Laws.{references}
 use Rattle.cdf_check.proofs.SameElection.{contests_agree}
 use Rattle.cdf_check.proofs.Standing.{headers_stand}
 use Rattle.cdf_check.proofs.bodies.header_bodies_stand.Goals as goal

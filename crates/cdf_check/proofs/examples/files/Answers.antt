@@ -8,9 +8,9 @@ use Rattle.cdf_form.specs.Form.{Fault}
 use Rattle.cdf_form.specs.Form as form
 use Rattle.cdf_form.specs.Path.{path_text}
 use Rattle.cdf_form.specs.Reading.{value_of, document_faults, refusal_of}
-use Rattle.cdf_check.specs.Paths.{Path, first}
-use Rattle.cdf_check.specs.References.{missing}
-use Rattle.cdf_check.specs.Acceptance.{own_refusal, of_value}
+use Rattle.cdf_definition.specs.Paths.{Path, first}
+use Rattle.cdf_definition.specs.References.{missing}
+use Rattle.cdf_definition.specs.Acceptance.{own_refusal, of_value}
 use Rattle.cdf_check.proofs.Ascii.{ascii_unsound}
 use Rattle.cdf_check.proofs.examples.files.Goals as goal
 

@@ -1,5 +1,6 @@
 use Rattle.std.proofs.Common.{rules, arith}
-use Rattle.cdf_check.proofs.Judging.{answered, value_of_text}
+use Rattle.cdf_check.proofs.Judging.{answered}
+use Rattle.cdf_definition.proofs.Lemmas.{value_of_text}
 use Rattle.cdf_check.proofs.read.check_file.Goals as goal
 
 pub returns-in-Ok-Some : goal.returns-in-Ok-Some

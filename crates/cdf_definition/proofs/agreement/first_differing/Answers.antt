@@ -2,8 +2,8 @@ use Rattle.std.proofs.Common.{◌≡◌, ◌<◌, false, get_or, length, map, ap
 use Rattle.std.specs.List.{list_any}
 use Rattle.cdf_node.specs.View.{view}
 use Rattle.serde_json.specs.Written.{has_float}
-use Rattle.cdf_form.proofs.Laws.{whole_array, whole_there}
-use Rattle.cdf_check.proofs.agreement.first_differing.Goals as goal
+use Rattle.cdf_parts.proofs.Laws.{whole_array, whole_there}
+use Rattle.cdf_definition.proofs.agreement.first_differing.Goals as goal
 
 pub agrees-requires : goal.agrees-requires
 agrees-requires c =

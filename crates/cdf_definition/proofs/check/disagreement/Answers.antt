@@ -1,5 +1,5 @@
-use Rattle.cdf_check.proofs.Items.{first_or}
-use Rattle.cdf_check.proofs.check.disagreement.Goals as goal
+use Rattle.cdf_definition.proofs.Items.{first_or}
+use Rattle.cdf_definition.proofs.check.disagreement.Goals as goal
 
 pub returns : goal.returns
 returns c =

@@ -1,5 +1,5 @@
 use Rattle.std.proofs.Common.{◌≡◌, take}
-use Rattle.cdf_check.proofs.gather.copy_bodies.Given as goal
+use Rattle.cdf_definition.proofs.gather.copy_bodies.Given as goal
 
 abbrev pub invariant-loop-body : goal.invariant-loop-body
 invariant-loop-body l = l.copies.items ≡ take l.body-index l.bodies

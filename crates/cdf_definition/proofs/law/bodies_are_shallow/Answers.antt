@@ -1,5 +1,5 @@
-use Rattle.cdf_check.proofs.Depths.{was_read, report_proper, listed_proper}
-use Rattle.cdf_check.proofs.bodies.bodies_are_shallow.Goals as goal
+use Rattle.cdf_definition.proofs.Depths.{was_read, report_proper, listed_proper}
+use Rattle.cdf_definition.proofs.law.bodies_are_shallow.Goals as goal
 
 pub returns : goal.returns
 returns c = record {

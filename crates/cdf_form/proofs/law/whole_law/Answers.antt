@@ -1,4 +1,4 @@
-use Rattle.cdf_form.proofs.Whole.{whole_of, no_float_faults, whole_document, whole_get, whole_array, whole_there}
+use Rattle.cdf_form.proofs.Whole.{whole_of, no_float_faults, whole_document}
 use Rattle.cdf_form.proofs.law.whole_law.Goals as goal
 
 pub returns : goal.returns
@@ -6,7 +6,4 @@ returns c = record {
   all = whole_of;
   none = no_float_faults;
   document = whole_document;
-  members = whole_get;
-  items = whole_array;
-  values = whole_there;
 }

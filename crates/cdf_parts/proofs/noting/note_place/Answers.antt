@@ -1,8 +1,8 @@
 use Rattle.std.proofs.Common.{◌≡◌, false, string_bytes, rules}
 use Rattle.std.specs.Prelude.{is_some}
 use Rattle.std.specs.BTreeMap.{get_by_text}
-use Rattle.cdf_form.proofs.Places.{noted_text}
-use Rattle.cdf_form.proofs.noting.note_place.Goals as goal
+use Rattle.cdf_parts.proofs.Places.{noted_text}
+use Rattle.cdf_parts.proofs.noting.note_place.Goals as goal
 
 pub returns : goal.returns
 returns c =

@@ -1,6 +1,6 @@
 use Rattle.std.proofs.Common.{◌≡◌, take}
-use Rattle.cdf_form.specs.Kept.{bytes_of}
-use Rattle.cdf_form.proofs.part.copy_texts.Given as goal
+use Rattle.cdf_parts.specs.Kept.{bytes_of}
+use Rattle.cdf_parts.proofs.part.copy_texts.Given as goal
 
 abbrev pub invariant-loop-text : goal.invariant-loop-text
 invariant-loop-text l = bytes_of l.copies.items ≡ bytes_of (take l.text-index l.texts)

@@ -1,5 +1,5 @@
-use Rattle.cdf_form.proofs.Removing.{without_proper, put_proper, without_well, whole-without}
-use Rattle.cdf_form.proofs.text_law.members_stay_proper.Goals as goal
+use Rattle.cdf_parts.proofs.Removing.{without_proper, put_proper, without_well, whole-without}
+use Rattle.cdf_parts.proofs.text_law.members_stay_proper.Goals as goal
 
 pub returns-clause-without : goal.returns-clause-without
 returns-clause-without c = without_proper

@@ -1,5 +1,5 @@
-use Rattle.cdf_form.proofs.PartLaws.{member_proper, item_proper, part_proper, proper_deeper}
-use Rattle.cdf_form.proofs.text_law.part_is_proper.Goals as goal
+use Rattle.cdf_parts.proofs.PartLaws.{member_proper, item_proper, part_proper, proper_deeper}
+use Rattle.cdf_parts.proofs.text_law.part_is_proper.Goals as goal
 
 pub returns-clause-member : goal.returns-clause-member
 returns-clause-member c = member_proper

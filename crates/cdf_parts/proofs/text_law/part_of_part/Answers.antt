@@ -1,6 +1,6 @@
-use Rattle.cdf_form.proofs.PartLaws.{part_of_part, listed_part}
-use Rattle.cdf_form.proofs.Lengths.{part_short, items_short}
-use Rattle.cdf_form.proofs.text_law.part_of_part.Goals as goal
+use Rattle.cdf_parts.proofs.PartLaws.{part_of_part, listed_part}
+use Rattle.cdf_parts.proofs.Lengths.{part_short, items_short}
+use Rattle.cdf_parts.proofs.text_law.part_of_part.Goals as goal
 
 pub returns-clause-part : goal.returns-clause-part
 returns-clause-part c = part_of_part

@@ -1,5 +1,5 @@
-use Rattle.cdf_form.proofs.Removing.{without-put, put-without}
-use Rattle.cdf_form.proofs.text_law.put_back.Goals as goal
+use Rattle.cdf_parts.proofs.Removing.{without-put, put-without}
+use Rattle.cdf_parts.proofs.text_law.put_back.Goals as goal
 
 pub returns-clause-taken_out : goal.returns-clause-taken_out
 returns-clause-taken_out c = without-put

@@ -1,6 +1,6 @@
-use Rattle.cdf_form.proofs.ReadsBack.{read-proper}
-use Rattle.cdf_form.proofs.WasRead.{read_again}
-use Rattle.cdf_form.proofs.text_law.reads_back.Goals as goal
+use Rattle.cdf_parts.proofs.ReadsBack.{read-proper}
+use Rattle.cdf_parts.proofs.WasRead.{read_again}
+use Rattle.cdf_parts.proofs.text_law.reads_back.Goals as goal
 
 pub returns-clause-proper : goal.returns-clause-proper
 returns-clause-proper c = read-proper

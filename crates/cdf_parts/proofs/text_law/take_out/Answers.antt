@@ -1,5 +1,5 @@
-use Rattle.cdf_form.proofs.Removing.{gone, others_stay, without_absent}
-use Rattle.cdf_form.proofs.text_law.take_out.Goals as goal
+use Rattle.cdf_parts.proofs.Removing.{gone, others_stay, without_absent}
+use Rattle.cdf_parts.proofs.text_law.take_out.Goals as goal
 
 pub returns-clause-gone : goal.returns-clause-gone
 returns-clause-gone c = gone

@@ -2,10 +2,10 @@ use Rattle.std.proofs.Common.{◌≡◌, ℕ, slice_index, codes, Option, Some, 
 use Rattle.std.specs.Fmt.{digits}
 use Rattle.serde_json.specs.Data.{Data, null, boolean, number, string, array, object, no_members, member}
 use Rattle.serde_json.proofs.OnLiterals.{serde_json_on_literals}
-use Rattle.cdf_form.specs.Proper.{IsWell}
-use Rattle.cdf_form.specs.PartOf.{itself, of_member, of_item}
-use Rattle.cdf_form.specs.TextExamples.{report, cvr_members, snapshot}
-use Rattle.cdf_form.proofs.text_law.text_examples.Goals as goal
+use Rattle.cdf_parts.specs.Proper.{IsWell}
+use Rattle.cdf_parts.specs.PartOf.{itself, of_member, of_item}
+use Rattle.cdf_parts.specs.TextExamples.{report, cvr_members, snapshot}
+use Rattle.cdf_parts.proofs.text_law.text_examples.Goals as goal
 
 snapshot_well : IsWell snapshot
 snapshot_well = (tt, (refl, tt), (omega arith, tt, tt))

@@ -1,6 +1,6 @@
 use Rattle.serde_json.proofs.Nesting.{depth-read}
-use Rattle.cdf_form.proofs.WasRead.{well_read, proper_read}
-use Rattle.cdf_form.proofs.text_law.was_read.Goals as goal
+use Rattle.cdf_parts.proofs.WasRead.{well_read, proper_read}
+use Rattle.cdf_parts.proofs.text_law.was_read.Goals as goal
 
 pub returns-clause-well : goal.returns-clause-well
 returns-clause-well c = well_read

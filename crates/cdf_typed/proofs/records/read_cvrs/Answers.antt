@@ -1,5 +1,5 @@
 use Rattle.std.proofs.Common.{◌≡◌, ◌<◌, get_or, length, rules}
-use Rattle.cdf_form.proofs.Laws.{whole_there}
+use Rattle.cdf_parts.proofs.Laws.{whole_there}
 use Rattle.cdf_typed.proofs.records.read_cvrs.Goals as goal
 
 pub read_cvr-requires : goal.read_cvr-requires

@@ -1,5 +1,5 @@
 use Rattle.std.proofs.Common.{◌≡◌, ◌<◌, get_or, length, rules}
-use Rattle.cdf_form.proofs.Laws.{whole_there}
+use Rattle.cdf_parts.proofs.Laws.{whole_there}
 use Rattle.cdf_typed.proofs.records.read_snapshots.Goals as goal
 
 pub read_snapshot-requires : goal.read_snapshot-requires

@@ -2,7 +2,7 @@ use Rattle.std.proofs.Common.{refl, sym, ◌∙◌}
 use Rattle.std.specs.Fmt.{digits}
 use Rattle.serde_json.proofs.OnLiterals.{serde_json_on_literals}
 use Rattle.jiff.proofs.OnLiterals.{jiff_on_literals}
-use Rattle.cdf_check.specs.Acceptance.{frame_in}
+use Rattle.cdf_definition.specs.Acceptance.{frame_in}
 use Rattle.cdf_check.specs.Rows as file
 use Rattle.cdf_check.proofs.Lemmas.{ascii_refusal}
 use Rattle.cvr_cli.specs.Rows as row

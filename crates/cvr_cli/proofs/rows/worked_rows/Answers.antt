@@ -6,7 +6,7 @@ use Rattle.serde_json.proofs.OnLiterals.{serde_json_on_literals}
 use Rattle.jiff.proofs.OnLiterals.{jiff_on_literals}
 use Rattle.cdf_types.specs.declared.fault.ReadFault.TheVariants.{Schema, Reference}
 use Rattle.cdf_types.specs.declared.rule.Rule.TheVariants.{Missing}
-use Rattle.cdf_check.specs.Acceptance.{frame_in}
+use Rattle.cdf_definition.specs.Acceptance.{frame_in}
 use Rattle.cdf_check.specs.Rows as file
 use Rattle.cdf_check.proofs.Lemmas.{ascii_unsound, ascii_refusal}
 use Rattle.cvr_cli.specs.Rows as row

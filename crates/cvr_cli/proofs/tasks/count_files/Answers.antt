@@ -1,7 +1,7 @@
 use Rattle.std.proofs.Common.{◌<◌, ◌+◌, ◌∙◌, [], length, Some, option_map, sym, ap, subst, arith, rules}
 use Rattle.std.proofs.lemmas.Grind.{common_steps}
 use Rattle.std.proofs.lemmas.List.{get_or_default}
-use Rattle.cdf_check.specs.Acceptance.{first_refusal}
+use Rattle.cdf_definition.specs.Acceptance.{first_refusal}
 use Rattle.cvr_cli.specs.declared.refusals.Refusals.{Refusals}
 use Rattle.cvr_collect.specs.declared.event.Cause.TheVariants.{Read}
 use Rattle.cvr_cli.specs.Outcome.{bytes_of}

@@ -1,5 +1,5 @@
 use Rattle.std.proofs.Common.{ℕ, List, [], Bool, inr, sym, ◌∙◌, subst}
-use Rattle.cdf_check.specs.Acceptance.{frame_in}
+use Rattle.cdf_definition.specs.Acceptance.{frame_in}
 use Rattle.cvr_cli.specs.Ends.{Ends}
 use Rattle.cvr_cli.specs.Imported.{files_bytes}
 use Rattle.cvr_cli.specs.Outcome.{task_text, task_fault, run_fault, any_refused}

@@ -1,7 +1,7 @@
 use Rattle.std.proofs.Common.{◌≡◌, ℕ, true, [], ◌∷◌, inl, inr, get_or, refl, sym, ◌∙◌, subst}
 use Rattle.std.specs.Ordering.{eq_by_cmp}
 use Rattle.std.specs.FinSet.{contains, insert, from_list, contains-insert}
-use Rattle.cdf_check.specs.Acceptance.{value_in}
+use Rattle.cdf_definition.specs.Acceptance.{value_in}
 use Rattle.cvr_collect.specs.Reach.{Start, File, origin_cmp}
 use Rattle.cvr_collect.specs.Examples.{SpelledTwice, OtherFiles}
 use Rattle.cvr_collect.proofs.Unions.{or_cases, or_left, tie_is, tie_itself}

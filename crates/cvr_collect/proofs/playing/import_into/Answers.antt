@@ -1,5 +1,5 @@
 use Rattle.std.proofs.Common.{◌∙◌, ap, sym, inl}
-use Rattle.cdf_check.proofs.Laws.{valid_file}
+use Rattle.cdf_definition.proofs.Laws.{valid_file}
 use Rattle.cvr_facts.specs.Reports.{facts}
 use Rattle.cvr_collect.specs.Readers.{growth}
 use Rattle.cvr_collect.specs.Outcomes.{due}

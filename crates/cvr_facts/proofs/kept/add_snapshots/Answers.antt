@@ -1,6 +1,6 @@
 use Rattle.std.proofs.Common.{sym}
 use Rattle.cdf_node.specs.View.{view}
-use Rattle.cdf_form.proofs.Laws.{whole_there}
+use Rattle.cdf_parts.proofs.Laws.{whole_there}
 use Rattle.cdf_typed.specs.Typed.{snapshot_of}
 use Rattle.cvr_facts.proofs.Counting.{told_less, told_is}
 use Rattle.cvr_facts.proofs.kept.add_snapshots.Goals as goal

@@ -1,26 +1,26 @@
-use Rattle.std.proofs.Common.{map, refl, ap, ◌∙◌}
+use Rattle.std.proofs.Common.{ℕ, List, map, refl, ap, ◌∙◌}
 use Rattle.cdf_types.specs.declared.report.Report.{Report}
-use Rattle.cdf_check.specs.Acceptance.{report_in}
-use Rattle.cdf_check.proofs.Laws.{valid_file}
-use Rattle.cvr_facts.specs.Lists.{told_device, IsListOf, IsReportOf}
+use Rattle.cdf_definition.specs.Frame.{Frame}
+use Rattle.cdf_definition.specs.Acceptance.{report_in}
+use Rattle.cvr_facts.specs.Lists.{told_device, IsListOf, IsReportOf, IsKeptOf}
 use Rattle.cvr_facts.proofs.Told.{told_are}
 use Rattle.cvr_facts.proofs.Spelled.{spelled_are}
-use Rattle.cvr_facts.proofs.kept.read_facts.Goals as goal
+use Rattle.cvr_facts.proofs.kept.facts_of_kept.Goals as goal
 
-module _ (c : goal.After-list_of) where
+module _ (c : goal.After-list_of) (frame : Frame) (bytes : List ℕ) (h : IsKeptOf frame bytes c.args.devices c.args.kept) where
   abbrev report : Report
-  report = report_in c.args.definition.now.contests c.args.bytes.now
+  report = report_in frame.contests bytes
 
-  of : IsReportOf c.args.definition.now c.args.bytes.now report
-  of = record { accepted = (valid_file c.args.definition.now c.args.bytes.now).1 c.in_ok-devices.ensures.valid; report_is = refl }
+  of : IsReportOf frame bytes report
+  of = record { accepted = h.accepted; report_is = refl }
 
-  list : IsListOf c.args.definition.now.contests report c.list_of.result
+  list : IsListOf frame.contests report c.list_of.result
   list =
-      c.list_of.ensures.list c.args.definition.now.contests report
-      (c.in_ok-devices-2.ensures ∙ ap (map told_device) (c.into_vec.ensures ∙ c.in_ok-devices.ensures.devices)) c.in_ok-devices.ensures.kept
+      c.list_of.ensures.list frame.contests report
+      (c.in_ok-devices.ensures ∙ ap (map told_device) (c.into_vec.ensures ∙ h.devices_are)) h.records
 
 pub returns-clause-facts : goal.returns-clause-facts
-returns-clause-facts c = (list c).facts ∙ told_are c.args.definition.now c.args.bytes.now (report c) (of c)
+returns-clause-facts c frame bytes h = (list c frame bytes h).facts ∙ told_are frame bytes (report c frame bytes h) (of c frame bytes h)
 
 pub returns-clause-spelled : goal.returns-clause-spelled
-returns-clause-spelled c = spelled_are c.args.definition.now c.args.bytes.now (report c) c.list_of.result (of c) (list c).told
+returns-clause-spelled c frame bytes h = spelled_are frame bytes (report c frame bytes h) c.list_of.result (of c frame bytes h) (list c frame bytes h).told

@@ -3,8 +3,8 @@ use Rattle.std.proofs.lemmas.Simd.{map-map}
 use Rattle.serde_json.specs.Data.{Data}
 use Rattle.cdf_node.specs.View.{view}
 use Rattle.cdf_node.specs.declared.node.Node.{Node}
-use Rattle.cdf_form.specs.Parts.{array_at}
-use Rattle.cdf_form.specs.Places.{Contest}
+use Rattle.cdf_parts.specs.Parts.{array_at}
+use Rattle.cdf_parts.specs.Places.{Contest}
 use Rattle.cdf_typed.specs.Typed.{contest_vote_of, snapshot_of}
 use Rattle.cvr_facts.specs.Sums.{sums_in, AreInRange}
 use Rattle.cvr_facts.proofs.Bounds.{AreInRange-from_snapshot}

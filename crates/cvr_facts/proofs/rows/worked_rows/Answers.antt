@@ -4,8 +4,8 @@ use Rattle.std.specs.Fmt.{digits}
 use Rattle.serde_json.proofs.OnLiterals.{serde_json_on_literals}
 use Rattle.jiff.proofs.OnLiterals.{jiff_on_literals}
 use Rattle.cdf_typed.specs.Typed.{report_of}
-use Rattle.cdf_check.specs.Frame.{frame_of}
-use Rattle.cdf_check.specs.Rows.{definition_file}
+use Rattle.cdf_definition.specs.Frame.{frame_of}
+use Rattle.cdf_definition.specs.Sample.{definition_file}
 use Rattle.cvr_facts.specs.Lists.{told_facts, told_header, told_snapshots}
 use Rattle.cvr_facts.specs.Rows as row
 use Rattle.cvr_facts.proofs.rows.worked_rows.Goals as goal

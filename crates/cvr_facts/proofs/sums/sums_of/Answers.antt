@@ -1,7 +1,7 @@
 use Rattle.std.proofs.Common.{◌≡◌, ◌<◌, ◌+◌, map, length, take, get_or, set, length-set, refl, sym, ap, subst, ◌∙◌, arith, rules}
 use Rattle.std.specs.List.{sum_by, filter}
 use Rattle.std.proofs.lemmas.List.{take_all, length-map, get_or_default}
-use Rattle.cdf_form.specs.Places.{selections_at}
+use Rattle.cdf_parts.specs.Places.{selections_at}
 use Rattle.cvr_facts.specs.Sums.{counts, is_pending, votes_among, votes_of, names_none, sum_limit}
 use Rattle.cvr_facts.proofs.Counting.{AreCounted, told_less, told_is, positions_of_next-lt, place_of_next-lt, counted_next-lt, pending_next-lt, unassigned_next-lt, pending_more, unassigned_none, unassigned_some, counted_none, counted_some, counted_all, zeros}
 use Rattle.cvr_facts.proofs.sums.sums_of.Goals as goal

@@ -1,6 +1,6 @@
 use Rattle.std.proofs.Common.{◌≡◌, length, take, map}
 use Rattle.std.specs.List.{sum_by, filter}
-use Rattle.cdf_form.specs.Places.{selections_at}
+use Rattle.cdf_parts.specs.Places.{selections_at}
 use Rattle.cvr_facts.specs.Sums.{counts, is_pending, votes_of, names_none}
 use Rattle.cvr_facts.proofs.Counting.{AreCounted}
 use Rattle.cvr_facts.proofs.sums.sums_of.Given as goal

@@ -1,6 +1,6 @@
 use Rattle.std.proofs.Common.{◌≡◌, ◌++◌, ℕ, List, codes, false, sym, ap, ◌∙◌, append_assoc, append-nil}
 use Rattle.json.specs.Print.{quoted}
-use Rattle.cdf_check.specs.Named.{texts_of}
+use Rattle.cdf_definition.specs.Named.{texts_of}
 use Rattle.cvr_report.specs.Record.{joined}
 use Rattle.cvr_report.specs.Pieces.{party_text}
 use Rattle.cvr_report.proofs.volume.push_middle.Goals as goal

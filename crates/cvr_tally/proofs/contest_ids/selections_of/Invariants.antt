@@ -1,5 +1,5 @@
 use Rattle.std.proofs.Common.{◌≡◌, take}
-use Rattle.cdf_form.specs.Places.{selections_at}
+use Rattle.cdf_parts.specs.Places.{selections_at}
 use Rattle.cvr_tally.proofs.contest_ids.selections_of.Given as goal
 
 abbrev pub invariant-loop-place : goal.invariant-loop-place

@@ -1,6 +1,6 @@
 use Rattle.std.proofs.Common.{◌≡◌, ◌++◌, sym, ◌∙◌, ap, string_bytes}
 use Rattle.std.specs.List.{flat_map, zip}
-use Rattle.cdf_form.specs.Places.{selections_at}
+use Rattle.cdf_parts.specs.Places.{selections_at}
 use Rattle.cvr_tally.specs.Contests.{contests_of}
 use Rattle.cvr_tally.specs.Text.{selection}
 use Rattle.cvr_tally.proofs.ContestAt.{ids_at}

@@ -1,6 +1,6 @@
 use Rattle.std.proofs.Common.{refl, arith}
 use Rattle.std.proofs.lemmas.List.Elements.{All-nil}
-use Rattle.cdf_check.specs.Within.{NamesOwn}
+use Rattle.cdf_definition.specs.Naming.{NamesOwn}
 use Rattle.cdf_check.proofs.seen.LooksFold.none.Goals as goal
 
 pub returns : goal.returns

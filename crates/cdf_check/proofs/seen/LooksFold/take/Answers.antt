@@ -1,7 +1,7 @@
 use Rattle.std.proofs.Common.{◌≡◌, None, option_map, sym, ap, ◌∙◌, arith}
 use Rattle.cdf_node.specs.View.{view}
 use Rattle.cdf_form.specs.Found.{fault_of}
-use Rattle.cdf_check.proofs.Numbers.{unmapped}
+use Rattle.cdf_definition.proofs.Lemmas.{unmapped}
 use Rattle.cdf_check.proofs.OneMore.{or_none, fraction_next, seen_more, whole_more}
 use Rattle.cdf_check.proofs.seen.LooksFold.take.Goals as goal
 

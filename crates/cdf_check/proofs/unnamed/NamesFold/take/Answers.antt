@@ -1,7 +1,7 @@
 use Rattle.std.proofs.Common.{arith}
 use Rattle.cdf_node.specs.View.{view}
-use Rattle.cdf_check.specs.References.{in_cvr}
-use Rattle.cdf_check.specs.Scoped.{scope_view}
+use Rattle.cdf_definition.specs.References.{in_cvr}
+use Rattle.cdf_definition.specs.Scoped.{scope_view}
 use Rattle.cdf_check.proofs.OneMore.{place_next}
 use Rattle.cdf_check.proofs.unnamed.NamesFold.take.Goals as goal
 

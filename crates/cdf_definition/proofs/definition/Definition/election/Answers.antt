@@ -1,6 +1,6 @@
 use Rattle.std.proofs.Common.{◌≡◌, length, get_or, ap, sym, ◌∙◌, ◌∷◌, [], rules, arith}
-use Rattle.cdf_check.proofs.OneElection.{one_text, only_text}
-use Rattle.cdf_check.proofs.definition.Definition.election.Goals as goal
+use Rattle.cdf_definition.proofs.OneElection.{one_text, only_text}
+use Rattle.cdf_definition.proofs.definition.Definition.election.Goals as goal
 
 pub bounds-bodies-0 : goal.bounds-bodies-0
 bounds-bodies-0 c =

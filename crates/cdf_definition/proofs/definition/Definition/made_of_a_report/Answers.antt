@@ -1,4 +1,4 @@
-use Rattle.cdf_check.proofs.definition.Definition.made_of_a_report.Goals as goal
+use Rattle.cdf_definition.proofs.definition.Definition.made_of_a_report.Goals as goal
 
 pub returns : goal.returns
 returns c = rw (← c.self.view_is) c.self.invariant

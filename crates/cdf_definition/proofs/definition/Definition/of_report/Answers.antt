@@ -3,8 +3,8 @@ use Rattle.std.specs.Prelude.{codes}
 use Rattle.std.specs.List.{list_any}
 use Rattle.cdf_node.specs.View.{view}
 use Rattle.serde_json.specs.Written.{has_float}
-use Rattle.cdf_check.proofs.OneElection.{whole_at}
-use Rattle.cdf_check.proofs.definition.Definition.of_report.Goals as goal
+use Rattle.cdf_definition.proofs.OneElection.{whole_at}
+use Rattle.cdf_definition.proofs.definition.Definition.of_report.Goals as goal
 
 pub of_items-requires : goal.of_items-requires
 of_items-requires c = ap (list_any has_float) c.items_at.ensures ∙ whole_at (codes "Election") (view c.args.report.now) c.requires.sound.0

@@ -1,6 +1,6 @@
 use Rattle.cdf_node.specs.View.{view}
-use Rattle.cdf_check.proofs.Sounding.{sound}
-use Rattle.cdf_check.proofs.definition.Definition.read.Goals as goal
+use Rattle.cdf_definition.proofs.Sounding.{sound}
+use Rattle.cdf_definition.proofs.definition.Definition.read.Goals as goal
 
 pub returns-clause-sound : goal.returns-clause-sound
 returns-clause-sound c =

@@ -1,7 +1,7 @@
 use Rattle.std.proofs.Common.{◌≡◌, ◌∷◌, [], ◌++◌, rules, arith}
 use Rattle.std.proofs.lemmas.Grind.{common_steps}
-use Rattle.cdf_check.proofs.Gathered.{pairs_more}
-use Rattle.cdf_check.proofs.named.Named.of_map.Goals as goal
+use Rattle.cdf_definition.proofs.Gathered.{pairs_more}
+use Rattle.cdf_definition.proofs.named.Named.of_map.Goals as goal
 
 pub loop-id-preserved : goal.loop-id-preserved
 loop-id-preserved c =

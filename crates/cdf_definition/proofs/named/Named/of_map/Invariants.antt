@@ -1,8 +1,8 @@
 use Rattle.std.proofs.Common.{◌≡◌, ◌++◌, length}
 use Rattle.std.specs.List.{zip}
-use Rattle.cdf_form.specs.Kept.{bytes_of}
-use Rattle.cdf_check.specs.Named.{entries_of}
-use Rattle.cdf_check.proofs.named.Named.of_map.Given as goal
+use Rattle.cdf_parts.specs.Kept.{bytes_of}
+use Rattle.cdf_definition.specs.Named.{entries_of}
+use Rattle.cdf_definition.proofs.named.Named.of_map.Given as goal
 
 abbrev pub invariant-loop-id : goal.invariant-loop-id
 invariant-loop-id l = record {

@@ -2,7 +2,7 @@ use Rattle.std.proofs.Common.{◌≡◌, sym, ◌∙◌, refl, rules}
 use Rattle.std.specs.Str.{bytes_eq}
 use Rattle.std.specs.Cmp.Lexicographic.{pointwise}
 use Rattle.std.proofs.lemmas.Slice.Eq.{bytes_eq-Decides, slice_eq-Decides}
-use Rattle.cdf_check.proofs.named.Named.same.Goals as goal
+use Rattle.cdf_definition.proofs.named.Named.same.Goals as goal
 
 pub returns : goal.returns
 returns c =

@@ -1,7 +1,7 @@
 use Rattle.std.proofs.Common.{◌≡◌, [], get_or, Some, None, sym, ap, ◌∙◌, arith, rules}
-use Rattle.cdf_form.specs.Places.{place_in}
-use Rattle.cdf_check.proofs.Gathered.{text_there, no_text}
-use Rattle.cdf_check.proofs.named.Named.text_of.Goals as goal
+use Rattle.cdf_parts.specs.Places.{place_in}
+use Rattle.cdf_definition.proofs.Gathered.{text_there, no_text}
+use Rattle.cdf_definition.proofs.named.Named.text_of.Goals as goal
 
 pub index-requires : goal.index-requires
 index-requires c =

@@ -2,9 +2,9 @@ use Rattle.std.proofs.Common.{◌≡◌, ◌≤◌, length, map, ap, ◌∙◌, 
 use Rattle.std.specs.Prelude.{codes}
 use Rattle.std.proofs.lemmas.List.{take_all}
 use Rattle.cdf_node.specs.View.{view}
-use Rattle.cdf_form.specs.Parts.{id_of, ids_at}
-use Rattle.cdf_form.proofs.ContestLists.{zip-map}
-use Rattle.cdf_form.proofs.contests.Contests.of_items.Goals as goal
+use Rattle.cdf_parts.specs.Parts.{id_of, ids_at}
+use Rattle.cdf_parts.proofs.ContestLists.{zip-map}
+use Rattle.cdf_parts.proofs.contests.Contests.of_items.Goals as goal
 
 pub returns : goal.returns
 returns c =

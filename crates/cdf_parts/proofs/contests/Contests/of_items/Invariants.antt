@@ -1,8 +1,8 @@
 use Rattle.std.proofs.Common.{◌≡◌, take, map}
 use Rattle.std.specs.Prelude.{codes}
 use Rattle.cdf_node.specs.View.{view}
-use Rattle.cdf_form.specs.Parts.{ids_at}
-use Rattle.cdf_form.proofs.contests.Contests.of_items.Given as goal
+use Rattle.cdf_parts.specs.Parts.{ids_at}
+use Rattle.cdf_parts.proofs.contests.Contests.of_items.Given as goal
 
 abbrev pub invariant-loop-item : goal.invariant-loop-item
 invariant-loop-item l = l.selections.items ≡ map (ids_at (codes "ContestSelection")) (map view (take l.item-index l.items))

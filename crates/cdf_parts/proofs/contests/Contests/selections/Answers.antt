@@ -1,7 +1,7 @@
 use Rattle.std.proofs.Common.{◌≡◌, ◌<◌, length, get_or, sym, ◌∙◌, arith, rules}
 use Rattle.std.specs.List.{zip}
-use Rattle.cdf_form.proofs.ContestLists.{length-zip, selections_at-zip}
-use Rattle.cdf_form.proofs.contests.Contests.selections.Goals as goal
+use Rattle.cdf_parts.proofs.ContestLists.{length-zip, selections_at-zip}
+use Rattle.cdf_parts.proofs.contests.Contests.selections.Goals as goal
 
 pub index-requires : goal.index-requires
 index-requires c =

@@ -1,8 +1,8 @@
 use Rattle.std.proofs.Common.{◌≡◌, ◌<◌, ℕ, List, length, get_or, Some, None, sym, ap, ◌∙◌, arith, rules}
-use Rattle.cdf_form.specs.Places.{place_in, selections_of}
+use Rattle.cdf_parts.specs.Places.{place_in, selections_of}
 use Rattle.std.specs.List.{zip}
-use Rattle.cdf_form.proofs.ContestLists.{contest_ids-zip, place_below, selections_at-zip}
-use Rattle.cdf_form.proofs.contests.Contests.selections_of.Goals as goal
+use Rattle.cdf_parts.proofs.ContestLists.{contest_ids-zip, place_below, selections_at-zip}
+use Rattle.cdf_parts.proofs.contests.Contests.selections_of.Goals as goal
 
 found : (xs : List (List ℕ)) (ys : List (List (List ℕ))) (s : List ℕ) (p : ℕ) (d : List (List ℕ)) → length xs ≡ length ys → place_in xs s ≡ Some p → d ≡ get_or ys p d → Some d ≡ selections_of (zip xs ys) s
 found xs ys s p d e is at =

@@ -1,9 +1,9 @@
 use Rattle.std.proofs.Common.{◌≡◌, ◌<◌, ◌+◌, ◌++◌, ◌∷◌, [], get_or, length, take, sym, ap, ◌∙◌, string_bytes, rules, arith}
 use Rattle.std.proofs.lemmas.List.{take_more, length-take-le}
-use Rattle.cdf_form.specs.Kept.{bytes_of}
-use Rattle.cdf_form.specs.Places.{place_in}
-use Rattle.cdf_form.proofs.Places.{places_more, bytes_more, length-bytes_of}
-use Rattle.cdf_form.proofs.ids.Ids.of.Goals as goal
+use Rattle.cdf_parts.specs.Kept.{bytes_of}
+use Rattle.cdf_parts.specs.Places.{place_in}
+use Rattle.cdf_parts.proofs.Places.{places_more, bytes_more, length-bytes_of}
+use Rattle.cdf_parts.proofs.ids.Ids.of.Goals as goal
 
 pub loop-place-preserved : goal.loop-place-preserved
 loop-place-preserved c = λ q.

@@ -1,10 +1,10 @@
 use Rattle.std.proofs.Common.{◌≡◌, ◌<◌, ◌++◌, ◌∷◌, [], get_or, length, sym, ap, ◌∙◌, string_bytes, rules, arith}
 use Rattle.cdf_node.specs.View.{view}
-use Rattle.cdf_form.specs.Parts.{id_of}
-use Rattle.cdf_form.specs.Places.{place_in}
-use Rattle.cdf_form.specs.Kept.{bytes_of}
-use Rattle.cdf_form.proofs.Places.{ids_more, bytes_more, places_more, ids_len}
-use Rattle.cdf_form.proofs.ids.Ids.of_items.Goals as goal
+use Rattle.cdf_parts.specs.Parts.{id_of}
+use Rattle.cdf_parts.specs.Places.{place_in}
+use Rattle.cdf_parts.specs.Kept.{bytes_of}
+use Rattle.cdf_parts.proofs.Places.{ids_more, bytes_more, places_more, ids_len}
+use Rattle.cdf_parts.proofs.ids.Ids.of_items.Goals as goal
 
 pub loop-place-preserved : goal.loop-place-preserved
 loop-place-preserved c =

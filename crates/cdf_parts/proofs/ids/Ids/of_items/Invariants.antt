@@ -1,8 +1,8 @@
 use Rattle.std.proofs.Common.{◌≡◌, take, map}
 use Rattle.cdf_node.specs.View.{view}
-use Rattle.cdf_form.specs.Parts.{id_of}
-use Rattle.cdf_form.specs.Kept.{bytes_of, HasPlaces}
-use Rattle.cdf_form.proofs.ids.Ids.of_items.Given as goal
+use Rattle.cdf_parts.specs.Parts.{id_of}
+use Rattle.cdf_parts.specs.Kept.{bytes_of, HasPlaces}
+use Rattle.cdf_parts.proofs.ids.Ids.of_items.Given as goal
 
 abbrev pub invariant-loop-place : goal.invariant-loop-place
 invariant-loop-place l = record {

@@ -1,8 +1,8 @@
 use Rattle.std.proofs.Common.{map, codes, sym, ap, ◌∙◌}
 use Rattle.std.proofs.lemmas.Simd.{map-map}
 use Rattle.cdf_node.specs.View.{view}
-use Rattle.cdf_form.specs.Parts.{text_at}
-use Rattle.cdf_form.specs.Places.{selections_of}
+use Rattle.cdf_parts.specs.Parts.{text_at}
+use Rattle.cdf_parts.specs.Places.{selections_of}
 use Rattle.cdf_typed.specs.Typed.{selection_vote_of}
 use Rattle.cdf_typed.proofs.as_vote.NodeAsContestVote.selections.Goals as goal
 

@@ -1,6 +1,6 @@
 use Rattle.std.proofs.Common.{ap, ◌∙◌, subst, List, length, ◌≡◌, ◌≤◌, ◌+◌, ◌*◌}
 use Rattle.std.specs.FinSet.{union}
-use Rattle.cdf_form.specs.Places.{Contest}
+use Rattle.cdf_parts.specs.Places.{Contest}
 use Rattle.cvr_collect.specs.Readers.{growth}
 use Rattle.cvr_collect.specs.Plain.{set_of, IsTheFiles}
 use Rattle.cvr_cached.specs.Contents.{listed}

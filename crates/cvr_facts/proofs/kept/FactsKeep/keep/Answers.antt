@@ -4,7 +4,7 @@ use Rattle.std.proofs.lemmas.List.{map-append}
 use Rattle.std.proofs.lemmas.List.Concat.{flat_map-append}
 use Rattle.serde_json.specs.Written.{has_float}
 use Rattle.cdf_node.specs.View.{view}
-use Rattle.cdf_form.proofs.Laws.{whole_array}
+use Rattle.cdf_parts.proofs.Laws.{whole_array}
 use Rattle.cdf_typed.specs.Typed.{snapshot_of, cvr_of}
 use Rattle.cvr_facts.specs.Lists.{told_header, told_under, told_snapshots}
 use Rattle.cvr_facts.proofs.kept.FactsKeep.keep.Goals as goal

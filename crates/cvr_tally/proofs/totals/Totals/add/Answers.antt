@@ -1,7 +1,7 @@
 use Rattle.std.proofs.Common.{◌≡◌, ◌∙◌, ap, sym, subst, length}
 use Rattle.std.specs.Option.{IfSome}
 use Rattle.std.specs.FinMap as rows
-use Rattle.cdf_form.specs.Places.{selections_at}
+use Rattle.cdf_parts.specs.Places.{selections_at}
 use Rattle.cvr_tally.specs.Keys.{keys_total, keys_exact}
 use Rattle.cvr_tally.specs.Rows.{HasRoom, row_plus, rows_plus}
 use Rattle.cvr_tally.proofs.Maps.{get-made, mapped_at}

@@ -4,7 +4,7 @@ use Rattle.std.specs.Map.{lookup}
 use Rattle.std.specs.BTreeMap.{is_at}
 use Rattle.std.specs.Option.{option_map_or, unwrap_or}
 use Rattle.std.specs.FinMap as rows
-use Rattle.cdf_form.specs.Places.{Contest, selections_at}
+use Rattle.cdf_parts.specs.Places.{Contest, selections_at}
 use Rattle.cvr_tally.specs.declared.contest_ids.ContestIds.{ContestIds}
 use Rattle.cvr_tally.specs.declared.key.RowKey.{RowKey}
 use Rattle.cvr_tally.specs.declared.row.Row.{Row}

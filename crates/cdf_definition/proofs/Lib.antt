@@ -1,0 +1,14 @@
+pub mod Empty
+pub mod Resolving
+pub mod Agreeing
+pub mod Sounding
+pub mod Accepting
+pub mod Reports
+pub mod Gathered
+pub mod OneElection
+pub mod Items
+pub mod Depths
+pub mod Texts
+pub mod Kept
+pub mod Laws
+pub mod Lemmas

@@ -1,0 +1,57 @@
+-- Laws of acceptance. (This project's own.)
+use Rattle.std.specs.Prelude.{◌≡◌, ◌↔◌, ℕ, List, [], ◌∷◌, None, false, bytes_eq, codes}
+use Rattle.serde_json.specs.Data.{Data}
+use Rattle.cdf_parts.specs.Parts.{array_at}
+use Rattle.cdf_definition.specs.References.{Scope, in_cvr, in_snapshot, missing}
+use Rattle.cdf_definition.specs.Resolves.{CvrResolves, SnapshotResolves, Resolves}
+use Rattle.cdf_definition.specs.Frame.{Frame}
+use Rattle.cdf_definition.specs.Agreement.{disagreements, Agrees}
+use Rattle.cdf_definition.specs.Sound.{IsSound}
+use Rattle.cdf_definition.specs.Acceptance.{IsReport, Sound, Valid, value_refusal, first_unsound, first_refusal}
+use Rattle.cdf_definition.specs.Bodies.{IsKept}
+
+-- ---- references and agreement
+
+-- every reference names something exactly where no path is missing
+abbrev pub ReferencesLaw : Type 0
+ReferencesLaw = (d : Data) → (missing d ≡ []) ↔ Resolves d
+
+-- of a record they are the texts that name nothing in a scope
+abbrev pub RecordLaw : Type 0
+RecordLaw = (scope : Scope) (d : Data) → (in_cvr scope d ≡ []) ↔ CvrResolves scope d
+
+-- and so of a snapshot
+abbrev pub SnapshotLaw : Type 0
+SnapshotLaw = (scope : Scope) (d : Data) → (in_snapshot scope d ≡ []) ↔ SnapshotResolves scope d
+
+-- every object is the definition's exactly where none differs
+abbrev pub AgreementLaw : Type 0
+AgreementLaw = (frame : Frame) (d : Data) → (disagreements frame d ≡ []) ↔ Agrees frame d
+
+-- ---- acceptance
+
+-- a value has no fault exactly where it is a report
+abbrev pub SoundLaw : Type 0
+SoundLaw = (d : Data) → IsSound d ↔ IsReport d
+
+-- it is accepted beside a definition exactly where there is no cause to refuse it
+abbrev pub ValueLaw : Type 0
+ValueLaw = (frame : Frame) (d : Data) → (value_refusal frame d ≡ None) ↔ (IsReport d × Agrees frame d)
+
+-- a file can serve as a definition exactly where there is no cause to refuse it
+abbrev pub SoundFileLaw : Type 0
+SoundFileLaw = (bytes : List ℕ) → (first_unsound bytes ≡ None) ↔ Sound bytes
+
+-- a file is accepted beside a definition exactly where there is no cause to refuse it
+abbrev pub ValidFileLaw : Type 0
+ValidFileLaw = (frame : Frame) (bytes : List ℕ) → (first_refusal frame bytes ≡ None) ↔ Valid frame bytes
+
+-- ---- reports
+
+-- a report has one election
+abbrev pub OneElectionLaw : Type 0
+OneElectionLaw = (d : Data) → IsReport d → (e : Data) × (array_at (codes "Election") d ≡ e ∷ [])
+
+-- a header keeps each member but for the two that it leaves out
+abbrev pub KeptLaw : Type 0
+KeptLaw = (name : List ℕ) → bytes_eq name (codes "CVRSnapshot") ≡ false → bytes_eq name (codes "CurrentSnapshotId") ≡ false → IsKept name

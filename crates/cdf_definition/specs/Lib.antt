@@ -1,0 +1,14 @@
+pub mod Paths
+pub mod References
+pub mod Scoped
+pub mod Resolves
+pub mod Named
+pub mod Frame
+pub mod Agreement
+pub mod Sound
+pub mod Acceptance
+pub mod Bodies
+pub mod Depths
+pub mod Naming
+pub mod Laws
+pub mod Sample

@@ -1,0 +1,42 @@
+ghost use Rattle.cdf_definition.specs.Laws.{ReferencesLaw, RecordLaw, SnapshotLaw, AgreementLaw, SoundLaw, ValueLaw, SoundFileLaw, ValidFileLaw, OneElectionLaw, KeptLaw};
+ghost use Rattle.cdf_definition.specs.Depths.{ReportRowLaw, HasIdLaw, WasReadLaw, ReportIsProperLaw, ListedIsProperLaw};
+
+/// A list of faults is empty exactly where what the faults tell of holds: of references, of
+/// agreement, of a value, and of a file alone and beside a definition.
+pub fn acceptance()
+    ensures references { ReferencesLaw }
+    ensures agreement { AgreementLaw }
+    ensures sound { SoundLaw }
+    ensures value { ValueLaw }
+    ensures sound_file { SoundFileLaw }
+    ensures valid_file { ValidFileLaw }
+{}
+
+/// So is that of the references of a record, and of a snapshot.
+pub fn references_by_part()
+    ensures records { RecordLaw }
+    ensures snapshots { SnapshotLaw }
+{}
+
+/// A report has one election.
+pub fn one_election()
+    ensures { OneElectionLaw }
+{}
+
+/// Each row of a report says so of it, and an object of a group whose classes have ids has one.
+pub fn report_rows()
+    ensures each_row { ReportRowLaw }
+    ensures id { HasIdLaw }
+{}
+
+/// The header of a cast vote record keeps each member but for two.
+pub fn headers_keep()
+    ensures { KeptLaw }
+{}
+
+/// A report's value nests at most 127 deep, and an item of an array in it two less.
+pub fn bodies_are_shallow()
+    ensures value { WasReadLaw }
+    ensures report { ReportIsProperLaw }
+    ensures listed { ListedIsProperLaw }
+{}

@@ -1,0 +1,26 @@
+//! The election definition (NIST SP 1500-103): what is kept of a report, what its texts have to name,
+//! and whether a value is accepted beside it.
+#![tactic(auto)]
+
+mod agreement;
+mod check;
+mod definition;
+mod gather;
+mod keep;
+pub mod law;
+mod look;
+mod named;
+mod naming;
+mod read;
+mod references;
+mod scope;
+mod text;
+
+pub use check::{check_value, told_fault};
+pub use definition::Definition;
+pub use keep::Keep;
+pub use look::Look;
+pub use naming::names_own;
+pub use references::InCvr;
+pub use scope::Scope;
+pub use text::file_text;

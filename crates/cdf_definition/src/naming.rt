@@ -1,0 +1,27 @@
+ghost use Rattle.std.specs.Prelude.{◌↔◌, IfOk, IsTrue};
+ghost use Rattle.cdf_node.specs.View.{view};
+ghost use Rattle.cdf_definition.specs.Naming.{NamesOwn};
+
+use crate::definition::Definition;
+use crate::look::look_at_one;
+use crate::references::{look_at_current, look_in_snapshots};
+use cdf_node::Node;
+use cdf_types::Memory;
+use std::alloc::Global;
+
+/// Whether the contests, selections and election that a record names are the definition's, and its
+/// current snapshot is its own.
+///
+/// # Errors
+/// `Memory` where a growth was refused.
+pub fn names_own(alloc: Global, definition: &Definition, cvr: &Node<'_>) -> Result<bool, Memory>
+    ensures { IfOk result (λ is. IsTrue is ↔ NamesOwn definition.now (view cvr.now)) }
+{
+    if look_in_snapshots(alloc, definition.contests(), cvr)?.is_some() {
+        return Ok(false);
+    }
+    if look_at_current(alloc, cvr)?.is_some() {
+        return Ok(false);
+    }
+    Ok(look_at_one(alloc, definition.elections().ids(), "ElectionId", cvr)?.is_none())
+}

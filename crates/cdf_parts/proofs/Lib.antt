@@ -1,0 +1,14 @@
+pub mod PartsOf
+pub mod Order
+pub mod Appending
+pub mod ReadsBack
+pub mod WasRead
+pub mod Removing
+pub mod PartLaws
+pub mod Lengths
+pub mod Lists
+pub mod Places
+pub mod ContestLists
+pub mod Whole
+pub mod Laws
+pub mod Lemmas

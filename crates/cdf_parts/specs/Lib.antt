@@ -1,0 +1,11 @@
+pub mod Parts
+pub mod Places
+pub mod Kept
+pub mod Proper
+pub mod TextLaws
+pub mod Removing
+pub mod MemberLaws
+pub mod PartOf
+pub mod PartLaws
+pub mod TextExamples
+pub mod Whole
