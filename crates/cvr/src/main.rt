@@ -4,7 +4,7 @@
 mod progress;
 
 ghost use Rattle.std.specs.Prelude.{true};
-ghost use Rattle.cvr_cli.specs.Opening.{Unknown};
+ghost use Rattle.cvr_run.specs.Opening.{Unknown};
 
 use cvr_cli::{FileFault, Open, OverRead, OverWrite, Status, work};
 use progress::{Cleared, Counted, Progress};

@@ -12,20 +12,20 @@ use Rattle.std.proofs.lemmas.Map.Keys.{sorted_head, sorted_tail}
 use Rattle.cvr_facts.specs.declared.name.RecordName.{RecordName}
 use Rattle.cvr_facts.specs.Facts.{Fact, Device, Header, Snapshot, name_cmp}
 use Rattle.cvr_facts.proofs.Lemmas.{at_head, at_tail, in_map, from_flat}
-use Rattle.cvr_collect.specs.declared.any_fact.AnyFact.{AnyFact}
-use Rattle.cvr_collect.specs.declared.conflict.Conflict.{Conflict}
-use Rattle.cvr_collect.specs.declared.conflict.ConflictName.{ConflictName}
-use Rattle.cvr_collect.specs.declared.conflict.ConflictName.TheVariants as name
-use Rattle.cvr_collect.specs.Names.{name_of, record_of, conflicts, most, greatest_count}
-use Rattle.cvr_collect.specs.AnyNames.{any_name, has_name}
-use Rattle.cvr_collect.specs.Place.{fact_of, any_cmp}
-use Rattle.cvr_collect.specs.Plain.{set_of}
-use Rattle.cvr_collect.proofs.Laws.{name_total, name_is, conflicts-is, greatest_count-is}
-use Rattle.cvr_collect.proofs.Lemmas.{most-cons}
+use Rattle.cvr_office.specs.declared.any_fact.AnyFact.{AnyFact}
+use Rattle.cvr_office.specs.declared.conflict.Conflict.{Conflict}
+use Rattle.cvr_office.specs.declared.conflict.ConflictName.{ConflictName}
+use Rattle.cvr_office.specs.declared.conflict.ConflictName.TheVariants as name
+use Rattle.cvr_office.specs.Names.{name_of, record_of, conflicts, most, greatest_count}
+use Rattle.cvr_office.specs.AnyNames.{any_name, has_name}
+use Rattle.cvr_office.specs.Place.{fact_of, any_cmp}
+use Rattle.cvr_office.specs.Plain.{set_of}
+use Rattle.cvr_office.proofs.Laws.{name_total, name_is, conflicts-is, greatest_count-is}
+use Rattle.cvr_office.proofs.Lemmas.{most-cons}
 use Rattle.cvr_cached.specs.Contents.{Entries, listed}
 use Rattle.cvr_cached.specs.Held.{AreOwn}
 use Rattle.cvr_cached.proofs.Listed.{each_of, own_each, found_own, listed_rises}
-use Rattle.cvr_collect.specs.NameRuns.{runs_from, counted_runs, of_several, most_of}
+use Rattle.cvr_office.specs.NameRuns.{runs_from, counted_runs, of_several, most_of}
 
 -- ---- a name is of one record
 

@@ -9,12 +9,12 @@ use Rattle.cvr_facts.specs.Facts.{Device, name_cmp}
 use Rattle.cvr_facts.proofs.Lemmas.{none_listed, in_map, from_map}
 use Rattle.cvr_tally.specs.Rows.{Rows}
 use Rattle.cvr_tally.specs.Keys.{key_cmp, keys_total, keys_exact}
-use Rattle.cvr_collect.specs.declared.any_fact.AnyFact.{AnyFact}
-use Rattle.cvr_collect.specs.Names.{record_of}
-use Rattle.cvr_collect.specs.Place.{fact_of}
-use Rattle.cvr_collect.specs.Plain.{set_of, IsPlain, IsPut}
-use Rattle.cvr_collect.specs.Tallied.{rows, row_over}
-use Rattle.cvr_collect.proofs.Laws.{rows_law}
+use Rattle.cvr_office.specs.declared.any_fact.AnyFact.{AnyFact}
+use Rattle.cvr_office.specs.Names.{record_of}
+use Rattle.cvr_office.specs.Place.{fact_of}
+use Rattle.cvr_office.specs.Plain.{set_of, IsPlain, IsPut}
+use Rattle.cvr_office.specs.Tallied.{rows, row_over}
+use Rattle.cvr_office.proofs.Laws.{rows_law}
 use Rattle.cvr_cached.specs.Contents.{Entries, listed}
 use Rattle.cvr_cached.specs.Held.{AreOwn, IsCached}
 use Rattle.cvr_cached.proofs.Listed.{sorted_nil}

@@ -11,11 +11,11 @@ use Rattle.cvr_facts.proofs.Lemmas.{in_map, in_set, in_flat}
 use Rattle.cvr_tally.specs.declared.key.RowKey.{RowKey}
 use Rattle.cvr_tally.specs.declared.row.Row.{Row}
 use Rattle.cvr_tally.specs.Rows.{Rows}
-use Rattle.cvr_collect.specs.declared.any_fact.AnyFact.{AnyFact}
-use Rattle.cvr_collect.specs.Place.{fact_of}
-use Rattle.cvr_collect.specs.Plain.{set_of}
-use Rattle.cvr_collect.specs.Tallied.{rows, total_limit, IsBelow}
-use Rattle.cvr_collect.proofs.Laws.{currents_are_sums}
+use Rattle.cvr_office.specs.declared.any_fact.AnyFact.{AnyFact}
+use Rattle.cvr_office.specs.Place.{fact_of}
+use Rattle.cvr_office.specs.Plain.{set_of}
+use Rattle.cvr_office.specs.Tallied.{rows, total_limit, IsBelow}
+use Rattle.cvr_office.proofs.Laws.{currents_are_sums}
 use Rattle.cvr_cached.specs.Contents.{Entries, listed, pairs_of}
 use Rattle.cvr_cached.specs.Cells.{Column, Ballots, Overvotes, Undervotes, WriteIns, Pending, Unassigned, Vote, shares, total}
 use Rattle.cvr_cached.specs.Held.{IsCached, IsSummed}

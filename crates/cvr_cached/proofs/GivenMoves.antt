@@ -10,9 +10,9 @@ use Rattle.cdf_typed.specs.Greatest.{greatest}
 use Rattle.cvr_facts.specs.Facts.{Fact, Facts, fact_cmp, name_cmp, fact_total, fact_exact}
 use Rattle.cvr_facts.specs.Choosing.{choice_cmp, snapshot_body}
 use Rattle.cvr_facts.proofs.Lemmas.{in_set, from_set}
-use Rattle.cvr_collect.specs.Names.{record_of, records}
-use Rattle.cvr_collect.specs.Tallied.{sums_of_body}
-use Rattle.cvr_collect.proofs.Lemmas.{current-given, records-given, sorted, set_is, from_filter, in_filter}
+use Rattle.cvr_office.specs.Names.{record_of, records}
+use Rattle.cvr_office.specs.Tallied.{sums_of_body}
+use Rattle.cvr_office.proofs.Lemmas.{current-given, records-given, sorted, set_is, from_filter, in_filter}
 use Rattle.cvr_cached.specs.Moves.{moved}
 
 -- those of a list that aren't in another

@@ -7,7 +7,7 @@ use Rattle.cvr_tally.specs.Keys.{is_key, keys_total, keys_exact}
 use Rattle.cvr_facts.specs.declared.name.RecordName.{RecordName}
 use Rattle.cvr_facts.specs.Facts.{name_cmp}
 use Rattle.cvr_facts.proofs.Lemmas.{tie_is, tie_itself}
-use Rattle.cvr_collect.proofs.Laws.{name_total, name_exact}
+use Rattle.cvr_office.proofs.Laws.{name_total, name_exact}
 
 pub self_key : (k : RowKey) → is_key k k ≡ true
 self_key k = tie_itself keys_total k k refl

@@ -10,9 +10,9 @@ use Rattle.cvr_facts.specs.declared.name.RecordName.{RecordName}
 use Rattle.cvr_facts.specs.Facts.{Facts, name_cmp, fact_cmp, fact_total, fact_exact}
 use Rattle.cvr_facts.specs.Unions.{union_laws}
 use Rattle.cvr_facts.proofs.Lemmas.{from_list-append}
-use Rattle.cvr_collect.specs.declared.any_fact.AnyFact.{AnyFact}
-use Rattle.cvr_collect.specs.Place.{fact_of}
-use Rattle.cvr_collect.specs.Plain.{set_of}
+use Rattle.cvr_office.specs.declared.any_fact.AnyFact.{AnyFact}
+use Rattle.cvr_office.specs.Place.{fact_of}
+use Rattle.cvr_office.specs.Plain.{set_of}
 use Rattle.cvr_cached.specs.Contents.{Entries, facts_at, listed}
 use Rattle.cvr_cached.specs.Wholes.{whole}
 use Rattle.cvr_cached.proofs.Listed.{at_name}

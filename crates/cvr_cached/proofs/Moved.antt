@@ -22,15 +22,15 @@ use Rattle.cvr_facts.proofs.Laws.{contains_iff}
 use Rattle.cvr_facts.proofs.Lemmas.{none_listed, at_head, at_tail, head_or_tail, in_map, from_map, in_set, from_set, Contains-filter_map, from-filter_map}
 use Rattle.cvr_tally.specs.declared.key.RowKey.{RowKey}
 use Rattle.cvr_tally.specs.Rows.{Rows}
-use Rattle.cvr_collect.specs.declared.any_fact.AnyFact.{AnyFact}
-use Rattle.cvr_collect.specs.Adding.{key_for}
-use Rattle.cvr_collect.specs.Names.{record_of}
-use Rattle.cvr_collect.specs.Place.{fact_of, any_cmp}
-use Rattle.cvr_collect.specs.Plain.{set_of, IsPlain, IsPut}
-use Rattle.cvr_collect.specs.Readers.{IsHeader, IsCurrent}
-use Rattle.cvr_collect.specs.Tallied.{sums_of_body}
-use Rattle.cvr_collect.proofs.Laws.{name_total, name_exact}
-use Rattle.cvr_collect.proofs.Lemmas.{ordered-members, in_union, from_union}
+use Rattle.cvr_office.specs.declared.any_fact.AnyFact.{AnyFact}
+use Rattle.cvr_office.specs.Adding.{key_for}
+use Rattle.cvr_office.specs.Names.{record_of}
+use Rattle.cvr_office.specs.Place.{fact_of, any_cmp}
+use Rattle.cvr_office.specs.Plain.{set_of, IsPlain, IsPut}
+use Rattle.cvr_office.specs.Readers.{IsHeader, IsCurrent}
+use Rattle.cvr_office.specs.Tallied.{sums_of_body}
+use Rattle.cvr_office.proofs.Laws.{name_total, name_exact}
+use Rattle.cvr_office.proofs.Lemmas.{ordered-members, in_union, from_union}
 use Rattle.cvr_cached.specs.Contents.{Entries, facts_at, listed, header_in, current_in, pairs_of}
 use Rattle.cvr_cached.specs.Held.{AreOwn, IsHeld, IsTold}
 use Rattle.cvr_cached.specs.Moves.{contests_at, moved}

@@ -13,10 +13,10 @@ use Rattle.cvr_facts.specs.Choosing.{header, current, header_bodies, snapshot_bo
 use Rattle.cvr_facts.proofs.Laws.{text_total, text_exact, choice_total, Contains-header_bodies, Contains-snapshot_bodies}
 use Rattle.cvr_facts.proofs.Lemmas.{greatest_is, has_greatest, is_greatest, none_listed}
 use Rattle.cvr_tally.specs.declared.key.RowKey.{RowKey}
-use Rattle.cvr_collect.specs.Keeps.{Keeps}
-use Rattle.cvr_collect.specs.Names.{records}
-use Rattle.cvr_collect.specs.Tallied.{unit_of, batch_of, sums_of_body}
-use Rattle.cvr_collect.proofs.Lemmas.{records-given, set_is}
+use Rattle.cvr_office.specs.Keeps.{Keeps}
+use Rattle.cvr_office.specs.Names.{records}
+use Rattle.cvr_office.specs.Tallied.{unit_of, batch_of, sums_of_body}
+use Rattle.cvr_office.proofs.Lemmas.{records-given, set_is}
 use Rattle.cvr_cached.specs.Moves.{contests_at, RowsOfRecordLaw, NothingMovesLaw}
 
 -- a record with a snapshot has a header

@@ -7,8 +7,8 @@ use Rattle.std.specs.BTreeMap.Range.{entries_between}
 use Rattle.std.specs.declared.ops.Bound.TheVariants.{Excluded, Unbounded}
 use Rattle.cvr_facts.specs.declared.name.RecordName.{RecordName}
 use Rattle.cvr_facts.specs.Facts.{name_cmp}
-use Rattle.cvr_collect.specs.Readers.{next}
-use Rattle.cvr_collect.proofs.Laws.{name_total}
+use Rattle.cvr_office.specs.Readers.{next}
+use Rattle.cvr_office.proofs.Laws.{name_total}
 use Rattle.cvr_cached.specs.Contents.{Entries}
 
 abbrev pub first_of : Entries → Option RecordName
@@ -20,9 +20,9 @@ least_is [] = refl
 least_is (e ∷ es) = refl
 
 -- the one at place 0
-pub first_at : (es : Entries) (k : RecordName) (facts : List Rattle.cvr_collect.specs.declared.any_fact.AnyFact.AnyFact) → slice_get es 0 ≡ Some (k, facts) → Some k ≡ first_of es
+pub first_at : (es : Entries) (k : RecordName) (facts : List Rattle.cvr_office.specs.declared.any_fact.AnyFact.AnyFact) → slice_get es 0 ≡ Some (k, facts) → Some k ≡ first_of es
 first_at [] k facts e = Prim.cc e
-first_at (d ∷ es) k facts e = let same : d ≡ (k, facts) = Prim.cc e in ap (λ (p : RecordName × List Rattle.cvr_collect.specs.declared.any_fact.AnyFact.AnyFact). Some p.0) (sym same)
+first_at (d ∷ es) k facts e = let same : d ≡ (k, facts) = Prim.cc e in ap (λ (p : RecordName × List Rattle.cvr_office.specs.declared.any_fact.AnyFact.AnyFact). Some p.0) (sym same)
 
 pub first_none : (es : Entries) → (0 < length es → ⊥) → None ≡ first_of es
 first_none [] h = refl

@@ -21,15 +21,15 @@ use Rattle.cvr_facts.proofs.Laws.{fact_total}
 use Rattle.cvr_facts.proofs.Lemmas.{greatest_is, at_head, at_tail, none_listed, from_map, from-filter_map}
 use Rattle.cvr_tally.specs.declared.key.RowKey.{RowKey}
 use Rattle.cvr_tally.specs.Keys.{is_key}
-use Rattle.cvr_collect.specs.declared.any_fact.AnyFact.{AnyFact}
-use Rattle.cvr_collect.specs.declared.any_fact.AnyFact.TheVariants as any
-use Rattle.cvr_collect.specs.Adding.{IsSums, AreSums, key_for, sums_for}
-use Rattle.cvr_collect.specs.Keeps.{Keeps}
-use Rattle.cvr_collect.specs.Place.{fact_of}
-use Rattle.cvr_collect.specs.Plain.{IsSpelled}
-use Rattle.cvr_collect.specs.Runs.{as_snapshot, snapshots}
-use Rattle.cvr_collect.proofs.Lemmas.{found}
-use Rattle.cvr_collect.proofs.Laws.{facts_are_sums}
+use Rattle.cvr_office.specs.declared.any_fact.AnyFact.{AnyFact}
+use Rattle.cvr_office.specs.declared.any_fact.AnyFact.TheVariants as any
+use Rattle.cvr_office.specs.Adding.{IsSums, AreSums, key_for, sums_for}
+use Rattle.cvr_office.specs.Keeps.{Keeps}
+use Rattle.cvr_office.specs.Place.{fact_of}
+use Rattle.cvr_office.specs.Plain.{IsSpelled}
+use Rattle.cvr_office.specs.Runs.{as_snapshot, snapshots}
+use Rattle.cvr_office.proofs.Lemmas.{found}
+use Rattle.cvr_office.proofs.Laws.{facts_are_sums}
 use Rattle.cvr_cached.specs.Contents.{Entries, facts_at, header_in, current_in, pairs_of, pairs_of}
 use Rattle.cvr_cached.specs.Cells.{Column, Ballots, Overvotes, Undervotes, WriteIns, Pending, Unassigned, Vote, worth, cell_limit, shares, total, AreFit}
 use Rattle.cvr_cached.specs.Held.{IsRoomy, IsSummed}

@@ -13,12 +13,12 @@ use Rattle.std.proofs.lemmas.List.Elements.{filter-append}
 use Rattle.cvr_facts.specs.declared.name.RecordName.{RecordName}
 use Rattle.cvr_facts.specs.Facts.{Fact, fact_cmp, name_cmp}
 use Rattle.cvr_facts.proofs.Lemmas.{tie_decides, at_head, at_tail, from_flat}
-use Rattle.cvr_collect.specs.declared.any_fact.AnyFact.{AnyFact}
-use Rattle.cvr_collect.specs.Names.{record_of, records}
-use Rattle.cvr_collect.specs.Place.{fact_of, place_cmp, place_total, place_exact, any_cmp}
-use Rattle.cvr_collect.specs.Plain.{set_of}
-use Rattle.cvr_collect.proofs.Lemmas.{pointwise-on}
-use Rattle.cvr_collect.proofs.Laws.{same_facts}
+use Rattle.cvr_office.specs.declared.any_fact.AnyFact.{AnyFact}
+use Rattle.cvr_office.specs.Names.{record_of, records}
+use Rattle.cvr_office.specs.Place.{fact_of, place_cmp, place_total, place_exact, any_cmp}
+use Rattle.cvr_office.specs.Plain.{set_of}
+use Rattle.cvr_office.proofs.Lemmas.{pointwise-on}
+use Rattle.cvr_office.proofs.Laws.{same_facts}
 use Rattle.cvr_cached.specs.Contents.{Entries, listed, facts_at}
 use Rattle.cvr_cached.specs.Held.{AreOwn}
 use Rattle.cvr_cached.proofs.Answering.{records_are}

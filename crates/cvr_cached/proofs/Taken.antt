@@ -20,17 +20,17 @@ use Rattle.cvr_facts.proofs.Lemmas.{in_map, in_set, in_flat, from_flat}
 use Rattle.cvr_tally.specs.declared.key.RowKey.{RowKey}
 use Rattle.cvr_tally.specs.declared.row.Row.{Row}
 use Rattle.cvr_tally.specs.Rows.{Rows, row_closed, IsTotals}
-use Rattle.cvr_collect.specs.declared.any_fact.AnyFact.{AnyFact}
-use Rattle.cvr_collect.specs.Adding.{CurrentsAreSums}
-use Rattle.cvr_collect.specs.Keeps.{Keeps}
-use Rattle.cvr_collect.specs.Names.{record_of}
-use Rattle.cvr_collect.specs.Place.{fact_of, any_cmp}
-use Rattle.cvr_collect.specs.Plain.{set_of, IsPlain, IsPut}
-use Rattle.cvr_collect.specs.Readers.{growth}
-use Rattle.cvr_collect.specs.Runs.{is_of, run}
-use Rattle.cvr_collect.specs.Tallied.{rows}
-use Rattle.cvr_collect.proofs.Lemmas.{from_filter, in_filter, in_union}
-use Rattle.cvr_collect.proofs.Laws.{rows_law, ballots_law, currents_are_sums, spelled_put}
+use Rattle.cvr_office.specs.declared.any_fact.AnyFact.{AnyFact}
+use Rattle.cvr_office.specs.Adding.{CurrentsAreSums}
+use Rattle.cvr_office.specs.Keeps.{Keeps}
+use Rattle.cvr_office.specs.Names.{record_of}
+use Rattle.cvr_office.specs.Place.{fact_of, any_cmp}
+use Rattle.cvr_office.specs.Plain.{set_of, IsPlain, IsPut}
+use Rattle.cvr_office.specs.Readers.{growth}
+use Rattle.cvr_office.specs.Runs.{is_of, run}
+use Rattle.cvr_office.specs.Tallied.{rows}
+use Rattle.cvr_office.proofs.Lemmas.{from_filter, in_filter, in_union}
+use Rattle.cvr_office.proofs.Laws.{rows_law, ballots_law, currents_are_sums, spelled_put}
 use Rattle.cvr_cached.specs.Contents.{Entries, facts_at, standing, listed}
 use Rattle.cvr_cached.specs.Cells.{total, Agrees}
 use Rattle.cvr_cached.specs.Held.{AreOwn, IsHeld, IsRoomy, IsTold, IsSummed}

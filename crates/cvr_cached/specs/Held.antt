@@ -13,14 +13,14 @@ use Rattle.cvr_facts.specs.declared.name.RecordName.{RecordName}
 use Rattle.cvr_facts.specs.Facts.{name_cmp}
 use Rattle.cvr_tally.specs.declared.key.RowKey.{RowKey}
 use Rattle.cvr_tally.specs.Rows.{Rows}
-use Rattle.cvr_collect.specs.declared.any_fact.AnyFact.{AnyFact}
-use Rattle.cvr_collect.specs.declared.any_fact.AnyFact.TheVariants as any
-use Rattle.cvr_collect.specs.Keeps.{Keeps}
-use Rattle.cvr_collect.specs.Names.{record_of}
-use Rattle.cvr_collect.specs.Place.{fact_of, any_cmp}
-use Rattle.cvr_collect.specs.Plain.{set_of, IsPlain, IsSpelled, Content, coded_content}
-use Rattle.cvr_collect.specs.Adding.{AreSums}
-use Rattle.cvr_collect.specs.Tallied.{rows}
+use Rattle.cvr_office.specs.declared.any_fact.AnyFact.{AnyFact}
+use Rattle.cvr_office.specs.declared.any_fact.AnyFact.TheVariants as any
+use Rattle.cvr_office.specs.Keeps.{Keeps}
+use Rattle.cvr_office.specs.Names.{record_of}
+use Rattle.cvr_office.specs.Place.{fact_of, any_cmp}
+use Rattle.cvr_office.specs.Plain.{set_of, IsPlain, IsSpelled, Content, coded_content}
+use Rattle.cvr_office.specs.Adding.{AreSums}
+use Rattle.cvr_office.specs.Tallied.{rows}
 use Rattle.std.specs.List.{sum_by}
 use Rattle.std.specs.Prelude.{Option, ◌+◌}
 use Rattle.cvr_cached.specs.Contents.{Entries, listed, facts_at, pairs_of}

@@ -3,8 +3,8 @@ use Rattle.std.specs.Prelude.{◌≡◌, ◌<◌, ℕ, List, length, map, get_or
 use Rattle.std.specs.FinSet.{empty}
 use Rattle.cdf_definition.specs.Frame.{Frame}
 use Rattle.cvr_facts.specs.Facts.{Facts}
-use Rattle.cvr_collect.specs.Alike.{ArePlayed}
-use Rattle.cvr_collect.specs.Reach.{History}
+use Rattle.cvr_office.specs.Alike.{ArePlayed}
+use Rattle.cvr_office.specs.Reach.{History}
 
 -- offices of one kind and of another held the same at first, and played the same events with the same outcomes: then they hold the same
 abbrev pub KindsLaw : {One Other : Type 0} → (One → Facts) → (One → Frame) → (Other → Facts) → (Other → Frame) → Type 0

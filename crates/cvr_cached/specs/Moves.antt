@@ -8,9 +8,9 @@ use Rattle.cdf_definition.specs.Frame.{Frame}
 use Rattle.cvr_facts.specs.declared.name.RecordName.{RecordName}
 use Rattle.cvr_facts.specs.Facts.{Facts}
 use Rattle.cvr_facts.specs.Choosing.{current}
-use Rattle.cvr_collect.specs.Keeps.{Keeps}
-use Rattle.cvr_collect.specs.Names.{records}
-use Rattle.cvr_collect.specs.Tallied.{sums_of_body, keys_at}
+use Rattle.cvr_office.specs.Keeps.{Keeps}
+use Rattle.cvr_office.specs.Names.{records}
+use Rattle.cvr_office.specs.Tallied.{sums_of_body, keys_at}
 
 -- how many contests the current snapshot of a record has, 0 where the record has none
 abbrev pub contests_at : List Contest → Facts → RecordName → ℕ

@@ -3,12 +3,12 @@ use crate::listing::{conflicts_over, greatest_count_over, next_over};
 use crate::taking::{take_contents, take_in};
 use cdf_check::Definition;
 use cdf_types::{Body, Memory, ReadFault};
-use cvr_collect::any_fact::AnyFact;
-use cvr_collect::devices::{device_body_in, device_count_in, next_device_in};
-use cvr_collect::putting::{of_devices, of_records, own_devices, put_in};
-use cvr_collect::record_lists::{grouped, headers_down};
-use cvr_collect::{ConflictList, JoinFault, Office, Receipt, RecordFacts, read_facts};
 use cvr_facts::{HeaderFact, RecordName, SnapshotFact};
+use cvr_office::any_fact::AnyFact;
+use cvr_office::devices::{device_body_in, device_count_in, next_device_in};
+use cvr_office::putting::{of_devices, of_records, own_devices, put_in};
+use cvr_office::record_lists::{grouped, headers_down};
+use cvr_office::{ConflictList, JoinFault, Office, Receipt, RecordFacts, read_facts};
 use cvr_tally::{Row, RowKey, Totals, tally_text};
 use std::alloc::Global;
 use std::collections::BTreeMap;
@@ -26,7 +26,7 @@ pub struct CachedOffice {
 }
 
 impl Model for CachedOffice {
-    ghost use Rattle.cvr_collect.specs.Plain.{content};
+    ghost use Rattle.cvr_office.specs.Plain.{content};
     ghost use Rattle.cvr_cached.specs.Contents.{listed};
     ghost use Rattle.cvr_cached.specs.Held.{Holding, coded_holding, IsCached};
 
@@ -44,7 +44,7 @@ impl CachedOffice {
     ghost use Rattle.std.specs.FinMap.{get};
     ghost use Rattle.std.specs.Option.{IfSome};
     ghost use Rattle.cvr_tally.specs.declared.key.RowKey.{RowKey};
-    ghost use Rattle.cvr_collect.specs.Tallied.{rows, total_limit, IsBelow};
+    ghost use Rattle.cvr_office.specs.Tallied.{rows, total_limit, IsBelow};
 
     /// The running totals: the rows of the tally, which no import or join makes anew. Each number is
     /// below 2^118. Takes no memory.
@@ -73,8 +73,8 @@ impl Office for CachedOffice {
     ghost use Rattle.cdf_definition.specs.Acceptance.{Valid, first_refusal, value_in};
     ghost use Rattle.cdf_definition.specs.Frame.{IsSame};
     ghost use Rattle.cvr_facts.specs.Reports.{facts};
-    ghost use Rattle.cvr_collect.specs.Readers.{growth};
-    ghost use Rattle.cvr_collect.specs.declared.fault.JoinFault.TheVariants as join_fault;
+    ghost use Rattle.cvr_office.specs.Readers.{growth};
+    ghost use Rattle.cvr_office.specs.declared.fault.JoinFault.TheVariants as join_fault;
     ghost use Rattle.cvr_cached.specs.Moves.{moved};
 
     ghost held = { λ o. o.content.facts };

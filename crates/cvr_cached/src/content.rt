@@ -7,8 +7,8 @@ ghost use Rattle.std.specs.Cmp.{partial_equiv_from_equiv, eq_by_cmp_equiv};
 ghost use Rattle.std.specs.Cmp.Lexicographic.{pointwise, lists_equiv};
 ghost use Rattle.cvr_tally.specs.Rows.{row_closed};
 ghost use Rattle.cvr_tally.specs.declared.key.RowKey.{RowKey};
-ghost use Rattle.cvr_collect.specs.Place.{any_cmp, any_total};
-ghost use Rattle.cvr_collect.specs.Plain.{set_of, IsPut};
+ghost use Rattle.cvr_office.specs.Place.{any_cmp, any_total};
+ghost use Rattle.cvr_office.specs.Plain.{set_of, IsPut};
 ghost use Rattle.cvr_facts.specs.Facts.{Facts, fact_total, fact_exact};
 ghost use Rattle.cvr_facts.specs.Unions.{union_laws};
 ghost use Rattle.cvr_cached.specs.Contents.{header_in, current_in, pairs_of};
@@ -18,9 +18,9 @@ use crate::remembered::{
     current_place, header_fact_at, header_place, key_at, no_key, snapshot_at, votes_at,
 };
 use cdf_types::Memory;
-use cvr_collect::any_fact::AnyFact;
-use cvr_collect::putting::{copies, put_in};
 use cvr_facts::{HeaderFact, Join, SnapshotFact};
+use cvr_office::any_fact::AnyFact;
+use cvr_office::putting::{copies, put_in};
 use cvr_tally::{RowKey, Totals};
 use std::alloc::Global;
 use std::marker::Model;
@@ -38,7 +38,7 @@ pub(crate) struct RecordContent {
 
 impl Model for RecordContent {
     ghost use Rattle.std.specs.Prelude.{List};
-    ghost use Rattle.cvr_collect.specs.declared.any_fact.AnyFact.{AnyFact};
+    ghost use Rattle.cvr_office.specs.declared.any_fact.AnyFact.{AnyFact};
     ghost use Rattle.cvr_cached.specs.Contents.{IsRemembered};
 
     ghost Value = { List AnyFact };

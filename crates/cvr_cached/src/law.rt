@@ -3,8 +3,8 @@ ghost use Rattle.cvr_cached.specs.Kinds.{KindsLaw};
 ghost use Rattle.cvr_cached.specs.Moves.{NothingMovesLaw, RowsOfRecordLaw};
 ghost use Rattle.cvr_cached.specs.Wholes.{WholesLaw};
 
-use cvr_collect::Office;
 use cvr_facts::Join;
+use cvr_office::Office;
 
 /// Parts stand under names of records. Where under each name stands the join of what two others have
 /// there, all parts together are the join of all of theirs. This follows from the laws of `Join` alone.

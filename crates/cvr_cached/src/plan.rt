@@ -1,24 +1,24 @@
 ghost use Rattle.std.specs.Prelude.{◌≡◌, ◌≤◌, OnOk, IfOk, IsTrue, Some, false, length};
 ghost use Rattle.std.specs.List.{Contains};
 ghost use Rattle.std.specs.FinSet.{contains};
-ghost use Rattle.cvr_collect.specs.declared.any_fact.AnyFact.{AnyFact};
+ghost use Rattle.cvr_office.specs.declared.any_fact.AnyFact.{AnyFact};
 ghost use Rattle.std.specs.List.Sorted.{IsStrictlySortedBy};
 ghost use Rattle.std.specs.BTreeMap.{get};
 ghost use Rattle.cvr_facts.specs.Facts.{name_cmp};
 ghost use Rattle.cvr_facts.specs.declared.name.RecordName.{RecordName};
-ghost use Rattle.cvr_collect.specs.Names.{record_of};
-ghost use Rattle.cvr_collect.specs.Place.{fact_of, any_cmp};
-ghost use Rattle.cvr_collect.specs.Plain.{set_of, IsPut};
-ghost use Rattle.cvr_collect.specs.Runs.{run};
+ghost use Rattle.cvr_office.specs.Names.{record_of};
+ghost use Rattle.cvr_office.specs.Place.{fact_of, any_cmp};
+ghost use Rattle.cvr_office.specs.Plain.{set_of, IsPut};
+ghost use Rattle.cvr_office.specs.Runs.{run};
 ghost use Rattle.cvr_cached.specs.Contents.{facts_at};
 ghost use Rattle.cvr_cached.specs.Plans.{IsPlan, IsPushed, IsStep};
 
 use crate::content::RecordContent;
 use cdf_types::Memory;
-use cvr_collect::any_fact::AnyFact;
-use cvr_collect::one_record::{first_record, take_run};
-use cvr_collect::putting::copies;
 use cvr_facts::RecordName;
+use cvr_office::any_fact::AnyFact;
+use cvr_office::putting::copies;
+use cvr_office::records::{first_record, take_run};
 use std::alloc::Global;
 use std::collections::{BTreeMap, VecDeque};
 

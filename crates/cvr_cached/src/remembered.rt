@@ -4,8 +4,8 @@ ghost use Rattle.std.specs.Prelude.{◌≡◌, ◌<◌, ◌+◌, IfOk, None, opt
 ghost use Rattle.cvr_cached.specs.Contents.{header_at, current_at, header_in, current_in, sums_in, IsKeyOf};
 
 use cdf_types::Memory;
-use cvr_collect::any_fact::AnyFact;
 use cvr_facts::{HeaderFact, SnapshotFact, VoteSums, choice_cmp};
+use cvr_office::any_fact::AnyFact;
 use cvr_tally::RowKey;
 
 // The place of the last header.

@@ -5,8 +5,7 @@ use crate::files::{
 use crate::table::try_records;
 use crate::trying::Ended;
 use cdf_check::Definition;
-use cvr_cached::CachedOffice;
-use cvr_collect::PlainOffice;
+use cvr_collect::{CachedOffice, PlainOffice};
 use cvr_facts::{BodySet, DeviceFact, FactList, HeaderFact, SnapshotFact, VoteSums};
 
 /// The kinds of offices.

@@ -10,8 +10,7 @@ use crate::tellings::{Telling, try_telling};
 use crate::trying::{Ended, Reading, try_reading};
 use crate::words::{try_words, try_work};
 use crate::writing::try_writing;
-use cvr_cached::CachedOffice;
-use cvr_collect::PlainOffice;
+use cvr_collect::{CachedOffice, PlainOffice};
 
 // The scripts. Each public call that can answer want of memory stands in the name of one of them.
 

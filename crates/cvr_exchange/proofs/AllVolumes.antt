@@ -7,8 +7,8 @@ use Rattle.cdf_definition.specs.Frame.{Frame}
 use Rattle.cvr_facts.specs.Facts.{Fact, Device, Header, Snapshot, Facts, fact_total, fact_exact}
 use Rattle.cvr_facts.specs.Reports.{facts}
 use Rattle.cvr_facts.proofs.Lemmas.{none_listed, head_or_tail, at_head, at_tail}
-use Rattle.cvr_collect.specs.Keeps.{Keeps}
-use Rattle.cvr_collect.proofs.Lemmas.{or_cases, or_left, or_right, contains-union_over}
+use Rattle.cvr_office.specs.Keeps.{Keeps}
+use Rattle.cvr_office.proofs.Lemmas.{or_cases, or_left, or_right, contains-union_over}
 use Rattle.cvr_report.specs.Head.{Head}
 use Rattle.cvr_report.specs.Page.{volumes}
 use Rattle.cvr_report.specs.Volume.{volume}

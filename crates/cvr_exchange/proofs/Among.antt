@@ -4,13 +4,13 @@ use Rattle.std.specs.FinSet.{contains, union, contains-union}
 use Rattle.cvr_facts.specs.Facts.{Fact, Facts, fact_total}
 use Rattle.cvr_facts.specs.Reports.{facts}
 use Rattle.cvr_facts.proofs.Lemmas.{head_or_tail, none_listed}
-use Rattle.cvr_collect.specs.declared.event.Event.{Event}
-use Rattle.cvr_collect.specs.declared.event.Event.TheVariants.{Import}
-use Rattle.cvr_collect.specs.declared.event.Outcome.{Outcome}
-use Rattle.cvr_collect.specs.declared.event.Outcome.TheVariants.{Accepted}
-use Rattle.cvr_collect.specs.Reach.{History, content}
-use Rattle.cvr_collect.proofs.Laws.{held_lasts, import_lasts}
-use Rattle.cvr_collect.proofs.Lemmas.{or_cases, contains-union_over}
+use Rattle.cvr_office.specs.declared.event.Event.{Event}
+use Rattle.cvr_office.specs.declared.event.Event.TheVariants.{Import}
+use Rattle.cvr_office.specs.declared.event.Outcome.{Outcome}
+use Rattle.cvr_office.specs.declared.event.Outcome.TheVariants.{Accepted}
+use Rattle.cvr_office.specs.Reach.{History, content}
+use Rattle.cvr_office.proofs.Laws.{held_lasts, import_lasts}
+use Rattle.cvr_office.proofs.Lemmas.{or_cases, contains-union_over}
 use Rattle.cvr_report.specs.Volume.{volume}
 use Rattle.cvr_exchange.specs.Laws.{AmongLaw, AllAmongLaw}
 use Rattle.cvr_exchange.specs.Passing.{facts_of_volumes}

@@ -11,10 +11,10 @@ use Rattle.cvr_facts.specs.Reports.{device_fact, header_fact, snapshot_fact, rep
 use Rattle.cvr_facts.proofs.Lemmas.{in_map}
 use Rattle.cvr_facts.specs.Sources.{Source, of_device, of_header, of_snapshot}
 use Rattle.cvr_facts.proofs.Laws.{fact_source, fact_held, device_listed, header_listed, snapshot_listed}
-use Rattle.cvr_collect.specs.Keeps.{Keeps}
-use Rattle.cvr_collect.specs.Names.{records, devices, snapshot_ids}
-use Rattle.cvr_collect.specs.Readers.{header_list, device_list, snapshot_list}
-use Rattle.cvr_collect.proofs.Lemmas.{in_filter}
+use Rattle.cvr_office.specs.Keeps.{Keeps}
+use Rattle.cvr_office.specs.Names.{records, devices, snapshot_ids}
+use Rattle.cvr_office.specs.Readers.{header_list, device_list, snapshot_list}
+use Rattle.cvr_office.proofs.Lemmas.{in_filter}
 use Rattle.cvr_report.specs.Head.{Head}
 use Rattle.cvr_report.specs.Page.{shown, page, stands, shown_record}
 use Rattle.cvr_report.specs.Volume.{record_data, volume}

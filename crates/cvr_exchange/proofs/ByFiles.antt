@@ -10,16 +10,16 @@ use Rattle.cdf_definition.specs.Frame.{Frame, IsSame}
 use Rattle.cdf_check.proofs.Laws.{one_definition}
 use Rattle.cvr_facts.specs.Facts.{Facts}
 use Rattle.cvr_facts.specs.Reports.{facts}
-use Rattle.cvr_collect.specs.declared.event.Event.{Event}
-use Rattle.cvr_collect.specs.declared.event.Event.TheVariants.{Import, Exchange}
-use Rattle.cvr_collect.specs.declared.event.Outcome.{Outcome}
-use Rattle.cvr_collect.specs.declared.event.Outcome.TheVariants.{Accepted, Refused}
-use Rattle.cvr_collect.specs.Alike.{AreNewOfOne, ArePlayed, HaveSameFiles, BeganAlike}
-use Rattle.cvr_collect.specs.Keeps.{Keeps, starting}
-use Rattle.cvr_collect.specs.Outcomes.{no_frame, AreOutcomes}
-use Rattle.cvr_collect.specs.Reach.{History, Start, File, origin_cmp, reached, content}
-use Rattle.cvr_collect.proofs.Laws.{answer_alike, same_definition, same_files, start_keeps}
-use Rattle.cvr_collect.proofs.Lemmas.{origin_total, origin_exact, or_cases, tie_is}
+use Rattle.cvr_office.specs.declared.event.Event.{Event}
+use Rattle.cvr_office.specs.declared.event.Event.TheVariants.{Import, Exchange}
+use Rattle.cvr_office.specs.declared.event.Outcome.{Outcome}
+use Rattle.cvr_office.specs.declared.event.Outcome.TheVariants.{Accepted, Refused}
+use Rattle.cvr_office.specs.Alike.{AreNewOfOne, ArePlayed, HaveSameFiles, BeganAlike}
+use Rattle.cvr_office.specs.Keeps.{Keeps, starting}
+use Rattle.cvr_office.specs.Outcomes.{no_frame, AreOutcomes}
+use Rattle.cvr_office.specs.Reach.{History, Start, File, origin_cmp, reached, content}
+use Rattle.cvr_office.proofs.Laws.{answer_alike, same_definition, same_files, start_keeps}
+use Rattle.cvr_office.proofs.Lemmas.{origin_total, origin_exact, or_cases, tie_is}
 use Rattle.cvr_report.proofs.Laws.{same_volumes}
 use Rattle.cvr_exchange.specs.Laws.{BeganKept, ByFilesLaw, SameFilesLaw}
 use Rattle.cvr_exchange.specs.Passing.{IsByFiles, begun, event, volumes_of}

@@ -18,7 +18,7 @@ use Rattle.cdf_check.proofs.Laws.{lists, file_utf8, part_utf8}
 use Rattle.cdf_definition.proofs.Lemmas.{election_listed}
 use Rattle.cvr_facts.specs.Choosing.{data_of}
 use Rattle.cvr_facts.proofs.Lemmas.{at_head, at_tail, in_map, from_map}
-use Rattle.cvr_collect.proofs.Laws.{entry_source, own_agrees}
+use Rattle.cvr_office.proofs.Laws.{entry_source, own_agrees}
 use Rattle.cvr_exchange.proofs.Arrays.{IsRising}
 use Rattle.cvr_exchange.proofs.Clean.{IsClean}
 

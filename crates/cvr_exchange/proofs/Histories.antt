@@ -10,15 +10,15 @@ use Rattle.cvr_facts.specs.Facts.{Facts, fact_total, fact_exact}
 use Rattle.cvr_facts.specs.Reports.{facts}
 use Rattle.cvr_facts.specs.Unions.{union_laws}
 use Rattle.cvr_facts.proofs.Lemmas.{at_head, at_tail}
-use Rattle.cvr_collect.specs.declared.event.Event.{Event}
-use Rattle.cvr_collect.specs.declared.event.Event.TheVariants.{Import, Exchange}
-use Rattle.cvr_collect.specs.declared.event.Outcome.{Outcome}
-use Rattle.cvr_collect.specs.declared.event.Outcome.TheVariants.{Accepted}
-use Rattle.cvr_collect.specs.Keeps.{Keeps}
-use Rattle.cvr_collect.specs.Outcomes.{no_frame, due}
-use Rattle.cvr_collect.specs.Readers.{growth}
-use Rattle.cvr_collect.specs.Reach.{History, File, Origins, reached, brought, union_over, content}
-use Rattle.cvr_collect.proofs.Lemmas.{origin_total, origin_exact, contains-union_over, over_union, over_insert}
+use Rattle.cvr_office.specs.declared.event.Event.{Event}
+use Rattle.cvr_office.specs.declared.event.Event.TheVariants.{Import, Exchange}
+use Rattle.cvr_office.specs.declared.event.Outcome.{Outcome}
+use Rattle.cvr_office.specs.declared.event.Outcome.TheVariants.{Accepted}
+use Rattle.cvr_office.specs.Keeps.{Keeps}
+use Rattle.cvr_office.specs.Outcomes.{no_frame, due}
+use Rattle.cvr_office.specs.Readers.{growth}
+use Rattle.cvr_office.specs.Reach.{History, File, Origins, reached, brought, union_over, content}
+use Rattle.cvr_office.proofs.Lemmas.{origin_total, origin_exact, contains-union_over, over_union, over_insert}
 use Rattle.cvr_report.specs.Head.{Head}
 use Rattle.cvr_report.specs.Volume.{volume}
 use Rattle.cvr_exchange.specs.Laws.{ImportsLaw, AcceptedLaw}

@@ -13,13 +13,13 @@ use Rattle.cdf_definition.proofs.Laws.{valid_file}
 use Rattle.cvr_facts.specs.Facts.{Facts, text_cmp}
 use Rattle.cvr_facts.specs.Reports.{facts}
 use Rattle.cvr_facts.proofs.Laws.{text_total, text_exact}
-use Rattle.cvr_collect.specs.declared.event.Event.TheVariants.{Import, Exchange}
-use Rattle.cvr_collect.specs.declared.event.Outcome.TheVariants.{Accepted, Refused}
-use Rattle.cvr_collect.specs.Keeps.{Keeps}
-use Rattle.cvr_collect.specs.Outcomes.{no_frame, due, AreOutcomes, IsImportOutcome, IsExchangeOutcome}
-use Rattle.cvr_collect.specs.Reach.{History, content}
-use Rattle.cvr_collect.proofs.Laws.{import_keeps, join_keeps, content-none}
-use Rattle.cvr_collect.proofs.Lemmas.{at_eq}
+use Rattle.cvr_office.specs.declared.event.Event.TheVariants.{Import, Exchange}
+use Rattle.cvr_office.specs.declared.event.Outcome.TheVariants.{Accepted, Refused}
+use Rattle.cvr_office.specs.Keeps.{Keeps}
+use Rattle.cvr_office.specs.Outcomes.{no_frame, due, AreOutcomes, IsImportOutcome, IsExchangeOutcome}
+use Rattle.cvr_office.specs.Reach.{History, content}
+use Rattle.cvr_office.proofs.Laws.{import_keeps, join_keeps, content-none}
+use Rattle.cvr_office.proofs.Lemmas.{at_eq}
 use Rattle.cvr_exchange.specs.Laws.{BeganKept}
 use Rattle.cvr_exchange.proofs.Histories.{after_import, after_exchange}
 

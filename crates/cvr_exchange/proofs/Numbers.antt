@@ -10,11 +10,11 @@ use Rattle.cvr_facts.specs.Facts.{Fact, Device, Header, Snapshot, Facts, text_cm
 use Rattle.cvr_facts.specs.Ordered.{ordered}
 use Rattle.cvr_facts.proofs.Laws.{text_total, text_exact, choice_total, choice_exact, contains_iff}
 use Rattle.cvr_facts.proofs.Lemmas.{none_listed, head_or_tail, in_map, from_map, same_from_list, at_head, at_tail, ordered_rises, Contains-filter_map}
-use Rattle.cvr_collect.specs.declared.conflict.ConflictName.TheVariants as name
-use Rattle.cvr_collect.specs.Names.{names, name_of, body_of, is_named, records, record_of, snapshot_ids, count_under, bodies_under, most, greatest_count}
-use Rattle.cvr_collect.specs.Readers.{header_list, device_list, snapshot_list}
-use Rattle.cvr_collect.proofs.Lemmas.{from_ordered, in_ordered, len-from_list}
-use Rattle.cvr_collect.proofs.Laws.{conflict_total, conflict_exact, name_total, name_exact}
+use Rattle.cvr_office.specs.declared.conflict.ConflictName.TheVariants as name
+use Rattle.cvr_office.specs.Names.{names, name_of, body_of, is_named, records, record_of, snapshot_ids, count_under, bodies_under, most, greatest_count}
+use Rattle.cvr_office.specs.Readers.{header_list, device_list, snapshot_list}
+use Rattle.cvr_office.proofs.Lemmas.{from_ordered, in_ordered, len-from_list}
+use Rattle.cvr_office.proofs.Laws.{conflict_total, conflict_exact, name_total, name_exact}
 use Rattle.cvr_report.specs.Page.{shown, counts, stands, volumes}
 use Rattle.cvr_report.proofs.Laws.{shown_at}
 use Rattle.cvr_exchange.proofs.Shown.{of_device, of_header, of_snapshot, of_id}

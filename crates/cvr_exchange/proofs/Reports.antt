@@ -37,10 +37,10 @@ use Rattle.cdf_definition.proofs.Laws.{report_row, one_election}
 use Rattle.cvr_facts.specs.declared.name.RecordName.{RecordName}
 use Rattle.cvr_facts.specs.Facts.{Device, Facts, fact_total, fact_exact}
 use Rattle.cvr_facts.proofs.Lemmas.{in_map, from_map, in_set}
-use Rattle.cvr_collect.specs.Keeps.{Keeps}
-use Rattle.cvr_collect.specs.Names.{records, devices}
-use Rattle.cvr_collect.specs.Readers.{header_list}
-use Rattle.cvr_collect.proofs.Lemmas.{from_filter}
+use Rattle.cvr_office.specs.Keeps.{Keeps}
+use Rattle.cvr_office.specs.Names.{records, devices}
+use Rattle.cvr_office.specs.Readers.{header_list}
+use Rattle.cvr_office.proofs.Lemmas.{from_filter}
 use Rattle.cvr_report.specs.Head.{Head}
 use Rattle.cvr_report.specs.Page.{page, shown, shown_snapshots, stands, current_id, shown_record}
 use Rattle.cvr_report.specs.Record.{snapshots_name}

@@ -15,12 +15,12 @@ use Rattle.cvr_facts.specs.Stands.{IsWhole}
 use Rattle.cvr_facts.proofs.Laws.{text_total, text_exact, choice_total, choice_exact, contains_iff}
 use Rattle.cvr_facts.proofs.Lemmas.{at_head, at_tail, in_map, from_map}
 use Rattle.cdf_definition.specs.Frame.{Frame}
-use Rattle.cvr_collect.specs.declared.conflict.ConflictName.TheVariants as name
-use Rattle.cvr_collect.specs.Keeps.{Keeps}
-use Rattle.cvr_collect.specs.Names.{records, devices, snapshot_ids, is_named, body_of}
-use Rattle.cvr_collect.specs.Readers.{header_list, device_list, snapshot_list}
-use Rattle.cvr_collect.proofs.Lemmas.{from_ordered, in_ordered, from_filter, in_filter}
-use Rattle.cvr_collect.proofs.Laws.{device_known, known_device, header_under, snapshot_under, id_under}
+use Rattle.cvr_office.specs.declared.conflict.ConflictName.TheVariants as name
+use Rattle.cvr_office.specs.Keeps.{Keeps}
+use Rattle.cvr_office.specs.Names.{records, devices, snapshot_ids, is_named, body_of}
+use Rattle.cvr_office.specs.Readers.{header_list, device_list, snapshot_list}
+use Rattle.cvr_office.proofs.Lemmas.{from_ordered, in_ordered, from_filter, in_filter}
+use Rattle.cvr_office.proofs.Laws.{device_known, known_device, header_under, snapshot_under, id_under}
 use Rattle.cvr_report.specs.Page.{Shown, shown, current_id}
 use Rattle.cvr_report.proofs.Lemmas.{unreversed}
 use Rattle.cvr_report.proofs.Laws.{shown_listed, headed, id_shows}

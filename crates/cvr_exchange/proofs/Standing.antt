@@ -30,12 +30,12 @@ use Rattle.cvr_facts.specs.Reports.{device_fact, header_fact, snapshot_fact}
 use Rattle.cvr_facts.specs.Stands.{Stands}
 use Rattle.cvr_facts.proofs.Laws.{text_total, text_exact}
 use Rattle.cvr_facts.proofs.Lemmas.{at_head, at_tail, in_map, from_map, ordered_rises}
-use Rattle.cvr_collect.specs.Keeps.{Keeps, content_scope}
-use Rattle.cvr_collect.specs.Names.{records, devices, snapshot_ids, id_in}
-use Rattle.cvr_collect.specs.Readers.{header_list, device_list, snapshot_list}
-use Rattle.cvr_collect.specs.Under.{device_ids}
-use Rattle.cvr_collect.proofs.Laws.{includes}
-use Rattle.cvr_collect.proofs.Lemmas.{in_ordered}
+use Rattle.cvr_office.specs.Keeps.{Keeps, content_scope}
+use Rattle.cvr_office.specs.Names.{records, devices, snapshot_ids, id_in}
+use Rattle.cvr_office.specs.Readers.{header_list, device_list, snapshot_list}
+use Rattle.cvr_office.specs.Under.{device_ids}
+use Rattle.cvr_office.proofs.Laws.{includes}
+use Rattle.cvr_office.proofs.Lemmas.{in_ordered}
 use Rattle.cvr_report.specs.Page.{Shown, shown, shown_snapshots, shown_record, current_id}
 use Rattle.cvr_report.specs.Volume.{members_in, record_data}
 use Rattle.cvr_report.specs.Record.{snapshots_name}

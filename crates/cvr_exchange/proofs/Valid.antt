@@ -5,7 +5,7 @@ use Rattle.cdf_definition.specs.Acceptance.{first_refusal}
 use Rattle.cdf_definition.specs.Frame.{Frame, IsSame}
 use Rattle.cdf_definition.proofs.Laws.{valid_file}
 use Rattle.cdf_check.proofs.Laws.{same_definitions}
-use Rattle.cvr_collect.proofs.Laws.{agrees_alike}
+use Rattle.cvr_office.proofs.Laws.{agrees_alike}
 use Rattle.cvr_report.specs.Volume.{volume}
 use Rattle.cvr_exchange.specs.Laws.{ValidLaw, ValidForSameLaw}
 use Rattle.cvr_exchange.proofs.Definitions.{of_definition}

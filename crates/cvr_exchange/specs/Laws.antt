@@ -9,15 +9,15 @@ use Rattle.cdf_definition.specs.Sound.{IsFrame}
 use Rattle.cdf_definition.specs.Acceptance.{Valid}
 use Rattle.cvr_facts.specs.Facts.{Fact, Facts}
 use Rattle.cvr_facts.specs.Reports.{facts}
-use Rattle.cvr_collect.specs.declared.event.Event.TheVariants.{Exchange}
-use Rattle.cvr_collect.specs.declared.event.Outcome.{Outcome}
-use Rattle.cvr_collect.specs.declared.event.Outcome.TheVariants.{Accepted, Refused}
-use Rattle.cvr_collect.specs.declared.event.Cause.TheVariants.{Read}
-use Rattle.cvr_collect.specs.Readers.{growth}
-use Rattle.cvr_collect.specs.Keeps.{Keeps}
-use Rattle.cvr_collect.specs.Reach.{History, content}
-use Rattle.cvr_collect.specs.Outcomes.{no_frame, IsImportOutcome, AreOutcomes}
-use Rattle.cvr_collect.specs.Alike.{AreNewOfOne, ArePlayed, HaveSameFiles, AreAlike}
+use Rattle.cvr_office.specs.declared.event.Event.TheVariants.{Exchange}
+use Rattle.cvr_office.specs.declared.event.Outcome.{Outcome}
+use Rattle.cvr_office.specs.declared.event.Outcome.TheVariants.{Accepted, Refused}
+use Rattle.cvr_office.specs.declared.event.Cause.TheVariants.{Read}
+use Rattle.cvr_office.specs.Readers.{growth}
+use Rattle.cvr_office.specs.Keeps.{Keeps}
+use Rattle.cvr_office.specs.Reach.{History, content}
+use Rattle.cvr_office.specs.Outcomes.{no_frame, IsImportOutcome, AreOutcomes}
+use Rattle.cvr_office.specs.Alike.{AreNewOfOne, ArePlayed, HaveSameFiles, AreAlike}
 use Rattle.cvr_report.specs.Head.{Head}
 use Rattle.cvr_report.specs.Laws.{WriteAlike}
 use Rattle.cvr_report.specs.Page.{volumes}

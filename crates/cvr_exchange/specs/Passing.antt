@@ -4,12 +4,12 @@ use Rattle.std.specs.List.{Contains}
 use Rattle.cdf_definition.specs.Frame.{Frame}
 use Rattle.cvr_facts.specs.Facts.{Facts}
 use Rattle.cvr_facts.specs.Reports.{facts}
-use Rattle.cvr_collect.specs.declared.event.Event.{Event}
-use Rattle.cvr_collect.specs.declared.event.Event.TheVariants.{Import, Exchange}
-use Rattle.cvr_collect.specs.declared.event.Outcome.{Outcome}
-use Rattle.cvr_collect.specs.declared.event.Outcome.TheVariants.{Accepted}
-use Rattle.cvr_collect.specs.Outcomes.{no_frame}
-use Rattle.cvr_collect.specs.Reach.{History, union_over, content}
+use Rattle.cvr_office.specs.declared.event.Event.{Event}
+use Rattle.cvr_office.specs.declared.event.Event.TheVariants.{Import, Exchange}
+use Rattle.cvr_office.specs.declared.event.Outcome.{Outcome}
+use Rattle.cvr_office.specs.declared.event.Outcome.TheVariants.{Accepted}
+use Rattle.cvr_office.specs.Outcomes.{no_frame}
+use Rattle.cvr_office.specs.Reach.{History, union_over, content}
 use Rattle.cvr_report.specs.Head.{Head, IsHeading, is_device_of}
 use Rattle.cvr_report.specs.Page.{volumes}
 use Rattle.cvr_report.specs.Volume.{volume}

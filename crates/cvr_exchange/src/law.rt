@@ -1,7 +1,7 @@
 //! Laws of volumes that are passed on as files, in place of exchanges.
 ghost use Rattle.cvr_exchange.specs.Laws.{ValidLaw, ValidForSameLaw, NothingAddedLaw, AllVolumesLaw, AnyOrderLaw, AcceptedLaw, ImportsLaw, AmongLaw, AllAmongLaw, ByFilesLaw, SameFilesLaw};
 
-use cvr_collect::Office;
+use cvr_office::Office;
 
 /// A volume that is short enough for a file is accepted beside the definition of the office that
 /// wrote it, and beside any that is the same, whatever conflicts stand in it.

@@ -8,7 +8,7 @@ ghost use Rattle.cvr_facts.specs.Reports.{facts};
 ghost use Rattle.cvr_report.specs.Head.{is_device_of};
 ghost use Rattle.cvr_report.specs.Volume.{volume};
 
-use cvr_collect::Office;
+use cvr_office::Office;
 use cvr_report::Heading;
 
 /// That volume `i`, as `write_volume` writes it, is accepted beside the office's definition where

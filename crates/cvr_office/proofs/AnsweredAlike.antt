@@ -12,10 +12,10 @@ use Rattle.cvr_facts.specs.declared.snapshot.SnapshotFact.{SnapshotFact}
 use Rattle.cvr_facts.specs.Facts.{Facts}
 use Rattle.cvr_facts.specs.Choosing.{data_of, header, current}
 use Rattle.cvr_facts.specs.Sums.{sums_in}
-use Rattle.cvr_collect.specs.Names.{conflicts}
-use Rattle.cvr_collect.specs.Readers.{IsHeaderOf, IsSnapshotOf, IsHeader, IsCurrent}
-use Rattle.cvr_collect.specs.Alike.{AnswerAlike, SameOfficesLaw}
-use Rattle.cvr_collect.specs.Tallied.{row, rows, tally}
+use Rattle.cvr_office.specs.Names.{conflicts}
+use Rattle.cvr_office.specs.Readers.{IsHeaderOf, IsSnapshotOf, IsHeader, IsCurrent}
+use Rattle.cvr_office.specs.Alike.{AnswerAlike, SameOfficesLaw}
+use Rattle.cvr_office.specs.Tallied.{row, rows, tally}
 
 -- ---- what is told of a body
 

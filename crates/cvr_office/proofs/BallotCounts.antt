@@ -25,13 +25,13 @@ use Rattle.cvr_tally.specs.declared.key.RowKey.{RowKey}
 use Rattle.cvr_tally.specs.declared.row.Row.{Row}
 use Rattle.cvr_tally.specs.Keys.{part_cmp, key_cmp, keys_total, keys_exact}
 use Rattle.cvr_tally.specs.Rows.{Rows}
-use Rattle.cvr_collect.specs.Names.{records}
-use Rattle.cvr_collect.specs.Keeps.{Keeps}
-use Rattle.cvr_collect.specs.Tallied.{unit_of, batch_of, is_headed, sums_of_body, sums_at, stands_in, row, row_of, rows}
-use Rattle.cvr_collect.specs.Counting.{AddUpLaw}
-use Rattle.cvr_collect.proofs.RecordMembers.{from_filter, in_filter}
-use Rattle.cvr_collect.proofs.RowSteps.{row_stands}
-use Rattle.cvr_collect.proofs.RowsOfKeys.{rows_law}
+use Rattle.cvr_office.specs.Names.{records}
+use Rattle.cvr_office.specs.Keeps.{Keeps}
+use Rattle.cvr_office.specs.Tallied.{unit_of, batch_of, is_headed, sums_of_body, sums_at, stands_in, row, row_of, rows}
+use Rattle.cvr_office.specs.Counting.{AddUpLaw}
+use Rattle.cvr_office.proofs.RecordMembers.{from_filter, in_filter}
+use Rattle.cvr_office.proofs.RowSteps.{row_stands}
+use Rattle.cvr_office.proofs.RowsOfKeys.{rows_law}
 
 -- ---- sums
 

@@ -15,16 +15,16 @@ use Rattle.cvr_facts.specs.Facts.{Fact, Facts, text_cmp, fact_total, fact_exact}
 use Rattle.cvr_facts.specs.Ordered.{ordered}
 use Rattle.cvr_facts.proofs.Lemmas.{tie_decides, none_listed, at_head, at_tail, head_or_tail, in_map, from_map, in_set, from_set, ordered-same}
 use Rattle.cvr_facts.proofs.Laws.{contains_iff}
-use Rattle.cvr_collect.specs.declared.any_fact.AnyFact.{AnyFact}
-use Rattle.cvr_collect.specs.declared.conflict.Conflict.{Conflict}
-use Rattle.cvr_collect.specs.declared.conflict.ConflictName.{ConflictName}
-use Rattle.cvr_collect.specs.Names.{name_of, body_of, is_named, names, bodies_under, count_under, counted, conflicts, most, greatest_count}
-use Rattle.cvr_collect.specs.Place.{fact_of, any_cmp}
-use Rattle.cvr_collect.specs.Plain.{set_of}
-use Rattle.cvr_collect.specs.AnyNames.{any_name, has_name}
-use Rattle.cvr_collect.specs.NameRuns.{counted_runs, of_several, most_of}
-use Rattle.cvr_collect.proofs.NameOrder.{conflict_total, conflict_exact, name_is, bodies_less}
-use Rattle.cvr_collect.proofs.NameRuns.{count, run_names, runs_counted, run_names-rise, in_run_names, from_run_names}
+use Rattle.cvr_office.specs.declared.any_fact.AnyFact.{AnyFact}
+use Rattle.cvr_office.specs.declared.conflict.Conflict.{Conflict}
+use Rattle.cvr_office.specs.declared.conflict.ConflictName.{ConflictName}
+use Rattle.cvr_office.specs.Names.{name_of, body_of, is_named, names, bodies_under, count_under, counted, conflicts, most, greatest_count}
+use Rattle.cvr_office.specs.Place.{fact_of, any_cmp}
+use Rattle.cvr_office.specs.Plain.{set_of}
+use Rattle.cvr_office.specs.AnyNames.{any_name, has_name}
+use Rattle.cvr_office.specs.NameRuns.{counted_runs, of_several, most_of}
+use Rattle.cvr_office.proofs.NameOrder.{conflict_total, conflict_exact, name_is, bodies_less}
+use Rattle.cvr_office.proofs.NameRuns.{count, run_names, runs_counted, run_names-rise, in_run_names, from_run_names}
 
 -- ---- a list in order
 

@@ -23,10 +23,10 @@ use Rattle.cvr_facts.specs.Choosing.{data_of, is_name, snapshot_body}
 use Rattle.cvr_facts.proofs.Laws.{AreInRange-from_snapshot, current as current_is, contains_iff, fact_source}
 use Rattle.cvr_facts.proofs.Lemmas.{in_map, from-filter_map}
 use Rattle.cvr_facts.specs.Sources.{cvrs_in, snapshots_in, Source, of_device, of_header, of_snapshot}
-use Rattle.cvr_collect.specs.Tallied.{sums_of_body}
-use Rattle.cvr_collect.specs.Keeps.{Keeps}
-use Rattle.cvr_collect.specs.Adding.{AreSums, CurrentsAreSums}
-use Rattle.cvr_collect.proofs.RowSums.{sums_in_place}
+use Rattle.cvr_office.specs.Tallied.{sums_of_body}
+use Rattle.cvr_office.specs.Keeps.{Keeps}
+use Rattle.cvr_office.specs.Adding.{AreSums, CurrentsAreSums}
+use Rattle.cvr_office.proofs.RowSums.{sums_in_place}
 use Rattle.std.proofs.lemmas.Map.Keys.{IsDistinct-prop}
 
 -- the snapshot that a fact spells, if it is one

@@ -12,17 +12,17 @@ use Rattle.std.proofs.lemmas.Slice.Eq.{bytes_eq-Decides}
 use Rattle.cvr_facts.specs.Facts.{Fact, Device, Header, Snapshot, text_cmp}
 use Rattle.cvr_facts.proofs.Laws.{text_total, text_exact}
 use Rattle.cvr_facts.proofs.Lemmas.{in_map, from_map}
-use Rattle.cvr_collect.specs.declared.any_fact.AnyFact.{AnyFact}
-use Rattle.cvr_collect.specs.declared.conflict.ConflictName.TheVariants as name
-use Rattle.cvr_collect.specs.Names.{is_named, body_of, bodies_under, device_in}
-use Rattle.cvr_collect.specs.Place.{fact_of, any_cmp, place_cmp}
-use Rattle.cvr_collect.specs.Plain.{set_of}
-use Rattle.cvr_collect.proofs.Orderings.{then-Equal}
-use Rattle.cvr_collect.proofs.Firsts.{ordered-members}
-use Rattle.cvr_collect.proofs.NextNames.{in_items, from_items}
-use Rattle.cvr_collect.proofs.NextInFacts.{device_passes, devices_parted, device_up}
-use Rattle.cvr_collect.proofs.Upward.{none_last}
-use Rattle.cvr_collect.proofs.Sides.{filter-between, map-rises, parted_behind, Contains-filter, from-filter}
+use Rattle.cvr_office.specs.declared.any_fact.AnyFact.{AnyFact}
+use Rattle.cvr_office.specs.declared.conflict.ConflictName.TheVariants as name
+use Rattle.cvr_office.specs.Names.{is_named, body_of, bodies_under, device_in}
+use Rattle.cvr_office.specs.Place.{fact_of, any_cmp, place_cmp}
+use Rattle.cvr_office.specs.Plain.{set_of}
+use Rattle.cvr_office.proofs.Orderings.{then-Equal}
+use Rattle.cvr_office.proofs.Firsts.{ordered-members}
+use Rattle.cvr_office.proofs.NextNames.{in_items, from_items}
+use Rattle.cvr_office.proofs.NextInFacts.{device_passes, devices_parted, device_up}
+use Rattle.cvr_office.proofs.Upward.{none_last}
+use Rattle.cvr_office.proofs.Sides.{filter-between, map-rises, parted_behind, Contains-filter, from-filter}
 
 module _ (id : List ℕ) where
   abbrev pub is_own : AnyFact → Bool

@@ -10,7 +10,7 @@ use Rattle.cdf_definition.specs.Acceptance.{IsReport, value_in}
 use Rattle.cdf_check.proofs.Laws.{report_read}
 use Rattle.cvr_facts.specs.Facts.{Fact, Device}
 use Rattle.cvr_facts.specs.Stands.{IsWhole, IsOfWhole}
-use Rattle.cvr_collect.specs.FileFacts.{RecordsWholeLaw}
+use Rattle.cvr_office.specs.FileFacts.{RecordsWholeLaw}
 use Rattle.cvr_facts.specs.Reports.{device_fact, header_fact, snapshot_fact, facts}
 use Rattle.cvr_facts.proofs.Lemmas.{one_listed, from_map}
 use Rattle.cvr_facts.specs.Sources.{devices_in, cvrs_in, snapshots_in, Source, of_device, of_header, of_snapshot}

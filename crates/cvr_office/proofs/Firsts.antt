@@ -11,7 +11,7 @@ use Rattle.std.proofs.lemmas.Map.Keys.{sorted_head, sorted_tail}
 use Rattle.std.proofs.lemmas.Map.Made.{is_member-Decides}
 use Rattle.cvr_facts.specs.Ordered.{ordered}
 use Rattle.cvr_facts.proofs.Lemmas.{tie_decides, none_listed, at_head, at_tail, head_or_tail, ordered_rises, list_any-ordered, same_lists_of_members}
-use Rattle.cvr_collect.specs.Readers.{next}
+use Rattle.cvr_office.specs.Readers.{next}
 
 -- ---- members put in order
 

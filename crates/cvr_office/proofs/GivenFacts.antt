@@ -23,14 +23,14 @@ use Rattle.cvr_tally.specs.declared.row.Row.{Row}
 use Rattle.cvr_tally.specs.Keys.{key_cmp, keys_total}
 use Rattle.cvr_tally.specs.Text.{row_line}
 use Rattle.cvr_tally.proofs.Lemmas.{placed, entries-given}
-use Rattle.cvr_collect.specs.declared.conflict.ConflictName.{ConflictName}
-use Rattle.cvr_collect.specs.declared.conflict.Conflict.{Conflict}
-use Rattle.cvr_collect.specs.Names.{name_of, body_of, conflict_cmp, is_named, record_of, names, records, conflicts}
-use Rattle.cvr_collect.specs.Tallied.{unit_of, batch_of, sums_of_body, is_headed, row, rows, tally}
-use Rattle.cvr_collect.proofs.Firsts.{in_ordered, from_ordered, ordered-members}
-use Rattle.cvr_collect.proofs.NameOrder.{conflict_total, conflict_exact}
-use Rattle.cvr_collect.proofs.NextInFacts.{name_total, name_exact}
-use Rattle.cvr_collect.proofs.RecordMembers.{from_filter, in_filter}
+use Rattle.cvr_office.specs.declared.conflict.ConflictName.{ConflictName}
+use Rattle.cvr_office.specs.declared.conflict.Conflict.{Conflict}
+use Rattle.cvr_office.specs.Names.{name_of, body_of, conflict_cmp, is_named, record_of, names, records, conflicts}
+use Rattle.cvr_office.specs.Tallied.{unit_of, batch_of, sums_of_body, is_headed, row, rows, tally}
+use Rattle.cvr_office.proofs.Firsts.{in_ordered, from_ordered, ordered-members}
+use Rattle.cvr_office.proofs.NameOrder.{conflict_total, conflict_exact}
+use Rattle.cvr_office.proofs.NextInFacts.{name_total, name_exact}
+use Rattle.cvr_office.proofs.RecordMembers.{from_filter, in_filter}
 
 -- ---- lists in order
 

@@ -10,7 +10,7 @@ use Rattle.std.proofs.lemmas.List.Elements.{Contains-append_left, Contains-push,
 use Rattle.std.proofs.lemmas.Option.{none-some, same_Some}
 use Rattle.cvr_facts.specs.Ordered.{ordered}
 use Rattle.cvr_facts.proofs.Lemmas.{ordered_rises, none_listed, at_head, at_tail}
-use Rattle.cvr_collect.proofs.Firsts.{in_ordered, from_ordered, ordered-members}
+use Rattle.cvr_office.proofs.Firsts.{in_ordered, from_ordered, ordered-members}
 
 -- the highest of some keys, or none where there are none
 pub record IsHighest {K : Type 0} (R : K → K → Ordering) (ks : List K) (last : Option K) : Type 0 where

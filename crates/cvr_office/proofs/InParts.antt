@@ -20,16 +20,16 @@ use Rattle.cvr_facts.proofs.Laws.{text_total, text_exact, choice_total, choice_e
 use Rattle.cvr_facts.proofs.Lemmas.{none_listed, at_head, at_tail, head_or_tail, tie_decides, ordered_rises, same_lists_of_members}
 use Rattle.cvr_tally.specs.declared.key.RowKey.{RowKey}
 use Rattle.cvr_tally.specs.declared.row.Row.{Row}
-use Rattle.cvr_collect.specs.Names.{record_of, records}
-use Rattle.cvr_collect.specs.Tallied.{is_headed, sums_of_body, sums_at, stands_in, column, row_of, row}
-use Rattle.cvr_collect.specs.Parts.{AreApart, AreAllApart, whole, row_sum, option_sum, RowsOfPartsLaw, CurrentsOfPartsLaw, HeadersOfPartsLaw, RecordsRiseLaw, RowsOfManyLaw, CurrentsOfManyLaw, HeadersOfManyLaw, RecordsOfManyLaw}
-use Rattle.cvr_collect.proofs.BallotCounts.{sum_by-same}
-use Rattle.cvr_collect.proofs.GivenFacts.{HaveSame, greatest-same}
-use Rattle.cvr_collect.proofs.NextInFacts.{name_total, name_exact}
-use Rattle.cvr_collect.proofs.NextLaws.{listed}
-use Rattle.cvr_collect.proofs.RecordMembers.{from_filter, in_filter}
-use Rattle.cvr_collect.proofs.RowColumns.{same_row}
-use Rattle.cvr_collect.proofs.Unions.{or_cases, or_left, or_right}
+use Rattle.cvr_office.specs.Names.{record_of, records}
+use Rattle.cvr_office.specs.Tallied.{is_headed, sums_of_body, sums_at, stands_in, column, row_of, row}
+use Rattle.cvr_office.specs.Parts.{AreApart, AreAllApart, whole, row_sum, option_sum, RowsOfPartsLaw, CurrentsOfPartsLaw, HeadersOfPartsLaw, RecordsRiseLaw, RowsOfManyLaw, CurrentsOfManyLaw, HeadersOfManyLaw, RecordsOfManyLaw}
+use Rattle.cvr_office.proofs.BallotCounts.{sum_by-same}
+use Rattle.cvr_office.proofs.GivenFacts.{HaveSame, greatest-same}
+use Rattle.cvr_office.proofs.NextInFacts.{name_total, name_exact}
+use Rattle.cvr_office.proofs.NextLaws.{listed}
+use Rattle.cvr_office.proofs.RecordMembers.{from_filter, in_filter}
+use Rattle.cvr_office.proofs.RowColumns.{same_row}
+use Rattle.cvr_office.proofs.Unions.{or_cases, or_left, or_right}
 
 -- ---- records
 

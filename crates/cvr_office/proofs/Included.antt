@@ -13,8 +13,8 @@ use Rattle.cvr_facts.specs.Facts.{Fact, Device, Header, Snapshot, Facts, fact_to
 use Rattle.cvr_facts.specs.Stands.{Stands, IsWhole, IsOfWhole}
 use Rattle.cvr_facts.proofs.Laws.{contains_iff}
 use Rattle.cvr_facts.proofs.Lemmas.{Contains-filter_map, from-filter_map}
-use Rattle.cvr_collect.specs.Names.{device_in}
-use Rattle.cvr_collect.specs.Under.{device_ids}
+use Rattle.cvr_office.specs.Names.{device_in}
+use Rattle.cvr_office.specs.Under.{device_ids}
 
 -- each fact of s is one of t
 abbrev pub IsWithin : Facts → Facts → Type 0

@@ -17,13 +17,13 @@ use Rattle.cvr_facts.specs.Stands.{Stands, IsOfWhole}
 use Rattle.cvr_facts.proofs.Lemmas.{from_map}
 use Rattle.cvr_facts.specs.Sources.{devices_in, Source, of_device, of_header, of_snapshot}
 use Rattle.cvr_facts.proofs.Laws.{device_listed, fact_source, fact_held}
-use Rattle.cvr_collect.proofs.Standing.{facts_stand}
-use Rattle.cvr_collect.proofs.FileRecords.{records_whole}
-use Rattle.cvr_collect.specs.Keeps.{Keeps, content_scope}
-use Rattle.cvr_collect.specs.Laws.{ImportLaw, JoinLaw}
-use Rattle.cvr_collect.specs.Under.{device_ids}
-use Rattle.cvr_collect.proofs.Included.{IsWithin, of_union, left_within, right_within, includes, device_known, devices_within, stands_wider, whole_wider}
-use Rattle.cvr_collect.proofs.SameFrames.{agrees_alike, scope_alike}
+use Rattle.cvr_office.proofs.Standing.{facts_stand}
+use Rattle.cvr_office.proofs.FileRecords.{records_whole}
+use Rattle.cvr_office.specs.Keeps.{Keeps, content_scope}
+use Rattle.cvr_office.specs.Laws.{ImportLaw, JoinLaw}
+use Rattle.cvr_office.specs.Under.{device_ids}
+use Rattle.cvr_office.proofs.Included.{IsWithin, of_union, left_within, right_within, includes, device_known, devices_within, stands_wider, whole_wider}
+use Rattle.cvr_office.proofs.SameFrames.{agrees_alike, scope_alike}
 
 -- ---- facts that can be taken in
 

@@ -5,13 +5,13 @@ use Rattle.std.proofs.lemmas.Option.{slice_get_within, get_or_from_slice_get}
 use Rattle.std.specs.FinSet.{union, empty, items, contains, contains-union}
 use Rattle.cdf_definition.specs.Frame.{Frame}
 use Rattle.cvr_facts.specs.Facts.{Fact, Facts}
-use Rattle.cvr_collect.specs.declared.event.Event.TheVariants.{Import, Exchange}
-use Rattle.cvr_collect.specs.declared.event.Outcome.TheVariants.{Accepted}
-use Rattle.cvr_collect.specs.Reach.{Origin, File, History, reached, brought, content}
-use Rattle.cvr_collect.specs.Lasting.{HeldLastsLaw, ImportLastsLaw, ExchangeLastsLaw, PlayedLastsLaw}
-use Rattle.cvr_collect.proofs.Unions.{or_right, contains-union_over, member_that_passes, passes_by_member}
-use Rattle.cvr_collect.proofs.Reached.{origin_total, origin_exact, is_eq, content-none}
-use Rattle.cvr_collect.proofs.Ways.{reached_after-stays, brings}
+use Rattle.cvr_office.specs.declared.event.Event.TheVariants.{Import, Exchange}
+use Rattle.cvr_office.specs.declared.event.Outcome.TheVariants.{Accepted}
+use Rattle.cvr_office.specs.Reach.{Origin, File, History, reached, brought, content}
+use Rattle.cvr_office.specs.Lasting.{HeldLastsLaw, ImportLastsLaw, ExchangeLastsLaw, PlayedLastsLaw}
+use Rattle.cvr_office.proofs.Unions.{or_right, contains-union_over, member_that_passes, passes_by_member}
+use Rattle.cvr_office.proofs.Reached.{origin_total, origin_exact, is_eq, content-none}
+use Rattle.cvr_office.proofs.Ways.{reached_after-stays, brings}
 
 -- what has reached an office has reached it after all further events
 still_reached : (x : Origin) (later past : History) (o : ℕ) → contains (reached past o) x ≡ true → contains (reached (later ++ past) o) x ≡ true

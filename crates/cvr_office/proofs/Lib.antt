@@ -49,10 +49,8 @@ pub mod RowColumns
 pub mod RowSteps
 pub mod RowSums
 pub mod CurrentSums
-pub mod AddedSums
 pub mod RowsOfKeys
 pub mod Walks
-pub mod RecordWalk
 pub mod MoreFacts
 pub mod SeveralBodies
 pub mod BallotCounts

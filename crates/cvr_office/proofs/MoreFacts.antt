@@ -3,8 +3,8 @@ use Rattle.std.proofs.Common.{◌≤◌, subst, arith}
 use Rattle.std.specs.FinSet.{len, union, items}
 use Rattle.cvr_facts.specs.Facts.{fact_total, fact_exact}
 use Rattle.cvr_facts.proofs.Laws.{contains_iff}
-use Rattle.cvr_collect.specs.Counting.{GrowthLaw}
-use Rattle.cvr_collect.proofs.Rising.{set_is, len-union}
+use Rattle.cvr_office.specs.Counting.{GrowthLaw}
+use Rattle.cvr_office.proofs.Rising.{set_is, len-union}
 
 pub growth_adds : GrowthLaw
 growth_adds s t =

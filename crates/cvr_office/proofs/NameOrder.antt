@@ -10,10 +10,10 @@ use Rattle.std.specs.FinMap.{IsAntisymmetric, nat_cmp-IsAntisymmetric, slice_cmp
 use Rattle.cvr_facts.specs.declared.name.RecordName.{RecordName}
 use Rattle.cvr_facts.specs.Facts.{Fact, Device, Header, Snapshot, text_cmp}
 use Rattle.cvr_facts.specs.Choosing.{is_name}
-use Rattle.cvr_collect.specs.declared.conflict.ConflictName.{ConflictName}
-use Rattle.cvr_collect.specs.declared.conflict.ConflictName.TheVariants as name
-use Rattle.cvr_collect.specs.Names.{name_of, body_of, name_key, conflict_cmp, is_named}
-use Rattle.cvr_collect.specs.Place.{place_cmp}
+use Rattle.cvr_office.specs.declared.conflict.ConflictName.{ConflictName}
+use Rattle.cvr_office.specs.declared.conflict.ConflictName.TheVariants as name
+use Rattle.cvr_office.specs.Names.{name_of, body_of, name_key, conflict_cmp, is_named}
+use Rattle.cvr_office.specs.Place.{place_cmp}
 
 -- ---- names are in a total order, and only equal names tie
 

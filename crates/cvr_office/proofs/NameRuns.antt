@@ -6,14 +6,14 @@ use Rattle.std.specs.List.Sorted.{IsStrictlySortedBy}
 use Rattle.std.proofs.lemmas.Bool.{cond_both, false_from_ne_true}
 use Rattle.std.proofs.lemmas.Map.Keys.{sorted_head, sorted_tail}
 use Rattle.cvr_facts.proofs.Lemmas.{none_listed, at_head, at_tail, head_or_tail, from_map}
-use Rattle.cvr_collect.specs.declared.any_fact.AnyFact.{AnyFact}
-use Rattle.cvr_collect.specs.declared.conflict.Conflict.{Conflict}
-use Rattle.cvr_collect.specs.declared.conflict.ConflictName.{ConflictName}
-use Rattle.cvr_collect.specs.Names.{conflict_cmp}
-use Rattle.cvr_collect.specs.Place.{fact_of, any_cmp}
-use Rattle.cvr_collect.specs.AnyNames.{any_name, has_name}
-use Rattle.cvr_collect.specs.NameRuns.{runs_from, counted_runs}
-use Rattle.cvr_collect.proofs.NameOrder.{conflict_total, not_below, has_own_name, name_is, Reaches, names_reach}
+use Rattle.cvr_office.specs.declared.any_fact.AnyFact.{AnyFact}
+use Rattle.cvr_office.specs.declared.conflict.Conflict.{Conflict}
+use Rattle.cvr_office.specs.declared.conflict.ConflictName.{ConflictName}
+use Rattle.cvr_office.specs.Names.{conflict_cmp}
+use Rattle.cvr_office.specs.Place.{fact_of, any_cmp}
+use Rattle.cvr_office.specs.AnyNames.{any_name, has_name}
+use Rattle.cvr_office.specs.NameRuns.{runs_from, counted_runs}
+use Rattle.cvr_office.proofs.NameOrder.{conflict_total, not_below, has_own_name, name_is, Reaches, names_reach}
 
 -- ---- runs
 

@@ -4,12 +4,12 @@ use Rattle.std.specs.Prelude.{Bool, true, false, ◌==◌, max, Some, None}
 use Rattle.std.specs.List.{prefix_len, slice_get}
 use Rattle.std.specs.Ordering.{is_lt, nat_cmp, ord_max}
 use Rattle.std.proofs.lemmas.Bool.Decides.{leb_tells}
-use Rattle.cvr_collect.specs.declared.any_fact.AnyFact.{AnyFact}
-use Rattle.cvr_collect.specs.declared.conflict.Conflict.{Conflict}
-use Rattle.cvr_collect.specs.Names.{most}
-use Rattle.cvr_collect.specs.AnyNames.{any_name, has_name}
-use Rattle.cvr_collect.specs.NameRuns.{counted_runs, of_several, most_of}
-use Rattle.cvr_collect.proofs.NameRuns.{counted_runs-is, prefix_len-some}
+use Rattle.cvr_office.specs.declared.any_fact.AnyFact.{AnyFact}
+use Rattle.cvr_office.specs.declared.conflict.Conflict.{Conflict}
+use Rattle.cvr_office.specs.Names.{most}
+use Rattle.cvr_office.specs.AnyNames.{any_name, has_name}
+use Rattle.cvr_office.specs.NameRuns.{counted_runs, of_several, most_of}
+use Rattle.cvr_office.proofs.NameRuns.{counted_runs-is, prefix_len-some}
 
 -- `more` is what is left of `rest` after its first run, of `bodies` facts
 pub record IsCut (first : AnyFact) (bodies : ℕ) (rest more : List AnyFact) : Type 0 where

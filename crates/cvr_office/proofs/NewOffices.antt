@@ -9,16 +9,16 @@ use Rattle.std.proofs.lemmas.Option.{slice_get_within, get_or_from_slice_get}
 use Rattle.cdf_definition.specs.Frame.{Frame}
 use Rattle.cdf_check.proofs.Laws.{one_definition}
 use Rattle.cvr_facts.specs.Facts.{Facts}
-use Rattle.cvr_collect.specs.declared.event.Event.TheVariants.{Import, Exchange}
-use Rattle.cvr_collect.specs.declared.event.Outcome.TheVariants.{Accepted, Refused}
-use Rattle.cvr_collect.specs.Keeps.{starting}
-use Rattle.cvr_collect.specs.Reach.{Start, File, origin_cmp, History, reached, content}
-use Rattle.cvr_collect.specs.Outcomes.{no_frame, AreOutcomes}
-use Rattle.cvr_collect.specs.Alike.{AreNewOfOne, ArePlayed, HaveSameFiles, BeganAlike, SameFilesLaw}
-use Rattle.cvr_collect.proofs.Unions.{or_cases, tie_is}
-use Rattle.cvr_collect.proofs.Reached.{origin_total, origin_exact}
-use Rattle.cvr_collect.proofs.SameFiles.{same_files}
-use Rattle.cvr_collect.proofs.AnsweredAlike.{answer_alike}
+use Rattle.cvr_office.specs.declared.event.Event.TheVariants.{Import, Exchange}
+use Rattle.cvr_office.specs.declared.event.Outcome.TheVariants.{Accepted, Refused}
+use Rattle.cvr_office.specs.Keeps.{starting}
+use Rattle.cvr_office.specs.Reach.{Start, File, origin_cmp, History, reached, content}
+use Rattle.cvr_office.specs.Outcomes.{no_frame, AreOutcomes}
+use Rattle.cvr_office.specs.Alike.{AreNewOfOne, ArePlayed, HaveSameFiles, BeganAlike, SameFilesLaw}
+use Rattle.cvr_office.proofs.Unions.{or_cases, tie_is}
+use Rattle.cvr_office.proofs.Reached.{origin_total, origin_exact}
+use Rattle.cvr_office.proofs.SameFiles.{same_files}
+use Rattle.cvr_office.proofs.AnsweredAlike.{answer_alike}
 
 -- ---- only offices that are there have reached one
 

@@ -12,14 +12,14 @@ use Rattle.std.proofs.lemmas.Option.{none-some}
 use Rattle.cvr_facts.specs.declared.name.RecordName.{RecordName}
 use Rattle.cvr_facts.specs.Facts.{text_cmp, name_cmp}
 use Rattle.cvr_facts.proofs.Laws.{text_total, text_exact}
-use Rattle.cvr_collect.specs.declared.any_fact.AnyFact.{AnyFact}
-use Rattle.cvr_collect.specs.Names.{record_of, records, device_in, devices}
-use Rattle.cvr_collect.specs.Readers.{next}
-use Rattle.cvr_collect.specs.Place.{fact_of, any_cmp}
-use Rattle.cvr_collect.specs.Plain.{set_of}
-use Rattle.cvr_collect.proofs.Upward.{records_up, devices_up, none_last, none_last_total, up_at}
-use Rattle.cvr_collect.proofs.NextNames.{Passes}
-use Rattle.cvr_collect.proofs.NextNames as names
+use Rattle.cvr_office.specs.declared.any_fact.AnyFact.{AnyFact}
+use Rattle.cvr_office.specs.Names.{record_of, records, device_in, devices}
+use Rattle.cvr_office.specs.Readers.{next}
+use Rattle.cvr_office.specs.Place.{fact_of, any_cmp}
+use Rattle.cvr_office.specs.Plain.{set_of}
+use Rattle.cvr_office.proofs.Upward.{records_up, devices_up, none_last, none_last_total, up_at}
+use Rattle.cvr_office.proofs.NextNames.{Passes}
+use Rattle.cvr_office.proofs.NextNames as names
 
 -- ---- names of records
 

@@ -12,9 +12,9 @@ use Rattle.cvr_facts.specs.Facts.{Fact, Facts}
 use Rattle.cvr_facts.specs.Ordered.{ordered}
 use Rattle.cvr_facts.proofs.Lemmas.{none_listed, at_head, at_tail, head_or_tail, ordered_rises, Contains-filter_map, from-filter_map}
 use Rattle.cvr_facts.proofs.Laws.{contains_iff}
-use Rattle.cvr_collect.specs.Readers.{next}
-use Rattle.cvr_collect.specs.Laws.{ListedLaw, IsAbove, NextLaw, NoNextLaw}
-use Rattle.cvr_collect.proofs.Firsts.{in_ordered, from_ordered, each_above, IsFirst, find_is, is_above, next-find}
+use Rattle.cvr_office.specs.Readers.{next}
+use Rattle.cvr_office.specs.Laws.{ListedLaw, IsAbove, NextLaw, NoNextLaw}
+use Rattle.cvr_office.proofs.Firsts.{in_ordered, from_ordered, each_above, IsFirst, find_is, is_above, next-find}
 
 -- ---- the first that passes is the least that does
 

@@ -13,11 +13,11 @@ use Rattle.cvr_facts.specs.Facts.{Fact, fact_total, fact_exact}
 use Rattle.cvr_facts.specs.Ordered.{ordered}
 use Rattle.cvr_facts.proofs.Lemmas.{in_map, from_map, in_set, from_set, ordered_rises, Contains-filter_map, from-filter_map}
 use Rattle.cvr_facts.proofs.Laws.{contains_iff}
-use Rattle.cvr_collect.specs.declared.any_fact.AnyFact.{AnyFact}
-use Rattle.cvr_collect.specs.Readers.{next}
-use Rattle.cvr_collect.specs.Place.{fact_of}
-use Rattle.cvr_collect.specs.Plain.{set_of}
-use Rattle.cvr_collect.proofs.Firsts.{in_ordered, from_ordered, ordered-members, find_is, IsFirst, is_above, next-find}
+use Rattle.cvr_office.specs.declared.any_fact.AnyFact.{AnyFact}
+use Rattle.cvr_office.specs.Readers.{next}
+use Rattle.cvr_office.specs.Place.{fact_of}
+use Rattle.cvr_office.specs.Plain.{set_of}
+use Rattle.cvr_office.proofs.Firsts.{in_ordered, from_ordered, ordered-members, find_is, IsFirst, is_above, next-find}
 
 -- ---- what the facts of a list are
 

@@ -3,7 +3,7 @@ use Rattle.std.proofs.Common.{◌≡◌, ℕ, zero, suc, ◌-◌, ◌<◌, ◌�
 use Rattle.std.specs.Prelude.{slice_get}
 use Rattle.std.proofs.lemmas.List.{get_or-reverse, length-reverse, length-map}
 use Rattle.std.proofs.lemmas.Option.{slice_get-get_or, slice_get_past, slice_get-map}
-use Rattle.cvr_collect.specs.Readers.{numbered}
+use Rattle.cvr_office.specs.Readers.{numbered}
 
 numbered_none : {K : Type 0} (xs : List K) → numbered xs 0 ≡ None
 numbered_none [] = refl

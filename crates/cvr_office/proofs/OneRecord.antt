@@ -15,15 +15,15 @@ use Rattle.cvr_facts.specs.Choosing.{choice_cmp, fact_choice, header_bodies, sna
 use Rattle.cvr_facts.specs.Stands.{IsSpelledHeader, IsSpelledSnapshot}
 use Rattle.cvr_facts.proofs.Laws.{text_total, text_exact, choice_total, choice_exact, bodies, Contains-header_bodies, Contains-snapshot_bodies}
 use Rattle.cvr_facts.proofs.Lemmas.{is_greatest, at_head, none_listed, in_map}
-use Rattle.cvr_collect.specs.declared.any_fact.AnyFact.{AnyFact}
-use Rattle.cvr_collect.specs.declared.any_fact.AnyFact.TheVariants as any
-use Rattle.cvr_collect.specs.Place.{any_cmp}
-use Rattle.cvr_collect.specs.Plain.{set_of}
-use Rattle.cvr_collect.specs.Readers.{IsHeader, IsCurrent, IsSnapshotOf}
-use Rattle.cvr_collect.specs.Runs.{is_of, run, as_header, headers, snapshots, IsChosen, AreSpelled}
-use Rattle.cvr_collect.proofs.Lifting.{rises-filter_map, rises-map, last_greatest, last_or-map, last_listed, none_last}
-use Rattle.cvr_collect.proofs.Orderings.{then-Equal}
-use Rattle.cvr_collect.proofs.RecordMembers.{past_key, header_held, held_header, from_headers, snapshot_held, held_snapshot, from_snapshots}
+use Rattle.cvr_office.specs.declared.any_fact.AnyFact.{AnyFact}
+use Rattle.cvr_office.specs.declared.any_fact.AnyFact.TheVariants as any
+use Rattle.cvr_office.specs.Place.{any_cmp}
+use Rattle.cvr_office.specs.Plain.{set_of}
+use Rattle.cvr_office.specs.Readers.{IsHeader, IsCurrent, IsSnapshotOf}
+use Rattle.cvr_office.specs.Runs.{is_of, run, as_header, headers, snapshots, IsChosen, AreSpelled}
+use Rattle.cvr_office.proofs.Lifting.{rises-filter_map, rises-map, last_greatest, last_or-map, last_listed, none_last}
+use Rattle.cvr_office.proofs.Orderings.{then-Equal}
+use Rattle.cvr_office.proofs.RecordMembers.{past_key, header_held, held_header, from_headers, snapshot_held, held_snapshot, from_snapshots}
 
 -- a list with no members has no greatest
 none_greatest : {K : Type 0} (R : K → K → Ordering) (ks : List K) → ((k : K) → Contains ks k → ⊥) → greatest R ks ≡ None

@@ -1,45 +1,25 @@
 -- What a plain office's list of facts keeps.
-use Rattle.std.proofs.Common.{◌≡◌, ◌∷◌, ◌++◌, ℕ, List, [], length, map, Contains, sym, ap, ◌∙◌, subst, inl, inr}
-use Rattle.std.specs.Prelude.{OnOk, OnErr}
-use Rattle.std.specs.declared.result.Result.{Result}
-use Rattle.std.specs.declared.result.Result.TheVariants.{Ok, Err}
-use Rattle.cdf_types.specs.declared.fault.Memory.{Memory}
-use Rattle.std.specs.List.Sorted.{IsStrictlySortedBy}
-use Rattle.std.specs.FinSet.{from_list, union, len}
+use Rattle.std.proofs.Common.{◌≡◌, ◌++◌, ℕ, List, [], map, Contains, sym, ◌∙◌, subst, inl, inr}
+use Rattle.std.specs.FinSet.{from_list, union}
 use Rattle.std.proofs.lemmas.List.{map-append}
 use Rattle.std.proofs.lemmas.List.Elements.{Contains-append_cases}
 use Rattle.std.proofs.lemmas.Simd.{map-map}
 use Rattle.cdf_parts.specs.Places.{Contest}
 use Rattle.cdf_definition.specs.Named.{Entry}
-use Rattle.cdf_definition.specs.Frame.{Frame, IsSame}
+use Rattle.cdf_definition.specs.Frame.{Frame}
 use Rattle.cdf_definition.specs.Sound.{IsFrame}
-use Rattle.cdf_definition.specs.Acceptance.{Valid}
-use Rattle.cdf_check.proofs.Laws.{same_definitions}
 use Rattle.cvr_facts.specs.declared.list.FactList.{FactList}
 use Rattle.cvr_facts.specs.Facts.{Fact, Device, fact_cmp, fact_total, fact_exact}
 use Rattle.cvr_facts.specs.Lists.{fact_of_header, fact_of_snapshot, facts_in}
-use Rattle.cvr_facts.specs.Reports.{facts}
 use Rattle.cvr_facts.specs.Stands.{AreSpelled}
 use Rattle.cvr_facts.specs.Unions.{empty_union}
 use Rattle.cvr_facts.proofs.Lemmas.{none_listed, in_map, from_map}
-use Rattle.cvr_collect.specs.declared.any_fact.AnyFact.{AnyFact}
-use Rattle.cvr_collect.specs.declared.any_fact.AnyFact.TheVariants as any
-use Rattle.cvr_collect.specs.Keeps.{Keeps, starting}
-use Rattle.cvr_collect.specs.Place.{fact_of, place_total, any_cmp}
-use Rattle.cvr_collect.specs.Plain.{set_of, all_of, IsSpelled, IsPlain, IsPut, IsTheFiles}
-use Rattle.cvr_collect.proofs.Starting.{start_keeps}
-use Rattle.cvr_collect.proofs.Keeping.{import_keeps, join_keeps}
-use Rattle.cvr_collect.proofs.Rising.{len-from_list}
-
--- ---- order and number
-
-pub none_rise : (xs : List AnyFact) → xs ≡ [] → IsStrictlySortedBy any_cmp xs
-unfolding IsStrictlySortedBy
-none_rise [] e = tt
-none_rise (x ∷ xs) e = Prim.cc e
-
-pub len-set_of : (frame : Frame) (xs : List AnyFact) → IsPlain frame xs → len (set_of xs) ≡ length xs
-len-set_of frame xs plain = len-from_list fact_of place_total fact_total fact_exact xs plain.rises
+use Rattle.cvr_office.specs.declared.any_fact.AnyFact.{AnyFact}
+use Rattle.cvr_office.specs.declared.any_fact.AnyFact.TheVariants as any
+use Rattle.cvr_office.specs.Keeps.{Keeps, starting}
+use Rattle.cvr_office.specs.Place.{fact_of}
+use Rattle.cvr_office.specs.Plain.{set_of, all_of, IsSpelled, IsPlain, IsPut}
+use Rattle.cvr_office.proofs.Starting.{start_keeps}
 
 -- ---- what is put in
 
@@ -96,34 +76,3 @@ all_spelled contests list are f at =
         | inr s ↦ let found = from_map any.Snapshot f list.snapshots s in subst (IsSpelled contests) found.2 (are.snapshots found.0 found.1)
       ]
     ]
-
-module _ (frame : Frame) (bytes : List ℕ) (list : FactList) (old more new : List AnyFact) (files : IsTheFiles frame bytes list) (all_is : more ≡ all_of list) (put : IsPut old more new) where
-  pub told_is : set_of more ≡ facts bytes
-  told_is = ap set_of all_is ∙ (ap (from_list {R = fact_cmp}) (map-all_of list) ∙ files.file)
-
-  pub import_is : set_of new ≡ union (set_of old) (facts bytes)
-  import_is = put.set ∙ ap (union (set_of old)) told_is
-
-  pub plain_import : Valid frame bytes → IsPlain frame old → IsPlain frame new
-  plain_import valid plain = record {
-    rises = put.rises;
-    spelled = spelled_put frame.contests old more new put plain.spelled (λ f at. all_spelled frame.contests list files.spelled f (subst (λ xs. Contains xs f) all_is at));
-    keeps = subst (Keeps frame) (sym import_is) (import_keeps frame (set_of old) bytes valid plain.keeps);
-  }
-
--- ---- another office's facts
-
-pub plain_join : (frame other : Frame) (old theirs new : List AnyFact) → IsSame frame other → IsPlain frame old → IsPlain other theirs → IsPut old theirs new → IsPlain frame new
-plain_join frame other old theirs new same mine plain put =
-    let contests : other.contests ≡ frame.contests = sym ((same_definitions frame other mine.keeps.sound plain.keeps.sound same).contests) in
-    record {
-      rises = put.rises;
-      spelled = spelled_put frame.contests old theirs new put mine.spelled (λ f at. subst (λ cs. IsSpelled cs f) contests (plain.spelled f at));
-      keeps = subst (Keeps frame) (sym put.set) (join_keeps frame other (set_of old) (set_of theirs) same mine.keeps plain.keeps);
-    }
-
--- whether they were put in or not
-pub plain_after : (r : Result ℕ Memory) (frame other : Frame) (old theirs new : List AnyFact) → IsSame frame other → IsPlain frame old → IsPlain other theirs
-    → OnOk r (IsPut old theirs new) → OnErr r (new ≡ old) → IsPlain frame new
-plain_after (Ok n) frame other old theirs new same mine plain put was = plain_join frame other old theirs new same mine plain put
-plain_after (Err e) frame other old theirs new same mine plain put was = subst (IsPlain frame) (sym was) mine

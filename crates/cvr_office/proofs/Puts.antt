@@ -6,12 +6,12 @@ use Rattle.std.specs.Ordering.{eq_by_cmp}
 use Rattle.std.proofs.lemmas.List.{take_more, map-append, get_or-map, length-map}
 use Rattle.cdf_definition.specs.Named.{Entry, ids_of, texts_of}
 use Rattle.cvr_facts.specs.Facts.{Fact, Device, fact_total, fact_exact}
-use Rattle.cvr_collect.specs.declared.any_fact.AnyFact.{AnyFact}
-use Rattle.cvr_collect.specs.declared.any_fact.AnyFact.TheVariants as any
-use Rattle.cvr_collect.specs.Readers.{growth}
-use Rattle.cvr_collect.specs.Place.{fact_of, place_total, place_exact, any_cmp}
-use Rattle.cvr_collect.specs.Plain.{set_of, IsPut}
-use Rattle.cvr_collect.proofs.Rising.{put_in, growth_is}
+use Rattle.cvr_office.specs.declared.any_fact.AnyFact.{AnyFact}
+use Rattle.cvr_office.specs.declared.any_fact.AnyFact.TheVariants as any
+use Rattle.cvr_office.specs.Readers.{growth}
+use Rattle.cvr_office.specs.Place.{fact_of, place_total, place_exact, any_cmp}
+use Rattle.cvr_office.specs.Plain.{set_of, IsPut}
+use Rattle.cvr_office.proofs.Rising.{put_in, growth_is}
 
 pub put : (old more sorted new : List AnyFact) → IsPermutation (old ++ more) sorted → IsSorted any_cmp sorted → new ≡ dedup (eq_by_cmp any_cmp) sorted → IsPut old more new
 put old more sorted new moved rises is =

@@ -10,14 +10,14 @@ use Rattle.std.specs.FinMap.{IsAntisymmetric, nat_cmp-IsAntisymmetric, slice_cmp
 use Rattle.cdf_definition.specs.Frame.{Frame}
 use Rattle.cvr_facts.specs.Facts.{Facts}
 use Rattle.cvr_facts.specs.Reports.{facts}
-use Rattle.cvr_collect.specs.Reach.{Origin, Start, File, numbers, origin_cmp, History, reached, brought, union_over, content}
-use Rattle.cvr_collect.specs.Outcomes.{contents_after, IsOutcome}
-use Rattle.cvr_collect.specs.declared.event.Event.{Event}
-use Rattle.cvr_collect.specs.declared.event.Event.TheVariants.{Import, Exchange}
-use Rattle.cvr_collect.specs.declared.event.Outcome.{Outcome}
-use Rattle.cvr_collect.specs.declared.event.Outcome.TheVariants.{Accepted, Refused}
-use Rattle.cvr_collect.proofs.Unions.{over_union, over_insert, over_one}
-use Rattle.cvr_collect.proofs.Slots.{contents_after-refused}
+use Rattle.cvr_office.specs.Reach.{Origin, Start, File, numbers, origin_cmp, History, reached, brought, union_over, content}
+use Rattle.cvr_office.specs.Outcomes.{contents_after, IsOutcome}
+use Rattle.cvr_office.specs.declared.event.Event.{Event}
+use Rattle.cvr_office.specs.declared.event.Event.TheVariants.{Import, Exchange}
+use Rattle.cvr_office.specs.declared.event.Outcome.{Outcome}
+use Rattle.cvr_office.specs.declared.event.Outcome.TheVariants.{Accepted, Refused}
+use Rattle.cvr_office.proofs.Unions.{over_union, over_insert, over_one}
+use Rattle.cvr_office.proofs.Slots.{contents_after-refused}
 
 -- ---- the order of origins
 

@@ -19,20 +19,20 @@ use Rattle.cvr_facts.specs.declared.snapshot.SnapshotFact.{SnapshotFact}
 use Rattle.cvr_facts.specs.Facts.{Snapshot, text_cmp}
 use Rattle.cvr_facts.proofs.Laws.{text_total, text_exact}
 use Rattle.cvr_facts.proofs.Lemmas.{in_map, from_map, Contains-filter_map, from-filter_map}
-use Rattle.cvr_collect.specs.declared.any_fact.AnyFact.{AnyFact}
-use Rattle.cvr_collect.specs.declared.any_fact.AnyFact.TheVariants as any
-use Rattle.cvr_collect.specs.Names.{snapshot_ids}
-use Rattle.cvr_collect.specs.Place.{any_cmp}
-use Rattle.cvr_collect.specs.Plain.{set_of}
-use Rattle.cvr_collect.specs.Runs.{is_of, run, as_snapshot, snapshots}
-use Rattle.cvr_collect.specs.Groups.{id_of, id_order, under, ids, RisesById}
-use Rattle.cvr_collect.proofs.InOrder.{ordered-members}
-use Rattle.cvr_collect.proofs.Lifting.{rises-filter_map, rises-map}
-use Rattle.cvr_collect.proofs.Orderings.{then-Equal}
-use Rattle.cvr_collect.proofs.RecordMembers.{past_key, same_name, of_snapshot, from_filter, in_filter, from_snapshots, snapshot_held, held_snapshot}
-use Rattle.cvr_collect.proofs.RecordNames.{id_under}
-use Rattle.cvr_collect.proofs.Runs.{not_before}
-use Rattle.cvr_collect.proofs.ViewedLists.{sorted-map}
+use Rattle.cvr_office.specs.declared.any_fact.AnyFact.{AnyFact}
+use Rattle.cvr_office.specs.declared.any_fact.AnyFact.TheVariants as any
+use Rattle.cvr_office.specs.Names.{snapshot_ids}
+use Rattle.cvr_office.specs.Place.{any_cmp}
+use Rattle.cvr_office.specs.Plain.{set_of}
+use Rattle.cvr_office.specs.Runs.{is_of, run, as_snapshot, snapshots}
+use Rattle.cvr_office.specs.Groups.{id_of, id_order, under, ids, RisesById}
+use Rattle.cvr_office.proofs.InOrder.{ordered-members}
+use Rattle.cvr_office.proofs.Lifting.{rises-filter_map, rises-map}
+use Rattle.cvr_office.proofs.Orderings.{then-Equal}
+use Rattle.cvr_office.proofs.RecordMembers.{past_key, same_name, of_snapshot, from_filter, in_filter, from_snapshots, snapshot_held, held_snapshot}
+use Rattle.cvr_office.proofs.RecordNames.{id_under}
+use Rattle.cvr_office.proofs.Runs.{not_before}
+use Rattle.cvr_office.proofs.ViewedLists.{sorted-map}
 
 -- ---- ids along a run
 

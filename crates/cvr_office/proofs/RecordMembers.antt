@@ -12,12 +12,12 @@ use Rattle.cvr_facts.specs.declared.snapshot.SnapshotFact.{SnapshotFact}
 use Rattle.cvr_facts.specs.Facts.{Header, Snapshot, text_cmp, name_cmp, fact_total, fact_exact}
 use Rattle.cvr_facts.proofs.Laws.{text_total, text_exact}
 use Rattle.cvr_facts.proofs.Lemmas.{at_head, at_tail, head_or_tail, none_listed, in_map, from_map, in_set, from_set, Contains-filter_map, from-filter_map}
-use Rattle.cvr_collect.specs.declared.any_fact.AnyFact.{AnyFact}
-use Rattle.cvr_collect.specs.declared.any_fact.AnyFact.TheVariants as any
-use Rattle.cvr_collect.specs.Place.{fact_of}
-use Rattle.cvr_collect.specs.Plain.{set_of}
-use Rattle.cvr_collect.specs.Runs.{is_of, run, as_header, as_snapshot, headers, snapshots}
-use Rattle.cvr_collect.proofs.Runs.{name_total}
+use Rattle.cvr_office.specs.declared.any_fact.AnyFact.{AnyFact}
+use Rattle.cvr_office.specs.declared.any_fact.AnyFact.TheVariants as any
+use Rattle.cvr_office.specs.Place.{fact_of}
+use Rattle.cvr_office.specs.Plain.{set_of}
+use Rattle.cvr_office.specs.Runs.{is_of, run, as_header, as_snapshot, headers, snapshots}
+use Rattle.cvr_office.proofs.Runs.{name_total}
 
 -- ---- names
 

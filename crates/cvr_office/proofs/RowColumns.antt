@@ -1,17 +1,16 @@
 -- The row of some records, and of one more.
-use Rattle.std.proofs.Common.{◌≡◌, ℕ, zero, suc, ◌+◌, ◌*◌, ◌≤◌, List, [], ◌∷◌, ◌++◌, map, length, get_or, replicate, Option, Some, None, refl, ap, ap₂, ◌∙◌, subst, arith}
+use Rattle.std.proofs.Common.{◌≡◌, ℕ, zero, suc, ◌+◌, List, [], ◌∷◌, ◌++◌, map, length, get_or, replicate, Some, refl, ap, ap₂, ◌∙◌, subst, arith}
 use Rattle.std.specs.List.{zip, range_with_len}
 use Rattle.std.specs.Option.{option_map_or}
 use Rattle.std.proofs.lemmas.List.{length_push}
-use Rattle.std.proofs.lemmas.List.Sums.{sum_by_push, sum_by-le}
+use Rattle.std.proofs.lemmas.List.Sums.{sum_by_push}
 use Rattle.cdf_parts.specs.Places.{Contest, selections_at}
 use Rattle.cvr_facts.specs.declared.name.RecordName.{RecordName}
 use Rattle.cvr_facts.specs.declared.sums.VoteSums.{VoteSums}
 use Rattle.cvr_facts.specs.Facts.{Facts}
-use Rattle.cvr_facts.specs.Sums.{sum_limit}
 use Rattle.cvr_tally.specs.declared.row.Row.{Row}
 use Rattle.cvr_tally.specs.Rows.{zero_row, row_plus}
-use Rattle.cvr_collect.specs.Tallied.{sums_at, column, row_of}
+use Rattle.cvr_office.specs.Tallied.{sums_at, column, row_of}
 
 -- rows with equal numbers
 pub same_row : {b b' o o' u u' w w' p p' a a' : ℕ} {v v' : List ℕ} → b ≡ b' → o ≡ o' → u ≡ u' → w ≡ w' → p ≡ p' → a ≡ a' → v ≡ v'
@@ -33,11 +32,6 @@ each_plus more before a (w ∷ ws) is =
 all_zero : (a n : ℕ) → map (λ (i : ℕ). zero) (range_with_len a n) ≡ replicate n 0
 all_zero a zero = refl
 all_zero a (suc n) = ap (λ ns. 0 ∷ ns) (all_zero (a + 1) n)
-
-pub each-le : (f : ℕ → ℕ) (limit : ℕ) → ((i : ℕ) → f i ≤ limit) → (a n i : ℕ) → get_or (map f (range_with_len a n)) i 0 ≤ limit
-each-le f limit le a zero i = omega arith
-each-le f limit le a (suc n) zero = le a
-each-le f limit le a (suc n) (suc i) = each-le f limit le (a + 1) n i
 
 module _ (contests : List Contest) (s : Facts) (c : ℕ) where
   -- ---- no records
@@ -66,13 +60,3 @@ module _ (contests : List Contest) (s : Facts) (c : ℕ) where
         let one : length (rs ++ r ∷ []) ≡ length rs + 1 = length_push rs r in
         same_row one (column_more (λ v. v.overvotes)) (column_more (λ v. v.undervotes)) (column_more (λ v. v.write_ins)) (column_more (λ v. v.pending))
         (column_more (λ v. v.unassigned)) (votes_more long)
-
-  -- ---- bounds
-
-  module _ (f : VoteSums → ℕ) (below : (r : RecordName) (v : VoteSums) → sums_at contests s c r ≡ Some v → f v ≤ sum_limit) where
-    one-le : (r : RecordName) (o : Option VoteSums) → sums_at contests s c r ≡ o → option_map_or f o 0 ≤ sum_limit
-    one-le r None is = omega arith
-    one-le r (Some v) is = below r v is
-
-    pub column-le : (rs : List RecordName) → column contests s c f rs ≤ length rs * sum_limit
-    column-le rs = sum_by-le (λ r. option_map_or f (sums_at contests s c r) 0) sum_limit rs (λ k d lt. one-le (get_or rs k d) _ refl)

@@ -1,25 +1,23 @@
 -- What is at a key of the tally, record by record.
-use Rattle.std.proofs.Common.{◌≡◌, ◌==◌, ℕ, ◌<◌, ◌≤◌, ◌*◌, Bool, true, false, cond, ◌&&◌, List, [], ◌∷◌, ◌++◌, length, get_or, Contains, Option, Some, None, is_some, IfSome, inl, inr, refl, sym, ap, ◌∙◌, subst, arith, ne_eqb, append-nil}
+use Rattle.std.proofs.Common.{◌≡◌, ◌==◌, ℕ, ◌<◌, Bool, true, false, cond, ◌&&◌, List, [], ◌∷◌, ◌++◌, length, Contains, Option, Some, None, is_some, refl, sym, ap, ◌∙◌, subst, arith, ne_eqb, append-nil}
 use Rattle.std.specs.Prelude.{unwrap_or}
 use Rattle.std.specs.List.{filter, find}
 use Rattle.std.specs.Option.{option_map_or}
-use Rattle.std.proofs.lemmas.Bool.{cases_lt, eqb-true, eqb-false}
-use Rattle.std.proofs.lemmas.List.{length_push, get_or_past}
-use Rattle.std.proofs.lemmas.List.Elements.{filter-append, Contains-get_or}
-use Rattle.std.proofs.lemmas.List.Sums.{length-filter, count_by-le-length}
+use Rattle.std.proofs.lemmas.Bool.{eqb-true, eqb-false}
+use Rattle.std.proofs.lemmas.List.{length_push}
+use Rattle.std.proofs.lemmas.List.Elements.{filter-append}
 use Rattle.cdf_parts.specs.Places.{Contest, selections_at}
 use Rattle.cvr_facts.specs.declared.name.RecordName.{RecordName}
 use Rattle.cvr_facts.specs.declared.sums.VoteSums.{VoteSums}
 use Rattle.cvr_facts.specs.Facts.{Facts}
 use Rattle.cvr_facts.specs.Choosing.{header, current}
-use Rattle.cvr_facts.specs.Sums.{sum_limit, AreBelow}
 use Rattle.cvr_facts.proofs.Lemmas.{at_head, at_tail}
 use Rattle.cvr_tally.specs.declared.key.RowKey.{RowKey}
 use Rattle.cvr_tally.specs.declared.row.Row.{Row}
-use Rattle.cvr_tally.specs.Rows.{zero_row, row_plus, ballot_limit}
-use Rattle.cvr_collect.specs.Tallied.{is_headed, sums_of_body, sums_at, stands_in, column, row_of, row_over, total_limit, IsBelow}
-use Rattle.cvr_collect.specs.Adding.{IsSums, CurrentsAreSums, added, row_with, CanGrow}
-use Rattle.cvr_collect.proofs.RowColumns.{row_of-none, row_of-more, each-le, column-le}
+use Rattle.cvr_tally.specs.Rows.{zero_row, row_plus}
+use Rattle.cvr_office.specs.Tallied.{is_headed, sums_of_body, sums_at, stands_in, row_of, row_over}
+use Rattle.cvr_office.specs.Adding.{IsSums, CurrentsAreSums, added, row_with}
+use Rattle.cvr_office.proofs.RowColumns.{row_of-none, row_of-more}
 
 -- ---- a search
 
@@ -101,51 +99,6 @@ module _ (contests : List Contest) (s : Facts) (sums : CurrentsAreSums contests 
 
   pub row_over-more : (rs : List RecordName) (r : RecordName) → row_over contests s q (rs ++ r ∷ []) ≡ row_with contests q (row_over contests s q rs) (added contests s q r)
   row_over-more rs r = adds rs r (added contests s q r) refl
-
-  -- ---- bounds
-
-  vote-lt : (v : VoteSums) → AreBelow sum_limit v → (i : ℕ) → get_or v.votes i 0 < sum_limit
-  vote-lt v h i = elim (cases_lt i (length v.votes)) [
-    | inl lt ↦ h.votes (get_or v.votes i 0) (Contains-get_or v.votes i 0 lt)
-    | inr le ↦ let e = get_or_past v.votes i 0 le in omega (arith, e)
-  ]
-
-  below : (f : VoteSums → ℕ) → ((v : VoteSums) → AreBelow sum_limit v → f v < sum_limit) → (rs : List RecordName) → column contests s q.contest f rs ≤ length rs * sum_limit
-  below f h rs =
-      column-le contests s q.contest f (λ r v e. let lt : f v < sum_limit = h v (sums_there contests s sums q.contest r v e).0.below in omega (arith, lt)) rs
-
-  row_below : (rs : List RecordName) → length rs ≤ ballot_limit → IsBelow total_limit (row_of contests s q.contest rs)
-  row_below rs few = record {
-    ballots = omega (arith, few);
-    overvotes = let le = below (λ v. v.overvotes) (λ v h. h.overvotes) rs in omega (arith, le, few);
-    undervotes = let le = below (λ v. v.undervotes) (λ v h. h.undervotes) rs in omega (arith, le, few);
-    write_ins = let le = below (λ v. v.write_ins) (λ v h. h.write_ins) rs in omega (arith, le, few);
-    pending = let le = below (λ v. v.pending) (λ v h. h.pending) rs in omega (arith, le, few);
-    unassigned = let le = below (λ v. v.unassigned) (λ v h. h.unassigned) rs in omega (arith, le, few);
-    votes = λ i.
-        let le = each-le (λ i. column contests s q.contest (λ v. get_or v.votes i 0) rs) (length rs * sum_limit) (λ i. below (λ v. get_or v.votes i 0) (λ v h. vote-lt v h i) rs) 0
-        (length (selections_at contests q.contest)) i
-        in
-        omega (arith, le, few);
-  }
-
-  few_stand : (rs : List RecordName) → length (standing rs) ≤ length rs
-  few_stand rs = omega (arith, length-filter (stands_in contests s q) rs, count_by-le-length (stands_in contests s q) rs)
-
-  pub row_over-below : (rs : List RecordName) → length rs ≤ ballot_limit → IfSome (row_over contests s q rs) (IsBelow total_limit)
-  row_over-below rs few =
-      elim (length (standing rs) == 0) as (λ b. IfSome (cond b None (Some (row_of contests s q.contest (standing rs)))) (IsBelow total_limit)) [
-        | true ↦ tt
-        | false ↦ row_below (standing rs) (let le = few_stand rs in omega (arith, le, few))
-      ]
-
-  pub row_over-grows : (rs : List RecordName) → length rs < ballot_limit → IfSome (row_over contests s q rs) CanGrow
-  row_over-grows rs few =
-      let le = few_stand rs in
-      elim (length (standing rs) == 0) as (λ b. IfSome (cond b None (Some (row_of contests s q.contest (standing rs)))) CanGrow) [
-        | true ↦ tt
-        | false ↦ record { ballots = omega (arith, le, few); columns = row_below (standing rs) (omega (arith, le, few)) }
-      ]
 
 -- ---- ballots
 

@@ -9,7 +9,7 @@ use Rattle.cdf_parts.specs.Places.{Texts, Contest, selections_at}
 use Rattle.cvr_facts.specs.Sums.{votes_from, sums_of, by_place, sums_in, AreInRange}
 use Rattle.cvr_facts.proofs.Laws.{sums_of_are_below}
 use Rattle.cvr_facts.proofs.Lemmas.{none_listed, at_tail, head_or_tail, from_map}
-use Rattle.cvr_collect.specs.Adding.{IsSums, AreSums}
+use Rattle.cvr_office.specs.Adding.{IsSums, AreSums}
 
 -- ---- filters
 

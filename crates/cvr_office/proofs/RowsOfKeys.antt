@@ -17,14 +17,18 @@ use Rattle.cvr_facts.specs.Facts.{Facts}
 use Rattle.cvr_facts.specs.Choosing.{header, current}
 use Rattle.cvr_facts.proofs.Lemmas.{in_map, in_flat, one_listed}
 use Rattle.cvr_tally.specs.declared.key.RowKey.{RowKey}
-use Rattle.cvr_tally.specs.Keys.{part_cmp, is_key, keys_total, keys_exact}
-use Rattle.cvr_collect.specs.Names.{records}
-use Rattle.cvr_collect.specs.Tallied.{unit_of, batch_of, is_headed, sums_of_body, sums_at, stands_in, row, keys_at}
-use Rattle.cvr_collect.specs.Adding.{added, key_for, sums_for}
-use Rattle.cvr_collect.specs.Laws.{RowsLaw, BallotsLaw}
-use Rattle.cvr_collect.proofs.RowSteps.{found, row_stands}
-use Rattle.cvr_collect.proofs.RowSums.{from_filter}
-use Rattle.cvr_collect.proofs.AddedSums.{same_key}
+use Rattle.cvr_tally.specs.Keys.{key_cmp, part_cmp, is_key, keys_total, keys_exact}
+use Rattle.cvr_office.specs.Names.{records}
+use Rattle.cvr_office.specs.Tallied.{unit_of, batch_of, is_headed, sums_of_body, sums_at, stands_in, row, keys_at}
+use Rattle.cvr_office.specs.Adding.{added, key_for, sums_for}
+use Rattle.cvr_office.specs.Laws.{RowsLaw, BallotsLaw}
+use Rattle.cvr_office.proofs.RowSteps.{found, row_stands}
+use Rattle.cvr_office.proofs.RowSums.{from_filter}
+
+-- ---- keys
+
+pub same_key : (q k : RowKey) → is_key q k ≡ true → q ≡ k
+same_key q k e = keys_exact q k ((Equal-is (key_cmp q k)).0 e)
 
 -- ---- a map of some keys
 

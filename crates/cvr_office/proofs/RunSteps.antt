@@ -12,9 +12,9 @@ use Rattle.cvr_facts.specs.declared.snapshot.SnapshotFact.{SnapshotFact}
 use Rattle.cvr_facts.specs.Choosing.{fact_choice, IsGreatest}
 use Rattle.cvr_facts.proofs.Laws.{fact_total}
 use Rattle.cvr_facts.proofs.Lemmas.{at_head, head_or_tail, none_listed}
-use Rattle.cvr_collect.specs.declared.any_fact.AnyFact.{AnyFact}
-use Rattle.cvr_collect.specs.declared.any_fact.AnyFact.TheVariants as any
-use Rattle.cvr_collect.specs.Runs.{as_header, as_snapshot, headers, snapshots, chosen, IsChosen}
+use Rattle.cvr_office.specs.declared.any_fact.AnyFact.{AnyFact}
+use Rattle.cvr_office.specs.declared.any_fact.AnyFact.TheVariants as any
+use Rattle.cvr_office.specs.Runs.{as_header, as_snapshot, headers, snapshots, chosen, IsChosen}
 
 -- ---- one more fact
 

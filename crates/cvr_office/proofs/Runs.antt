@@ -12,11 +12,11 @@ use Rattle.std.proofs.lemmas.Map.Keys.{Less-from_sorted}
 use Rattle.cvr_facts.specs.declared.name.RecordName.{RecordName}
 use Rattle.cvr_facts.specs.Facts.{text_cmp, name_cmp}
 use Rattle.cvr_facts.proofs.Laws.{text_total}
-use Rattle.cvr_collect.specs.declared.any_fact.AnyFact.{AnyFact}
-use Rattle.cvr_collect.specs.declared.any_fact.AnyFact.TheVariants as any
-use Rattle.cvr_collect.specs.Names.{record_of}
-use Rattle.cvr_collect.specs.Place.{fact_of, any_cmp}
-use Rattle.cvr_collect.specs.Runs.{record_order}
+use Rattle.cvr_office.specs.declared.any_fact.AnyFact.{AnyFact}
+use Rattle.cvr_office.specs.declared.any_fact.AnyFact.TheVariants as any
+use Rattle.cvr_office.specs.Names.{record_of}
+use Rattle.cvr_office.specs.Place.{fact_of, any_cmp}
+use Rattle.cvr_office.specs.Runs.{record_order}
 
 pub name_total : IsTotalOrder name_cmp
 name_total = then_total (on_total (λ k. k.device) text_total) (on_total (λ k. k.unique) text_total)

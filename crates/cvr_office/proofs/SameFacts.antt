@@ -1,16 +1,15 @@
 -- Two lists in order are of the same facts exactly where the sets are the same.
-use Rattle.std.proofs.Common.{◌≡◌, List, [], ◌∷◌, map, Contains, Bool, true, ◌&&◌, Less, Ordering, refl, sym, ap, ◌∙◌, subst}
-use Rattle.std.specs.Prelude.{◌↔◌}
+use Rattle.std.proofs.Common.{◌≡◌, List, [], ◌∷◌, map, Contains, Bool, true, ◌&&◌, Less, Ordering, refl, sym, ap, subst}
 use Rattle.std.specs.List.{AllByRecursion}
 use Rattle.std.specs.List.Sorted.{IsStrictlySortedBy}
-use Rattle.std.specs.Ordering.{eq_by_cmp, on}
-use Rattle.std.specs.Cmp.Lexicographic.{pointwise, pointwise_decides}
-use Rattle.std.specs.FinSet.{contains, from_list}
-use Rattle.cvr_facts.specs.Facts.{Fact, fact_cmp, fact_total, fact_exact}
-use Rattle.cvr_facts.proofs.Lemmas.{tie_decides, in_set, from_set, same_lists_of_members}
-use Rattle.cvr_collect.specs.declared.any_fact.AnyFact.{AnyFact}
-use Rattle.cvr_collect.specs.Place.{fact_of, place_cmp, place_total, place_exact, any_cmp}
-use Rattle.cvr_collect.specs.Plain.{set_of}
+use Rattle.std.specs.Ordering.{on}
+use Rattle.std.specs.Cmp.Lexicographic.{pointwise}
+use Rattle.std.specs.FinSet.{contains}
+use Rattle.cvr_facts.specs.Facts.{Fact, fact_total, fact_exact}
+use Rattle.cvr_facts.proofs.Lemmas.{in_set, from_set, same_lists_of_members}
+use Rattle.cvr_office.specs.declared.any_fact.AnyFact.{AnyFact}
+use Rattle.cvr_office.specs.Place.{fact_of, place_cmp, place_total, place_exact, any_cmp}
+use Rattle.cvr_office.specs.Plain.{set_of}
 
 module _ {X K : Type 0} (key : X → K) where
   pub pointwise-on : (E : K → K → Bool) (xs ys : List X) → pointwise (on key E) xs ys ≡ pointwise E (map key xs) (map key ys)
@@ -37,9 +36,3 @@ module _ (xs ys : List AnyFact) (h : IsStrictlySortedBy any_cmp xs) (k : IsStric
   same_facts same =
       same_lists_of_members place_total place_exact (map fact_of xs) (map fact_of ys)
       (IsStrictlySortedBy-map fact_of place_cmp xs h) (IsStrictlySortedBy-map fact_of place_cmp ys k) (within xs ys same) (within ys xs (sym same))
-
-  pub same_iff : (pointwise (eq_by_cmp any_cmp) xs ys ≡ true) ↔ (set_of xs ≡ set_of ys)
-  same_iff =
-      let decides = pointwise_decides (tie_decides place_total place_exact) (map fact_of xs) (map fact_of ys) in
-      let is = pointwise-on fact_of (eq_by_cmp place_cmp) xs ys in
-      (λ e. ap (from_list {R = fact_cmp}) (decides.0 (sym is ∙ e)), λ same. is ∙ decides.1 (same_facts same))

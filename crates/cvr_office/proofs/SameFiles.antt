@@ -7,11 +7,11 @@ use Rattle.serde_json.specs.Data.{Data}
 use Rattle.cdf_definition.specs.Acceptance.{value_in}
 use Rattle.cvr_facts.specs.Facts.{Fact, Facts, fact_cmp, fact_total, fact_exact}
 use Rattle.cvr_facts.specs.Reports.{report_facts}
-use Rattle.cvr_collect.specs.Reach.{Origin, Start, File, History, reached, brought, content}
-use Rattle.cvr_collect.specs.Alike.{HasReached, HaveSameFiles, BeganAlike, SamePlacesLaw}
-use Rattle.cvr_collect.proofs.Unions.{or_left, tie_itself, contains-union_over, member_that_passes, passes_by_member}
-use Rattle.cvr_collect.proofs.Reached.{origin_total, origin_exact}
-use Rattle.cvr_collect.proofs.Ways.{reached_after-stays}
+use Rattle.cvr_office.specs.Reach.{Origin, Start, File, History, reached, brought, content}
+use Rattle.cvr_office.specs.Alike.{HasReached, HaveSameFiles, BeganAlike, SamePlacesLaw}
+use Rattle.cvr_office.proofs.Unions.{or_left, tie_itself, contains-union_over, member_that_passes, passes_by_member}
+use Rattle.cvr_office.proofs.Reached.{origin_total, origin_exact}
+use Rattle.cvr_office.proofs.Ways.{reached_after-stays}
 
 -- an office has reached itself
 own : (past : History) (o : ℕ) → contains (reached past o) (Start o) ≡ true

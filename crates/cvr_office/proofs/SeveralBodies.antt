@@ -7,13 +7,13 @@ use Rattle.std.proofs.lemmas.Bool.{leb-true, le-leb}
 use Rattle.cvr_facts.specs.Facts.{Facts}
 use Rattle.cvr_facts.proofs.Laws.{text_total, text_exact}
 use Rattle.cvr_facts.proofs.Lemmas.{one_listed, in_map, from_map}
-use Rattle.cvr_collect.specs.declared.conflict.Conflict.{Conflict}
-use Rattle.cvr_collect.specs.declared.conflict.ConflictName.{ConflictName}
-use Rattle.cvr_collect.specs.Names.{name_of, body_of, is_named, names, bodies_under, count_under, counted}
-use Rattle.cvr_collect.specs.Counting.{ConflictsLaw}
-use Rattle.cvr_collect.proofs.Firsts.{in_ordered, from_ordered}
-use Rattle.cvr_collect.proofs.NameOrder.{conflict_total, conflict_exact, name_is}
-use Rattle.cvr_collect.proofs.RecordMembers.{from_filter, in_filter}
+use Rattle.cvr_office.specs.declared.conflict.Conflict.{Conflict}
+use Rattle.cvr_office.specs.declared.conflict.ConflictName.{ConflictName}
+use Rattle.cvr_office.specs.Names.{name_of, body_of, is_named, names, bodies_under, count_under, counted}
+use Rattle.cvr_office.specs.Counting.{ConflictsLaw}
+use Rattle.cvr_office.proofs.Firsts.{in_ordered, from_ordered}
+use Rattle.cvr_office.proofs.NameOrder.{conflict_total, conflict_exact, name_is}
+use Rattle.cvr_office.proofs.RecordMembers.{from_filter, in_filter}
 
 -- whether there are two bodies or more
 abbrev several : Conflict → Bool

@@ -5,14 +5,14 @@ use Rattle.std.proofs.Math.Seq.{map-set_same}
 use Rattle.std.specs.FinSet.{empty, len}
 use Rattle.cvr_facts.specs.Facts.{Facts}
 use Rattle.cvr_facts.specs.Reports.{facts}
-use Rattle.cvr_collect.specs.Readers.{growth}
-use Rattle.cvr_collect.specs.Outcomes.{contents_after, held_after}
-use Rattle.cvr_collect.specs.declared.event.Event.{Event}
-use Rattle.cvr_collect.specs.declared.event.Event.TheVariants.{Import, Exchange}
-use Rattle.cvr_collect.specs.declared.event.Cause.{Cause}
-use Rattle.cvr_collect.specs.declared.event.Outcome.{Outcome}
-use Rattle.cvr_collect.specs.declared.event.Outcome.TheVariants.{Accepted, Refused}
-use Rattle.cvr_collect.proofs.Unions.{union_same}
+use Rattle.cvr_office.specs.Readers.{growth}
+use Rattle.cvr_office.specs.Outcomes.{contents_after, held_after}
+use Rattle.cvr_office.specs.declared.event.Event.{Event}
+use Rattle.cvr_office.specs.declared.event.Event.TheVariants.{Import, Exchange}
+use Rattle.cvr_office.specs.declared.event.Cause.{Cause}
+use Rattle.cvr_office.specs.declared.event.Outcome.{Outcome}
+use Rattle.cvr_office.specs.declared.event.Outcome.TheVariants.{Accepted, Refused}
+use Rattle.cvr_office.proofs.Unions.{union_same}
 
 -- ---- a list in two parts
 

@@ -17,10 +17,10 @@ use Rattle.cvr_facts.specs.Stands.{Stands, IsOfWhole}
 use Rattle.cvr_facts.proofs.Lemmas.{from_map, from_set}
 use Rattle.cvr_facts.specs.Sources.{devices_in}
 use Rattle.cvr_facts.proofs.Laws.{device_listed, fact_held}
-use Rattle.cvr_collect.specs.Keeps.{starting, content_scope}
-use Rattle.cvr_collect.specs.Laws.{StartLaw}
-use Rattle.cvr_collect.proofs.OwnFrame.{own_valid, entry_source}
-use Rattle.cvr_collect.proofs.ToldBodies.{IsDeviceBody, told_device, told_utf8}
+use Rattle.cvr_office.specs.Keeps.{starting, content_scope}
+use Rattle.cvr_office.specs.Laws.{StartLaw}
+use Rattle.cvr_office.proofs.OwnFrame.{own_valid, entry_source}
+use Rattle.cvr_office.proofs.ToldBodies.{IsDeviceBody, told_device, told_utf8}
 
 -- ---- where a definition's device is from
 

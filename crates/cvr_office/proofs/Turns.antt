@@ -8,16 +8,16 @@ use Rattle.cdf_definition.specs.Frame.{Frame}
 use Rattle.cdf_definition.specs.Acceptance.{first_refusal}
 use Rattle.cvr_facts.specs.Facts.{Facts}
 use Rattle.cvr_facts.specs.Reports.{facts}
-use Rattle.cvr_collect.specs.Readers.{growth}
-use Rattle.cvr_collect.specs.Reach.{history, content}
-use Rattle.cvr_collect.specs.Outcomes.{no_frame, due, contents_after, IsOutcome, AreOutcomes}
-use Rattle.cvr_collect.specs.declared.fault.JoinFault.TheVariants as join
-use Rattle.cvr_collect.specs.declared.event.Event.{Event}
-use Rattle.cvr_collect.specs.declared.event.Event.TheVariants.{Import, Exchange}
-use Rattle.cvr_collect.specs.declared.event.Cause.TheVariants.{Read, Join}
-use Rattle.cvr_collect.specs.declared.event.Outcome.{Outcome}
-use Rattle.cvr_collect.specs.declared.event.Outcome.TheVariants.{Accepted, Refused}
-use Rattle.cvr_collect.proofs.Reached.{content-more}
+use Rattle.cvr_office.specs.Readers.{growth}
+use Rattle.cvr_office.specs.Reach.{history, content}
+use Rattle.cvr_office.specs.Outcomes.{no_frame, due, contents_after, IsOutcome, AreOutcomes}
+use Rattle.cvr_office.specs.declared.fault.JoinFault.TheVariants as join
+use Rattle.cvr_office.specs.declared.event.Event.{Event}
+use Rattle.cvr_office.specs.declared.event.Event.TheVariants.{Import, Exchange}
+use Rattle.cvr_office.specs.declared.event.Cause.TheVariants.{Read, Join}
+use Rattle.cvr_office.specs.declared.event.Outcome.{Outcome}
+use Rattle.cvr_office.specs.declared.event.Outcome.TheVariants.{Accepted, Refused}
+use Rattle.cvr_office.proofs.Reached.{content-more}
 
 -- an outcome depends on what the offices that are there hold
 outcome_of_alike : (frames : List Frame) (files : List (List ℕ)) (held others : ℕ → Facts) (e : Event) (r : Outcome)

@@ -8,8 +8,8 @@ use Rattle.std.specs.Cmp.Lexicographic.{options_total}
 use Rattle.std.proofs.lemmas.Map.Keys.{Less-from_sorted}
 use Rattle.std.proofs.Math.Nat.{eq-or-lt_of_le}
 use Rattle.cvr_facts.specs.Facts.{Fact, Device, Header, Snapshot, text_cmp, name_cmp}
-use Rattle.cvr_collect.specs.Names.{record_of, device_in}
-use Rattle.cvr_collect.specs.Place.{place_cmp}
+use Rattle.cvr_office.specs.Names.{record_of, device_in}
+use Rattle.cvr_office.specs.Place.{place_cmp}
 
 not_gt : (p q r : Ordering) → ordering_then p (ordering_then q r) ≡ Less → is_gt (ordering_then p q) ≡ false
 not_gt Less q r e = refl

@@ -3,13 +3,13 @@ use Rattle.std.proofs.Common.{◌≡◌, ℕ, ◌==◌, true, false, cond, inl, 
 use Rattle.std.proofs.lemmas.Bool.{false≢true}
 use Rattle.std.specs.Ordering.{eq_by_cmp}
 use Rattle.std.specs.FinSet.{union, empty, insert, from_list, contains, contains-union, contains-insert, contains-empty}
-use Rattle.cvr_collect.specs.Reach.{Origin, Start, File, Origins, origin_cmp, History, reached, reached_after, IsHop, Leads, Came, ReachLaw}
-use Rattle.cvr_collect.specs.declared.event.Event.{Event}
-use Rattle.cvr_collect.specs.declared.event.Event.TheVariants.{Import, Exchange}
-use Rattle.cvr_collect.specs.declared.event.Outcome.{Outcome}
-use Rattle.cvr_collect.specs.declared.event.Outcome.TheVariants.{Accepted, Refused}
-use Rattle.cvr_collect.proofs.Unions.{or_cases, or_left, or_right, tie_is, tie_itself}
-use Rattle.cvr_collect.proofs.Reached.{origin_total, origin_exact, at_eq, is_eq}
+use Rattle.cvr_office.specs.Reach.{Origin, Start, File, Origins, origin_cmp, History, reached, reached_after, IsHop, Leads, Came, ReachLaw}
+use Rattle.cvr_office.specs.declared.event.Event.{Event}
+use Rattle.cvr_office.specs.declared.event.Event.TheVariants.{Import, Exchange}
+use Rattle.cvr_office.specs.declared.event.Outcome.{Outcome}
+use Rattle.cvr_office.specs.declared.event.Outcome.TheVariants.{Accepted, Refused}
+use Rattle.cvr_office.proofs.Unions.{or_cases, or_left, or_right, tie_is, tie_itself}
+use Rattle.cvr_office.proofs.Reached.{origin_total, origin_exact, at_eq, is_eq}
 
 -- what had reached an office stays
 module _ (x : Origin) where

@@ -18,23 +18,23 @@ use Rattle.cvr_facts.specs.Facts.{Header, Snapshot, text_cmp, fact_total, fact_e
 use Rattle.cvr_facts.specs.Choosing.{choice_cmp}
 use Rattle.cvr_facts.proofs.Lemmas.{tie_is, tie_itself, in_map, from_map, in_set, from_set, one_listed, Contains-filter_map, from-filter_map}
 use Rattle.cvr_facts.proofs.Laws.{text_total, text_exact, choice_total, choice_exact, bodies, contains_iff}
-use Rattle.cvr_collect.specs.declared.any_fact.AnyFact.{AnyFact}
-use Rattle.cvr_collect.specs.declared.any_fact.AnyFact.TheVariants as any
-use Rattle.cvr_collect.specs.declared.record_facts.IdFacts.{IdFacts}
-use Rattle.cvr_collect.specs.declared.record_facts.RecordFacts.{RecordFacts}
-use Rattle.cvr_collect.specs.Names.{record_of, records}
-use Rattle.cvr_collect.specs.Place.{fact_of, any_cmp}
-use Rattle.cvr_collect.specs.Plain.{set_of}
-use Rattle.cvr_collect.specs.Readers.{header_list, snapshot_list, IsHeaderOf, IsSnapshotOf, AreIdFacts, AreFactsOf}
-use Rattle.cvr_collect.specs.Runs.{is_of, run, headers, snapshots, AreSpelled}
-use Rattle.cvr_collect.specs.Groups.{under, IsFalling, AreGrouped}
-use Rattle.cvr_collect.proofs.InOrder.{ordered-members, from_ordered, in_ordered, rises-distinct, map-map}
-use Rattle.cvr_collect.proofs.OneRecord as one
-use Rattle.cvr_collect.proofs.RecordGroups.{ids_are, in_under, from_under, bodies_rise}
-use Rattle.cvr_collect.proofs.RecordMembers.{name_exact, same_name, own_name, from_filter, in_filter, header_held, held_header, from_headers, snapshot_held, held_snapshot, from_snapshots}
-use Rattle.cvr_collect.proofs.RecordNames.{header_under, snapshot_under}
-use Rattle.cvr_collect.proofs.Runs.{name_total}
-use Rattle.cvr_collect.proofs.ViewedLists.{map-reverse, sorted-map}
+use Rattle.cvr_office.specs.declared.any_fact.AnyFact.{AnyFact}
+use Rattle.cvr_office.specs.declared.any_fact.AnyFact.TheVariants as any
+use Rattle.cvr_office.specs.declared.record_facts.IdFacts.{IdFacts}
+use Rattle.cvr_office.specs.declared.record_facts.RecordFacts.{RecordFacts}
+use Rattle.cvr_office.specs.Names.{record_of, records}
+use Rattle.cvr_office.specs.Place.{fact_of, any_cmp}
+use Rattle.cvr_office.specs.Plain.{set_of}
+use Rattle.cvr_office.specs.Readers.{header_list, snapshot_list, IsHeaderOf, IsSnapshotOf, AreIdFacts, AreFactsOf}
+use Rattle.cvr_office.specs.Runs.{is_of, run, headers, snapshots, AreSpelled}
+use Rattle.cvr_office.specs.Groups.{under, IsFalling, AreGrouped}
+use Rattle.cvr_office.proofs.InOrder.{ordered-members, from_ordered, in_ordered, rises-distinct, map-map}
+use Rattle.cvr_office.proofs.OneRecord as one
+use Rattle.cvr_office.proofs.RecordGroups.{ids_are, in_under, from_under, bodies_rise}
+use Rattle.cvr_office.proofs.RecordMembers.{name_exact, same_name, own_name, from_filter, in_filter, header_held, held_header, from_headers, snapshot_held, held_snapshot, from_snapshots}
+use Rattle.cvr_office.proofs.RecordNames.{header_under, snapshot_under}
+use Rattle.cvr_office.proofs.Runs.{name_total}
+use Rattle.cvr_office.proofs.ViewedLists.{map-reverse, sorted-map}
 
 -- bodies that differ don't tie in the order of choosing
 untied : (x y : List ℕ) → eq_by_cmp text_cmp x y ≡ false → eq_by_cmp choice_cmp y x ≡ false

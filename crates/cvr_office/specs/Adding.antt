@@ -13,7 +13,7 @@ use Rattle.cvr_tally.specs.declared.key.RowKey.{RowKey}
 use Rattle.cvr_tally.specs.declared.row.Row.{Row}
 use Rattle.cvr_tally.specs.Keys.{is_key}
 use Rattle.cvr_tally.specs.Rows.{Rows, zero_row, row_plus, ballot_limit}
-use Rattle.cvr_collect.specs.Tallied.{is_headed, sums_of_body, sums_at, total_limit, IsBelow}
+use Rattle.cvr_office.specs.Tallied.{is_headed, sums_of_body, sums_at, total_limit, IsBelow}
 
 -- ---- sums
 

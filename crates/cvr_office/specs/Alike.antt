@@ -13,12 +13,12 @@ use Rattle.cvr_facts.specs.declared.snapshot.SnapshotFact.{SnapshotFact}
 use Rattle.cvr_facts.specs.Facts.{Facts}
 use Rattle.cvr_facts.specs.Choosing.{header, current}
 use Rattle.cvr_tally.specs.declared.key.RowKey.{RowKey}
-use Rattle.cvr_collect.specs.Names.{conflicts}
-use Rattle.cvr_collect.specs.Readers.{IsHeader, IsCurrent}
-use Rattle.cvr_collect.specs.Keeps.{starting, Keeps}
-use Rattle.cvr_collect.specs.Reach.{History, Start, File, reached, content}
-use Rattle.cvr_collect.specs.Outcomes.{AreOutcomes}
-use Rattle.cvr_collect.specs.Tallied.{row, rows, tally}
+use Rattle.cvr_office.specs.Names.{conflicts}
+use Rattle.cvr_office.specs.Readers.{IsHeader, IsCurrent}
+use Rattle.cvr_office.specs.Keeps.{starting, Keeps}
+use Rattle.cvr_office.specs.Reach.{History, Start, File, reached, content}
+use Rattle.cvr_office.specs.Outcomes.{AreOutcomes}
+use Rattle.cvr_office.specs.Tallied.{row, rows, tally}
 
 -- ---- what is answered
 

@@ -8,11 +8,11 @@ use Rattle.cdf_definition.specs.Frame.{Frame}
 use Rattle.cvr_facts.specs.declared.name.RecordName.{RecordName}
 use Rattle.cvr_facts.specs.Facts.{Facts}
 use Rattle.cvr_tally.specs.Rows.{Rows}
-use Rattle.cvr_collect.specs.declared.conflict.ConflictName.{ConflictName}
-use Rattle.cvr_collect.specs.Names.{records, count_under, conflicts}
-use Rattle.cvr_collect.specs.Readers.{growth}
-use Rattle.cvr_collect.specs.Keeps.{Keeps}
-use Rattle.cvr_collect.specs.Tallied.{sums_at, rows}
+use Rattle.cvr_office.specs.declared.conflict.ConflictName.{ConflictName}
+use Rattle.cvr_office.specs.Names.{records, count_under, conflicts}
+use Rattle.cvr_office.specs.Readers.{growth}
+use Rattle.cvr_office.specs.Keeps.{Keeps}
+use Rattle.cvr_office.specs.Tallied.{sums_at, rows}
 
 -- the facts of a set, and those by which it grows, are those of the union
 abbrev pub GrowthLaw : Type 0

@@ -5,15 +5,15 @@ use Rattle.cdf_parts.specs.Places.{Contest}
 use Rattle.cvr_facts.specs.declared.name.RecordName.{RecordName}
 use Rattle.cvr_facts.specs.Facts.{Fact, Device, Header, Snapshot}
 use Rattle.cvr_tally.specs.Examples.{ballot_box, dot}
-use Rattle.cvr_collect.specs.declared.conflict.ConflictName.TheVariants as name
-use Rattle.cvr_collect.specs.declared.conflict.Conflict.{Conflict}
-use Rattle.cvr_collect.specs.Names.{conflicts}
+use Rattle.cvr_office.specs.declared.conflict.ConflictName.TheVariants as name
+use Rattle.cvr_office.specs.declared.conflict.Conflict.{Conflict}
+use Rattle.cvr_office.specs.Names.{conflicts}
 use Rattle.cdf_definition.specs.Acceptance.{value_in}
-use Rattle.cvr_collect.specs.Tallied.{tally}
-use Rattle.cvr_collect.specs.declared.event.Event.TheVariants.{Import}
-use Rattle.cvr_collect.specs.declared.event.Outcome.TheVariants.{Accepted}
-use Rattle.cvr_collect.specs.Reach.{History}
-use Rattle.cvr_collect.specs.Alike.{HaveSameFiles}
+use Rattle.cvr_office.specs.Tallied.{tally}
+use Rattle.cvr_office.specs.declared.event.Event.TheVariants.{Import}
+use Rattle.cvr_office.specs.declared.event.Outcome.TheVariants.{Accepted}
+use Rattle.cvr_office.specs.Reach.{History}
+use Rattle.cvr_office.specs.Alike.{HaveSameFiles}
 
 -- ---- conflicts
 

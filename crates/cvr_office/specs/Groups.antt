@@ -8,10 +8,10 @@ use Rattle.std.specs.Option.{option_cmp}
 use Rattle.cvr_facts.specs.declared.snapshot.SnapshotFact.{SnapshotFact}
 use Rattle.cvr_facts.specs.Facts.{text_cmp}
 use Rattle.cvr_facts.specs.Choosing.{fact_choice}
-use Rattle.cvr_collect.specs.declared.any_fact.AnyFact.{AnyFact}
-use Rattle.cvr_collect.specs.declared.any_fact.AnyFact.TheVariants as any
-use Rattle.cvr_collect.specs.declared.record_facts.IdFacts.{IdFacts}
-use Rattle.cvr_collect.specs.Runs.{snapshots}
+use Rattle.cvr_office.specs.declared.any_fact.AnyFact.{AnyFact}
+use Rattle.cvr_office.specs.declared.any_fact.AnyFact.TheVariants as any
+use Rattle.cvr_office.specs.declared.record_facts.IdFacts.{IdFacts}
+use Rattle.cvr_office.specs.Runs.{snapshots}
 
 abbrev pub id_of : AnyFact → Option (List ℕ)
 id_of (any.Snapshot s) = Some s.id

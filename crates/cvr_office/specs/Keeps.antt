@@ -10,7 +10,7 @@ use Rattle.cdf_definition.specs.Acceptance.{Valid}
 use Rattle.cvr_facts.specs.Facts.{Fact, Device, Facts, texts}
 use Rattle.cvr_facts.specs.Reports.{facts}
 use Rattle.cvr_facts.specs.Stands.{Stands, IsOfWhole}
-use Rattle.cvr_collect.specs.Names.{device_in}
+use Rattle.cvr_office.specs.Names.{device_in}
 
 -- the content of a new office: the devices of its definition
 abbrev pub starting : Frame → Facts

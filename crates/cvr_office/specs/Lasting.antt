@@ -5,10 +5,10 @@ use Rattle.std.specs.FinSet.{contains}
 use Rattle.cdf_definition.specs.Frame.{Frame}
 use Rattle.cvr_facts.specs.Facts.{Fact, Facts}
 use Rattle.cvr_facts.specs.Reports.{facts}
-use Rattle.cvr_collect.specs.declared.event.Event.TheVariants.{Import, Exchange}
-use Rattle.cvr_collect.specs.declared.event.Outcome.TheVariants.{Accepted}
-use Rattle.cvr_collect.specs.Reach.{History, content}
-use Rattle.cvr_collect.specs.Alike.{ArePlayed}
+use Rattle.cvr_office.specs.declared.event.Event.TheVariants.{Import, Exchange}
+use Rattle.cvr_office.specs.declared.event.Outcome.TheVariants.{Accepted}
+use Rattle.cvr_office.specs.Reach.{History, content}
+use Rattle.cvr_office.specs.Alike.{ArePlayed}
 
 -- what an office held after some events it holds after all further ones
 abbrev pub HeldLastsLaw : Type 0

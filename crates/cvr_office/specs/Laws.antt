@@ -11,11 +11,11 @@ use Rattle.cdf_definition.specs.Sound.{IsFrame}
 use Rattle.cdf_definition.specs.Acceptance.{Valid}
 use Rattle.cvr_facts.specs.Facts.{Fact, Facts}
 use Rattle.cvr_facts.specs.Reports.{facts}
-use Rattle.cvr_collect.specs.Readers.{next}
-use Rattle.cvr_collect.specs.Keeps.{Keeps, starting}
+use Rattle.cvr_office.specs.Readers.{next}
+use Rattle.cvr_office.specs.Keeps.{Keeps, starting}
 use Rattle.cvr_tally.specs.declared.key.RowKey.{RowKey}
 use Rattle.cvr_tally.specs.declared.row.Row.{Row}
-use Rattle.cvr_collect.specs.Tallied.{row, rows}
+use Rattle.cvr_office.specs.Tallied.{row, rows}
 
 -- ---- what offices keep
 

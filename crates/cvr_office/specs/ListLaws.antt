@@ -16,18 +16,18 @@ use Rattle.cvr_facts.specs.Facts.{Fact, Device, name_cmp}
 use Rattle.cvr_facts.specs.Lists.{facts_in}
 use Rattle.cvr_facts.specs.Stands as stands
 use Rattle.cvr_facts.specs.Stands.{IsSpelledHeader}
-use Rattle.cvr_collect.specs.declared.any_fact.AnyFact.{AnyFact}
-use Rattle.cvr_collect.specs.declared.any_fact.AnyFact.TheVariants as any
-use Rattle.cvr_collect.specs.declared.conflict.ConflictName.{ConflictName}
-use Rattle.cvr_collect.specs.declared.record_facts.RecordFacts.{RecordFacts}
-use Rattle.cvr_collect.specs.Names.{name_of, is_named, record_of, records, conflicts, greatest_count}
-use Rattle.cvr_collect.specs.Keeps.{starting}
-use Rattle.cvr_collect.specs.Place.{fact_of, any_cmp}
-use Rattle.cvr_collect.specs.Plain.{set_of, all_of, IsSpelled, IsPlain, IsPut}
-use Rattle.cvr_collect.specs.Readers.{growth, IsHeader, IsCurrent, AreFactsOf}
-use Rattle.cvr_collect.specs.Runs.{run, headers, snapshots, IsChosen, AreSpelled}
-use Rattle.cvr_collect.specs.Groups.{RisesById, AreGrouped}
-use Rattle.cvr_collect.specs.NameRuns.{counted_runs, of_several, most_of}
+use Rattle.cvr_office.specs.declared.any_fact.AnyFact.{AnyFact}
+use Rattle.cvr_office.specs.declared.any_fact.AnyFact.TheVariants as any
+use Rattle.cvr_office.specs.declared.conflict.ConflictName.{ConflictName}
+use Rattle.cvr_office.specs.declared.record_facts.RecordFacts.{RecordFacts}
+use Rattle.cvr_office.specs.Names.{name_of, is_named, record_of, records, conflicts, greatest_count}
+use Rattle.cvr_office.specs.Keeps.{starting}
+use Rattle.cvr_office.specs.Place.{fact_of, any_cmp}
+use Rattle.cvr_office.specs.Plain.{set_of, all_of, IsSpelled, IsPlain, IsPut}
+use Rattle.cvr_office.specs.Readers.{growth, IsHeader, IsCurrent, AreFactsOf}
+use Rattle.cvr_office.specs.Runs.{run, headers, snapshots, IsChosen, AreSpelled}
+use Rattle.cvr_office.specs.Groups.{RisesById, AreGrouped}
+use Rattle.cvr_office.specs.NameRuns.{counted_runs, of_several, most_of}
 
 -- ---- what is put in
 

@@ -1,11 +1,11 @@
 -- The runs of facts under one name in a list in order. (This project's own.)
 use Rattle.std.specs.Prelude.{ℕ, suc, List, [], ◌∷◌, map, nat_le, if◌then◌else◌}
 use Rattle.std.specs.List.{filter}
-use Rattle.cvr_collect.specs.declared.any_fact.AnyFact.{AnyFact}
-use Rattle.cvr_collect.specs.declared.conflict.Conflict.{Conflict}
-use Rattle.cvr_collect.specs.declared.conflict.ConflictName.{ConflictName}
-use Rattle.cvr_collect.specs.Names.{most}
-use Rattle.cvr_collect.specs.AnyNames.{any_name, has_name}
+use Rattle.cvr_office.specs.declared.any_fact.AnyFact.{AnyFact}
+use Rattle.cvr_office.specs.declared.conflict.Conflict.{Conflict}
+use Rattle.cvr_office.specs.declared.conflict.ConflictName.{ConflictName}
+use Rattle.cvr_office.specs.Names.{most}
+use Rattle.cvr_office.specs.AnyNames.{any_name, has_name}
 
 -- the runs of a list that goes on after `bodies` facts of the name `n`
 abbrev pub runs_from : ConflictName → ℕ → List AnyFact → List Conflict

@@ -10,9 +10,9 @@ use Rattle.cvr_facts.specs.Facts.{Fact, Facts, text_cmp, name_cmp}
 use Rattle.cvr_facts.specs.Facts.{Device, Header, Snapshot}
 use Rattle.cvr_facts.specs.Ordered.{ordered}
 use Rattle.cvr_facts.specs.Choosing.{is_name}
-use Rattle.cvr_collect.specs.declared.conflict.ConflictName.{ConflictName}
-use Rattle.cvr_collect.specs.declared.conflict.ConflictName.TheVariants as name
-use Rattle.cvr_collect.specs.declared.conflict.Conflict.{Conflict}
+use Rattle.cvr_office.specs.declared.conflict.ConflictName.{ConflictName}
+use Rattle.cvr_office.specs.declared.conflict.ConflictName.TheVariants as name
+use Rattle.cvr_office.specs.declared.conflict.Conflict.{Conflict}
 
 -- ---- names
 

@@ -7,14 +7,14 @@ use Rattle.cdf_definition.specs.Frame.{Frame, IsSame}
 use Rattle.cdf_definition.specs.Acceptance.{first_refusal}
 use Rattle.cvr_facts.specs.Facts.{Facts}
 use Rattle.cvr_facts.specs.Reports.{facts}
-use Rattle.cvr_collect.specs.declared.event.Event.{Event}
-use Rattle.cvr_collect.specs.declared.event.Event.TheVariants.{Import, Exchange}
-use Rattle.cvr_collect.specs.declared.event.Outcome.{Outcome}
-use Rattle.cvr_collect.specs.declared.event.Outcome.TheVariants.{Accepted, Refused}
-use Rattle.cvr_collect.specs.declared.event.Cause.TheVariants.{NoOffice, NoFile, Read, Join}
-use Rattle.cvr_collect.specs.declared.fault.JoinFault.TheVariants as join
-use Rattle.cvr_collect.specs.Readers.{growth}
-use Rattle.cvr_collect.specs.Reach.{History, content}
+use Rattle.cvr_office.specs.declared.event.Event.{Event}
+use Rattle.cvr_office.specs.declared.event.Event.TheVariants.{Import, Exchange}
+use Rattle.cvr_office.specs.declared.event.Outcome.{Outcome}
+use Rattle.cvr_office.specs.declared.event.Outcome.TheVariants.{Accepted, Refused}
+use Rattle.cvr_office.specs.declared.event.Cause.TheVariants.{NoOffice, NoFile, Read, Join}
+use Rattle.cvr_office.specs.declared.fault.JoinFault.TheVariants as join
+use Rattle.cvr_office.specs.Readers.{growth}
+use Rattle.cvr_office.specs.Reach.{History, content}
 
 -- a definition that no place has
 abbrev pub no_frame : Frame

@@ -5,9 +5,9 @@ use Rattle.cvr_facts.specs.Facts.{Fact, Device, Header, Snapshot, Facts}
 use Rattle.cvr_tally.specs.Examples.{ballot_box, dot}
 use Rattle.cvr_tally.specs.declared.key.RowKey.{RowKey}
 use Rattle.cvr_tally.specs.declared.row.Row.{Row}
-use Rattle.cvr_collect.specs.Tallied.{row}
-use Rattle.cvr_collect.specs.Examples.{contests, position, selection, choice, contest, snapshot, header, adjudicated, other_adjudicated, scan_for_ann}
-use Rattle.cvr_collect.specs.Parts.{option_sum}
+use Rattle.cvr_office.specs.Tallied.{row}
+use Rattle.cvr_office.specs.Examples.{contests, position, selection, choice, contest, snapshot, header, adjudicated, other_adjudicated, scan_for_ann}
+use Rattle.cvr_office.specs.Parts.{option_sum}
 
 -- ---- facts
 

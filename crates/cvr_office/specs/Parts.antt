@@ -9,9 +9,9 @@ use Rattle.cvr_facts.specs.Facts.{Facts, name_cmp}
 use Rattle.cvr_facts.specs.Choosing.{header, current}
 use Rattle.cvr_tally.specs.declared.key.RowKey.{RowKey}
 use Rattle.cvr_tally.specs.declared.row.Row.{Row}
-use Rattle.cvr_collect.specs.Names.{records}
-use Rattle.cvr_collect.specs.Reach.{union_over}
-use Rattle.cvr_collect.specs.Tallied.{row}
+use Rattle.cvr_office.specs.Names.{records}
+use Rattle.cvr_office.specs.Reach.{union_over}
+use Rattle.cvr_office.specs.Tallied.{row}
 
 -- ---- parts
 

@@ -13,10 +13,10 @@ use Rattle.cvr_facts.specs.Facts.{Facts, fact_cmp, coded_facts}
 use Rattle.cvr_facts.specs.Lists.{facts_in}
 use Rattle.cvr_facts.specs.Reports.{facts}
 use Rattle.cvr_facts.specs.Stands.{IsSpelledHeader, IsSpelledSnapshot, AreSpelled}
-use Rattle.cvr_collect.specs.declared.any_fact.AnyFact.{AnyFact}
-use Rattle.cvr_collect.specs.declared.any_fact.AnyFact.TheVariants as any
-use Rattle.cvr_collect.specs.Place.{fact_of, any_cmp}
-use Rattle.cvr_collect.specs.Keeps.{Keeps}
+use Rattle.cvr_office.specs.declared.any_fact.AnyFact.{AnyFact}
+use Rattle.cvr_office.specs.declared.any_fact.AnyFact.TheVariants as any
+use Rattle.cvr_office.specs.Place.{fact_of, any_cmp}
+use Rattle.cvr_office.specs.Keeps.{Keeps}
 
 -- the set of them
 abbrev pub set_of : List AnyFact → Facts

@@ -12,10 +12,10 @@ use Rattle.cvr_facts.specs.Facts.{Facts}
 use Rattle.cvr_facts.specs.Ordered.{ordered}
 use Rattle.cvr_facts.specs.Choosing.{choice_cmp, header, current}
 use Rattle.cvr_facts.specs.Stands.{IsSpelledHeader, IsSpelledSnapshot}
-use Rattle.cvr_collect.specs.declared.conflict.ConflictName.TheVariants as name
-use Rattle.cvr_collect.specs.declared.record_facts.IdFacts.{IdFacts}
-use Rattle.cvr_collect.specs.declared.record_facts.RecordFacts.{RecordFacts}
-use Rattle.cvr_collect.specs.Names.{is_named, body_of, bodies_under, records, snapshot_ids}
+use Rattle.cvr_office.specs.declared.conflict.ConflictName.TheVariants as name
+use Rattle.cvr_office.specs.declared.record_facts.IdFacts.{IdFacts}
+use Rattle.cvr_office.specs.declared.record_facts.RecordFacts.{RecordFacts}
+use Rattle.cvr_office.specs.Names.{is_named, body_of, bodies_under, records, snapshot_ids}
 
 -- the first above a given one, or the first of all
 abbrev pub next : {K : Type 0} → (K → K → Ordering) → List K → Option K → Option K

@@ -11,11 +11,11 @@ use Rattle.cvr_facts.specs.declared.header.HeaderFact.{HeaderFact}
 use Rattle.cvr_facts.specs.declared.snapshot.SnapshotFact.{SnapshotFact}
 use Rattle.cvr_facts.specs.Facts.{name_cmp}
 use Rattle.cvr_facts.specs.Choosing.{fact_choice, IsGreatest}
-use Rattle.cvr_collect.specs.declared.any_fact.AnyFact.{AnyFact}
-use Rattle.cvr_collect.specs.declared.any_fact.AnyFact.TheVariants as any
-use Rattle.cvr_collect.specs.Names.{record_of}
-use Rattle.cvr_collect.specs.Place.{fact_of}
-use Rattle.cvr_collect.specs.Plain.{IsSpelled}
+use Rattle.cvr_office.specs.declared.any_fact.AnyFact.{AnyFact}
+use Rattle.cvr_office.specs.declared.any_fact.AnyFact.TheVariants as any
+use Rattle.cvr_office.specs.Names.{record_of}
+use Rattle.cvr_office.specs.Place.{fact_of}
+use Rattle.cvr_office.specs.Plain.{IsSpelled}
 
 -- how a fact's record stands to this one, where a device stands before all records
 abbrev pub record_order : RecordName → AnyFact → Ordering

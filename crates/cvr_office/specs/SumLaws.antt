@@ -8,9 +8,9 @@ use Rattle.cvr_facts.specs.declared.sums.VoteSums.{VoteSums}
 use Rattle.cvr_facts.specs.Facts.{Facts, Snapshot}
 use Rattle.cvr_facts.specs.Choosing.{header, current}
 use Rattle.cvr_tally.specs.declared.key.RowKey.{RowKey}
-use Rattle.cvr_collect.specs.Keeps.{Keeps}
-use Rattle.cvr_collect.specs.Tallied.{unit_of, batch_of, sums_of_body, sums_at, row_over}
-use Rattle.cvr_collect.specs.Adding.{IsSums, AreSums, CurrentsAreSums, added, sums_for, row_with}
+use Rattle.cvr_office.specs.Keeps.{Keeps}
+use Rattle.cvr_office.specs.Tallied.{unit_of, batch_of, sums_of_body, sums_at, row_over}
+use Rattle.cvr_office.specs.Adding.{IsSums, AreSums, CurrentsAreSums, added, sums_for, row_with}
 
 -- ---- sums
 

@@ -17,7 +17,7 @@ use Rattle.cvr_tally.specs.declared.row.Row.{Row}
 use Rattle.cvr_tally.specs.Keys.{part_cmp}
 use Rattle.cvr_tally.specs.Rows.{Rows}
 use Rattle.cvr_tally.specs.Text.{tally_text}
-use Rattle.cvr_collect.specs.Names.{records}
+use Rattle.cvr_office.specs.Names.{records}
 
 -- ---- what bodies spell
 

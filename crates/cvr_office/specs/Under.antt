@@ -8,8 +8,8 @@ use Rattle.cdf_parts.specs.Places.{Texts}
 use Rattle.cdf_check.specs.Wider.{Includes}
 use Rattle.cvr_facts.specs.declared.name.RecordName.{RecordName}
 use Rattle.cvr_facts.specs.Facts.{Device, Header, Snapshot, Facts, name_cmp}
-use Rattle.cvr_collect.specs.declared.conflict.ConflictName.TheVariants as name
-use Rattle.cvr_collect.specs.Names.{is_named, body_of, id_in, device_in, conflict_cmp}
+use Rattle.cvr_office.specs.declared.conflict.ConflictName.TheVariants as name
+use Rattle.cvr_office.specs.Names.{is_named, body_of, id_in, device_in, conflict_cmp}
 
 -- ---- records
 

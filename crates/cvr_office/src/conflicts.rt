@@ -1,10 +1,10 @@
 ghost use Rattle.std.specs.Prelude.{◌≡◌, ◌≤◌, IfOk, length};
 ghost use Rattle.std.specs.List.{prefix_len};
 ghost use Rattle.std.specs.List.Sorted.{IsStrictlySortedBy};
-ghost use Rattle.cvr_collect.specs.Names.{conflicts, greatest_count};
-ghost use Rattle.cvr_collect.specs.AnyNames.{any_name, has_name};
-ghost use Rattle.cvr_collect.specs.Place.{any_cmp};
-ghost use Rattle.cvr_collect.specs.Plain.{set_of};
+ghost use Rattle.cvr_office.specs.Names.{conflicts, greatest_count};
+ghost use Rattle.cvr_office.specs.AnyNames.{any_name, has_name};
+ghost use Rattle.cvr_office.specs.Place.{any_cmp};
+ghost use Rattle.cvr_office.specs.Plain.{set_of};
 
 use crate::any_fact::AnyFact;
 use crate::conflict::{Conflict, ConflictList, ConflictName};

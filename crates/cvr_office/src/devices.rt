@@ -3,11 +3,11 @@ ghost use Rattle.std.specs.Option.{option_cmp, option_map_or};
 ghost use Rattle.std.specs.Ordering.{is_lt, is_le};
 ghost use Rattle.std.specs.List.Sorted.{IsStrictlySortedBy};
 ghost use Rattle.cvr_facts.specs.Facts.{text_cmp};
-ghost use Rattle.cvr_collect.specs.Names.{body_of, bodies_under, count_under, device_in, devices};
-ghost use Rattle.cvr_collect.specs.declared.conflict.ConflictName.TheVariants as name;
-ghost use Rattle.cvr_collect.specs.Readers.{next, numbered, device_list};
-ghost use Rattle.cvr_collect.specs.Place.{fact_of, any_cmp};
-ghost use Rattle.cvr_collect.specs.Plain.{set_of};
+ghost use Rattle.cvr_office.specs.Names.{body_of, bodies_under, count_under, device_in, devices};
+ghost use Rattle.cvr_office.specs.declared.conflict.ConflictName.TheVariants as name;
+ghost use Rattle.cvr_office.specs.Readers.{next, numbered, device_list};
+ghost use Rattle.cvr_office.specs.Place.{fact_of, any_cmp};
+ghost use Rattle.cvr_office.specs.Plain.{set_of};
 
 use crate::any_fact::AnyFact;
 use cdf_types::Body;

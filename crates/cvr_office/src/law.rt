@@ -1,16 +1,16 @@
 //! Laws of offices: what they keep, how files reach them, and which hold and answer the same.
-ghost use Rattle.cvr_collect.specs.Reach.{ReachLaw};
+ghost use Rattle.cvr_office.specs.Reach.{ReachLaw};
 ghost use Rattle.cvr_facts.specs.Facts.{text_cmp, name_cmp};
-ghost use Rattle.cvr_collect.specs.Under.{HeaderUnderLaw, SnapshotUnderLaw, IdUnderLaw, KnownDeviceLaw, DeviceKnownLaw, IncludesLaw};
-ghost use Rattle.cvr_collect.specs.Under.{RecordsInOrder, RecordsAreExact, NamesInOrder, NamesAreExact};
-ghost use Rattle.cvr_collect.specs.Own.{OwnAgreesLaw, SameAgreesLaw, EntryLaw};
-ghost use Rattle.cvr_collect.specs.Names.{record_of, records, device_in, devices};
-ghost use Rattle.cvr_collect.specs.Laws.{StartLaw, ImportLaw, JoinLaw, ListedLaw, NextLaw, NoNextLaw, RowsLaw, BallotsLaw};
-ghost use Rattle.cvr_collect.specs.Alike.{SameFilesLaw, SameContentLaw, SameDefinitionLaw, SamePlacesLaw, SameStartLaw, NoEventLaw, AnswerAlikeLaw, SameOfficesLaw, NewOfficeLaw};
-ghost use Rattle.cvr_collect.specs.Lasting.{HeldLastsLaw, ImportLastsLaw, ExchangeLastsLaw, PlayedLastsLaw};
-ghost use Rattle.cvr_collect.specs.Counting.{GrowthLaw, ConflictsLaw, AddUpLaw};
-ghost use Rattle.cvr_collect.specs.Parts.{RowsOfPartsLaw, CurrentsOfPartsLaw, HeadersOfPartsLaw, RecordsOfPartsLaw, RecordsRiseLaw};
-ghost use Rattle.cvr_collect.specs.Parts.{RowsOfManyLaw, CurrentsOfManyLaw, HeadersOfManyLaw, RecordsOfManyLaw};
+ghost use Rattle.cvr_office.specs.Under.{HeaderUnderLaw, SnapshotUnderLaw, IdUnderLaw, KnownDeviceLaw, DeviceKnownLaw, IncludesLaw};
+ghost use Rattle.cvr_office.specs.Under.{RecordsInOrder, RecordsAreExact, NamesInOrder, NamesAreExact};
+ghost use Rattle.cvr_office.specs.Own.{OwnAgreesLaw, SameAgreesLaw, EntryLaw};
+ghost use Rattle.cvr_office.specs.Names.{record_of, records, device_in, devices};
+ghost use Rattle.cvr_office.specs.Laws.{StartLaw, ImportLaw, JoinLaw, ListedLaw, NextLaw, NoNextLaw, RowsLaw, BallotsLaw};
+ghost use Rattle.cvr_office.specs.Alike.{SameFilesLaw, SameContentLaw, SameDefinitionLaw, SamePlacesLaw, SameStartLaw, NoEventLaw, AnswerAlikeLaw, SameOfficesLaw, NewOfficeLaw};
+ghost use Rattle.cvr_office.specs.Lasting.{HeldLastsLaw, ImportLastsLaw, ExchangeLastsLaw, PlayedLastsLaw};
+ghost use Rattle.cvr_office.specs.Counting.{GrowthLaw, ConflictsLaw, AddUpLaw};
+ghost use Rattle.cvr_office.specs.Parts.{RowsOfPartsLaw, CurrentsOfPartsLaw, HeadersOfPartsLaw, RecordsOfPartsLaw, RecordsRiseLaw};
+ghost use Rattle.cvr_office.specs.Parts.{RowsOfManyLaw, CurrentsOfManyLaw, HeadersOfManyLaw, RecordsOfManyLaw};
 
 use crate::office::Office;
 

@@ -1,4 +1,4 @@
-//! Offices that collect cast vote records, and the events by which records come to them.
+//! What an office is that collects cast vote records, and the events by which records come to it.
 #![tactic(auto)]
 
 pub mod any_fact;
@@ -10,22 +10,18 @@ pub mod examples;
 mod fault;
 pub mod law;
 pub mod list_law;
-mod names;
 mod office;
-pub mod one_record;
-mod plain;
 mod playing;
 pub mod putting;
 pub mod reading;
 mod record_facts;
 pub mod record_lists;
-mod tallying;
+pub mod records;
 
 pub use conflict::{Conflict, ConflictList, ConflictName};
 pub use event::{Cause, Event, Outcome};
 pub use fault::JoinFault;
 pub use office::{Office, Receipt};
-pub use plain::PlainOffice;
 pub use playing::play;
 pub use reading::read_facts;
 pub use record_facts::{IdFacts, RecordFacts};

@@ -10,12 +10,12 @@ ghost use Rattle.cdf_definition.specs.Acceptance.{Valid, first_refusal, value_in
 ghost use Rattle.cvr_facts.specs.Facts.{Facts, text_cmp, name_cmp};
 ghost use Rattle.cvr_facts.specs.Reports.{facts};
 ghost use Rattle.cvr_tally.specs.declared.key.RowKey.{RowKey};
-ghost use Rattle.cvr_collect.specs.Names.{records, devices, count_under, conflicts, greatest_count};
-ghost use Rattle.cvr_collect.specs.declared.conflict.ConflictName.TheVariants as name;
-ghost use Rattle.cvr_collect.specs.declared.fault.JoinFault.TheVariants as join_fault;
-ghost use Rattle.cvr_collect.specs.Keeps.{starting, Keeps};
-ghost use Rattle.cvr_collect.specs.Readers.{next, numbered, growth, device_list, IsHeader, IsCurrent, AreRecordFacts};
-ghost use Rattle.cvr_collect.specs.Tallied.{row, rows, tally, total_limit, IsBelow};
+ghost use Rattle.cvr_office.specs.Names.{records, devices, count_under, conflicts, greatest_count};
+ghost use Rattle.cvr_office.specs.declared.conflict.ConflictName.TheVariants as name;
+ghost use Rattle.cvr_office.specs.declared.fault.JoinFault.TheVariants as join_fault;
+ghost use Rattle.cvr_office.specs.Keeps.{starting, Keeps};
+ghost use Rattle.cvr_office.specs.Readers.{next, numbered, growth, device_list, IsHeader, IsCurrent, AreRecordFacts};
+ghost use Rattle.cvr_office.specs.Tallied.{row, rows, tally, total_limit, IsBelow};
 
 use crate::conflict::ConflictList;
 use crate::fault::JoinFault;

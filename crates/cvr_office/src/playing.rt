@@ -4,11 +4,11 @@ ghost use Rattle.cdf_types.specs.declared.fault.ReadFault.TheVariants as read;
 ghost use Rattle.cdf_definition.specs.Frame.{IsSame};
 ghost use Rattle.cdf_definition.specs.Acceptance.{first_refusal};
 ghost use Rattle.cvr_facts.specs.Reports.{facts};
-ghost use Rattle.cvr_collect.specs.declared.fault.JoinFault.TheVariants as join_fault;
-ghost use Rattle.cvr_collect.specs.Readers.{growth};
-ghost use Rattle.cvr_collect.specs.Reach.{content, history};
-ghost use Rattle.cvr_collect.specs.Alike.{AreNewOfOne, AreAlikeByFiles};
-ghost use Rattle.cvr_collect.specs.Outcomes.{IsOutcome, IsImportOutcome, IsExchangeOutcome, AreOutcomes, contents_after, held_after, due};
+ghost use Rattle.cvr_office.specs.declared.fault.JoinFault.TheVariants as join_fault;
+ghost use Rattle.cvr_office.specs.Readers.{growth};
+ghost use Rattle.cvr_office.specs.Reach.{content, history};
+ghost use Rattle.cvr_office.specs.Alike.{AreNewOfOne, AreAlikeByFiles};
+ghost use Rattle.cvr_office.specs.Outcomes.{IsOutcome, IsImportOutcome, IsExchangeOutcome, AreOutcomes, contents_after, held_after, due};
 
 use crate::event::{Cause, Event, Outcome};
 use crate::office::Office;

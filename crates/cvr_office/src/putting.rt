@@ -1,10 +1,10 @@
 ghost use Rattle.std.specs.Prelude.{◌≡◌, ◌++◌, map, IfOk, OnOk, OnErr};
 ghost use Rattle.std.specs.List.Sorted.{IsStrictlySortedBy};
 ghost use Rattle.cvr_facts.specs.Facts.{Device};
-ghost use Rattle.cvr_collect.specs.Readers.{growth};
-ghost use Rattle.cvr_collect.specs.declared.any_fact.AnyFact.TheVariants as any;
-ghost use Rattle.cvr_collect.specs.Place.{fact_of, any_cmp};
-ghost use Rattle.cvr_collect.specs.Plain.{set_of, all_of, IsPut};
+ghost use Rattle.cvr_office.specs.Readers.{growth};
+ghost use Rattle.cvr_office.specs.declared.any_fact.AnyFact.TheVariants as any;
+ghost use Rattle.cvr_office.specs.Place.{fact_of, any_cmp};
+ghost use Rattle.cvr_office.specs.Plain.{set_of, all_of, IsPut};
 
 use crate::any_fact::AnyFact;
 use cdf_check::Definition;
@@ -62,7 +62,7 @@ pub fn own_devices(alloc: Global, definition: &Definition) -> Result<Vec<AnyFact
 }
 
 // The facts of all kinds in one list.
-pub(crate) fn in_one(alloc: Global, list: FactList) -> Result<Vec<AnyFact>, Memory>
+pub fn in_one(alloc: Global, list: FactList) -> Result<Vec<AnyFact>, Memory>
     ensures { IfOk result (λ facts. facts.items ≡ all_of list) }
 {
     let mut facts = of_devices(alloc, list.devices)?;

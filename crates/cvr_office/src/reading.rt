@@ -6,7 +6,7 @@ ghost use Rattle.cdf_definition.specs.Acceptance.{Valid, first_refusal, value_in
 ghost use Rattle.cvr_facts.specs.Lists.{facts_in, Rises};
 ghost use Rattle.cvr_facts.specs.Reports.{facts};
 ghost use Rattle.cvr_facts.specs.Stands.{AreSpelled};
-ghost use Rattle.cvr_collect.specs.FileFacts.{FactsStandLaw, RecordsWholeLaw};
+ghost use Rattle.cvr_office.specs.FileFacts.{FactsStandLaw, RecordsWholeLaw};
 
 use cdf_check::{Definition, check_file};
 use cdf_types::ReadFault;

@@ -3,22 +3,22 @@ ghost use Rattle.std.specs.List.{dedup};
 ghost use Rattle.cdf_parts.specs.Places.{Contest};
 ghost use Rattle.std.specs.List.Sorted.{IsStrictlySortedBy};
 ghost use Rattle.std.specs.Prelude.{bytes_eq};
-ghost use Rattle.cvr_collect.specs.Place.{any_cmp};
-ghost use Rattle.cvr_collect.specs.Plain.{set_of};
-ghost use Rattle.cvr_collect.specs.Readers.{AreRecordFacts};
-ghost use Rattle.cvr_collect.specs.Runs.{headers, snapshots, AreSpelled};
-ghost use Rattle.cvr_collect.specs.Groups.{id_order, under, ids, RisesById, IsFalling, AreGrouped};
+ghost use Rattle.cvr_office.specs.Place.{any_cmp};
+ghost use Rattle.cvr_office.specs.Plain.{set_of};
+ghost use Rattle.cvr_office.specs.Readers.{AreRecordFacts};
+ghost use Rattle.cvr_office.specs.Runs.{headers, snapshots, AreSpelled};
+ghost use Rattle.cvr_office.specs.Groups.{id_order, under, ids, RisesById, IsFalling, AreGrouped};
 
 use crate::any_fact::AnyFact;
-use crate::one_record::run_of;
 use crate::record_facts::{IdFacts, RecordFacts};
+use crate::records::run_of;
 use cdf_types::Memory;
 use cvr_facts::{HeaderFact, RecordName, SnapshotFact, choice_cmp};
 use std::alloc::Global;
 use std::cmp::Ordering;
 
 // All facts of a record, where there are any.
-pub(crate) fn record_facts_in<'a>(
+pub fn record_facts_in<'a>(
     alloc: Global,
     facts: &'a [AnyFact],
     key: &RecordName,

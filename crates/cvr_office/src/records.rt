@@ -1,23 +1,64 @@
-ghost use Rattle.std.specs.Prelude.{◌≡◌, List, OnOk, IfOk, take, drop, option_map, None, false, not};
+ghost use Rattle.std.specs.Prelude.{◌≡◌, List, OnOk, IfOk, take, drop, option_map, None, false, not, length};
 ghost use Rattle.cdf_parts.specs.Places.{Contest};
 ghost use Rattle.std.specs.List.{last_or, filter, Contains};
 ghost use Rattle.std.specs.List.Sorted.{IsStrictlySortedBy};
 ghost use Rattle.std.specs.Ordering.{is_lt};
+ghost use Rattle.cvr_facts.specs.Facts.{name_cmp};
 ghost use Rattle.cvr_facts.specs.Stands.{IsSpelledHeader};
-ghost use Rattle.cvr_collect.specs.declared.any_fact.AnyFact.{AnyFact};
-ghost use Rattle.cvr_collect.specs.declared.any_fact.AnyFact.TheVariants as any;
-ghost use Rattle.cvr_collect.specs.Place.{any_cmp};
-ghost use Rattle.cvr_collect.specs.Plain.{set_of};
-ghost use Rattle.cvr_collect.specs.Readers.{IsHeader, IsCurrent};
-ghost use Rattle.cvr_collect.specs.Runs.{record_order, is_of, first_record, run, headers, snapshots, chosen, IsChosen, AreSpelled};
+ghost use Rattle.cvr_office.specs.declared.any_fact.AnyFact.{AnyFact};
+ghost use Rattle.cvr_office.specs.declared.any_fact.AnyFact.TheVariants as any;
+ghost use Rattle.cvr_office.specs.Names.{record_of, records};
+ghost use Rattle.cvr_office.specs.Place.{fact_of, any_cmp};
+ghost use Rattle.cvr_office.specs.Plain.{set_of};
+ghost use Rattle.cvr_office.specs.Readers.{next, IsHeader, IsCurrent};
+ghost use Rattle.cvr_office.specs.Runs.{record_order, is_of, first_record, run, headers, snapshots, chosen, IsChosen, AreSpelled};
 
 use crate::any_fact::AnyFact;
-use crate::names::record_name;
 use cdf_types::Memory;
 use cvr_facts::{HeaderFact, RecordName, SnapshotFact, choice_cmp};
 use std::alloc::Global;
 use std::cmp::Ordering;
 use std::collections::VecDeque;
+
+// The least record name above the given one, or the least of all. Takes no memory.
+pub fn next_record_in<'a>(
+    facts: &'a [AnyFact],
+    after: Option<&RecordName>,
+) -> Option<&'a RecordName>
+    requires { IsStrictlySortedBy any_cmp facts.now }
+    ensures { option_map (λ k. k.now) result ≡ next name_cmp (records (set_of facts.now)) (option_map (λ k. k.now) after.entry) }
+{
+    let place = facts.partition_point(|fact| record_name(fact) <= after);
+    record_name(facts.get(place)?)
+}
+
+// How many records there are. Takes no memory.
+pub fn record_count_in(facts: &[AnyFact]) -> usize
+    requires { IsStrictlySortedBy any_cmp facts.now }
+    ensures { result ≡ length (records (set_of facts.now)) }
+{
+    let mut count = 0;
+    let mut last = None;
+    for fact in facts {
+        let name = record_name(fact);
+        if name > last {
+            count += 1;
+            last = name;
+        }
+    }
+    count
+}
+
+// The record that a fact is of, if it is of one.
+fn record_name(fact: &AnyFact) -> Option<&RecordName>
+    ensures { option_map (λ k. k.now) result ≡ record_of (fact_of fact.now) }
+{
+    match fact {
+        AnyFact::Device(_) => None,
+        AnyFact::Header(header) => Some(&header.key),
+        AnyFact::Snapshot(snapshot) => Some(&snapshot.key),
+    }
+}
 
 // How a fact's record stands to this one; a device stands before all records.
 fn record_order(fact: &AnyFact, key: &RecordName) -> Ordering
@@ -82,7 +123,7 @@ fn take_front(
 }
 
 // The header of a record: the last of its run.
-pub(crate) fn header_in<'a>(facts: &'a [AnyFact], key: &RecordName) -> Option<&'a HeaderFact>
+pub fn header_in<'a>(facts: &'a [AnyFact], key: &RecordName) -> Option<&'a HeaderFact>
     requires rises { IsStrictlySortedBy any_cmp facts.now }
     requires spelled { (h : HeaderFact) → Contains facts.now (any.Header h) → IsSpelledHeader h }
     ensures { IsHeader (set_of facts.now) key.now (option_map (λ h. h.now) result) }
@@ -103,7 +144,7 @@ fn last_header(run: &[AnyFact]) -> Option<&HeaderFact>
 }
 
 // The current snapshot of a record: the greatest of its run by the order of choosing.
-pub(crate) fn current_in<'a>(facts: &'a [AnyFact], key: &RecordName) -> Option<&'a SnapshotFact>
+pub fn current_in<'a>(facts: &'a [AnyFact], key: &RecordName) -> Option<&'a SnapshotFact>
     requires { IsStrictlySortedBy any_cmp facts.now }
     ensures { (contests : List Contest) → AreSpelled contests facts.now → IsCurrent contests (set_of facts.now) key.now (option_map (λ s. s.now) result) }
 {

@@ -16,15 +16,12 @@ use Rattle.cvr_facts.specs.declared.sums.VoteSums.{VoteSums}
 use Rattle.cvr_facts.specs.Sums.{sum_limit, AreBelow}
 use Rattle.cvr_tally.specs.declared.key.RowKey.{RowKey}
 use Rattle.cvr_tally.specs.declared.row.Row.{Row}
-use Rattle.cvr_tally.specs.Keys.{key_cmp, is_key, keys_total, keys_exact}
+use Rattle.cvr_tally.specs.Keys.{key_cmp, is_key, keys_total}
 use Rattle.cvr_tally.specs.Rows.{Rows, zero_row, row_plus, rows_opened, rows_plus, HasRoom}
-use Rattle.cvr_collect.specs.Adding.{IsSums, AreSums, key_for, sums_for, row_with, CanGrow, HaveRoom}
-use Rattle.cvr_collect.proofs.RowSteps.{found}
+use Rattle.cvr_office.specs.Adding.{IsSums, AreSums, key_for, sums_for, row_with, CanGrow, HaveRoom}
+use Rattle.cvr_office.proofs.Lemmas.{found, same_key}
 
 -- ---- keys
-
-pub same_key : (q k : RowKey) → is_key q k ≡ true → q ≡ k
-same_key q k e = keys_exact q k ((Equal-is (key_cmp q k)).0 e)
 
 pub own_key : (k : RowKey) → is_key k k ≡ true
 own_key k = (Equal-is (key_cmp k k)).1 (tied_itself keys_total k)

@@ -12,18 +12,16 @@ use Rattle.cvr_facts.proofs.Lemmas.{ordered_rises}
 use Rattle.cvr_tally.specs.declared.key.RowKey.{RowKey}
 use Rattle.cvr_tally.specs.Keys.{key_cmp, keys_total, keys_exact}
 use Rattle.cvr_tally.specs.Rows.{Rows, ballot_limit}
-use Rattle.cvr_collect.specs.declared.any_fact.AnyFact.{AnyFact}
-use Rattle.cvr_collect.specs.Names.{record_of, records}
-use Rattle.cvr_collect.specs.Place.{fact_of}
-use Rattle.cvr_collect.specs.Plain.{set_of}
-use Rattle.cvr_collect.specs.Readers.{next}
-use Rattle.cvr_collect.specs.Tallied.{row, row_over, rows, total_limit, IsBelow}
-use Rattle.cvr_collect.specs.Adding.{CurrentsAreSums, added, row_with, CanGrow, HaveRoom}
-use Rattle.cvr_collect.proofs.NextInFacts.{name_total, name_exact}
-use Rattle.cvr_collect.proofs.NextNames.{ordered-given}
-use Rattle.cvr_collect.proofs.RowSteps.{row_over-more, row_over-below, row_over-grows}
-use Rattle.cvr_collect.proofs.RowsOfKeys.{rows_law}
-use Rattle.cvr_collect.proofs.Walks.{from, next_listed, from-next_none, from-some}
+use Rattle.cvr_office.specs.declared.any_fact.AnyFact.{AnyFact}
+use Rattle.cvr_office.specs.Names.{record_of, records}
+use Rattle.cvr_office.specs.Place.{fact_of}
+use Rattle.cvr_office.specs.Plain.{set_of}
+use Rattle.cvr_office.specs.Readers.{next}
+use Rattle.cvr_office.specs.Tallied.{row, row_over, rows, total_limit, IsBelow}
+use Rattle.cvr_office.specs.Adding.{CurrentsAreSums, added, row_with, CanGrow, HaveRoom}
+use Rattle.cvr_office.proofs.Laws.{name_total, name_exact, row_over-more, rows_law}
+use Rattle.cvr_office.proofs.Lemmas.{ordered-given, from, next_listed, from-next_none, from-some}
+use Rattle.cvr_plain.proofs.RowBounds.{row_over-below, row_over-grows}
 
 -- ---- how many records there are
 

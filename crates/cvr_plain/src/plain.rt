@@ -1,19 +1,15 @@
-use crate::any_fact::AnyFact;
-use crate::conflict::ConflictList;
-use crate::conflicts::{conflicts_in, greatest_count_in};
-use crate::devices::{device_body_in, device_count_in, next_device_in};
-use crate::fault::JoinFault;
-use crate::names::{next_record_in, record_count_in};
-use crate::office::{Office, Receipt};
-use crate::one_record::{current_in, header_in};
-use crate::putting::{in_one, own_devices, put_copies, put_in};
-use crate::reading::read_facts;
-use crate::record_facts::RecordFacts;
-use crate::record_lists::record_facts_in;
 use crate::tallying::{row_in, tally_in, totals_in};
 use cdf_check::Definition;
 use cdf_types::{Body, Memory, ReadFault};
 use cvr_facts::{HeaderFact, RecordName, SnapshotFact};
+use cvr_office::any_fact::AnyFact;
+use cvr_office::conflicts::{conflicts_in, greatest_count_in};
+use cvr_office::devices::{device_body_in, device_count_in, next_device_in};
+use cvr_office::putting::{in_one, own_devices, put_copies, put_in};
+use cvr_office::reading::read_facts;
+use cvr_office::record_lists::record_facts_in;
+use cvr_office::records::{current_in, header_in, next_record_in, record_count_in};
+use cvr_office::{ConflictList, JoinFault, Office, Receipt, RecordFacts};
 use cvr_tally::{Row, RowKey, Totals};
 use std::alloc::Global;
 use std::marker::Model;
@@ -26,7 +22,7 @@ pub struct PlainOffice {
 }
 
 impl Model for PlainOffice {
-    ghost use Rattle.cvr_collect.specs.Plain.{Content, coded_content, content, IsPlain};
+    ghost use Rattle.cvr_office.specs.Plain.{Content, coded_content, content, IsPlain};
 
     ghost Value = { Content };
 

@@ -3,18 +3,17 @@ ghost use Rattle.std.specs.FinMap.{get};
 ghost use Rattle.std.specs.Option.{IfSome};
 ghost use Rattle.std.specs.List.Sorted.{IsStrictlySortedBy};
 ghost use Rattle.cvr_tally.specs.declared.key.RowKey.{RowKey};
-ghost use Rattle.cvr_collect.specs.Place.{any_cmp};
-ghost use Rattle.cvr_collect.specs.Plain.{set_of, IsPlain};
-ghost use Rattle.cvr_collect.specs.Runs.{AreSpelled};
-ghost use Rattle.cvr_collect.specs.Tallied.{row, rows, tally, total_limit, IsBelow};
-ghost use Rattle.cvr_collect.specs.Adding.{AreSums, CurrentsAreSums, key_for, sums_for, added, row_with, HaveRoom};
+ghost use Rattle.cvr_office.specs.Place.{any_cmp};
+ghost use Rattle.cvr_office.specs.Plain.{set_of, IsPlain};
+ghost use Rattle.cvr_office.specs.Runs.{AreSpelled};
+ghost use Rattle.cvr_office.specs.Tallied.{row, rows, tally, total_limit, IsBelow};
+ghost use Rattle.cvr_office.specs.Adding.{AreSums, CurrentsAreSums, key_for, sums_for, added, row_with, HaveRoom};
 
-use crate::any_fact::AnyFact;
-use crate::names::next_record_in;
-use crate::one_record::{current_in, header_in};
 use cdf_check::Definition;
 use cdf_types::Memory;
 use cvr_facts::{HeaderFact, RecordName, VoteSums};
+use cvr_office::any_fact::AnyFact;
+use cvr_office::records::{current_in, header_in, next_record_in};
 use cvr_tally::{Row, RowKey, Totals, tally_text};
 use std::alloc::Global;
 

@@ -14,12 +14,12 @@ use Rattle.cvr_facts.specs.Choosing.{choice_cmp}
 use Rattle.cvr_facts.proofs.Laws.{text_total, text_exact, choice_total, choice_exact, contains_iff}
 use Rattle.cvr_facts.proofs.Lemmas.{in_map, from_map, in_set, from_set, ordered_rises, Contains-filter_map, from-filter_map}
 use Rattle.cvr_tally.proofs.Lemmas.{entries-given}
-use Rattle.cvr_collect.specs.declared.conflict.ConflictName.{ConflictName}
-use Rattle.cvr_collect.specs.declared.conflict.ConflictName.TheVariants as name
-use Rattle.cvr_collect.specs.Names.{name_of, body_of, is_named, conflict_cmp, device_in, id_in, record_of, devices, snapshot_ids, most}
-use Rattle.cvr_collect.specs.Readers.{device_list, header_list, snapshot_list}
-use Rattle.cvr_collect.proofs.Laws.{conflict_total, conflict_exact}
-use Rattle.cvr_collect.proofs.Lemmas.{sorted, records-given, in_ordered, from_ordered, ordered-members, in_filter, from_filter}
+use Rattle.cvr_office.specs.declared.conflict.ConflictName.{ConflictName}
+use Rattle.cvr_office.specs.declared.conflict.ConflictName.TheVariants as name
+use Rattle.cvr_office.specs.Names.{name_of, body_of, is_named, conflict_cmp, device_in, id_in, record_of, devices, snapshot_ids, most}
+use Rattle.cvr_office.specs.Readers.{device_list, header_list, snapshot_list}
+use Rattle.cvr_office.proofs.Laws.{conflict_total, conflict_exact}
+use Rattle.cvr_office.proofs.Lemmas.{sorted, records-given, in_ordered, from_ordered, ordered-members, in_filter, from_filter}
 use Rattle.cvr_report.specs.Head.{Head}
 use Rattle.cvr_report.specs.Page.{Page, RecordPage, Shown, shown, current_id, shown_record, page, volumes}
 use Rattle.cvr_report.specs.Volume.{volume_data, volume}

@@ -19,11 +19,11 @@ use Rattle.cvr_facts.specs.Stands.{Stands, IsWhole, IsOfWhole}
 use Rattle.cvr_facts.specs.Choosing.{data_of}
 use Rattle.cvr_facts.proofs.Laws.{text_total, text_exact, choice_total, choice_exact, contains_iff}
 use Rattle.cvr_facts.proofs.Lemmas.{at_head, at_tail, from-filter_map}
-use Rattle.cvr_collect.specs.Names.{records, record_of, snapshot_ids}
-use Rattle.cvr_collect.specs.Readers.{header_list, snapshot_list}
-use Rattle.cvr_collect.specs.Keeps.{Keeps, content_scope}
-use Rattle.cvr_collect.proofs.Lemmas.{from_ordered, in_ordered}
-use Rattle.cvr_collect.proofs.Laws.{name_exact, name_total, header_under, snapshot_under, id_under}
+use Rattle.cvr_office.specs.Names.{records, record_of, snapshot_ids}
+use Rattle.cvr_office.specs.Readers.{header_list, snapshot_list}
+use Rattle.cvr_office.specs.Keeps.{Keeps, content_scope}
+use Rattle.cvr_office.proofs.Lemmas.{from_ordered, in_ordered}
+use Rattle.cvr_office.proofs.Laws.{name_exact, name_total, header_under, snapshot_under, id_under}
 use Rattle.cvr_report.specs.Record.{IsHeader, texts_of}
 use Rattle.cvr_report.specs.Page.{shown}
 use Rattle.cvr_report.specs.Volume.{members_in, values_of}

@@ -4,9 +4,9 @@ use Rattle.std.specs.Prelude.{slice_get, if◌then◌else◌}
 use Rattle.std.proofs.lemmas.List.{get_or-map, length-map, length-reverse}
 use Rattle.std.proofs.lemmas.Option.{slice_get-get_or}
 use Rattle.cvr_facts.specs.declared.snapshot.SnapshotFact.{SnapshotFact}
-use Rattle.cvr_collect.specs.declared.record_facts.IdFacts.{IdFacts}
-use Rattle.cvr_collect.specs.Names.{most}
-use Rattle.cvr_collect.specs.Readers.{numbered}
+use Rattle.cvr_office.specs.declared.record_facts.IdFacts.{IdFacts}
+use Rattle.cvr_office.specs.Names.{most}
+use Rattle.cvr_office.specs.Readers.{numbered}
 use Rattle.cvr_report.specs.Page.{shown}
 use Rattle.cvr_report.specs.Found.{bodies, pick, none}
 

@@ -8,10 +8,10 @@ use Rattle.cdf_types.proofs.Lemmas.{appended_twice}
 use Rattle.cvr_facts.specs.declared.name.RecordName.{RecordName}
 use Rattle.cvr_facts.specs.Facts.{Facts, name_cmp, text_cmp}
 use Rattle.cvr_facts.proofs.Lemmas.{ordered_rises}
-use Rattle.cvr_collect.specs.Names.{records, devices}
-use Rattle.cvr_collect.specs.Readers.{next, device_list}
-use Rattle.cvr_collect.proofs.Laws.{name_total}
-use Rattle.cvr_collect.proofs.Lemmas.{from, next_listed, from-next_none, from-some}
+use Rattle.cvr_office.specs.Names.{records, devices}
+use Rattle.cvr_office.specs.Readers.{next, device_list}
+use Rattle.cvr_office.proofs.Laws.{name_total}
+use Rattle.cvr_office.proofs.Lemmas.{from, next_listed, from-next_none, from-some}
 use Rattle.cvr_report.specs.Record.{joined}
 use Rattle.cvr_report.specs.Page.{shown}
 use Rattle.cvr_report.specs.Pieces.{record_text, record_texts, device_texts}

@@ -15,12 +15,12 @@ use Rattle.cvr_facts.specs.Choosing.{choice_cmp, fact_choice, data_of}
 use Rattle.cvr_facts.specs.Stands.{IsSpelledSnapshot}
 use Rattle.cvr_facts.proofs.Laws as choosing
 use Rattle.cvr_facts.proofs.Lemmas.{at_head, at_tail, in_map, from_map}
-use Rattle.cvr_collect.specs.declared.record_facts.IdFacts.{IdFacts}
-use Rattle.cvr_collect.specs.declared.record_facts.RecordFacts.{RecordFacts}
-use Rattle.cvr_collect.specs.Names.{snapshot_ids, most}
-use Rattle.cvr_collect.specs.Readers.{header_list, snapshot_list, AreFactsOf}
-use Rattle.cvr_collect.specs.Keeps.{Keeps}
-use Rattle.cvr_collect.proofs.Lemmas.{map-map}
+use Rattle.cvr_office.specs.declared.record_facts.IdFacts.{IdFacts}
+use Rattle.cvr_office.specs.declared.record_facts.RecordFacts.{RecordFacts}
+use Rattle.cvr_office.specs.Names.{snapshot_ids, most}
+use Rattle.cvr_office.specs.Readers.{header_list, snapshot_list, AreFactsOf}
+use Rattle.cvr_office.specs.Keeps.{Keeps}
+use Rattle.cvr_office.proofs.Lemmas.{map-map}
 use Rattle.cvr_report.specs.Record.{texts_of}
 use Rattle.cvr_report.specs.Page.{Shown, shown, shown_snapshots, shown_record, stands, current_id, counts}
 use Rattle.cvr_report.specs.Pieces.{record_text}

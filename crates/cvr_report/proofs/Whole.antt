@@ -26,11 +26,11 @@ use Rattle.cvr_facts.specs.Choosing.{data_of}
 use Rattle.cvr_facts.specs.Stands.{Stands}
 use Rattle.cvr_facts.proofs.Laws.{text_total, text_exact, contains_iff}
 use Rattle.cvr_facts.proofs.Lemmas.{in_map, from_map, from-filter_map}
-use Rattle.cvr_collect.specs.declared.conflict.ConflictName.TheVariants as name
-use Rattle.cvr_collect.specs.Names.{records, devices, device_in, is_named, body_of}
-use Rattle.cvr_collect.specs.Readers.{device_list}
-use Rattle.cvr_collect.specs.Keeps.{Keeps, content_scope}
-use Rattle.cvr_collect.proofs.Lemmas.{from_ordered, in_ordered, map-map, from_filter, in_filter}
+use Rattle.cvr_office.specs.declared.conflict.ConflictName.TheVariants as name
+use Rattle.cvr_office.specs.Names.{records, devices, device_in, is_named, body_of}
+use Rattle.cvr_office.specs.Readers.{device_list}
+use Rattle.cvr_office.specs.Keeps.{Keeps, content_scope}
+use Rattle.cvr_office.proofs.Lemmas.{from_ordered, in_ordered, map-map, from_filter, in_filter}
 use Rattle.cvr_report.specs.Record.{joined, texts_of as items_texts}
 use Rattle.cvr_report.specs.Writes.{list_text}
 use Rattle.cvr_report.specs.Page.{Shown, shown, shown_record, stands, page}

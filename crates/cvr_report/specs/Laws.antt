@@ -3,8 +3,8 @@ use Rattle.std.specs.Prelude.{◌≡◌, ℕ, List, Some}
 use Rattle.std.specs.List.{slice_get}
 use Rattle.cdf_definition.specs.Frame.{Frame, IsSame}
 use Rattle.cvr_facts.specs.Facts.{Facts}
-use Rattle.cvr_collect.specs.Reach.{History}
-use Rattle.cvr_collect.specs.Alike.{AreNewOfOne, ArePlayed, HaveSameFiles, AreAlike}
+use Rattle.cvr_office.specs.Reach.{History}
+use Rattle.cvr_office.specs.Alike.{AreNewOfOne, ArePlayed, HaveSameFiles, AreAlike}
 use Rattle.cvr_report.specs.Head.{Head}
 use Rattle.cvr_report.specs.Page.{volumes}
 use Rattle.cvr_report.specs.Volume.{volume}

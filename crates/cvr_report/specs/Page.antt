@@ -7,8 +7,8 @@ use Rattle.cdf_typed.specs.Greatest.{greatest}
 use Rattle.cvr_facts.specs.declared.name.RecordName.{RecordName}
 use Rattle.cvr_facts.specs.Facts.{Facts}
 use Rattle.cvr_facts.specs.Choosing.{choice_cmp}
-use Rattle.cvr_collect.specs.Names.{records, devices, snapshot_ids, most, greatest_count}
-use Rattle.cvr_collect.specs.Readers.{numbered, header_list, device_list, snapshot_list}
+use Rattle.cvr_office.specs.Names.{records, devices, snapshot_ids, most, greatest_count}
+use Rattle.cvr_office.specs.Readers.{numbered, header_list, device_list, snapshot_list}
 
 -- an id, and the body that is shown under it
 pub record Shown : Type 0 where

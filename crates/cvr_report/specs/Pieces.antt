@@ -7,7 +7,7 @@ use Rattle.cdf_definition.specs.Frame.{Frame}
 use Rattle.cdf_definition.specs.Named.{texts_of}
 use Rattle.cvr_facts.specs.declared.name.RecordName.{RecordName}
 use Rattle.cvr_facts.specs.Facts.{Facts}
-use Rattle.cvr_collect.specs.Readers.{device_list}
+use Rattle.cvr_office.specs.Readers.{device_list}
 use Rattle.cvr_report.specs.Record.{joined}
 use Rattle.cvr_report.specs.Page.{shown, stands, shown_record}
 use Rattle.cvr_report.specs.Volume.{record_data}

@@ -4,9 +4,9 @@ use Rattle.std.specs.List.{Contains}
 use Rattle.cdf_definition.specs.Frame.{Frame}
 use Rattle.cvr_facts.specs.declared.name.RecordName.{RecordName}
 use Rattle.cvr_facts.specs.Facts.{Facts}
-use Rattle.cvr_collect.specs.Keeps.{Keeps}
-use Rattle.cvr_collect.specs.Names.{records, snapshot_ids}
-use Rattle.cvr_collect.specs.Readers.{header_list, snapshot_list}
+use Rattle.cvr_office.specs.Keeps.{Keeps}
+use Rattle.cvr_office.specs.Names.{records, snapshot_ids}
+use Rattle.cvr_office.specs.Readers.{header_list, snapshot_list}
 use Rattle.cvr_report.specs.Page.{shown}
 
 -- where there is a body, the one that is shown is one of them

@@ -6,8 +6,8 @@ ghost use Rattle.cdf_parts.specs.Proper.{MembersAreWell};
 ghost use Rattle.cdf_definition.specs.Frame.{Frame};
 ghost use Rattle.cvr_facts.specs.declared.name.RecordName.{RecordName};
 ghost use Rattle.cvr_facts.specs.Facts.{Facts};
-ghost use Rattle.cvr_collect.specs.Keeps.{Keeps};
-ghost use Rattle.cvr_collect.specs.Readers.{AreFactsOf};
+ghost use Rattle.cvr_office.specs.Keeps.{Keeps};
+ghost use Rattle.cvr_office.specs.Readers.{AreFactsOf};
 ghost use Rattle.cvr_report.specs.Record.{IsHeader, record_of, texts_of, joined};
 ghost use Rattle.cvr_report.specs.Page.{shown_record};
 ghost use Rattle.cvr_report.specs.Volume.{record_data};
@@ -17,7 +17,7 @@ use crate::ids::push_id;
 use crate::scan::cut;
 use crate::shown::{shown_current, shown_header, shown_snapshot};
 use cdf_types::{Body, Memory};
-use cvr_collect::{IdFacts, RecordFacts};
+use cvr_office::{IdFacts, RecordFacts};
 use std::alloc::Global;
 
 // Adds a text, with a comma before it unless it is the first.

@@ -5,12 +5,12 @@ ghost use Rattle.std.specs.List.{Contains};
 ghost use Rattle.std.specs.Ordering.{on};
 ghost use Rattle.cdf_typed.specs.Greatest.{greatest};
 ghost use Rattle.cvr_facts.specs.Choosing.{fact_choice};
-ghost use Rattle.cvr_collect.specs.Names.{most};
+ghost use Rattle.cvr_office.specs.Names.{most};
 ghost use Rattle.cvr_report.specs.Page.{shown};
 ghost use Rattle.cvr_report.specs.Found.{counts_of, HaveSnapshots, pick, picks};
 
-use cvr_collect::{IdFacts, RecordFacts};
 use cvr_facts::{HeaderFact, SnapshotFact, choice_cmp};
+use cvr_office::{IdFacts, RecordFacts};
 
 // Whether some name of the record has at least `i` bodies.
 pub(crate) fn stands(found: &RecordFacts<'_>, i: usize) -> bool

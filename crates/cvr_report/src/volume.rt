@@ -3,9 +3,9 @@ ghost use Rattle.std.specs.Prelude.{◌≡◌, ◌<◌, ◌≤◌, ◌++◌, OnO
 ghost use Rattle.std.specs.List.{Contains};
 ghost use Rattle.serde_json.specs.Written.{comma_if};
 ghost use Rattle.cdf_types.specs.Device.{appended, AppendsProperPrefix};
-ghost use Rattle.cvr_collect.specs.Names.{records, devices};
-ghost use Rattle.cvr_collect.specs.Readers.{device_list};
-ghost use Rattle.cvr_collect.specs.Keeps.{Keeps};
+ghost use Rattle.cvr_office.specs.Names.{records, devices};
+ghost use Rattle.cvr_office.specs.Readers.{device_list};
+ghost use Rattle.cvr_office.specs.Keeps.{Keeps};
 ghost use Rattle.cvr_report.specs.Record.{joined};
 ghost use Rattle.cvr_report.specs.Head.{is_device_of};
 ghost use Rattle.cvr_report.specs.Page.{volumes, shown};
@@ -19,9 +19,9 @@ use crate::record::{push_joined, push_shown};
 use crate::shown::stands;
 use cdf_check::Definition;
 use cdf_types::{Body, Memory, Sink, write_all};
-use cvr_collect::Office;
 use cvr_facts::RecordName;
 use cvr_facts::text::push_quoted;
+use cvr_office::Office;
 use std::alloc::Global;
 
 /// How many volumes the content of an office makes: the greatest number of bodies under one name,

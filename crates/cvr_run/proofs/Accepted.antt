@@ -6,9 +6,9 @@ use Rattle.cdf_definition.specs.Frame.{Frame}
 use Rattle.cdf_definition.specs.Acceptance.{Sound, Valid, first_refusal, first_unsound, frame_in}
 use Rattle.cdf_definition.proofs.Laws.{sound_file, valid_file}
 use Rattle.cvr_words.specs.declared.request.Task.{Task}
-use Rattle.cvr_cli.specs.Accepted.{is_unsound}
-use Rattle.cvr_cli.specs.Outcome.{task_text, run_text, task_fault, run_fault, task_refused, any_refused}
-use Rattle.cvr_cli.specs.Told.{refusal_lines, texts_of, dues_of, run_lines, last_lines}
+use Rattle.cvr_run.specs.Accepted.{is_unsound}
+use Rattle.cvr_run.specs.Outcome.{task_text, run_text, task_fault, run_fault, task_refused, any_refused}
+use Rattle.cvr_run.specs.Told.{refusal_lines, texts_of, dues_of, run_lines, last_lines}
 
 pub none_refuses : (definition : Frame) (bytes : List ℕ) → Valid definition bytes → first_refusal definition bytes ≡ None
 none_refuses definition bytes valid = (valid_file definition bytes).1 valid

@@ -8,10 +8,10 @@ use Rattle.cvr_facts.specs.Facts.{Facts, name_cmp}
 use Rattle.cvr_facts.specs.Choosing.{current}
 use Rattle.cvr_facts.proofs.Laws.{text_total}
 use Rattle.cvr_facts.proofs.Lemmas.{ordered_rises}
-use Rattle.cvr_collect.specs.Names.{records}
-use Rattle.cvr_collect.specs.Readers.{next}
-use Rattle.cvr_cli.specs.Currents.{line_of, currents}
-use Rattle.cvr_collect.proofs.Lemmas.{from, next_listed, from-next_none, from-some}
+use Rattle.cvr_office.specs.Names.{records}
+use Rattle.cvr_office.specs.Readers.{next}
+use Rattle.cvr_run.specs.Currents.{line_of, currents}
+use Rattle.cvr_office.proofs.Lemmas.{from, next_listed, from-next_none, from-some}
 
 name_total : IsTotalOrder name_cmp
 name_total = then_total (on_total (λ n. n.device) text_total) (on_total (λ n. n.unique) text_total)

@@ -14,22 +14,22 @@ use Rattle.cdf_definition.proofs.Laws.{valid_file}
 use Rattle.cvr_facts.specs.Facts.{Facts, fact_total, fact_exact}
 use Rattle.cvr_facts.specs.Unions.{union_empty}
 use Rattle.cvr_facts.proofs.Lemmas.{in_map, from_map}
-use Rattle.cvr_collect.specs.Alike.{HasReached}
-use Rattle.cvr_collect.specs.declared.event.Event.{Event}
-use Rattle.cvr_collect.specs.Keeps.{starting}
-use Rattle.cvr_collect.specs.Names.{records}
-use Rattle.cvr_collect.specs.Reach.{File, reached}
-use Rattle.cvr_collect.proofs.Lemmas.{from_filter, in_filter}
-use Rattle.cvr_collect.proofs.Laws.{content-none}
+use Rattle.cvr_office.specs.Alike.{HasReached}
+use Rattle.cvr_office.specs.declared.event.Event.{Event}
+use Rattle.cvr_office.specs.Keeps.{starting}
+use Rattle.cvr_office.specs.Names.{records}
+use Rattle.cvr_office.specs.Reach.{File, reached}
+use Rattle.cvr_office.proofs.Lemmas.{from_filter, in_filter}
+use Rattle.cvr_office.proofs.Laws.{content-none}
 use Rattle.cvr_words.specs.declared.request.Act.{Act}
 use Rattle.cvr_words.specs.declared.request.Act.TheVariants as act
 use Rattle.cvr_words.specs.declared.request.Step.{Step}
-use Rattle.cvr_cli.specs.Drill.{event_of, events_of, new_offices, drilled, are_same, least_same, office_line, office_lines}
-use Rattle.cvr_cli.specs.Laws.{HasAccepted, HaveSameValues, acts, held_by, past_after, files_reached, ImportsAccepted, StartLaw, ImportLaw, ExchangeLaw, FilesReachedLaw, ReachedLaw, SameReachedLaw, AllImportedLaw, ByPlacesLaw, BothWaysLaw, EachImportsBothLaw, same_line, OneLineLaw, TwoLinesLaw}
-use Rattle.cvr_cli.specs.Outcome.{accepted_facts, held}
-use Rattle.cvr_cli.proofs.Members.{AreFactsOf, same_by_values, HasPlace, placed, held_of, same_held, by_bytes}
-use Rattle.cvr_cli.proofs.SameOffices.{same_itself}
-use Rattle.cvr_cli.proofs.Drilled.{held_at, taken_in, left_in, taken, left, is_there, reached_of, TakesIn, all_here, first_of_both, second_of_both}
+use Rattle.cvr_run.specs.Drill.{event_of, events_of, new_offices, drilled, are_same, least_same, office_line, office_lines}
+use Rattle.cvr_run.specs.Laws.{HasAccepted, HaveSameValues, acts, held_by, past_after, files_reached, ImportsAccepted, StartLaw, ImportLaw, ExchangeLaw, FilesReachedLaw, ReachedLaw, SameReachedLaw, AllImportedLaw, ByPlacesLaw, BothWaysLaw, EachImportsBothLaw, same_line, OneLineLaw, TwoLinesLaw}
+use Rattle.cvr_run.specs.Outcome.{accepted_facts, held}
+use Rattle.cvr_run.proofs.Members.{AreFactsOf, same_by_values, HasPlace, placed, held_of, same_held, by_bytes}
+use Rattle.cvr_run.proofs.SameOffices.{same_itself}
+use Rattle.cvr_run.proofs.Drilled.{held_at, taken_in, left_in, taken, left, is_there, reached_of, TakesIn, all_here, first_of_both, second_of_both}
 
 -- ---- steps and events
 

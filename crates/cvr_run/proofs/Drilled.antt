@@ -17,20 +17,20 @@ use Rattle.cvr_facts.specs.Facts.{Fact, Facts, fact_cmp, fact_total, fact_exact}
 use Rattle.cvr_facts.specs.Reports.{facts}
 use Rattle.cvr_facts.specs.Unions.{union_empty}
 use Rattle.cvr_facts.proofs.Lemmas.{none_listed, head_or_tail, tie_itself}
-use Rattle.cvr_collect.specs.Alike.{HasReached}
-use Rattle.cvr_collect.specs.declared.event.Cause.{Cause}
-use Rattle.cvr_collect.specs.declared.event.Cause.TheVariants.{NoOffice, NoFile}
-use Rattle.cvr_collect.specs.declared.event.Event.{Event}
-use Rattle.cvr_collect.specs.declared.event.Event.TheVariants.{Import, Exchange}
-use Rattle.cvr_collect.specs.Keeps.{starting}
-use Rattle.cvr_collect.specs.Reach.{Origin, Start, File, Origins, origin_cmp, History, reached_after, reached, brought, union_over, content}
-use Rattle.cvr_collect.proofs.Lemmas.{contains-union_over, over_insert, over_union, or_cases, or_left, or_right, at_eq, is_eq, origin_total, origin_exact, tie_is}
-use Rattle.cvr_collect.proofs.Laws.{content-none}
-use Rattle.cvr_cli.specs.Drill.{certain, exchange_due, event_due, brings, outcome_by, new_offices, past_of}
-use Rattle.cvr_cli.specs.Laws.{HasAccepted}
-use Rattle.cvr_cli.specs.Outcome.{accepted_facts, held}
-use Rattle.cvr_cli.specs.Refusals.{no_due, file_due}
-use Rattle.cvr_cli.proofs.Members.{value_facts, AreFactsOf, same_by_values, one_that_passes, passes_by, placed, from_place, held_of}
+use Rattle.cvr_office.specs.Alike.{HasReached}
+use Rattle.cvr_office.specs.declared.event.Cause.{Cause}
+use Rattle.cvr_office.specs.declared.event.Cause.TheVariants.{NoOffice, NoFile}
+use Rattle.cvr_office.specs.declared.event.Event.{Event}
+use Rattle.cvr_office.specs.declared.event.Event.TheVariants.{Import, Exchange}
+use Rattle.cvr_office.specs.Keeps.{starting}
+use Rattle.cvr_office.specs.Reach.{Origin, Start, File, Origins, origin_cmp, History, reached_after, reached, brought, union_over, content}
+use Rattle.cvr_office.proofs.Lemmas.{contains-union_over, over_insert, over_union, or_cases, or_left, or_right, at_eq, is_eq, origin_total, origin_exact, tie_is}
+use Rattle.cvr_office.proofs.Laws.{content-none}
+use Rattle.cvr_run.specs.Drill.{certain, exchange_due, event_due, brings, outcome_by, new_offices, past_of}
+use Rattle.cvr_run.specs.Laws.{HasAccepted}
+use Rattle.cvr_run.specs.Outcome.{accepted_facts, held}
+use Rattle.cvr_run.specs.Refusals.{no_due, file_due}
+use Rattle.cvr_run.proofs.Members.{value_facts, AreFactsOf, same_by_values, one_that_passes, passes_by, placed, from_place, held_of}
 
 -- ---- one event
 

@@ -6,18 +6,18 @@ use Rattle.std.proofs.lemmas.List.{length-replicate, get_or-replicate}
 use Rattle.cdf_definition.specs.Frame.{Frame, IsSame}
 use Rattle.cdf_definition.specs.Acceptance.{first_refusal}
 use Rattle.cvr_facts.specs.Facts.{Facts}
-use Rattle.cvr_collect.specs.declared.event.Cause.TheVariants.{NoOffice, NoFile}
-use Rattle.cvr_collect.specs.declared.event.Event.{Event}
-use Rattle.cvr_collect.specs.declared.event.Event.TheVariants.{Import, Exchange}
-use Rattle.cvr_collect.specs.declared.event.Outcome.{Outcome}
-use Rattle.cvr_collect.specs.declared.event.Outcome.TheVariants.{Accepted}
-use Rattle.cvr_collect.specs.Readers.{growth}
-use Rattle.cvr_collect.specs.Reach.{content}
-use Rattle.cvr_collect.specs.Outcomes.{no_frame, due, IsImportOutcome, IsExchangeOutcome, IsOutcome}
-use Rattle.cvr_cli.specs.Drill.{certain, exchange_due, event_due, brings, outcome_by, new_offices, past_of}
-use Rattle.cvr_cli.specs.Laws.{DueLaw}
-use Rattle.cvr_cli.specs.Refusals.{no_due, file_due}
-use Rattle.cvr_cli.proofs.Steps.{due_by, growth_itself}
+use Rattle.cvr_office.specs.declared.event.Cause.TheVariants.{NoOffice, NoFile}
+use Rattle.cvr_office.specs.declared.event.Event.{Event}
+use Rattle.cvr_office.specs.declared.event.Event.TheVariants.{Import, Exchange}
+use Rattle.cvr_office.specs.declared.event.Outcome.{Outcome}
+use Rattle.cvr_office.specs.declared.event.Outcome.TheVariants.{Accepted}
+use Rattle.cvr_office.specs.Readers.{growth}
+use Rattle.cvr_office.specs.Reach.{content}
+use Rattle.cvr_office.specs.Outcomes.{no_frame, due, IsImportOutcome, IsExchangeOutcome, IsOutcome}
+use Rattle.cvr_run.specs.Drill.{certain, exchange_due, event_due, brings, outcome_by, new_offices, past_of}
+use Rattle.cvr_run.specs.Laws.{DueLaw}
+use Rattle.cvr_run.specs.Refusals.{no_due, file_due}
+use Rattle.cvr_run.proofs.Steps.{due_by, growth_itself}
 
 module _ (definition : Frame) (n : ℕ) (files : List (List ℕ)) where
   abbrev frames : List Frame

@@ -11,8 +11,8 @@ use Rattle.cdf_form.specs.Reading.{value_of}
 use Rattle.cdf_definition.specs.Frame.{Frame}
 use Rattle.cdf_definition.specs.Acceptance.{frame_in, first_refusal, first_unsound}
 use Rattle.cvr_words.specs.declared.request.Task.TheVariants.{Check}
-use Rattle.cvr_cli.specs.Outcome.{count_line, check_line, run_text}
-use Rattle.cvr_cli.proofs.GivenDrills.{all_ascii, ascii}
+use Rattle.cvr_run.specs.Outcome.{count_line, check_line, run_text}
+use Rattle.cvr_run.proofs.GivenDrills.{all_ascii, ascii}
 
 -- the line of a value that was read, or nothing
 abbrev line_of : List ℕ → Option Data → List ℕ

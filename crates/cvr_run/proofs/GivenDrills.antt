@@ -16,19 +16,19 @@ use Rattle.cvr_facts.specs.Choosing.{data_of}
 use Rattle.cvr_facts.specs.Reports.{report_facts, facts}
 use Rattle.cvr_facts.specs.Rows.{device_body, header_body}
 use Rattle.cvr_facts.proofs.Lemmas.{from_list-append}
-use Rattle.cvr_collect.specs.declared.event.Cause.{Cause}
-use Rattle.cvr_collect.specs.declared.event.Event.{Event}
-use Rattle.cvr_collect.specs.declared.event.Event.TheVariants.{Import, Exchange}
-use Rattle.cvr_collect.specs.Keeps.{starting}
-use Rattle.cvr_collect.proofs.Lemmas.{map-map}
-use Rattle.cvr_collect.proofs.Laws.{content-none}
+use Rattle.cvr_office.specs.declared.event.Cause.{Cause}
+use Rattle.cvr_office.specs.declared.event.Event.{Event}
+use Rattle.cvr_office.specs.declared.event.Event.TheVariants.{Import, Exchange}
+use Rattle.cvr_office.specs.Keeps.{starting}
+use Rattle.cvr_office.proofs.Lemmas.{map-map}
+use Rattle.cvr_office.proofs.Laws.{content-none}
 use Rattle.cvr_words.specs.declared.request.Step.{Step}
 use Rattle.cvr_words.specs.declared.request.Task.TheVariants.{Drill}
-use Rattle.cvr_cli.specs.Drill.{events_of, event_due, new_offices, office_lines, drill_text}
-use Rattle.cvr_cli.specs.Outcome.{run_text}
-use Rattle.cvr_cli.specs.Refusals.{Due}
-use Rattle.cvr_cli.proofs.Drilled.{held_at, gained, held_more}
-use Rattle.cvr_cli.proofs.GivenOffices.{given_line, offices-given}
+use Rattle.cvr_run.specs.Drill.{events_of, event_due, new_offices, office_lines, drill_text}
+use Rattle.cvr_run.specs.Outcome.{run_text}
+use Rattle.cvr_run.specs.Refusals.{Due}
+use Rattle.cvr_run.proofs.Drilled.{held_at, gained, held_more}
+use Rattle.cvr_run.proofs.GivenOffices.{given_line, offices-given}
 
 -- ---- files whose bytes are all ASCII
 

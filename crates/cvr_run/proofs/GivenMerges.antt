@@ -4,8 +4,8 @@ use Rattle.std.specs.Prelude.{if◌then◌else◌}
 use Rattle.cdf_form.specs.Form.{is_moment}
 use Rattle.cdf_definition.specs.Frame.{Frame}
 use Rattle.cvr_report.specs.Head.{is_device_of}
-use Rattle.cvr_cli.specs.declared.merge.MergeFault.{MergeFault}
-use Rattle.cvr_cli.specs.declared.merge.MergeFault.TheVariants.{NotMoment, NoDevice, NoVolume}
+use Rattle.cvr_run.specs.declared.merge.MergeFault.{MergeFault}
+use Rattle.cvr_run.specs.declared.merge.MergeFault.TheVariants.{NotMoment, NoDevice, NoVolume}
 
 -- where there are n
 abbrev pub fault_with : Frame → List ℕ → List ℕ → ℕ → ℕ → Option MergeFault

@@ -9,9 +9,9 @@ use Rattle.std.proofs.lemmas.Bool.{and_parts, and_from, false≢true}
 use Rattle.std.proofs.lemmas.List.{length-map}
 use Rattle.cvr_facts.specs.Facts.{Fact, Facts, fact_cmp, fact_total, fact_exact, name_cmp}
 use Rattle.cvr_facts.proofs.Lemmas.{tie_is, tie_itself}
-use Rattle.cvr_collect.specs.Names.{record_of, records}
-use Rattle.cvr_collect.proofs.Lemmas.{sorted, records-given, or_cases, or_left, or_right}
-use Rattle.cvr_cli.specs.Drill.{are_same, office_line, office_lines}
+use Rattle.cvr_office.specs.Names.{record_of, records}
+use Rattle.cvr_office.proofs.Lemmas.{sorted, records-given, or_cases, or_left, or_right}
+use Rattle.cvr_run.specs.Drill.{are_same, office_line, office_lines}
 
 -- ---- how many
 

@@ -5,9 +5,9 @@ use Rattle.std.specs.FinSet.{from_list}
 use Rattle.cdf_typed.specs.Greatest.{greatest}
 use Rattle.cvr_facts.specs.Facts.{Fact, name_cmp}
 use Rattle.cvr_facts.specs.Choosing.{choice_cmp, snapshot_body}
-use Rattle.cvr_collect.specs.Names.{record_of}
-use Rattle.cvr_collect.proofs.Lemmas.{sorted, records-given, current-given}
-use Rattle.cvr_cli.specs.Currents.{line_of, currents}
+use Rattle.cvr_office.specs.Names.{record_of}
+use Rattle.cvr_office.proofs.Lemmas.{sorted, records-given, current-given}
+use Rattle.cvr_run.specs.Currents.{line_of, currents}
 
 pub currents-given : (fs : List Fact) → currents (from_list fs)
     ≡ flat_map (λ key. line_of key (greatest choice_cmp (filter_map (snapshot_body key) fs))) (sorted name_cmp (filter_map record_of fs))

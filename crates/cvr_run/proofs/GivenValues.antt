@@ -5,8 +5,8 @@ use Rattle.cdf_types.specs.declared.fault.ReadFault.{ReadFault}
 use Rattle.cdf_definition.specs.Frame.{Frame}
 use Rattle.cdf_definition.specs.Acceptance.{first_refusal, value_in}
 use Rattle.cdf_definition.proofs.Laws.{valid_file}
-use Rattle.cvr_cli.specs.Laws.{HasAccepted, HaveSameValues}
-use Rattle.cvr_cli.proofs.Members.{HasPlace, placed}
+use Rattle.cvr_run.specs.Laws.{HasAccepted, HaveSameValues}
+use Rattle.cvr_run.proofs.Members.{HasPlace, placed}
 
 module _ (definition : Frame) (one other refused : List ℕ) (fault : ReadFault)
     (none : first_refusal definition one ≡ None) (none_other : first_refusal definition other ≡ None) (some : first_refusal definition refused ≡ Some fault)

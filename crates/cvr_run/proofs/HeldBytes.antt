@@ -10,18 +10,18 @@ use Rattle.cdf_form.specs.Reading.{value_of}
 use Rattle.cdf_definition.specs.Frame.{Frame}
 use Rattle.cdf_definition.specs.Acceptance.{own_refusal, first_unsound, frame_in}
 use Rattle.cvr_facts.specs.Reports.{facts}
-use Rattle.cvr_collect.specs.Keeps.{starting}
-use Rattle.cvr_collect.specs.Reach.{union_over}
+use Rattle.cvr_office.specs.Keeps.{starting}
+use Rattle.cvr_office.specs.Reach.{union_over}
 use Rattle.cvr_words.specs.declared.request.Task.{Task}
 use Rattle.cvr_words.specs.declared.request.Task.TheVariants.{Currents, Conflicts, Tally, Check, Merge, Drill}
-use Rattle.cvr_cli.specs.Accepted.{is_unsound, is_refused}
-use Rattle.cvr_cli.specs.Drill.{office_lines}
-use Rattle.cvr_cli.specs.HeldBytes.{held_part, HeldTextLaw, HeldLinesLaw, HeldFaultLaw, HeldRefusedLaw}
-use Rattle.cvr_cli.specs.Outcome.{accepted_facts, held, count_line, check_line, check_lines, facts_text, facts_fault, task_text, task_fault, files_refused, task_refused, run_text, run_fault, any_refused}
-use Rattle.cvr_cli.specs.Refusals.{file_due}
-use Rattle.cvr_cli.specs.Told.{refusal_line, refusal_lines, file_dues, texts_of, dues_of, run_lines}
-use Rattle.cvr_cli.proofs.HeldFiles.{same_for, too_long, unsound_long, refused_long, same_refusal}
-use Rattle.cvr_cli.proofs.HeldSteps.{same_step_dues, same_drilled}
+use Rattle.cvr_run.specs.Accepted.{is_unsound, is_refused}
+use Rattle.cvr_run.specs.Drill.{office_lines}
+use Rattle.cvr_run.specs.HeldBytes.{held_part, HeldTextLaw, HeldLinesLaw, HeldFaultLaw, HeldRefusedLaw}
+use Rattle.cvr_run.specs.Outcome.{accepted_facts, held, count_line, check_line, check_lines, facts_text, facts_fault, task_text, task_fault, files_refused, task_refused, run_text, run_fault, any_refused}
+use Rattle.cvr_run.specs.Refusals.{file_due}
+use Rattle.cvr_run.specs.Told.{refusal_line, refusal_lines, file_dues, texts_of, dues_of, run_lines}
+use Rattle.cvr_run.proofs.HeldFiles.{same_for, too_long, unsound_long, refused_long, same_refusal}
+use Rattle.cvr_run.proofs.HeldSteps.{same_step_dues, same_drilled}
 
 -- ---- one file
 

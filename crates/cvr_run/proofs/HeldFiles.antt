@@ -9,9 +9,9 @@ use Rattle.cdf_types.specs.declared.fault.ReadFault.TheVariants.{TooLong}
 use Rattle.cdf_form.specs.Reading.{max_file, value_of}
 use Rattle.cdf_definition.specs.Frame.{Frame}
 use Rattle.cdf_definition.specs.Acceptance.{own_refusal, value_refusal, of_value, of_file, first_refusal}
-use Rattle.cvr_cli.specs.Accepted.{is_unsound, is_refused}
-use Rattle.cvr_cli.specs.File.{held_bytes}
-use Rattle.cvr_cli.specs.HeldBytes.{held_part}
+use Rattle.cvr_run.specs.Accepted.{is_unsound, is_refused}
+use Rattle.cvr_run.specs.File.{held_bytes}
+use Rattle.cvr_run.specs.HeldBytes.{held_part}
 
 -- it is held whole, or is too long, and so is then what is held of it
 pub short_or_long : (file : List ℕ) → (held_part file ≡ file) ⊎ ((max_file < length file) × (max_file < length (held_part file)))

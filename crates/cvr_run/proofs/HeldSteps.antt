@@ -8,18 +8,18 @@ use Rattle.cdf_definition.specs.Frame.{Frame}
 use Rattle.cdf_definition.specs.Acceptance.{value_refusal, first_refusal}
 use Rattle.cvr_facts.specs.Facts.{Facts}
 use Rattle.cvr_facts.specs.Reports.{facts}
-use Rattle.cvr_collect.specs.declared.event.Cause.{Cause}
-use Rattle.cvr_collect.specs.declared.event.Cause.TheVariants.{NoOffice, NoFile}
-use Rattle.cvr_collect.specs.declared.event.Event.{Event}
-use Rattle.cvr_collect.specs.declared.event.Event.TheVariants.{Import, Exchange}
-use Rattle.cvr_collect.proofs.Laws.{content-none}
+use Rattle.cvr_office.specs.declared.event.Cause.{Cause}
+use Rattle.cvr_office.specs.declared.event.Cause.TheVariants.{NoOffice, NoFile}
+use Rattle.cvr_office.specs.declared.event.Event.{Event}
+use Rattle.cvr_office.specs.declared.event.Event.TheVariants.{Import, Exchange}
+use Rattle.cvr_office.proofs.Laws.{content-none}
 use Rattle.cvr_words.specs.declared.request.Step.{Step}
-use Rattle.cvr_cli.specs.Drill.{event_of, events_of, certain, event_due, step_dues, new_offices, drilled}
-use Rattle.cvr_cli.specs.File.{held_bytes}
-use Rattle.cvr_cli.specs.HeldBytes.{held_part}
-use Rattle.cvr_cli.specs.Refusals.{file_due}
-use Rattle.cvr_cli.proofs.Drilled.{held_at, gained, held_more, accepted_of}
-use Rattle.cvr_cli.proofs.HeldFiles.{short_or_long, too_long, same_refusal}
+use Rattle.cvr_run.specs.Drill.{event_of, events_of, certain, event_due, step_dues, new_offices, drilled}
+use Rattle.cvr_run.specs.File.{held_bytes}
+use Rattle.cvr_run.specs.HeldBytes.{held_part}
+use Rattle.cvr_run.specs.Refusals.{file_due}
+use Rattle.cvr_run.proofs.Drilled.{held_at, gained, held_more, accepted_of}
+use Rattle.cvr_run.proofs.HeldFiles.{short_or_long, too_long, same_refusal}
 
 -- ---- a file at a place
 

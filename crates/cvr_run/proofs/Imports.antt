@@ -9,20 +9,20 @@ use Rattle.cdf_types.specs.declared.fault.ReadFault.{ReadFault}
 use Rattle.cdf_definition.specs.Frame.{Frame}
 use Rattle.cdf_definition.specs.Acceptance.{first_refusal}
 use Rattle.cvr_facts.proofs.Lemmas.{at_head, at_tail}
-use Rattle.cvr_collect.specs.declared.event.Event.{Event}
-use Rattle.cvr_collect.specs.declared.event.Event.TheVariants.{Import, Exchange}
-use Rattle.cvr_collect.specs.declared.event.Outcome.{Outcome}
-use Rattle.cvr_collect.specs.Keeps.{starting}
-use Rattle.cvr_collect.specs.Reach.{history, content}
-use Rattle.cvr_collect.specs.Outcomes.{AreOutcomes}
-use Rattle.cvr_cli.specs.Accepted.{is_refused}
-use Rattle.cvr_cli.specs.Drill.{event_due, brings, outcome_by, past_of}
-use Rattle.cvr_cli.specs.Refusals.{no_due, file_due, AreDue, is_refusal, is_want}
-use Rattle.cvr_cli.specs.Told.{file_dues}
-use Rattle.cvr_cli.specs.Laws.{imports}
-use Rattle.cvr_cli.specs.Outcome.{held}
-use Rattle.cvr_cli.proofs.Drilled.{import_due, each_here}
-use Rattle.cvr_cli.proofs.Steps.{due_by, refused_as_due, events_due, past_is}
+use Rattle.cvr_office.specs.declared.event.Event.{Event}
+use Rattle.cvr_office.specs.declared.event.Event.TheVariants.{Import, Exchange}
+use Rattle.cvr_office.specs.declared.event.Outcome.{Outcome}
+use Rattle.cvr_office.specs.Keeps.{starting}
+use Rattle.cvr_office.specs.Reach.{history, content}
+use Rattle.cvr_office.specs.Outcomes.{AreOutcomes}
+use Rattle.cvr_run.specs.Accepted.{is_refused}
+use Rattle.cvr_run.specs.Drill.{event_due, brings, outcome_by, past_of}
+use Rattle.cvr_run.specs.Refusals.{no_due, file_due, AreDue, is_refusal, is_want}
+use Rattle.cvr_run.specs.Told.{file_dues}
+use Rattle.cvr_run.specs.Laws.{imports}
+use Rattle.cvr_run.specs.Outcome.{held}
+use Rattle.cvr_run.proofs.Drilled.{import_due, each_here}
+use Rattle.cvr_run.proofs.Steps.{due_by, refused_as_due, events_due, past_is}
 
 -- what is told of the only office
 pub get_or-one : {O X : Type 0} (told_of : O → X) (other : X) (offices : List O) (office : O) → length offices ≡ 1 → office ≡ get_or offices 0 office → get_or (map told_of offices) 0 other ≡ told_of office

@@ -3,16 +3,16 @@ use Rattle.std.proofs.Common.{◌≡◌, ℕ, List, [], ◌∷◌, ◌++◌, map
 use Rattle.std.proofs.lemmas.Bool.{false_from_ne_true}
 use Rattle.cdf_types.specs.Device.{appended}
 use Rattle.cvr_words.specs.declared.request.Task.{Task}
-use Rattle.cvr_cli.specs.declared.status.Status.{Status}
-use Rattle.cvr_cli.specs.declared.status.Status.TheVariants.{Done, Refused, Device, Memory}
-use Rattle.cvr_cli.specs.HeldBytes.{held_part}
-use Rattle.cvr_cli.specs.Log.{Logs}
-use Rattle.cvr_cli.specs.Merge.{merge_lines}
-use Rattle.cvr_cli.specs.Opening.{At, Has, IsRead, AreRead, AreAt}
-use Rattle.cvr_cli.specs.Outcome.{run_text, run_fault, any_refused, IsWhole}
-use Rattle.cvr_cli.specs.Told.{run_lines, last_lines}
-use Rattle.cvr_cli.specs.Worked.{Runs}
-use Rattle.cvr_cli.proofs.HeldBytes.{held_text, held_lines, held_fault, held_refused}
+use Rattle.cvr_run.specs.declared.status.Status.{Status}
+use Rattle.cvr_run.specs.declared.status.Status.TheVariants.{Done, Refused, Device, Memory}
+use Rattle.cvr_run.specs.HeldBytes.{held_part}
+use Rattle.cvr_run.specs.Log.{Logs}
+use Rattle.cvr_run.specs.Merge.{merge_lines}
+use Rattle.cvr_run.specs.Opening.{At, Has, IsRead, AreRead, AreAt}
+use Rattle.cvr_run.specs.Outcome.{run_text, run_fault, any_refused, IsWhole}
+use Rattle.cvr_run.specs.Told.{run_lines, last_lines}
+use Rattle.cvr_run.specs.Worked.{Runs}
+use Rattle.cvr_run.proofs.HeldBytes.{held_text, held_lines, held_fault, held_refused}
 
 -- ---- a run that has printed its text has not failed
 

@@ -4,12 +4,12 @@ use Rattle.std.specs.Prelude.{nat_le}
 use Rattle.std.specs.List.{filter}
 use Rattle.std.proofs.lemmas.Bool.Decides.{nat_tests}
 use Rattle.cvr_facts.specs.Facts.{Facts}
-use Rattle.cvr_collect.specs.declared.conflict.Conflict.{Conflict}
-use Rattle.cvr_collect.specs.Names.{most, names, counted, conflicts}
-use Rattle.cvr_collect.proofs.Lemmas.{map-map}
+use Rattle.cvr_office.specs.declared.conflict.Conflict.{Conflict}
+use Rattle.cvr_office.specs.Names.{most, names, counted, conflicts}
+use Rattle.cvr_office.proofs.Lemmas.{map-map}
 use Rattle.cvr_report.specs.Page.{volumes}
-use Rattle.cvr_cli.specs.Currents.{volumes_of}
-use Rattle.cvr_cli.proofs.Most.{most-cons}
+use Rattle.cvr_run.specs.Currents.{volumes_of}
+use Rattle.cvr_run.proofs.Most.{most-cons}
 
 -- the greatest number among these, and at least 1
 abbrev at_least : List Conflict → ℕ

@@ -15,17 +15,17 @@ use Rattle.cvr_report.specs.Page.{volumes, page}
 use Rattle.cvr_report.specs.Volume.{volume, volume_data, cover_of, records_data}
 use Rattle.cvr_report.proofs.Lemmas.{volume_text}
 use Rattle.serde_json.specs.Written.{compact_text}
-use Rattle.cvr_cli.specs.declared.merge.MergeFault.{MergeFault}
-use Rattle.cvr_cli.specs.declared.merge.MergeFault.TheVariants.{NotMoment, NoDevice, NoVolume}
-use Rattle.cvr_cli.specs.declared.printing.PrintFault.{PrintFault}
-use Rattle.cvr_cli.specs.declared.printing.PrintFault.TheVariants.{Memory}
+use Rattle.cvr_run.specs.declared.merge.MergeFault.{MergeFault}
+use Rattle.cvr_run.specs.declared.merge.MergeFault.TheVariants.{NotMoment, NoDevice, NoVolume}
+use Rattle.cvr_run.specs.declared.printing.PrintFault.{PrintFault}
+use Rattle.cvr_run.specs.declared.printing.PrintFault.TheVariants.{Memory}
 use Rattle.cvr_words.specs.declared.request.Task.{Task}
 use Rattle.cvr_words.specs.declared.request.Task.TheVariants.{Currents, Conflicts, Tally, Check}
 use Rattle.cvr_words.specs.declared.request.Task.TheVariants as task
-use Rattle.cvr_cli.specs.Merge.{merge_fault, merge_text}
-use Rattle.cvr_cli.specs.Outcome.{facts_fault, facts_text}
-use Rattle.cvr_cli.specs.Printing.{Prints, is_output, merge_part, of_head}
-use Rattle.cvr_cli.proofs.Telling.{appended_none}
+use Rattle.cvr_run.specs.Merge.{merge_fault, merge_text}
+use Rattle.cvr_run.specs.Outcome.{facts_fault, facts_text}
+use Rattle.cvr_run.specs.Printing.{Prints, is_output, merge_part, of_head}
+use Rattle.cvr_run.proofs.Telling.{appended_none}
 
 -- ---- by the three tests
 

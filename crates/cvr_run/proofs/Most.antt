@@ -2,9 +2,9 @@
 use Rattle.std.proofs.Common.{◌≡◌, ℕ, List, [], ◌∷◌, map, max, unwrap_or, refl, sym, ◌∙◌, arith}
 use Rattle.std.specs.List.{fold, reduce}
 use Rattle.std.proofs.lemmas.Bool.Decides.{nat_tests}
-use Rattle.cvr_collect.specs.declared.conflict.Conflict.{Conflict}
-use Rattle.cvr_collect.specs.Names.{most}
-use Rattle.cvr_cli.specs.Currents.{volumes_of}
+use Rattle.cvr_office.specs.declared.conflict.Conflict.{Conflict}
+use Rattle.cvr_office.specs.Names.{most}
+use Rattle.cvr_run.specs.Currents.{volumes_of}
 
 pub most-cons : (n : ℕ) (ns : List ℕ) → most (n ∷ ns) ≡ max n (most ns)
 most-cons n ns = grind (arith, nat_tests)

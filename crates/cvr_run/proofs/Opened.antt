@@ -2,14 +2,14 @@
 use Rattle.std.proofs.Common.{◌≡◌, ◌≢◌, ℕ, ◌<◌, ◌+◌, List, [], ◌∷◌, ◌++◌, length, get_or, take, drop, Bool, true, false, Option, Result, Ok, Err, IfSome, IfOk, IfErr, IsErrAnd, refl, sym, ap, ◌∙◌, subst, true≢false}
 use Rattle.std.specs.Global.{Vec}
 use Rattle.std.proofs.lemmas.List.{take_more, drop_more, take-append-drop, map-append}
-use Rattle.cvr_cli.specs.declared.file.FileFault.{FileFault}
-use Rattle.cvr_cli.specs.declared.status.Status.{Status}
-use Rattle.cvr_cli.specs.declared.status.Status.TheVariants.{Memory}
-use Rattle.cvr_cli.specs.File.{held_bytes, is_device}
-use Rattle.cvr_cli.specs.Log.{memory_line, Logs}
-use Rattle.cvr_cli.specs.Opening.{At, Unknown, Absent, Has, has_file, IsOpened, IsRead, AreRead, FailedAt}
-use Rattle.cvr_cli.specs.Outcome.{bytes_of}
-use Rattle.cvr_cli.specs.Worked.{unread_status, unread_line, Stop, Unread, NoRoom, CanStop, Stops}
+use Rattle.cvr_run.specs.declared.file.FileFault.{FileFault}
+use Rattle.cvr_run.specs.declared.status.Status.{Status}
+use Rattle.cvr_run.specs.declared.status.Status.TheVariants.{Memory}
+use Rattle.cvr_run.specs.File.{held_bytes, is_device}
+use Rattle.cvr_run.specs.Log.{memory_line, Logs}
+use Rattle.cvr_run.specs.Opening.{At, Unknown, Absent, Has, has_file, IsOpened, IsRead, AreRead, FailedAt}
+use Rattle.cvr_run.specs.Outcome.{bytes_of}
+use Rattle.cvr_run.specs.Worked.{unread_status, unread_line, Stop, Unread, NoRoom, CanStop, Stops}
 
 -- ---- one file
 

@@ -6,10 +6,10 @@ use Rattle.std.specs.List.{list_any}
 use Rattle.std.proofs.lemmas.List.{get_or_default}
 use Rattle.std.proofs.lemmas.List.Folds.{list_any_more}
 use Rattle.std.proofs.Math.Bool.{or-false, or-true}
-use Rattle.cvr_collect.specs.declared.event.Cause.{Cause}
-use Rattle.cvr_collect.specs.declared.event.Outcome.{Outcome}
-use Rattle.cvr_collect.specs.declared.event.Outcome.TheVariants.{Accepted}
-use Rattle.cvr_cli.specs.Refusals.{Due, no_due, IsDue, AreDue, cause_in, is_refusal, is_want, wants_memory}
+use Rattle.cvr_office.specs.declared.event.Cause.{Cause}
+use Rattle.cvr_office.specs.declared.event.Outcome.{Outcome}
+use Rattle.cvr_office.specs.declared.event.Outcome.TheVariants.{Accepted}
+use Rattle.cvr_run.specs.Refusals.{Due, no_due, IsDue, AreDue, cause_in, is_refusal, is_want, wants_memory}
 
 module _ (outcomes : List Outcome) (k : ℕ) (o : Outcome) (lt : k < length outcomes) (at : o ≡ get_or outcomes k o) where
   told_here : (dues : List Due) → AreDue dues outcomes → IsDue (get_or dues k no_due) (cause_in o)

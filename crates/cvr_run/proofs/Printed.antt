@@ -3,19 +3,19 @@ use Rattle.std.proofs.Common.{◌≡◌, ◌≢◌, ℕ, List, [], ◌∷◌, �
 use Rattle.std.specs.Prelude.{is_some, if◌then◌else◌}
 use Rattle.std.specs.Result.{IsErrAnd}
 use Rattle.cdf_types.specs.Device.{appended, AppendsPrefix}
-use Rattle.cvr_cli.specs.declared.merge.MergeFault.{MergeFault}
-use Rattle.cvr_cli.specs.declared.printing.PrintFault.{PrintFault}
-use Rattle.cvr_cli.specs.declared.printing.PrintFault.TheVariants.{Merge, Device, Memory}
-use Rattle.cvr_cli.specs.declared.refusals.Refusals.{Refusals}
-use Rattle.cvr_cli.specs.declared.status.Status.{Status}
-use Rattle.cvr_cli.specs.declared.status.Status.TheVariants as status
-use Rattle.cvr_cli.specs.Ends.{Ends}
-use Rattle.cvr_cli.specs.Log.{Logs}
-use Rattle.cvr_cli.specs.Merge.{merge_line}
-use Rattle.cvr_cli.specs.Printing.{Prints, is_output, merge_part, end_line, print_status, status_after}
-use Rattle.cvr_cli.specs.Refusals.{Due}
-use Rattle.cvr_cli.specs.Told.{last_lines, Tells, TellsRun}
-use Rattle.cvr_cli.proofs.Telling.{appended_none, told_whole, wanted, cut_by_memory}
+use Rattle.cvr_run.specs.declared.merge.MergeFault.{MergeFault}
+use Rattle.cvr_run.specs.declared.printing.PrintFault.{PrintFault}
+use Rattle.cvr_run.specs.declared.printing.PrintFault.TheVariants.{Merge, Device, Memory}
+use Rattle.cvr_run.specs.declared.refusals.Refusals.{Refusals}
+use Rattle.cvr_run.specs.declared.status.Status.{Status}
+use Rattle.cvr_run.specs.declared.status.Status.TheVariants as status
+use Rattle.cvr_run.specs.Ends.{Ends}
+use Rattle.cvr_run.specs.Log.{Logs}
+use Rattle.cvr_run.specs.Merge.{merge_line}
+use Rattle.cvr_run.specs.Printing.{Prints, is_output, merge_part, end_line, print_status, status_after}
+use Rattle.cvr_run.specs.Refusals.{Due}
+use Rattle.cvr_run.specs.Told.{last_lines, Tells, TellsRun}
+use Rattle.cvr_run.proofs.Telling.{appended_none, told_whole, wanted, cut_by_memory}
 
 -- want of memory before anything was printed
 pub not_printed : {T : Type 0} (before : Option (List ℕ)) (failed : Bool) (r : Result T PrintFault) (fault : Option MergeFault) (text : List ℕ) → IsErrAnd r (λ x. x ≡ Memory) → failed ≡ false

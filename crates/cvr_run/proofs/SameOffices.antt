@@ -9,9 +9,9 @@ use Rattle.std.proofs.lemmas.List.{drop_all, drop_more, get_or-replicate, length
 use Rattle.std.proofs.lemmas.List.FromFn.{length-range_with_len, get_or-range_with_len}
 use Rattle.cdf_definition.specs.Frame.{Frame, IsSame}
 use Rattle.cvr_facts.specs.Facts.{Facts, fact_total, fact_exact}
-use Rattle.cvr_collect.specs.Outcomes.{no_frame}
-use Rattle.cvr_cli.specs.Drill.{are_same, office_line, AreOfOne}
-use Rattle.cvr_cli.specs.Laws.{LeastSameLaw}
+use Rattle.cvr_office.specs.Outcomes.{no_frame}
+use Rattle.cvr_run.specs.Drill.{are_same, office_line, AreOfOne}
+use Rattle.cvr_run.specs.Laws.{LeastSameLaw}
 
 -- ---- the same facts
 

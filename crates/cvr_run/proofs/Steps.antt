@@ -15,20 +15,20 @@ use Rattle.cdf_definition.specs.Frame.{Frame, IsSame}
 use Rattle.cdf_definition.specs.Acceptance.{first_refusal}
 use Rattle.cvr_facts.specs.Facts.{Facts, fact_total, fact_exact}
 use Rattle.cvr_facts.specs.Unions.{union_same}
-use Rattle.cvr_collect.specs.declared.event.Event.{Event}
-use Rattle.cvr_collect.specs.declared.event.Event.TheVariants.{Import, Exchange}
-use Rattle.cvr_collect.specs.declared.event.Outcome.{Outcome}
-use Rattle.cvr_collect.specs.declared.event.Outcome.TheVariants.{Accepted, Refused}
-use Rattle.cvr_collect.specs.declared.event.Cause.{Cause}
-use Rattle.cvr_collect.specs.declared.event.Cause.TheVariants.{Read, Join, NoOffice, NoFile}
-use Rattle.cvr_collect.specs.declared.fault.JoinFault.TheVariants as join
-use Rattle.cvr_collect.specs.Readers.{growth}
-use Rattle.cvr_collect.specs.Reach.{History, history, content}
-use Rattle.cvr_collect.specs.Outcomes.{no_frame, due, IsImportOutcome, IsExchangeOutcome, IsOutcome, AreOutcomes}
-use Rattle.cvr_collect.proofs.Lemmas.{at_eq, is_eq, map-reverse}
+use Rattle.cvr_office.specs.declared.event.Event.{Event}
+use Rattle.cvr_office.specs.declared.event.Event.TheVariants.{Import, Exchange}
+use Rattle.cvr_office.specs.declared.event.Outcome.{Outcome}
+use Rattle.cvr_office.specs.declared.event.Outcome.TheVariants.{Accepted, Refused}
+use Rattle.cvr_office.specs.declared.event.Cause.{Cause}
+use Rattle.cvr_office.specs.declared.event.Cause.TheVariants.{Read, Join, NoOffice, NoFile}
+use Rattle.cvr_office.specs.declared.fault.JoinFault.TheVariants as join
+use Rattle.cvr_office.specs.Readers.{growth}
+use Rattle.cvr_office.specs.Reach.{History, history, content}
+use Rattle.cvr_office.specs.Outcomes.{no_frame, due, IsImportOutcome, IsExchangeOutcome, IsOutcome, AreOutcomes}
+use Rattle.cvr_office.proofs.Lemmas.{at_eq, is_eq, map-reverse}
 use Rattle.cvr_words.specs.declared.request.Step.{Step}
-use Rattle.cvr_cli.specs.Drill.{events_of, certain, exchange_due, event_due, step_due, step_dues, drill_refused, brings, outcome_by, new_offices, past_of, drilled}
-use Rattle.cvr_cli.specs.Refusals.{Due, no_due, file_due, IsDue, AreDue, cause_in, is_refusal, is_want, wants_memory}
+use Rattle.cvr_run.specs.Drill.{events_of, certain, exchange_due, event_due, step_due, step_dues, drill_refused, brings, outcome_by, new_offices, past_of, drilled}
+use Rattle.cvr_run.specs.Refusals.{Due, no_due, file_due, IsDue, AreDue, cause_in, is_refusal, is_want, wants_memory}
 
 -- ---- one outcome
 

@@ -13,17 +13,17 @@ use Rattle.cdf_types.specs.declared.fault.ReadFault.TheVariants.{TooLong, NotJso
 use Rattle.cdf_types.proofs.Lemmas.{appended_twice}
 use Rattle.cdf_definition.specs.Frame.{Frame}
 use Rattle.cdf_definition.specs.Acceptance.{frame_in, first_refusal, first_unsound}
-use Rattle.cvr_collect.specs.declared.event.Cause.{Cause}
-use Rattle.cvr_collect.specs.declared.event.Cause.TheVariants.{Read, Join, NoOffice, NoFile}
+use Rattle.cvr_office.specs.declared.event.Cause.{Cause}
+use Rattle.cvr_office.specs.declared.event.Cause.TheVariants.{Read, Join, NoOffice, NoFile}
 use Rattle.cvr_words.specs.declared.request.Task.{Task}
-use Rattle.cvr_cli.specs.declared.merge.MergeFault.{MergeFault}
-use Rattle.cvr_cli.specs.declared.status.Status.TheVariants as status
-use Rattle.cvr_cli.specs.declared.refusals.Refusals.{Refusals}
-use Rattle.cvr_cli.specs.Refusals.{is_memory, wants_memory, status_of, Due, no_due, file_due, IsDue}
-use Rattle.cvr_cli.specs.Outcome.{bytes_of}
-use Rattle.cvr_cli.specs.Log.{cause_line, memory_line, has_path_in, Logs}
-use Rattle.cvr_cli.specs.Laws.{AloneOrEachLaw}
-use Rattle.cvr_cli.specs.Told.{Telling, AsDue, Lacking, Unspelled, refusal_line, refusal_lines, told_line, told_lines, can_be, can_all, is_lacking, is_unspelled, is_short, file_dues, texts_of, dues_of, run_lines, last_lines, Tells, TellsRun, CanEndAfter, IsCutShort, IsRunCutShort, LogsSome}
+use Rattle.cvr_run.specs.declared.merge.MergeFault.{MergeFault}
+use Rattle.cvr_run.specs.declared.status.Status.TheVariants as status
+use Rattle.cvr_run.specs.declared.refusals.Refusals.{Refusals}
+use Rattle.cvr_run.specs.Refusals.{is_memory, wants_memory, status_of, Due, no_due, file_due, IsDue}
+use Rattle.cvr_run.specs.Outcome.{bytes_of}
+use Rattle.cvr_run.specs.Log.{cause_line, memory_line, has_path_in, Logs}
+use Rattle.cvr_run.specs.Laws.{AloneOrEachLaw}
+use Rattle.cvr_run.specs.Told.{Telling, AsDue, Lacking, Unspelled, refusal_line, refusal_lines, told_line, told_lines, can_be, can_all, is_lacking, is_unspelled, is_short, file_dues, texts_of, dues_of, run_lines, last_lines, Tells, TellsRun, CanEndAfter, IsCutShort, IsRunCutShort, LogsSome}
 
 -- ---- logs, one after the other
 

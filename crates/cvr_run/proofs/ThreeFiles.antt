@@ -2,9 +2,9 @@
 use Rattle.std.proofs.Common.{◌≡◌, ℕ, ◌==◌, List, [], ◌∷◌, ◌++◌, length, get_or, Bool, true, false, ◌⊎◌, inl, inr, refl, sym, ap, ◌∙◌, append-nil, arith, true≢false}
 use Rattle.std.specs.Prelude.{codes}
 use Rattle.std.specs.List.{list_any}
-use Rattle.cvr_cli.specs.CutShort.{three_texts, three_dues, MayTell, AtOnce, AfterOne, AfterAll, AfterLacking}
-use Rattle.cvr_cli.specs.Log.{memory_line}
-use Rattle.cvr_cli.specs.Told.{Telling, AsDue, Lacking, Unspelled, told_lines, can_all, is_lacking, CanEndAfter}
+use Rattle.cvr_run.specs.CutShort.{three_texts, three_dues, MayTell, AtOnce, AfterOne, AfterAll, AfterLacking}
+use Rattle.cvr_run.specs.Log.{memory_line}
+use Rattle.cvr_run.specs.Told.{Telling, AsDue, Lacking, Unspelled, told_lines, can_all, is_lacking, CanEndAfter}
 
 -- whether an `m` stands in a text: of these lines it is in `memory` alone
 abbrev has_m : List ℕ → Bool

@@ -5,14 +5,14 @@ use Rattle.std.proofs.lemmas.Bool.{le-leb}
 use Rattle.cdf_types.specs.declared.fault.ReadFault.{ReadFault}
 use Rattle.cdf_definition.specs.Frame.{Frame}
 use Rattle.cdf_definition.specs.Acceptance.{frame_in, first_refusal, first_unsound}
-use Rattle.cvr_collect.specs.declared.event.Cause.TheVariants.{Read, NoOffice, NoFile}
-use Rattle.cvr_collect.specs.declared.event.Event.{Event}
-use Rattle.cvr_collect.specs.declared.event.Event.TheVariants as event
+use Rattle.cvr_office.specs.declared.event.Cause.TheVariants.{Read, NoOffice, NoFile}
+use Rattle.cvr_office.specs.declared.event.Event.{Event}
+use Rattle.cvr_office.specs.declared.event.Event.TheVariants as event
 use Rattle.cvr_words.specs.declared.request.Step.{Step}
 use Rattle.cvr_words.specs.declared.request.Task.TheVariants.{Currents, Drill}
-use Rattle.cvr_cli.specs.Drill.{event_of, step_texts, certain, exchange_due, event_due, step_dues}
-use Rattle.cvr_cli.specs.Refusals.{Due, no_due, file_due}
-use Rattle.cvr_cli.specs.Told.{refusal_line, refusal_lines, run_lines, file_dues}
+use Rattle.cvr_run.specs.Drill.{event_of, step_texts, certain, exchange_due, event_due, step_dues}
+use Rattle.cvr_run.specs.Refusals.{Due, no_due, file_due}
+use Rattle.cvr_run.specs.Told.{refusal_line, refusal_lines, run_lines, file_dues}
 
 pub told_of_definition : (what def : List ℕ) (paths files : List (List ℕ)) (fault : ReadFault) (text : List ℕ) → first_unsound def ≡ Some fault → refusal_line what (Some (Read fault)) ≡ text
     → run_lines Currents what def paths files ≡ text

@@ -12,22 +12,22 @@ use Rattle.cdf_definition.specs.Acceptance.{first_refusal}
 use Rattle.cvr_facts.specs.Facts.{Facts, fact_total, fact_exact}
 use Rattle.cvr_facts.specs.Reports.{facts}
 use Rattle.cvr_facts.specs.Unions.{union_assoc, union_empty}
-use Rattle.cvr_collect.specs.declared.event.Event.TheVariants.{Import}
-use Rattle.cvr_collect.specs.declared.event.Outcome.{Outcome}
-use Rattle.cvr_collect.specs.declared.event.Outcome.TheVariants.{Accepted, Refused}
-use Rattle.cvr_collect.specs.declared.event.Cause.TheVariants.{Read}
-use Rattle.cvr_collect.specs.Keeps.{starting}
-use Rattle.cvr_collect.specs.Readers.{growth}
-use Rattle.cvr_collect.specs.Reach.{File, reached, brought, union_over, content}
-use Rattle.cvr_collect.specs.Outcomes.{no_frame, due, AreOutcomes, held_after}
-use Rattle.cvr_collect.proofs.Laws.{content-none}
-use Rattle.cvr_collect.proofs.Lemmas.{over_insert, origin_total, origin_exact}
-use Rattle.cvr_cli.specs.Drill.{outcome_by}
-use Rattle.cvr_cli.specs.Imported.{IsImported, AreImported}
-use Rattle.cvr_cli.specs.Outcome.{accepted_facts, held}
-use Rattle.cvr_cli.specs.Refusals.{Due, no_due, file_due, IsDue, AreDue, cause_in, is_want}
-use Rattle.cvr_cli.specs.Told.{file_dues}
-use Rattle.cvr_cli.proofs.Steps.{IsTold, told_import}
+use Rattle.cvr_office.specs.declared.event.Event.TheVariants.{Import}
+use Rattle.cvr_office.specs.declared.event.Outcome.{Outcome}
+use Rattle.cvr_office.specs.declared.event.Outcome.TheVariants.{Accepted, Refused}
+use Rattle.cvr_office.specs.declared.event.Cause.TheVariants.{Read}
+use Rattle.cvr_office.specs.Keeps.{starting}
+use Rattle.cvr_office.specs.Readers.{growth}
+use Rattle.cvr_office.specs.Reach.{File, reached, brought, union_over, content}
+use Rattle.cvr_office.specs.Outcomes.{no_frame, due, AreOutcomes, held_after}
+use Rattle.cvr_office.proofs.Laws.{content-none}
+use Rattle.cvr_office.proofs.Lemmas.{over_insert, origin_total, origin_exact}
+use Rattle.cvr_run.specs.Drill.{outcome_by}
+use Rattle.cvr_run.specs.Imported.{IsImported, AreImported}
+use Rattle.cvr_run.specs.Outcome.{accepted_facts, held}
+use Rattle.cvr_run.specs.Refusals.{Due, no_due, file_due, IsDue, AreDue, cause_in, is_want}
+use Rattle.cvr_run.specs.Told.{file_dues}
+use Rattle.cvr_run.proofs.Steps.{IsTold, told_import}
 
 -- ---- one file
 

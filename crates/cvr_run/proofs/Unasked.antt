@@ -8,20 +8,20 @@ use Rattle.cvr_words.specs.declared.fault.LineFault.{LineFault}
 use Rattle.cvr_words.specs.declared.fault.LineFault.TheVariants.{Refused, Help, BadStep, Memory}
 use Rattle.cvr_words.specs.declared.request.Request.{Request}
 use Rattle.cvr_words.proofs.Laws.{no_line_fault_but_memory}
-use Rattle.cvr_cli.specs.Answered.{TellsWords, help_text, is_help, words_line, words_status}
-use Rattle.cvr_cli.specs.declared.printing.PrintFault.{PrintFault}
-use Rattle.cvr_cli.specs.declared.printing.PrintFault.TheVariants as fault
-use Rattle.cvr_cli.specs.declared.refusals.Refusals.{Refusals}
-use Rattle.cvr_cli.specs.declared.status.Status.{Status}
-use Rattle.cvr_cli.specs.declared.status.Status.TheVariants as status
-use Rattle.cvr_cli.specs.Log.{Logs}
-use Rattle.cvr_cli.specs.Outcome.{IsWhole}
-use Rattle.cvr_cli.specs.Printing.{Prints, is_output, end_line, print_line, print_status, status_after}
-use Rattle.cvr_cli.specs.Refusals.{status_of}
-use Rattle.cvr_cli.specs.Told.{out_line}
-use Rattle.cvr_cli.proofs.Known.{not_whole}
-use Rattle.cvr_cli.proofs.Printed.{whole_front}
-use Rattle.cvr_cli.proofs.Telling.{appended_none}
+use Rattle.cvr_run.specs.Answered.{TellsWords, help_text, is_help, words_line, words_status}
+use Rattle.cvr_run.specs.declared.printing.PrintFault.{PrintFault}
+use Rattle.cvr_run.specs.declared.printing.PrintFault.TheVariants as fault
+use Rattle.cvr_run.specs.declared.refusals.Refusals.{Refusals}
+use Rattle.cvr_run.specs.declared.status.Status.{Status}
+use Rattle.cvr_run.specs.declared.status.Status.TheVariants as status
+use Rattle.cvr_run.specs.Log.{Logs}
+use Rattle.cvr_run.specs.Outcome.{IsWhole}
+use Rattle.cvr_run.specs.Printing.{Prints, is_output, end_line, print_line, print_status, status_after}
+use Rattle.cvr_run.specs.Refusals.{status_of}
+use Rattle.cvr_run.specs.Told.{out_line}
+use Rattle.cvr_run.proofs.Known.{not_whole}
+use Rattle.cvr_run.proofs.Printed.{whole_front}
+use Rattle.cvr_run.proofs.Telling.{appended_none}
 
 -- a fault that leaves the output as it was
 pub quiet_told : (unchanged : Type 0) (f k : LineFault) (answer : Status) (c : Option (List ℕ)) (g : Bool) (b : Option (List ℕ)) (had : Bool) (a : Option (List ℕ)) (h : Bool) → f ≡ k

@@ -7,12 +7,12 @@ use Rattle.cvr_words.specs.Request.{IsRequest}
 use Rattle.cvr_words.specs.declared.fault.LineFault.{LineFault}
 use Rattle.cvr_words.specs.declared.fault.LineFault.TheVariants.{Refused, Help, BadStep, Memory}
 use Rattle.cvr_words.specs.declared.request.Request.{Request}
-use Rattle.cvr_cli.specs.declared.status.Status.{Status}
-use Rattle.cvr_cli.specs.declared.status.Status.TheVariants as status
-use Rattle.cvr_cli.specs.Log.{memory_line, Logs}
-use Rattle.cvr_cli.specs.Opening.{At, AreAt}
-use Rattle.cvr_cli.specs.Told.{out_line}
-use Rattle.cvr_cli.specs.Worked.{Stops, Runs}
+use Rattle.cvr_run.specs.declared.status.Status.{Status}
+use Rattle.cvr_run.specs.declared.status.Status.TheVariants as status
+use Rattle.cvr_run.specs.Log.{memory_line, Logs}
+use Rattle.cvr_run.specs.Opening.{At, AreAt}
+use Rattle.cvr_run.specs.Told.{out_line}
+use Rattle.cvr_run.specs.Worked.{Stops, Runs}
 
 -- ---- words that ask for no request
 

@@ -1,8 +1,8 @@
 -- Worked examples: what the log of a run that ended for want of memory may be. (This project's own.)
 use Rattle.std.specs.Prelude.{List, [], ◌∷◌, ℕ, codes, Bool, true, false, Some, None}
 use Rattle.cdf_types.specs.declared.fault.ReadFault.TheVariants.{TooLong, NotJson}
-use Rattle.cvr_cli.specs.Refusals.{Due, file_due}
-use Rattle.cvr_cli.specs.Told.{IsCutShort}
+use Rattle.cvr_run.specs.Refusals.{Due, file_due}
+use Rattle.cvr_run.specs.Told.{IsCutShort}
 
 -- three files: the first is no JSON text, the second is accepted, the third is too long
 abbrev pub three_texts : List (List ℕ)

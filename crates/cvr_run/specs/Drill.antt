@@ -6,22 +6,22 @@ use Rattle.cdf_definition.specs.Frame.{Frame}
 use Rattle.cdf_definition.specs.Acceptance.{first_refusal}
 use Rattle.cvr_facts.specs.Facts.{Facts}
 use Rattle.cvr_facts.specs.Reports.{facts}
-use Rattle.cvr_collect.specs.declared.event.Cause.{Cause}
-use Rattle.cvr_collect.specs.declared.event.Cause.TheVariants.{Join, NoOffice, NoFile}
-use Rattle.cvr_collect.specs.declared.event.Event.{Event}
-use Rattle.cvr_collect.specs.declared.event.Event.TheVariants as event
-use Rattle.cvr_collect.specs.declared.event.Outcome.{Outcome}
-use Rattle.cvr_collect.specs.declared.event.Outcome.TheVariants.{Accepted, Refused}
-use Rattle.cvr_collect.specs.declared.fault.JoinFault.TheVariants as join
-use Rattle.cvr_collect.specs.Keeps.{starting}
-use Rattle.cvr_collect.specs.Names.{records}
-use Rattle.cvr_collect.specs.Outcomes.{no_frame}
-use Rattle.cvr_collect.specs.Reach.{History, content}
-use Rattle.cvr_collect.specs.Readers.{growth}
+use Rattle.cvr_office.specs.declared.event.Cause.{Cause}
+use Rattle.cvr_office.specs.declared.event.Cause.TheVariants.{Join, NoOffice, NoFile}
+use Rattle.cvr_office.specs.declared.event.Event.{Event}
+use Rattle.cvr_office.specs.declared.event.Event.TheVariants as event
+use Rattle.cvr_office.specs.declared.event.Outcome.{Outcome}
+use Rattle.cvr_office.specs.declared.event.Outcome.TheVariants.{Accepted, Refused}
+use Rattle.cvr_office.specs.declared.fault.JoinFault.TheVariants as join
+use Rattle.cvr_office.specs.Keeps.{starting}
+use Rattle.cvr_office.specs.Names.{records}
+use Rattle.cvr_office.specs.Outcomes.{no_frame}
+use Rattle.cvr_office.specs.Reach.{History, content}
+use Rattle.cvr_office.specs.Readers.{growth}
 use Rattle.cvr_words.specs.declared.request.Act.{Act}
 use Rattle.cvr_words.specs.declared.request.Act.TheVariants.{Import, Exchange}
 use Rattle.cvr_words.specs.declared.request.Step.{Step}
-use Rattle.cvr_cli.specs.Refusals.{Due, no_due, file_due}
+use Rattle.cvr_run.specs.Refusals.{Due, no_due, file_due}
 
 -- ---- steps as events
 

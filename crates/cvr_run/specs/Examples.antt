@@ -4,13 +4,13 @@ use Rattle.std.specs.FinSet.{from_list}
 use Rattle.cdf_definition.specs.Frame.{Frame}
 use Rattle.cvr_facts.specs.Facts.{Fact, Device, Header, Snapshot}
 use Rattle.cvr_tally.specs.Examples.{ballot_box, dot}
-use Rattle.cvr_collect.specs.Examples.{contests, position, selection, choice, contest, snapshot}
+use Rattle.cvr_office.specs.Examples.{contests, position, selection, choice, contest, snapshot}
 use Rattle.cvr_words.specs.declared.request.Task.TheVariants.{Currents, Conflicts, Tally}
-use Rattle.cvr_cli.specs.declared.merge.MergeFault.{MergeFault}
-use Rattle.cvr_cli.specs.declared.merge.MergeFault.TheVariants.{NotMoment, NoDevice, NoVolume}
-use Rattle.cvr_cli.specs.Drill.{office_lines}
-use Rattle.cvr_cli.specs.Merge.{merge_fault, merge_lines}
-use Rattle.cvr_cli.specs.Outcome.{facts_text}
+use Rattle.cvr_run.specs.declared.merge.MergeFault.{MergeFault}
+use Rattle.cvr_run.specs.declared.merge.MergeFault.TheVariants.{NotMoment, NoDevice, NoVolume}
+use Rattle.cvr_run.specs.Drill.{office_lines}
+use Rattle.cvr_run.specs.Merge.{merge_fault, merge_lines}
+use Rattle.cvr_run.specs.Outcome.{facts_text}
 
 -- a definition of three contests: for mayor Ann and Bob, the second with the dot, the third with no selection
 abbrev pub election : Frame

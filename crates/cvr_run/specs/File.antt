@@ -1,7 +1,7 @@
 -- What is held of a file, and why one was not read. (This project's own.)
 use Rattle.std.specs.Prelude.{ℕ, Bool, true, false}
-use Rattle.cvr_cli.specs.declared.file.FileFault.{FileFault}
-use Rattle.cvr_cli.specs.declared.file.FileFault.TheVariants.{Device, Memory}
+use Rattle.cvr_run.specs.declared.file.FileFault.{FileFault}
+use Rattle.cvr_run.specs.declared.file.FileFault.TheVariants.{Device, Memory}
 
 -- the most bytes that are held: one more than a file may have
 abbrev pub held_bytes : ℕ

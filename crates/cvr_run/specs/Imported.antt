@@ -6,16 +6,16 @@ use Rattle.cdf_definition.specs.Frame.{Frame}
 use Rattle.cdf_definition.specs.Acceptance.{first_refusal}
 use Rattle.cvr_facts.specs.Facts.{Facts}
 use Rattle.cvr_facts.specs.Reports.{facts}
-use Rattle.cvr_collect.specs.declared.event.Outcome.{Outcome}
-use Rattle.cvr_collect.specs.declared.event.Outcome.TheVariants.{Refused}
-use Rattle.cvr_collect.specs.declared.event.Cause.TheVariants.{Read}
-use Rattle.cvr_collect.specs.Readers.{growth}
-use Rattle.cvr_collect.specs.Outcomes.{due, held_after}
-use Rattle.cvr_cli.specs.declared.given.Files.{Files}
-use Rattle.cvr_cli.specs.declared.given.Files.TheVariants.{Lent, Given}
-use Rattle.cvr_cli.specs.Outcome.{held, bytes_of}
-use Rattle.cvr_cli.specs.Refusals.{is_want, AreDue}
-use Rattle.cvr_cli.specs.Told.{file_dues}
+use Rattle.cvr_office.specs.declared.event.Outcome.{Outcome}
+use Rattle.cvr_office.specs.declared.event.Outcome.TheVariants.{Refused}
+use Rattle.cvr_office.specs.declared.event.Cause.TheVariants.{Read}
+use Rattle.cvr_office.specs.Readers.{growth}
+use Rattle.cvr_office.specs.Outcomes.{due, held_after}
+use Rattle.cvr_run.specs.declared.given.Files.{Files}
+use Rattle.cvr_run.specs.declared.given.Files.TheVariants.{Lent, Given}
+use Rattle.cvr_run.specs.Outcome.{held, bytes_of}
+use Rattle.cvr_run.specs.Refusals.{is_want, AreDue}
+use Rattle.cvr_run.specs.Told.{file_dues}
 
 -- the bytes of the files, lent or given
 abbrev pub files_bytes : Files → List (List ℕ)

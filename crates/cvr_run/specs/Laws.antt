@@ -7,29 +7,29 @@ use Rattle.cdf_definition.specs.Frame.{Frame}
 use Rattle.cdf_definition.specs.Acceptance.{Valid, first_refusal, value_in}
 use Rattle.cvr_facts.specs.Facts.{Facts}
 use Rattle.cvr_facts.specs.Reports.{facts}
-use Rattle.cvr_collect.specs.declared.event.Event.{Event}
-use Rattle.cvr_collect.specs.declared.event.Event.TheVariants.{Import}
-use Rattle.cvr_collect.specs.Alike.{HasReached, HaveSameFiles}
-use Rattle.cvr_collect.specs.Keeps.{starting}
-use Rattle.cvr_collect.specs.Readers.{growth}
-use Rattle.cvr_collect.specs.Reach.{History, File, reached, content}
-use Rattle.cvr_collect.specs.Outcomes.{due, AreOutcomes}
-use Rattle.cvr_collect.specs.Names.{records, conflicts}
-use Rattle.cvr_collect.specs.Tallied.{tally}
+use Rattle.cvr_office.specs.declared.event.Event.{Event}
+use Rattle.cvr_office.specs.declared.event.Event.TheVariants.{Import}
+use Rattle.cvr_office.specs.Alike.{HasReached, HaveSameFiles}
+use Rattle.cvr_office.specs.Keeps.{starting}
+use Rattle.cvr_office.specs.Readers.{growth}
+use Rattle.cvr_office.specs.Reach.{History, File, reached, content}
+use Rattle.cvr_office.specs.Outcomes.{due, AreOutcomes}
+use Rattle.cvr_office.specs.Names.{records, conflicts}
+use Rattle.cvr_office.specs.Tallied.{tally}
 use Rattle.cvr_report.specs.Page.{volumes}
 use Rattle.cvr_report.specs.Volume.{volume}
 use Rattle.cvr_words.specs.declared.request.Act.{Act}
 use Rattle.cvr_words.specs.declared.request.Act.TheVariants as act
 use Rattle.cvr_words.specs.declared.request.Step.{Step}
-use Rattle.cvr_cli.specs.declared.merge.MergeFault.{MergeFault}
-use Rattle.cvr_cli.specs.declared.merge.MergeFault.TheVariants.{NoVolume}
-use Rattle.cvr_cli.specs.Currents.{currents, conflict_line, conflict_text}
-use Rattle.cvr_cli.specs.Drill.{events_of, new_offices, past_of, drilled, least_same, drill_text}
-use Rattle.cvr_cli.specs.Log.{memory_line}
-use Rattle.cvr_cli.specs.Merge.{merge_fault, merge_text}
-use Rattle.cvr_cli.specs.Outcome.{accepted_facts, held}
-use Rattle.cvr_cli.specs.Refusals.{Due}
-use Rattle.cvr_cli.specs.Told.{Telling, told_lines, can_all, IsCutShort}
+use Rattle.cvr_run.specs.declared.merge.MergeFault.{MergeFault}
+use Rattle.cvr_run.specs.declared.merge.MergeFault.TheVariants.{NoVolume}
+use Rattle.cvr_run.specs.Currents.{currents, conflict_line, conflict_text}
+use Rattle.cvr_run.specs.Drill.{events_of, new_offices, past_of, drilled, least_same, drill_text}
+use Rattle.cvr_run.specs.Log.{memory_line}
+use Rattle.cvr_run.specs.Merge.{merge_fault, merge_text}
+use Rattle.cvr_run.specs.Outcome.{accepted_facts, held}
+use Rattle.cvr_run.specs.Refusals.{Due}
+use Rattle.cvr_run.specs.Told.{Telling, told_lines, can_all, IsCutShort}
 
 -- the imports of the first n files into one new office, each with the outcome that is due, the newest first
 abbrev pub imports : Frame → List (List ℕ) → ℕ → History

@@ -5,9 +5,9 @@ use Rattle.cdf_types.specs.Device.{appended, AppendsPrefix}
 use Rattle.cdf_types.specs.declared.fault.ReadFault.{ReadFault}
 use Rattle.cdf_types.specs.declared.fault.ReadFault.TheVariants.{TooLong, NotJson, Schema, Reference, Disagrees, Memory}
 use Rattle.cdf_types.specs.Rule.{number_of}
-use Rattle.cvr_collect.specs.declared.event.Cause.{Cause}
-use Rattle.cvr_collect.specs.declared.event.Cause.TheVariants.{Read, Join, NoOffice, NoFile}
-use Rattle.cvr_collect.specs.declared.fault.JoinFault.TheVariants as join
+use Rattle.cvr_office.specs.declared.event.Cause.{Cause}
+use Rattle.cvr_office.specs.declared.event.Cause.TheVariants.{Read, Join, NoOffice, NoFile}
+use Rattle.cvr_office.specs.declared.fault.JoinFault.TheVariants as join
 
 -- the cause, then the path as a JSON string without its quotes, then the rule's number
 abbrev pub fault_text : ReadFault → List ℕ

@@ -1,8 +1,8 @@
 -- The files of an opener in memory. (This project's own.)
 use Rattle.std.specs.Prelude.{◌≡◌, ℕ, List, [], ◌∷◌, ◌==◌, if◌then◌else◌, Bool, true, false, not, codes}
 use Rattle.std.specs.Cmp.Lexicographic.{pointwise}
-use Rattle.cvr_cli.specs.declared.memory_files.MemoryFile.{MemoryFile}
-use Rattle.cvr_cli.specs.Opening.{At, Absent, Has}
+use Rattle.cvr_run.specs.declared.memory_files.MemoryFile.{MemoryFile}
+use Rattle.cvr_run.specs.Opening.{At, Absent, Has}
 
 -- at a path stands the first of the files with that path
 abbrev pub found_at : List MemoryFile → List ℕ → At

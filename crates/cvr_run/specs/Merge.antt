@@ -6,8 +6,8 @@ use Rattle.cvr_facts.specs.Facts.{Facts}
 use Rattle.cvr_report.specs.Head.{is_device_of}
 use Rattle.cvr_report.specs.Page.{volumes}
 use Rattle.cvr_report.specs.Volume.{volume}
-use Rattle.cvr_cli.specs.declared.merge.MergeFault.{MergeFault}
-use Rattle.cvr_cli.specs.declared.merge.MergeFault.TheVariants.{NotMoment, NoDevice, NoVolume}
+use Rattle.cvr_run.specs.declared.merge.MergeFault.{MergeFault}
+use Rattle.cvr_run.specs.declared.merge.MergeFault.TheVariants.{NotMoment, NoDevice, NoVolume}
 
 -- why there is no volume i of these facts under a date and a device: the date is no moment; else the definition has no such device; else there are fewer volumes
 abbrev pub merge_fault : Frame → List ℕ → List ℕ → ℕ → Facts → Option MergeFault

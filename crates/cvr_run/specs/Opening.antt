@@ -1,6 +1,6 @@
 -- What an opener says of its files, and what was read of them. (This project's own.)
 use Rattle.std.specs.Prelude.{◌≡◌, ℕ, List, [], ◌∷◌, take, map, Bool, true, false, Option, Some}
-use Rattle.cvr_cli.specs.File.{held_bytes}
+use Rattle.cvr_run.specs.File.{held_bytes}
 
 -- what an opener says of a path: nothing; that no file is there; or that a file is there, with these bytes
 pub data At : Type 0 where

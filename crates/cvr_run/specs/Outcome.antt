@@ -10,19 +10,19 @@ use Rattle.cdf_definition.specs.Frame.{Frame}
 use Rattle.cdf_definition.specs.Acceptance.{frame_in}
 use Rattle.cvr_facts.specs.Facts.{Facts}
 use Rattle.cvr_facts.specs.Reports.{facts}
-use Rattle.cvr_cli.specs.declared.merge.MergeFault.{MergeFault}
+use Rattle.cvr_run.specs.declared.merge.MergeFault.{MergeFault}
 use Rattle.cvr_words.specs.declared.request.Task.{Task}
 use Rattle.cvr_words.specs.declared.request.Task.TheVariants.{Currents, Check, Conflicts, Tally, Merge, Drill}
-use Rattle.cvr_cli.specs.declared.status.Status.{Status}
-use Rattle.cvr_cli.specs.declared.status.Status.TheVariants.{Done, Refused}
-use Rattle.cvr_cli.specs.Accepted.{is_unsound, is_refused, accepted}
-use Rattle.cvr_collect.specs.Names.{conflicts}
-use Rattle.cvr_collect.specs.Tallied.{tally}
-use Rattle.cvr_collect.specs.Keeps.{starting}
-use Rattle.cvr_collect.specs.Reach.{union_over}
-use Rattle.cvr_cli.specs.Currents.{currents, conflict_text}
-use Rattle.cvr_cli.specs.Drill.{drill_text, drill_refused}
-use Rattle.cvr_cli.specs.Merge.{merge_fault, merge_text}
+use Rattle.cvr_run.specs.declared.status.Status.{Status}
+use Rattle.cvr_run.specs.declared.status.Status.TheVariants.{Done, Refused}
+use Rattle.cvr_run.specs.Accepted.{is_unsound, is_refused, accepted}
+use Rattle.cvr_office.specs.Names.{conflicts}
+use Rattle.cvr_office.specs.Tallied.{tally}
+use Rattle.cvr_office.specs.Keeps.{starting}
+use Rattle.cvr_office.specs.Reach.{union_over}
+use Rattle.cvr_run.specs.Currents.{currents, conflict_text}
+use Rattle.cvr_run.specs.Drill.{drill_text, drill_refused}
+use Rattle.cvr_run.specs.Merge.{merge_fault, merge_text}
 
 -- ---- what a run holds
 

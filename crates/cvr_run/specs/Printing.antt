@@ -5,17 +5,17 @@ use Rattle.cvr_report.specs.declared.fault.WriteFault.{WriteFault}
 use Rattle.cvr_report.specs.declared.fault.WriteFault.TheVariants as write
 use Rattle.cvr_report.specs.declared.heading.HeadFault.{HeadFault}
 use Rattle.cvr_report.specs.declared.heading.HeadFault.TheVariants as head
-use Rattle.cvr_cli.specs.declared.merge.MergeFault.{MergeFault}
-use Rattle.cvr_cli.specs.declared.merge.MergeFault.TheVariants.{NotMoment, NoDevice}
-use Rattle.cvr_cli.specs.declared.printing.PrintFault.{PrintFault}
-use Rattle.cvr_cli.specs.declared.printing.PrintFault.TheVariants.{Merge, Device, Memory}
-use Rattle.cvr_cli.specs.declared.refusals.Refusals.{Refusals}
-use Rattle.cvr_cli.specs.declared.status.Status.{Status}
-use Rattle.cvr_cli.specs.declared.status.Status.TheVariants as status
-use Rattle.cvr_cli.specs.Log.{memory_line}
-use Rattle.cvr_cli.specs.Merge.{merge_line}
-use Rattle.cvr_cli.specs.Refusals.{status_of}
-use Rattle.cvr_cli.specs.Told.{out_line}
+use Rattle.cvr_run.specs.declared.merge.MergeFault.{MergeFault}
+use Rattle.cvr_run.specs.declared.merge.MergeFault.TheVariants.{NotMoment, NoDevice}
+use Rattle.cvr_run.specs.declared.printing.PrintFault.{PrintFault}
+use Rattle.cvr_run.specs.declared.printing.PrintFault.TheVariants.{Merge, Device, Memory}
+use Rattle.cvr_run.specs.declared.refusals.Refusals.{Refusals}
+use Rattle.cvr_run.specs.declared.status.Status.{Status}
+use Rattle.cvr_run.specs.declared.status.Status.TheVariants as status
+use Rattle.cvr_run.specs.Log.{memory_line}
+use Rattle.cvr_run.specs.Merge.{merge_line}
+use Rattle.cvr_run.specs.Refusals.{status_of}
+use Rattle.cvr_run.specs.Told.{out_line}
 
 -- whether the output failed
 abbrev pub is_output : PrintFault → Bool

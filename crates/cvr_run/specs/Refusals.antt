@@ -3,14 +3,14 @@ use Rattle.std.specs.Prelude.{◌≡◌, ◌<◌, ℕ, List, length, get_or, Boo
 use Rattle.std.specs.Option.{option_map_or}
 use Rattle.cdf_types.specs.declared.fault.ReadFault.{ReadFault}
 use Rattle.cdf_types.specs.declared.fault.ReadFault.TheVariants.{Memory}
-use Rattle.cvr_collect.specs.declared.event.Cause.{Cause}
-use Rattle.cvr_collect.specs.declared.event.Cause.TheVariants.{Read, Join}
-use Rattle.cvr_collect.specs.declared.event.Outcome.{Outcome}
-use Rattle.cvr_collect.specs.declared.event.Outcome.TheVariants as outcome
-use Rattle.cvr_collect.specs.declared.fault.JoinFault.TheVariants as join
-use Rattle.cvr_cli.specs.declared.refusals.Refusals.{Refusals}
-use Rattle.cvr_cli.specs.declared.status.Status.{Status}
-use Rattle.cvr_cli.specs.declared.status.Status.TheVariants as status
+use Rattle.cvr_office.specs.declared.event.Cause.{Cause}
+use Rattle.cvr_office.specs.declared.event.Cause.TheVariants.{Read, Join}
+use Rattle.cvr_office.specs.declared.event.Outcome.{Outcome}
+use Rattle.cvr_office.specs.declared.event.Outcome.TheVariants as outcome
+use Rattle.cvr_office.specs.declared.fault.JoinFault.TheVariants as join
+use Rattle.cvr_run.specs.declared.refusals.Refusals.{Refusals}
+use Rattle.cvr_run.specs.declared.status.Status.{Status}
+use Rattle.cvr_run.specs.declared.status.Status.TheVariants as status
 
 -- whether a file was refused for want of memory
 abbrev pub is_memory : ReadFault → Bool

@@ -5,9 +5,9 @@ use Rattle.cdf_check.specs.Rows as file
 use Rattle.cvr_words.specs.declared.request.Task.TheVariants.{Currents, Check, Drill}
 use Rattle.cvr_words.specs.declared.request.Act.TheVariants.{Import, Exchange}
 use Rattle.cvr_words.specs.declared.request.Step.{Step}
-use Rattle.cvr_cli.specs.Laws.{HaveSameValues}
-use Rattle.cvr_cli.specs.Outcome.{run_text}
-use Rattle.cvr_cli.specs.Told.{run_lines}
+use Rattle.cvr_run.specs.Laws.{HaveSameValues}
+use Rattle.cvr_run.specs.Outcome.{run_text}
+use Rattle.cvr_run.specs.Told.{run_lines}
 
 -- a cast vote record without UniqueId, one that is accepted, and one with a selection of another contest
 abbrev pub three_paths : List (List ℕ)

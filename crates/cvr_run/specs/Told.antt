@@ -4,16 +4,16 @@ use Rattle.std.specs.List.{list_any}
 use Rattle.std.specs.Option.{option_map_or}
 use Rattle.cdf_definition.specs.Frame.{Frame}
 use Rattle.cdf_definition.specs.Acceptance.{frame_in, first_refusal, first_unsound}
-use Rattle.cvr_collect.specs.declared.event.Cause.{Cause}
-use Rattle.cvr_cli.specs.declared.refusals.Refusals.{Refusals}
+use Rattle.cvr_office.specs.declared.event.Cause.{Cause}
+use Rattle.cvr_run.specs.declared.refusals.Refusals.{Refusals}
 use Rattle.cvr_words.specs.declared.request.Task.{Task}
 use Rattle.cvr_words.specs.declared.request.Task.TheVariants.{Check, Drill}
-use Rattle.cvr_cli.specs.Accepted.{is_unsound}
-use Rattle.cvr_cli.specs.declared.merge.MergeFault.{MergeFault}
-use Rattle.cvr_cli.specs.Drill.{step_texts, step_dues}
-use Rattle.cvr_cli.specs.Log.{cause_line, memory_line, has_path_in, Logs}
-use Rattle.cvr_cli.specs.Merge.{merge_lines}
-use Rattle.cvr_cli.specs.Refusals.{Due, no_due, file_due}
+use Rattle.cvr_run.specs.Accepted.{is_unsound}
+use Rattle.cvr_run.specs.declared.merge.MergeFault.{MergeFault}
+use Rattle.cvr_run.specs.Drill.{step_texts, step_dues}
+use Rattle.cvr_run.specs.Log.{cause_line, memory_line, has_path_in, Logs}
+use Rattle.cvr_run.specs.Merge.{merge_lines}
+use Rattle.cvr_run.specs.Refusals.{Due, no_due, file_due}
 
 -- ---- where memory was not wanting
 

@@ -1,16 +1,16 @@
 -- How a run over an opener goes: the definition and the files are read, in order, and it runs over them; or it stops at the first that is not read. (This project's own.)
 use Rattle.std.specs.Prelude.{◌≡◌, ◌≢◌, ℕ, List, [], ◌∷◌, ◌++◌, codes, Bool, true, Option}
-use Rattle.cvr_cli.specs.declared.file.FileFault.{FileFault}
-use Rattle.cvr_cli.specs.declared.file.FileFault.TheVariants.{Device, Memory}
+use Rattle.cvr_run.specs.declared.file.FileFault.{FileFault}
+use Rattle.cvr_run.specs.declared.file.FileFault.TheVariants.{Device, Memory}
 use Rattle.cvr_words.specs.declared.request.Task.{Task}
-use Rattle.cvr_cli.specs.declared.status.Status.{Status}
-use Rattle.cvr_cli.specs.declared.status.Status.TheVariants as status
-use Rattle.cvr_cli.specs.Ends.{Ends}
-use Rattle.cvr_cli.specs.File.{is_device}
-use Rattle.cvr_cli.specs.Log.{memory_line, Logs}
-use Rattle.cvr_cli.specs.Opening.{At, AreRead, FailedAt}
-use Rattle.cvr_cli.specs.Outcome.{run_text, run_fault, any_refused}
-use Rattle.cvr_cli.specs.Told.{run_lines, last_lines, IsRunCutShort, LogsSome}
+use Rattle.cvr_run.specs.declared.status.Status.{Status}
+use Rattle.cvr_run.specs.declared.status.Status.TheVariants as status
+use Rattle.cvr_run.specs.Ends.{Ends}
+use Rattle.cvr_run.specs.File.{is_device}
+use Rattle.cvr_run.specs.Log.{memory_line, Logs}
+use Rattle.cvr_run.specs.Opening.{At, AreRead, FailedAt}
+use Rattle.cvr_run.specs.Outcome.{run_text, run_fault, any_refused}
+use Rattle.cvr_run.specs.Told.{run_lines, last_lines, IsRunCutShort, LogsSome}
 
 -- ---- a file that is not read
 

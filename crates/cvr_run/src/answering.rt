@@ -3,12 +3,12 @@ ghost use Rattle.cdf_types.specs.Device.{appended};
 ghost use Rattle.cvr_words.specs.Line.{named};
 ghost use Rattle.cvr_words.specs.Request.{IsRequest};
 ghost use Rattle.cvr_words.specs.declared.request.Request.{Request};
-ghost use Rattle.cvr_cli.specs.declared.status.Status.TheVariants.{Done, Refused, CommandLine};
-ghost use Rattle.cvr_cli.specs.Answered.{bad_step_line, Answers, IsGiven, TellsWords};
-ghost use Rattle.cvr_cli.specs.Log.{Logs};
-ghost use Rattle.cvr_cli.specs.Merge.{merge_lines};
-ghost use Rattle.cvr_cli.specs.Outcome.{run_text, run_fault, any_refused, IsWhole};
-ghost use Rattle.cvr_cli.specs.Told.{run_lines};
+ghost use Rattle.cvr_run.specs.declared.status.Status.TheVariants.{Done, Refused, CommandLine};
+ghost use Rattle.cvr_run.specs.Answered.{bad_step_line, Answers, IsGiven, TellsWords};
+ghost use Rattle.cvr_run.specs.Log.{Logs};
+ghost use Rattle.cvr_run.specs.Merge.{merge_lines};
+ghost use Rattle.cvr_run.specs.Outcome.{run_text, run_fault, any_refused, IsWhole};
+ghost use Rattle.cvr_run.specs.Told.{run_lines};
 
 use crate::ending::{end_in_memory, end_with};
 use crate::log::say;
@@ -18,6 +18,7 @@ use crate::refusals::Refusals;
 use crate::status::Status;
 use crate::working::run_request;
 use cdf_types::Sink;
+use cvr_office::Office;
 use cvr_words::{LineFault, read_line};
 use std::alloc::Global;
 
@@ -64,7 +65,7 @@ fn tell_fault<W: Sink, L: Sink>(fault: &LineFault, out: &mut W, log: &mut L) -> 
 /// to the log, and nothing else is done. Words that ask for no request are told to the log, and the
 /// status is `CommandLine`; those that ask for help have it printed. Where the opener says what stands
 /// at each path, the text is that of these files.
-pub fn work<O: Open, W: Sink, L: Sink>(
+pub fn work<C: Office + Drop, O: Open, W: Sink, L: Sink>(
     alloc: Global,
     opener: &O,
     words: &[String],
@@ -87,7 +88,7 @@ pub fn work<O: Open, W: Sink, L: Sink>(
     ensures asked { (request : Request) → IsRequest (named (map string_bytes words.now)) request → result ≢ CommandLine }
 {
     match read_line(alloc, words) {
-        Ok(request) => run_request(alloc, opener, &request, out, log),
+        Ok(request) => run_request::<C, O, W, L>(alloc, opener, &request, out, log),
         Err(fault) => tell_fault(&fault, out, log),
     }
 }

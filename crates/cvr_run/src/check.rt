@@ -1,5 +1,5 @@
 ghost use Rattle.std.specs.Prelude.{◌≡◌, ◌++◌, OnOk, string_bytes};
-ghost use Rattle.cvr_cli.specs.Outcome.{count_line};
+ghost use Rattle.cvr_run.specs.Outcome.{count_line};
 
 use crate::number::push_number;
 use cdf_types::Memory;

@@ -1,20 +1,20 @@
 ghost use Rattle.std.specs.Prelude.{◌≡◌, ℕ, ◌<◌, List, false, length, map, get_or, option_map, IfOk, OnErr};
 ghost use Rattle.std.specs.List.{list_any};
 ghost use Rattle.std.specs.FinSet.{empty};
-ghost use Rattle.cvr_collect.specs.declared.event.Event.TheVariants.{Import, Exchange};
-ghost use Rattle.cvr_collect.specs.Outcomes.{no_frame};
-ghost use Rattle.cvr_cli.specs.Accepted.{is_refused};
-ghost use Rattle.cvr_cli.specs.Imported.{files_bytes, IsImported, AreImported};
-ghost use Rattle.cvr_cli.specs.Outcome.{held, bytes_of};
-ghost use Rattle.cvr_cli.specs.Refusals.{cause_in, is_refusal, is_want, AreDue, Due};
-ghost use Rattle.cvr_cli.specs.Told.{file_dues, Tells};
+ghost use Rattle.cvr_office.specs.declared.event.Event.TheVariants.{Import, Exchange};
+ghost use Rattle.cvr_office.specs.Outcomes.{no_frame};
+ghost use Rattle.cvr_run.specs.Accepted.{is_refused};
+ghost use Rattle.cvr_run.specs.Imported.{files_bytes, IsImported, AreImported};
+ghost use Rattle.cvr_run.specs.Outcome.{held, bytes_of};
+ghost use Rattle.cvr_run.specs.Refusals.{cause_in, is_refusal, is_want, AreDue, Due};
+ghost use Rattle.cvr_run.specs.Told.{file_dues, Tells};
 
 use crate::given::Files;
 use crate::named::Named;
 use crate::refusals::Refusals;
 use cdf_check::Definition;
 use cdf_types::{Body, Memory, Sink};
-use cvr_collect::{Cause, Event, Office, Outcome, play};
+use cvr_office::{Cause, Event, Office, Outcome, play};
 use std::alloc::Global;
 use std::slice::from_ref;
 

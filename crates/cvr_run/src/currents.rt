@@ -2,12 +2,12 @@ ghost use Rattle.std.specs.Prelude.{◌≡◌, ◌++◌, ◌∷◌, [], OnOk, If
 ghost use Rattle.cdf_types.specs.SnapshotKind.{snapshot_kind_text};
 ghost use Rattle.cvr_facts.specs.Choosing.{current};
 ghost use Rattle.cvr_facts.specs.Text.{word};
-ghost use Rattle.cvr_cli.specs.Currents.{line_of, currents};
+ghost use Rattle.cvr_run.specs.Currents.{line_of, currents};
 
 use cdf_types::Memory;
-use cvr_collect::Office;
 use cvr_facts::text::push_word;
 use cvr_facts::{RecordName, SnapshotFact};
+use cvr_office::Office;
 use std::alloc::Global;
 
 // Adds the line of a snapshot.

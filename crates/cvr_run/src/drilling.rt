@@ -1,11 +1,11 @@
 ghost use Rattle.std.specs.Prelude.{◌≡◌, false, length, map, replicate, Option, None, IfOk, IfErr, OnErr};
-ghost use Rattle.cvr_collect.specs.declared.event.Event.{Event};
-ghost use Rattle.cvr_cli.specs.Drill.{place_of, event_of, events_of, new_offices, step_texts, step_dues, drill_refused, drill_text, drilled, AreOfOne};
-ghost use Rattle.cvr_cli.specs.declared.status.Status.TheVariants.{Memory as NoMemory};
-ghost use Rattle.cvr_cli.specs.declared.merge.MergeFault.{MergeFault};
-ghost use Rattle.cvr_cli.specs.Ends.{Ends};
-ghost use Rattle.cvr_cli.specs.Outcome.{bytes_of};
-ghost use Rattle.cvr_cli.specs.Told.{Tells, TellsRun, IsCutShort, LogsSome};
+ghost use Rattle.cvr_office.specs.declared.event.Event.{Event};
+ghost use Rattle.cvr_run.specs.Drill.{place_of, event_of, events_of, new_offices, step_texts, step_dues, drill_refused, drill_text, drilled, AreOfOne};
+ghost use Rattle.cvr_run.specs.declared.status.Status.TheVariants.{Memory as NoMemory};
+ghost use Rattle.cvr_run.specs.declared.merge.MergeFault.{MergeFault};
+ghost use Rattle.cvr_run.specs.Ends.{Ends};
+ghost use Rattle.cvr_run.specs.Outcome.{bytes_of};
+ghost use Rattle.cvr_run.specs.Told.{Tells, TellsRun, IsCutShort, LogsSome};
 
 use crate::collecting::note_refused;
 use crate::ending::{end_in_memory, end_with};
@@ -14,7 +14,7 @@ use crate::refusals::Refusals;
 use crate::status::Status;
 use cdf_check::Definition;
 use cdf_types::{Memory, Sink};
-use cvr_collect::{Event, Office, play};
+use cvr_office::{Event, Office, play};
 use cvr_words::{Act, Step};
 use std::alloc::Global;
 

@@ -1,7 +1,7 @@
 ghost use Rattle.std.specs.Prelude.{◌≡◌};
-ghost use Rattle.cvr_cli.specs.declared.status.Status.TheVariants.{Memory as NoMemory};
-ghost use Rattle.cvr_cli.specs.Log.{memory_line, Logs};
-ghost use Rattle.cvr_cli.specs.Printing.{end_line, status_after};
+ghost use Rattle.cvr_run.specs.declared.status.Status.TheVariants.{Memory as NoMemory};
+ghost use Rattle.cvr_run.specs.Log.{memory_line, Logs};
+ghost use Rattle.cvr_run.specs.Printing.{end_line, status_after};
 
 use crate::log::say_memory;
 use crate::printing::{PrintFault, say_fault};

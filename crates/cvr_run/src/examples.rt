@@ -1,9 +1,9 @@
 //! Worked examples: the whole text of each task over the facts of a few records.
 ghost use Rattle.std.specs.Prelude.{codes};
-ghost use Rattle.cvr_cli.specs.declared.memory_files.MemoryFile.{MemoryFile};
-ghost use Rattle.cvr_cli.specs.MemoryFiles.{IsTold, FailAsTold};
-ghost use Rattle.cvr_cli.specs.CutShort.{AtOnce, AfterOne, AfterAll, AfterLacking};
-ghost use Rattle.cvr_cli.specs.Examples.{CurrentsOfFive, TallyOfFive, ConflictsOfTwo, NoConflict, LinesOfTen, DateAlone, DateFirst, DeviceAlone, DeviceBeforeNumber, NumberAlone, LastVolume};
+ghost use Rattle.cvr_run.specs.declared.memory_files.MemoryFile.{MemoryFile};
+ghost use Rattle.cvr_run.specs.MemoryFiles.{IsTold, FailAsTold};
+ghost use Rattle.cvr_run.specs.CutShort.{AtOnce, AfterOne, AfterAll, AfterLacking};
+ghost use Rattle.cvr_run.specs.Examples.{CurrentsOfFive, TallyOfFive, ConflictsOfTwo, NoConflict, LinesOfTen, DateAlone, DateFirst, DeviceAlone, DeviceBeforeNumber, NumberAlone, LastVolume};
 
 /// The current snapshots and the tally of five records in three contests, the conflicts among facts
 /// of two records and three devices, what is told where there is none, and the lines of ten offices.

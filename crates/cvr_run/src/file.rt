@@ -1,6 +1,6 @@
 ghost use Rattle.std.specs.Prelude.{◌≡◌, ◌≤◌, false, Some, length, take, drop, vec_len, IfOk, IfErr, OnOk, IfSome};
-ghost use Rattle.cvr_cli.specs.declared.file.FileFault.TheVariants.{Device, Memory as NoMemory};
-ghost use Rattle.cvr_cli.specs.File.{is_device, held_bytes};
+ghost use Rattle.cvr_run.specs.declared.file.FileFault.TheVariants.{Device, Memory as NoMemory};
+ghost use Rattle.cvr_run.specs.File.{is_device, held_bytes};
 
 use cdf_types::{DeviceFault, Source};
 use std::alloc::{AllocError, Global};

@@ -10,8 +10,8 @@ pub enum Files<'a> {
 }
 
 impl Files<'_> {
-    ghost use Rattle.cvr_cli.specs.Outcome.{bytes_of};
-    ghost use Rattle.cvr_cli.specs.Imported.{files_bytes};
+    ghost use Rattle.cvr_run.specs.Outcome.{bytes_of};
+    ghost use Rattle.cvr_run.specs.Imported.{files_bytes};
 
     /// All, in order. Takes no memory.
     pub fn all(&self) -> &[Vec<u8>]

@@ -1,8 +1,8 @@
 ghost use Rattle.std.specs.Prelude.{◌≡◌, ◌+◌};
 ghost use Rattle.cdf_form.specs.Reading.{max_file};
-ghost use Rattle.cvr_cli.specs.File.{held_bytes};
-ghost use Rattle.cvr_cli.specs.HeldBytes.{HeldTextLaw, HeldLinesLaw, HeldFaultLaw, HeldRefusedLaw};
-ghost use Rattle.cvr_cli.specs.Laws.{HeldLaw, ByBytesLaw, SameFactsLaw, SameCurrentsLaw, SameConflictsLaw, SameTallyLaw, SameMergeFaultLaw, SameVolumeLaw, NoFaultLaw, NoTextLaw, ToldNumberLaw, LastNumberLaw, DueLaw, LeastSameLaw, StartLaw, ImportLaw, ExchangeLaw, FilesReachedLaw, ReachedLaw, SameReachedLaw, AllImportedLaw, ByPlacesLaw, BothWaysLaw, EachImportsBothLaw, OneLineLaw, TwoLinesLaw, AloneOrEachLaw};
+ghost use Rattle.cvr_run.specs.File.{held_bytes};
+ghost use Rattle.cvr_run.specs.HeldBytes.{HeldTextLaw, HeldLinesLaw, HeldFaultLaw, HeldRefusedLaw};
+ghost use Rattle.cvr_run.specs.Laws.{HeldLaw, ByBytesLaw, SameFactsLaw, SameCurrentsLaw, SameConflictsLaw, SameTallyLaw, SameMergeFaultLaw, SameVolumeLaw, NoFaultLaw, NoTextLaw, ToldNumberLaw, LastNumberLaw, DueLaw, LeastSameLaw, StartLaw, ImportLaw, ExchangeLaw, FilesReachedLaw, ReachedLaw, SameReachedLaw, AllImportedLaw, ByPlacesLaw, BothWaysLaw, EachImportsBothLaw, OneLineLaw, TwoLinesLaw, AloneOrEachLaw};
 
 /// What a run holds, the devices of the definition and the facts of the accepted files, is the content
 /// of one new office after the import of each file.

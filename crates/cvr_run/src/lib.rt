@@ -1,4 +1,4 @@
-//! The commands of `cvr`: what is printed of a definition and files, and the devices it goes through.
+//! The commands of `cvr` over any office: what is printed of a definition and files, and the devices it goes through.
 #![tactic(auto)]
 
 mod answering;
@@ -31,7 +31,6 @@ mod working;
 pub use answering::work;
 pub use conflicts::conflicts_text;
 pub use currents::currents_text;
-pub use cvr_words::{Act, Request, Step, Task, WordFault, read_words};
 pub use file::{FileFault, HELD, read_file};
 pub use memory_files::{MemoryFile, MemoryFiles};
 pub use opening::Open;

@@ -1,10 +1,10 @@
 ghost use Rattle.std.specs.Prelude.{◌≡◌, ℕ, ◌≤◌, List, [], ◌∷◌, ◌++◌, length, false, OnOk, OnErr, IsOk};
 ghost use Rattle.std.specs.List.{flat_map};
-ghost use Rattle.cvr_cli.specs.Log.{fault_line, cause_line, memory_line, has_path, has_path_in, Logs};
+ghost use Rattle.cvr_run.specs.Log.{fault_line, cause_line, memory_line, has_path, has_path_in, Logs};
 
 use cdf_types::{Memory, ReadFault, Sink, write_all};
-use cvr_collect::{Cause, JoinFault};
 use cvr_facts::text::quoted;
+use cvr_office::{Cause, JoinFault};
 use itoa::Buffer;
 use std::alloc::Global;
 

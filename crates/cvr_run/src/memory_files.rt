@@ -1,9 +1,9 @@
 ghost use Rattle.std.specs.Prelude.{◌≡◌, ◌==◌, not, true, false, Some, Err, IsOk, IfOk, IfErr, MatchOption};
 ghost use Rattle.cdf_types.specs.MemorySource.{can_fail};
-ghost use Rattle.cvr_cli.specs.declared.file.FileFault.TheVariants.{Device};
-ghost use Rattle.cvr_cli.specs.File.{is_device};
-ghost use Rattle.cvr_cli.specs.Opening.{Absent, Has, has_file, IsOpened};
-ghost use Rattle.cvr_cli.specs.MemoryFiles.{found_at, can_fail_at};
+ghost use Rattle.cvr_run.specs.declared.file.FileFault.TheVariants.{Device};
+ghost use Rattle.cvr_run.specs.File.{is_device};
+ghost use Rattle.cvr_run.specs.Opening.{Absent, Has, has_file, IsOpened};
+ghost use Rattle.cvr_run.specs.MemoryFiles.{found_at, can_fail_at};
 
 use crate::file::FileFault;
 use crate::opening::Open;

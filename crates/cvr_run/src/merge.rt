@@ -1,12 +1,12 @@
 ghost use Rattle.std.specs.Prelude.{◌≡◌, ◌<◌, false};
-ghost use Rattle.cvr_cli.specs.Log.{Logs};
-ghost use Rattle.cvr_cli.specs.Merge.{merge_fault, merge_text, merge_line};
-ghost use Rattle.cvr_cli.specs.Printing.{Prints};
+ghost use Rattle.cvr_run.specs.Log.{Logs};
+ghost use Rattle.cvr_run.specs.Merge.{merge_fault, merge_text, merge_line};
+ghost use Rattle.cvr_run.specs.Printing.{Prints};
 
 use crate::log::say;
 use crate::printing::PrintFault;
 use cdf_types::Sink;
-use cvr_collect::Office;
+use cvr_office::Office;
 use cvr_report::{Heading, volumes, write_volume};
 use itoa::Buffer;
 use std::alloc::Global;

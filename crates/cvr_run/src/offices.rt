@@ -1,13 +1,13 @@
 ghost use Rattle.std.specs.Prelude.{◌≡◌, ◌<◌, ◌≤◌, ◌++◌, length, map, get_or, decimal, OnOk, IfOk, string_bytes, false, None};
 ghost use Rattle.std.specs.FinSet.{empty};
 ghost use Rattle.std.specs.List.{position_or_len};
-ghost use Rattle.cvr_cli.specs.Drill.{are_same, office_line, office_lines, AreOfOne};
-ghost use Rattle.cvr_cli.specs.Printing.{Prints};
+ghost use Rattle.cvr_run.specs.Drill.{are_same, office_line, office_lines, AreOfOne};
+ghost use Rattle.cvr_run.specs.Printing.{Prints};
 
 use crate::number::push_number;
 use crate::printing::{PrintFault, print_text};
 use cdf_types::{Memory, Sink};
-use cvr_collect::Office;
+use cvr_office::Office;
 use std::alloc::Global;
 
 // Whether two offices of one definition hold the same facts.

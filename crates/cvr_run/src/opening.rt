@@ -1,9 +1,9 @@
 ghost use Rattle.std.specs.Prelude.{◌≡◌, ℕ, List, length, Bool, true, false, IfOk, IfErr, OnOk};
-ghost use Rattle.cvr_cli.specs.File.{is_device};
-ghost use Rattle.cvr_cli.specs.Log.{Logs};
-ghost use Rattle.cvr_cli.specs.Opening.{At, has_file, IsOpened, IsRead, AreRead, FailedAt};
-ghost use Rattle.cvr_cli.specs.Outcome.{bytes_of};
-ghost use Rattle.cvr_cli.specs.Worked.{unread_status, unread_line, Stops};
+ghost use Rattle.cvr_run.specs.File.{is_device};
+ghost use Rattle.cvr_run.specs.Log.{Logs};
+ghost use Rattle.cvr_run.specs.Opening.{At, has_file, IsOpened, IsRead, AreRead, FailedAt};
+ghost use Rattle.cvr_run.specs.Outcome.{bytes_of};
+ghost use Rattle.cvr_run.specs.Worked.{unread_status, unread_line, Stops};
 
 use crate::file::{FileFault, read_file};
 use crate::log::{say, say_memory};

@@ -1,11 +1,11 @@
 ghost use Rattle.std.specs.Prelude.{◌≡◌, false, None, IfErr};
-ghost use Rattle.cvr_cli.specs.declared.printing.PrintFault.TheVariants as print_fault;
-ghost use Rattle.cvr_cli.specs.Currents.{currents, conflict_text};
-ghost use Rattle.cvr_cli.specs.Log.{Logs};
-ghost use Rattle.cvr_cli.specs.Outcome.{facts_text, facts_fault};
-ghost use Rattle.cvr_cli.specs.Printing.{Prints, of_head, of_write, print_line, print_status};
-ghost use Rattle.cvr_collect.specs.Names.{conflicts};
-ghost use Rattle.cvr_collect.specs.Tallied.{tally};
+ghost use Rattle.cvr_run.specs.declared.printing.PrintFault.TheVariants as print_fault;
+ghost use Rattle.cvr_run.specs.Currents.{currents, conflict_text};
+ghost use Rattle.cvr_run.specs.Log.{Logs};
+ghost use Rattle.cvr_run.specs.Outcome.{facts_text, facts_fault};
+ghost use Rattle.cvr_run.specs.Printing.{Prints, of_head, of_write, print_line, print_status};
+ghost use Rattle.cvr_office.specs.Names.{conflicts};
+ghost use Rattle.cvr_office.specs.Tallied.{tally};
 
 use crate::conflicts::conflicts_text;
 use crate::currents::currents_text;
@@ -13,7 +13,7 @@ use crate::log::{say, say_memory};
 use crate::merge::{MergeFault, print_volume, say_merge};
 use crate::status::Status;
 use cdf_types::{DeviceFault, Memory, Sink, write_all};
-use cvr_collect::Office;
+use cvr_office::Office;
 use cvr_report::{HeadFault, WriteFault};
 use cvr_words::Task;
 use std::alloc::Global;

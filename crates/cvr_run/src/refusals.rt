@@ -1,11 +1,11 @@
 ghost use Rattle.std.specs.Prelude.{◌≡◌, ◌||◌, ◌⊎◌, Bool, true, false};
-ghost use Rattle.cvr_cli.specs.Log.{cause_line, memory_line, has_path_in, Logs};
-ghost use Rattle.cvr_cli.specs.Refusals.{wants_memory};
+ghost use Rattle.cvr_run.specs.Log.{cause_line, memory_line, has_path_in, Logs};
+ghost use Rattle.cvr_run.specs.Refusals.{wants_memory};
 
 use crate::log::{say_memory, tell};
 use crate::status::Status;
 use cdf_types::{Memory, ReadFault, Sink};
-use cvr_collect::{Cause, JoinFault};
+use cvr_office::{Cause, JoinFault};
 use std::alloc::Global;
 
 /// What a run has refused so far.
@@ -30,8 +30,8 @@ fn wants_memory(cause: &Cause) -> bool
 }
 
 impl Refusals {
-    ghost use Rattle.cvr_collect.specs.declared.event.Cause.TheVariants.{Read};
-    ghost use Rattle.cvr_cli.specs.Refusals.{wants_memory, status_of};
+    ghost use Rattle.cvr_office.specs.declared.event.Cause.TheVariants.{Read};
+    ghost use Rattle.cvr_run.specs.Refusals.{wants_memory, status_of};
 
     /// Nothing was refused. Takes no memory.
     pub fn none() -> Refusals

@@ -1,4 +1,4 @@
-ghost use Rattle.cvr_cli.specs.Rows.{TwoRefused, OtherElection, DefinitionRefused, CheckOfThree, OneValue, FiveStepsRefused, LinesOfThree};
+ghost use Rattle.cvr_run.specs.Rows.{TwoRefused, OtherElection, DefinitionRefused, CheckOfThree, OneValue, FiveStepsRefused, LinesOfThree};
 
 /// Worked examples: the lines of runs with refused files, and of a drill with refused steps; and the
 /// text of a drill in which one file is accepted.

@@ -1,5 +1,5 @@
 ghost use Rattle.std.specs.Prelude.{◌≡◌};
-ghost use Rattle.cvr_cli.specs.Status.{code_of};
+ghost use Rattle.cvr_run.specs.Status.{code_of};
 
 /// How a run ended, least bad first.
 #[derive(Clone, Copy, Debug, PartialEq, Eq)]

@@ -1,15 +1,15 @@
 ghost use Rattle.std.specs.Prelude.{◌≡◌, ◌≢◌, ◌⊎◌, ◌++◌, ℕ, length, true, false, Option, None, IfOk, IfErr, OnErr, string_bytes};
 ghost use Rattle.std.specs.List.{list_any};
 ghost use Rattle.cdf_types.specs.Device.{appended, AppendsPrefix};
-ghost use Rattle.cvr_cli.specs.Accepted.{is_refused};
-ghost use Rattle.cvr_cli.specs.Imported.{files_bytes};
-ghost use Rattle.cvr_cli.specs.Outcome.{held, check_lines, facts_text, task_text, run_text, task_fault, run_fault, files_refused, task_refused, any_refused, bytes_of, IsWhole};
-ghost use Rattle.cvr_cli.specs.declared.status.Status.TheVariants.{Done, Refused, CommandLine, Device, Memory as NoMemory};
-ghost use Rattle.cvr_cli.specs.declared.refusals.Refusals.{Refusals};
-ghost use Rattle.cvr_cli.specs.declared.merge.MergeFault.{MergeFault};
-ghost use Rattle.cvr_cli.specs.Ends.{Ends};
-ghost use Rattle.cvr_cli.specs.Log.{Logs};
-ghost use Rattle.cvr_cli.specs.Told.{file_dues, texts_of, dues_of, is_check, run_lines, last_lines, Tells, TellsRun, CanEndAfter, IsCutShort, IsRunCutShort, LogsSome};
+ghost use Rattle.cvr_run.specs.Accepted.{is_refused};
+ghost use Rattle.cvr_run.specs.Imported.{files_bytes};
+ghost use Rattle.cvr_run.specs.Outcome.{held, check_lines, facts_text, task_text, run_text, task_fault, run_fault, files_refused, task_refused, any_refused, bytes_of, IsWhole};
+ghost use Rattle.cvr_run.specs.declared.status.Status.TheVariants.{Done, Refused, CommandLine, Device, Memory as NoMemory};
+ghost use Rattle.cvr_run.specs.declared.refusals.Refusals.{Refusals};
+ghost use Rattle.cvr_run.specs.declared.merge.MergeFault.{MergeFault};
+ghost use Rattle.cvr_run.specs.Ends.{Ends};
+ghost use Rattle.cvr_run.specs.Log.{Logs};
+ghost use Rattle.cvr_run.specs.Told.{file_dues, texts_of, dues_of, is_check, run_lines, last_lines, Tells, TellsRun, CanEndAfter, IsCutShort, IsRunCutShort, LogsSome};
 
 use crate::check::push_count;
 use crate::collecting::collect;
@@ -22,8 +22,7 @@ use crate::refusals::Refusals;
 use crate::status::Status;
 use cdf_check::Definition;
 use cdf_types::{Body, Memory, Sink};
-use cvr_cached::CachedOffice;
-use cvr_collect::Office;
+use cvr_office::Office;
 use cvr_words::{Request, Task};
 use std::alloc::Global;
 
@@ -178,7 +177,7 @@ fn run_task<O: Office + Drop, W: Sink, L: Sink>(
 }
 
 /// Runs a request, as `run` does, over files that are lent or given.
-pub fn run_files<W: Sink, L: Sink>(
+pub fn run_files<O: Office + Drop, W: Sink, L: Sink>(
     alloc: Global,
     request: &Request,
     def: &[u8],
@@ -205,9 +204,7 @@ pub fn run_files<W: Sink, L: Sink>(
             refusals.note_file(alloc, log, request.def.as_str(), fault);
             refusals.status()
         }
-        Ok(definition) => run_task::<CachedOffice, W, L>(
-            alloc, definition, request, files, out, log,
-        ),
+        Ok(definition) => run_task::<O, W, L>(alloc, definition, request, files, out, log),
     }
 }
 
@@ -216,7 +213,7 @@ pub fn run_files<W: Sink, L: Sink>(
 /// nothing else is done, and where a file or a step was refused for want of memory nothing is printed,
 /// nor any fault of a merge told. That fault comes after the refused files, and nothing is printed then
 /// either.
-pub fn run<W: Sink, L: Sink>(
+pub fn run<O: Office + Drop, W: Sink, L: Sink>(
     alloc: Global,
     request: &Request,
     def: &[u8],
@@ -244,5 +241,5 @@ pub fn run<W: Sink, L: Sink>(
         (run_fault request.now.task def.now (bytes_of files.now)) (W.has_failed out.new))
         (L.taken log.old) (L.has_failed log.old) (L.taken log.new) (L.has_failed log.new) }
 {
-    run_files(alloc, request, def, Files::Lent(files), out, log)
+    run_files::<O, W, L>(alloc, request, def, Files::Lent(files), out, log)
 }

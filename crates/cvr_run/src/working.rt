@@ -1,18 +1,19 @@
 ghost use Rattle.std.specs.Prelude.{◌≡◌, ◌≢◌, ◌⊎◌, ◌++◌, ◌∷◌, ℕ, List, length, true, false, IfOk, IfErr, OnOk};
 ghost use Rattle.cdf_types.specs.Device.{appended};
-ghost use Rattle.cvr_cli.specs.declared.status.Status.TheVariants.{Done, Refused, CommandLine};
-ghost use Rattle.cvr_cli.specs.Log.{Logs};
-ghost use Rattle.cvr_cli.specs.Merge.{merge_lines};
-ghost use Rattle.cvr_cli.specs.Opening.{AreRead, AreAt};
-ghost use Rattle.cvr_cli.specs.Outcome.{run_text, run_fault, any_refused, bytes_of, IsWhole};
-ghost use Rattle.cvr_cli.specs.Told.{run_lines};
-ghost use Rattle.cvr_cli.specs.Worked.{Stops, Runs};
+ghost use Rattle.cvr_run.specs.declared.status.Status.TheVariants.{Done, Refused, CommandLine};
+ghost use Rattle.cvr_run.specs.Log.{Logs};
+ghost use Rattle.cvr_run.specs.Merge.{merge_lines};
+ghost use Rattle.cvr_run.specs.Opening.{AreRead, AreAt};
+ghost use Rattle.cvr_run.specs.Outcome.{run_text, run_fault, any_refused, bytes_of, IsWhole};
+ghost use Rattle.cvr_run.specs.Told.{run_lines};
+ghost use Rattle.cvr_run.specs.Worked.{Stops, Runs};
 
 use crate::given::Files;
 use crate::opening::{Open, read_all, read_told};
 use crate::status::Status;
 use crate::tasks::run_files;
 use cdf_types::Sink;
+use cvr_office::Office;
 use cvr_words::Request;
 use std::alloc::Global;
 
@@ -46,7 +47,7 @@ fn read_inputs<O: Open, L: Sink>(
 /// Does a request: reads its definition and its files, each at its path and in this order, and runs
 /// over them. Where one isn't read, that is told to the log, and nothing else is done. Where the opener
 /// says what stands at each path, the text is that of these files.
-pub fn run_request<O: Open, W: Sink, L: Sink>(
+pub fn run_request<C: Office + Drop, O: Open, W: Sink, L: Sink>(
     alloc: Global,
     opener: &O,
     request: &Request,
@@ -71,7 +72,7 @@ pub fn run_request<O: Open, W: Sink, L: Sink>(
     ensures no_words { result ≢ CommandLine }
 {
     match read_inputs(alloc, opener, request, log) {
-        Ok(Inputs { def, files }) => run_files(
+        Ok(Inputs { def, files }) => run_files::<C, W, L>(
             alloc,
             request,
             def.as_slice(),

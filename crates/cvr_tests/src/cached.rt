@@ -1,9 +1,8 @@
 //! An office that remembers what it answers: its running totals, and how it stands beside a plain one.
 use crate::files::*;
 use crate::playing::{new_offices, tell_outcome};
-use cvr_cached::CachedOffice;
 use cvr_cli::{conflicts_text, currents_text};
-use cvr_collect::{Event, Office, PlainOffice, play};
+use cvr_collect::{CachedOffice, Event, Office, PlainOffice, play};
 use cvr_tally::{Totals, tally_text};
 use std::process::Abort;
 

@@ -1,7 +1,6 @@
 //! What an office answers of the files that it took.
 use crate::files::*;
-use cvr_cached::CachedOffice;
-use cvr_collect::{Office, PlainOffice, RecordFacts};
+use cvr_collect::{CachedOffice, Office, PlainOffice, RecordFacts};
 use cvr_facts::{HeaderFact, RecordName};
 use cvr_tally::{RowKey, tally_text};
 use std::process::Abort;

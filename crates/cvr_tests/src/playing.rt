@@ -1,8 +1,7 @@
 //! Events over new offices: what becomes of each, and what the offices then hold.
 use crate::files::*;
-use cvr_cached::CachedOffice;
 use cvr_collect::Event::{Exchange, Import};
-use cvr_collect::{Cause, Event, JoinFault, Office, Outcome, PlainOffice, play};
+use cvr_collect::{CachedOffice, Cause, Event, JoinFault, Office, Outcome, PlainOffice, play};
 use std::process::Abort;
 
 // Events over new offices, each with its definition, and files; and what is told of all.

@@ -1,7 +1,6 @@
 //! A row of the tally in each of its columns.
 use crate::files::*;
-use cvr_cached::CachedOffice;
-use cvr_collect::{Office, PlainOffice};
+use cvr_collect::{CachedOffice, Office, PlainOffice};
 use cvr_tally::{Row, RowKey};
 use std::process::Abort;
 

@@ -2,7 +2,7 @@ use Rattle.std.proofs.Common.{◌≡◌, cond, List, subst}
 use Rattle.std.specs.FinMap.{get}
 use Rattle.cvr_tally.specs.Rows.{row_closed}
 use Rattle.cvr_tally.specs.declared.key.RowKey.{RowKey}
-use Rattle.cvr_collect.specs.declared.any_fact.AnyFact.{AnyFact}
+use Rattle.cvr_office.specs.declared.any_fact.AnyFact.{AnyFact}
 use Rattle.cvr_cached.specs.Cells.{is_row_of}
 use Rattle.cvr_cached.proofs.Putting.{agrees_after}
 use Rattle.cvr_cached.proofs.commit.leave.Goals as goal

@@ -1,6 +1,6 @@
 use Rattle.std.proofs.Common.{◌∙◌, length, sym, ap, arith}
 use Rattle.std.proofs.lemmas.List.{length-map}
-use Rattle.cvr_collect.specs.Reach.{content}
+use Rattle.cvr_office.specs.Reach.{content}
 use Rattle.cvr_cached.proofs.law.kinds_hold_the_same.Goals as goal
 
 pub returns : goal.returns

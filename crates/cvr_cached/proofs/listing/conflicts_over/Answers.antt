@@ -3,10 +3,10 @@ use Rattle.std.proofs.lemmas.Map.Iter.{rest_more, rest_all}
 use Rattle.std.specs.List.{flat_map}
 use Rattle.std.specs.Map.Iter.{deref_pair}
 use Rattle.cvr_facts.specs.declared.name.RecordName.{RecordName}
-use Rattle.cvr_collect.specs.declared.any_fact.AnyFact.{AnyFact}
-use Rattle.cvr_collect.specs.declared.conflict.Conflict.{Conflict}
-use Rattle.cvr_collect.specs.Names.{conflicts}
-use Rattle.cvr_collect.specs.Plain.{set_of}
+use Rattle.cvr_office.specs.declared.any_fact.AnyFact.{AnyFact}
+use Rattle.cvr_office.specs.declared.conflict.Conflict.{Conflict}
+use Rattle.cvr_office.specs.Names.{conflicts}
+use Rattle.cvr_office.specs.Plain.{set_of}
 use Rattle.cvr_cached.proofs.listing.conflicts_over.Goals as goal
 
 abbrev of : List (RecordName × List AnyFact) → List Conflict

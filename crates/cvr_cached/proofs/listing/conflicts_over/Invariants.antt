@@ -1,7 +1,7 @@
 use Rattle.std.proofs.Common.{◌≡◌, ◌++◌}
 use Rattle.std.specs.List.{flat_map}
-use Rattle.cvr_collect.specs.Names.{conflicts}
-use Rattle.cvr_collect.specs.Plain.{set_of}
+use Rattle.cvr_office.specs.Names.{conflicts}
+use Rattle.cvr_office.specs.Plain.{set_of}
 use Rattle.cvr_cached.proofs.listing.conflicts_over.Given as goal
 
 -- the conflicts so far, and those of the contents that are left

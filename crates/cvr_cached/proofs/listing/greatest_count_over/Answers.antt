@@ -3,10 +3,10 @@ use Rattle.std.specs.Prelude.{max}
 use Rattle.std.proofs.lemmas.Map.Iter.{rest_more, rest_all}
 use Rattle.std.specs.Map.Iter.{deref_pair}
 use Rattle.cvr_facts.specs.declared.name.RecordName.{RecordName}
-use Rattle.cvr_collect.specs.declared.any_fact.AnyFact.{AnyFact}
-use Rattle.cvr_collect.specs.Names.{most, greatest_count}
-use Rattle.cvr_collect.specs.Plain.{set_of}
-use Rattle.cvr_collect.proofs.Lemmas.{most-cons}
+use Rattle.cvr_office.specs.declared.any_fact.AnyFact.{AnyFact}
+use Rattle.cvr_office.specs.Names.{most, greatest_count}
+use Rattle.cvr_office.specs.Plain.{set_of}
+use Rattle.cvr_office.proofs.Lemmas.{most-cons}
 use Rattle.cvr_cached.proofs.listing.greatest_count_over.Goals as goal
 
 abbrev of : List (RecordName × List AnyFact) → List ℕ

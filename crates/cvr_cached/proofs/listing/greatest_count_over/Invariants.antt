@@ -1,7 +1,7 @@
 use Rattle.std.proofs.Common.{◌≡◌, ◌∷◌, map}
 use Rattle.std.specs.Prelude.{max}
-use Rattle.cvr_collect.specs.Names.{most, greatest_count}
-use Rattle.cvr_collect.specs.Plain.{set_of}
+use Rattle.cvr_office.specs.Names.{most, greatest_count}
+use Rattle.cvr_office.specs.Plain.{set_of}
 use Rattle.cvr_cached.proofs.listing.greatest_count_over.Given as goal
 
 -- the greatest so far, and those of the contents that are left

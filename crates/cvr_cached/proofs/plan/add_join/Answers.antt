@@ -4,10 +4,10 @@ use Rattle.std.specs.BTreeMap.{get}
 use Rattle.std.specs.FinSet.{contains}
 use Rattle.std.specs.List.{Contains}
 use Rattle.cvr_facts.specs.Facts.{name_cmp}
-use Rattle.cvr_collect.specs.declared.any_fact.AnyFact.{AnyFact}
-use Rattle.cvr_collect.specs.Place.{fact_of}
-use Rattle.cvr_collect.specs.Plain.{set_of, IsPut}
-use Rattle.cvr_collect.proofs.Laws.{put_growth}
+use Rattle.cvr_office.specs.declared.any_fact.AnyFact.{AnyFact}
+use Rattle.cvr_office.specs.Place.{fact_of}
+use Rattle.cvr_office.specs.Plain.{set_of, IsPut}
+use Rattle.cvr_office.proofs.Laws.{put_growth}
 use Rattle.cvr_cached.specs.Contents.{facts_at}
 use Rattle.cvr_cached.specs.Plans.{IsPushed, IsStep}
 use Rattle.cvr_cached.proofs.Growing.{step_added}

@@ -4,7 +4,7 @@ use Rattle.std.specs.BTreeMap.{get}
 use Rattle.std.specs.Map.Iter.{deref_pair}
 use Rattle.cvr_facts.specs.declared.name.RecordName.{RecordName}
 use Rattle.cvr_facts.specs.Facts.{name_cmp}
-use Rattle.cvr_collect.specs.declared.any_fact.AnyFact.{AnyFact}
+use Rattle.cvr_office.specs.declared.any_fact.AnyFact.{AnyFact}
 use Rattle.cvr_cached.specs.Contents.{facts_at}
 use Rattle.cvr_cached.specs.Plans.{IsPlanned}
 use Rattle.cvr_cached.proofs.Passing.{all_planned}

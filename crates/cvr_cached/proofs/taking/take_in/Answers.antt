@@ -2,8 +2,8 @@ use Rattle.std.proofs.Common.{length, ◌*◌, ◌++◌}
 use Rattle.std.proofs.lemmas.Map.Lookups.{btree_map_from_get}
 use Rattle.std.specs.BTreeMap.{get}
 use Rattle.cvr_facts.specs.Facts.{name_cmp}
-use Rattle.cvr_collect.specs.Runs.{run}
-use Rattle.cvr_collect.proofs.Laws.{name_exact, name_total}
+use Rattle.cvr_office.specs.Runs.{run}
+use Rattle.cvr_office.proofs.Laws.{name_exact, name_total}
 use Rattle.cvr_cached.specs.Contents.{listed}
 use Rattle.cvr_cached.specs.Plans.{all_moves}
 use Rattle.cvr_cached.proofs.After.{own_after, put_after}

@@ -2,12 +2,12 @@ use Rattle.std.proofs.Common.{◌≡◌, ℕ, true, [], ◌∷◌, inl, inr, get
 use Rattle.std.specs.Ordering.{eq_by_cmp}
 use Rattle.std.specs.FinSet.{contains, insert, from_list, contains-insert}
 use Rattle.cdf_definition.specs.Acceptance.{value_in}
-use Rattle.cvr_collect.specs.Reach.{Start, File, origin_cmp}
-use Rattle.cvr_collect.specs.Examples.{SpelledTwice, OtherFiles}
-use Rattle.cvr_collect.proofs.Unions.{or_cases, or_left, tie_is, tie_itself}
-use Rattle.cvr_collect.proofs.Reached.{origin_total, origin_exact}
-use Rattle.cvr_collect.proofs.Ways.{not_start}
-use Rattle.cvr_collect.proofs.examples.files_by_value.Goals as goal
+use Rattle.cvr_office.specs.Reach.{Start, File, origin_cmp}
+use Rattle.cvr_office.specs.Examples.{SpelledTwice, OtherFiles}
+use Rattle.cvr_office.proofs.Unions.{or_cases, or_left, tie_is, tie_itself}
+use Rattle.cvr_office.proofs.Reached.{origin_total, origin_exact}
+use Rattle.cvr_office.proofs.Ways.{not_start}
+use Rattle.cvr_office.proofs.examples.files_by_value.Goals as goal
 
 -- an office that imported one file alone has that file alone
 only_file : (o g f : ℕ) → contains (insert (from_list {R = origin_cmp} (Start o ∷ [])) (File g)) (File f) ≡ true → f ≡ g

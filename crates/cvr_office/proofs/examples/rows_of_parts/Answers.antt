@@ -2,11 +2,11 @@ use Rattle.std.proofs.Common.{map, refl, ap, ◌∙◌, ◌++◌}
 use Rattle.std.specs.Fmt.{digits}
 use Rattle.serde_json.proofs.OnLiterals.{serde_json_on_literals}
 use Rattle.jiff.proofs.OnLiterals.{jiff_on_literals}
-use Rattle.cvr_collect.specs.Examples.{contests}
-use Rattle.cvr_collect.specs.PartExamples.{first_part, second_part, keys}
-use Rattle.cvr_collect.specs.Tallied.{row}
-use Rattle.cvr_collect.proofs.GivenFacts.{row-given, union-given}
-use Rattle.cvr_collect.proofs.examples.rows_of_parts.Goals as goal
+use Rattle.cvr_office.specs.Examples.{contests}
+use Rattle.cvr_office.specs.PartExamples.{first_part, second_part, keys}
+use Rattle.cvr_office.specs.Tallied.{row}
+use Rattle.cvr_office.proofs.GivenFacts.{row-given, union-given}
+use Rattle.cvr_office.proofs.examples.rows_of_parts.Goals as goal
 
 pub returns : goal.returns
 unfolding serde_json_on_literals jiff_on_literals digits

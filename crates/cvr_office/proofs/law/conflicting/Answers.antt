@@ -1,5 +1,5 @@
-use Rattle.cvr_collect.proofs.SeveralBodies.{conflict_iff}
-use Rattle.cvr_collect.proofs.law.conflicting.Goals as goal
+use Rattle.cvr_office.proofs.SeveralBodies.{conflict_iff}
+use Rattle.cvr_office.proofs.law.conflicting.Goals as goal
 
 pub returns : goal.returns
 returns c = record { conflicts = conflict_iff }

@@ -1,6 +1,6 @@
-use Rattle.cvr_collect.proofs.Included.{known_device, device_known, includes}
-use Rattle.cvr_collect.proofs.RecordNames.{header_under, snapshot_under, id_under}
-use Rattle.cvr_collect.proofs.law.facts_under_names.Goals as goal
+use Rattle.cvr_office.proofs.Included.{known_device, device_known, includes}
+use Rattle.cvr_office.proofs.RecordNames.{header_under, snapshot_under, id_under}
+use Rattle.cvr_office.proofs.law.facts_under_names.Goals as goal
 
 pub returns : goal.returns
 returns c = record {

@@ -1,7 +1,7 @@
-use Rattle.cvr_collect.proofs.NameOrder.{conflict_total, conflict_exact}
-use Rattle.cvr_collect.proofs.NextInFacts.{name_total}
-use Rattle.cvr_collect.proofs.RecordMembers.{name_exact}
-use Rattle.cvr_collect.proofs.law.names_are_ordered.Goals as goal
+use Rattle.cvr_office.proofs.NameOrder.{conflict_total, conflict_exact}
+use Rattle.cvr_office.proofs.NextInFacts.{name_total}
+use Rattle.cvr_office.proofs.RecordMembers.{name_exact}
+use Rattle.cvr_office.proofs.law.names_are_ordered.Goals as goal
 
 pub returns : goal.returns
 returns c = record {

@@ -1,5 +1,5 @@
-use Rattle.cvr_collect.proofs.Lasting.{held_lasts, import_lasts, exchange_lasts, played_lasts}
-use Rattle.cvr_collect.proofs.law.nothing_is_lost.Goals as goal
+use Rattle.cvr_office.proofs.Lasting.{held_lasts, import_lasts, exchange_lasts, played_lasts}
+use Rattle.cvr_office.proofs.law.nothing_is_lost.Goals as goal
 
 pub returns : goal.returns
 returns g c = record {

@@ -1,5 +1,5 @@
-use Rattle.cvr_collect.proofs.InParts.{rows, currents, headers, records_of_parts, rise}
-use Rattle.cvr_collect.proofs.law.parts.Goals as goal
+use Rattle.cvr_office.proofs.InParts.{rows, currents, headers, records_of_parts, rise}
+use Rattle.cvr_office.proofs.law.parts.Goals as goal
 
 pub returns : goal.returns
 returns c = record {

@@ -1,5 +1,5 @@
-use Rattle.cvr_collect.proofs.Ways.{reach}
-use Rattle.cvr_collect.proofs.law.reach.Goals as goal
+use Rattle.cvr_office.proofs.Ways.{reach}
+use Rattle.cvr_office.proofs.law.reach.Goals as goal
 
 pub returns : goal.returns
 returns c = reach

@@ -1,5 +1,5 @@
-use Rattle.cvr_collect.proofs.RowsOfKeys.{rows_law, ballots_law}
-use Rattle.cvr_collect.proofs.law.rows.Goals as goal
+use Rattle.cvr_office.proofs.RowsOfKeys.{rows_law, ballots_law}
+use Rattle.cvr_office.proofs.law.rows.Goals as goal
 
 pub returns : goal.returns
 returns c = record { rows = rows_law; ballots = ballots_law }

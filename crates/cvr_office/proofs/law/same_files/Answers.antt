@@ -1,5 +1,5 @@
-use Rattle.cvr_collect.proofs.NewOffices.{same_files_law, same_content, same_definition}
-use Rattle.cvr_collect.proofs.law.same_files.Goals as goal
+use Rattle.cvr_office.proofs.NewOffices.{same_files_law, same_content, same_definition}
+use Rattle.cvr_office.proofs.law.same_files.Goals as goal
 
 pub returns : goal.returns
 returns g c = record {

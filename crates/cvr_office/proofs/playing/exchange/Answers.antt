@@ -1,9 +1,9 @@
 use Rattle.std.proofs.Common.{◌≡◌, [], map, sym, subst}
-use Rattle.cvr_collect.specs.Outcomes.{contents_after}
-use Rattle.cvr_collect.specs.declared.event.Event.TheVariants.{Exchange}
-use Rattle.cvr_collect.specs.declared.event.Outcome.TheVariants.{Accepted}
-use Rattle.cvr_collect.proofs.Slots.{contents_after-itself}
-use Rattle.cvr_collect.proofs.playing.exchange.Goals as goal
+use Rattle.cvr_office.specs.Outcomes.{contents_after}
+use Rattle.cvr_office.specs.declared.event.Event.TheVariants.{Exchange}
+use Rattle.cvr_office.specs.declared.event.Outcome.TheVariants.{Accepted}
+use Rattle.cvr_office.proofs.Slots.{contents_after-itself}
+use Rattle.cvr_office.proofs.playing.exchange.Goals as goal
 
 pub returns-then-from-to-clause-contents : goal.returns-then-from-to-clause-contents
 returns-then-from-to-clause-contents g c =

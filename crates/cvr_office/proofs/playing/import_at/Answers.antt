@@ -1,7 +1,7 @@
 use Rattle.std.proofs.Common.{◌∙◌, refl, ap, sym, [], map}
 use Rattle.std.proofs.lemmas.List.{get_or-map}
-use Rattle.cvr_collect.proofs.Slots.{map-set_imported, map-set_alike}
-use Rattle.cvr_collect.proofs.playing.import_at.Goals as goal
+use Rattle.cvr_office.proofs.Slots.{map-set_imported, map-set_alike}
+use Rattle.cvr_office.proofs.playing.import_at.Goals as goal
 
 pub returns-clause-contents : goal.returns-clause-contents
 returns-clause-contents g c =

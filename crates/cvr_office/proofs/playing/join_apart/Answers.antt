@@ -1,6 +1,6 @@
 use Rattle.std.proofs.Common.{◌<◌, ◌∙◌, ap, length, map, arith}
-use Rattle.cvr_collect.proofs.Slots.{set-left, set-right, get_or-left, get_or-right, map-set_joined, map-set_alike}
-use Rattle.cvr_collect.proofs.playing.join_apart.Goals as goal
+use Rattle.cvr_office.proofs.Slots.{set-left, set-right, get_or-left, get_or-right, map-set_joined, map-set_alike}
+use Rattle.cvr_office.proofs.playing.join_apart.Goals as goal
 
 pub returns-then-from-to-clause-contents : goal.returns-then-from-to-clause-contents
 returns-then-from-to-clause-contents g c =

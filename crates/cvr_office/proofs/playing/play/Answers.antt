@@ -1,15 +1,15 @@
 use Rattle.std.proofs.Common.{◌≡◌, ◌<◌, ◌∙◌, ◌+◌, ◌∷◌, ℕ, List, [], ap, sym, subst, refl, length, map, get_or, take, arith}
 use Rattle.std.proofs.lemmas.List.{length-map, length-append, take_all}
 use Rattle.std.specs.FinSet.{empty}
-use Rattle.cvr_collect.specs.Reach.{content, history}
-use Rattle.cvr_collect.specs.Outcomes.{AreOutcomes, IsOutcome}
-use Rattle.cvr_collect.specs.Alike.{ArePlayed}
-use Rattle.cvr_collect.specs.declared.event.Event.TheVariants.{Import}
-use Rattle.cvr_collect.specs.declared.event.Outcome.{Outcome}
-use Rattle.cvr_collect.proofs.NewOffices.{same_files_law}
-use Rattle.cvr_collect.proofs.Reached.{content-none}
-use Rattle.cvr_collect.proofs.Turns.{content_turn, outcomes_turn}
-use Rattle.cvr_collect.proofs.playing.play.Goals as goal
+use Rattle.cvr_office.specs.Reach.{content, history}
+use Rattle.cvr_office.specs.Outcomes.{AreOutcomes, IsOutcome}
+use Rattle.cvr_office.specs.Alike.{ArePlayed}
+use Rattle.cvr_office.specs.declared.event.Event.TheVariants.{Import}
+use Rattle.cvr_office.specs.declared.event.Outcome.{Outcome}
+use Rattle.cvr_office.proofs.NewOffices.{same_files_law}
+use Rattle.cvr_office.proofs.Reached.{content-none}
+use Rattle.cvr_office.proofs.Turns.{content_turn, outcomes_turn}
+use Rattle.cvr_office.proofs.playing.play.Goals as goal
 
 pub loop-event-init : goal.loop-event-init
 loop-event-init g c = record {

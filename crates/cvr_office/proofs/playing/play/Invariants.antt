@@ -1,8 +1,8 @@
 use Rattle.std.proofs.Common.{◌≡◌, ◌<◌, ℕ, length, take, get_or, map, vec_len, vec_capacity}
 use Rattle.std.specs.FinSet.{empty}
-use Rattle.cvr_collect.specs.Reach.{content, history}
-use Rattle.cvr_collect.specs.Outcomes.{AreOutcomes}
-use Rattle.cvr_collect.proofs.playing.play.Given as goal
+use Rattle.cvr_office.specs.Reach.{content, history}
+use Rattle.cvr_office.specs.Outcomes.{AreOutcomes}
+use Rattle.cvr_office.proofs.playing.play.Given as goal
 
 abbrev pub invariant-loop-event : goal.invariant-loop-event
 invariant-loop-event g l =

@@ -1,10 +1,10 @@
 use Rattle.std.proofs.Common.{ℕ, List, Bor, map, inl, inr, refl, ap, ◌∙◌, subst}
 use Rattle.std.proofs.lemmas.List.{map-append, take_more}
-use Rattle.cvr_collect.specs.declared.record_facts.IdFacts.{IdFacts}
-use Rattle.cvr_collect.specs.Runs.{snapshots}
-use Rattle.cvr_collect.specs.Groups.{under, IsFalling}
-use Rattle.cvr_collect.proofs.ViewedLists.{pushed, pushed_cases}
-use Rattle.cvr_collect.proofs.record_lists.grouped.Goals as goal
+use Rattle.cvr_office.specs.declared.record_facts.IdFacts.{IdFacts}
+use Rattle.cvr_office.specs.Runs.{snapshots}
+use Rattle.cvr_office.specs.Groups.{under, IsFalling}
+use Rattle.cvr_office.proofs.ViewedLists.{pushed, pushed_cases}
+use Rattle.cvr_office.proofs.record_lists.grouped.Goals as goal
 
 pub loop-id-preserved : goal.loop-id-preserved
 loop-id-preserved c =

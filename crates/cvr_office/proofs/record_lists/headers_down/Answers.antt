@@ -2,11 +2,11 @@ use Rattle.std.proofs.Common.{Bor, map, refl, sym, ap, ◌∙◌}
 use Rattle.std.specs.Prelude.{reverse}
 use Rattle.std.proofs.lemmas.List.{take_all}
 use Rattle.cvr_facts.specs.declared.header.HeaderFact.{HeaderFact}
-use Rattle.cvr_collect.specs.Runs.{headers}
-use Rattle.cvr_collect.proofs.RunSteps.{header_taken, header_passed}
-use Rattle.cvr_collect.proofs.ViewedLists.{pushed, map-reverse}
-use Rattle.cvr_collect.proofs.record_lists.headers_down.Goals as goal
-use Rattle.cvr_collect.proofs.record_lists.headers_down.Goals.{in-Header+in_ok-push, in_default}
+use Rattle.cvr_office.specs.Runs.{headers}
+use Rattle.cvr_office.proofs.RunSteps.{header_taken, header_passed}
+use Rattle.cvr_office.proofs.ViewedLists.{pushed, map-reverse}
+use Rattle.cvr_office.proofs.record_lists.headers_down.Goals as goal
+use Rattle.cvr_office.proofs.record_lists.headers_down.Goals.{in-Header+in_ok-push, in_default}
 
 pub loop-fact-preserved : goal.loop-fact-preserved
 loop-fact-preserved c =

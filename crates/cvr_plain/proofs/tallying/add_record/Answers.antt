@@ -2,11 +2,11 @@ use Rattle.std.proofs.Common.{◌∙◌, refl, sym, ap, subst}
 use Rattle.std.specs.FinMap.{get}
 use Rattle.std.proofs.lemmas.Result.{on_ok_weaker}
 use Rattle.cvr_tally.specs.declared.key.RowKey.{RowKey}
-use Rattle.cvr_collect.specs.declared.any_fact.AnyFact.TheVariants as any
-use Rattle.cvr_collect.specs.Plain.{set_of}
-use Rattle.cvr_collect.specs.Adding.{AreSums, sums_for, row_with}
-use Rattle.cvr_collect.proofs.RowsOfKeys.{added_is, added-no_header, added-no_current}
-use Rattle.cvr_collect.proofs.tallying.add_record.Goals as goal
+use Rattle.cvr_office.specs.declared.any_fact.AnyFact.TheVariants as any
+use Rattle.cvr_office.specs.Plain.{set_of}
+use Rattle.cvr_office.specs.Adding.{AreSums, sums_for, row_with}
+use Rattle.cvr_office.proofs.Laws.{added_is, added-no_header, added-no_current}
+use Rattle.cvr_plain.proofs.tallying.add_record.Goals as goal
 
 pub header_in-requires-clause-spelled : goal.header_in-requires-clause-spelled
 header_in-requires-clause-spelled c = λ h at. c.requires.spelled (any.Header h) at

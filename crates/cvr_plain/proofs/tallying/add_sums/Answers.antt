@@ -1,6 +1,6 @@
 use Rattle.std.proofs.Common.{◌∙◌, refl, arith}
-use Rattle.cvr_collect.proofs.AddedSums.{none_added, all_added, step_place, step_long, step_open, step_room, step_added}
-use Rattle.cvr_collect.proofs.tallying.add_sums.Goals as goal
+use Rattle.cvr_plain.proofs.AddedSums.{none_added, all_added, step_place, step_long, step_open, step_room, step_added}
+use Rattle.cvr_plain.proofs.tallying.add_sums.Goals as goal
 
 pub loop-sums-init : goal.loop-sums-init
 loop-sums-init c = record {

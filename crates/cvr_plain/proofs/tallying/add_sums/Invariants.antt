@@ -1,6 +1,6 @@
 use Rattle.std.proofs.Common.{◌≡◌}
-use Rattle.cvr_collect.proofs.AddedSums.{AreAdded}
-use Rattle.cvr_collect.proofs.tallying.add_sums.Given as goal
+use Rattle.cvr_plain.proofs.AddedSums.{AreAdded}
+use Rattle.cvr_plain.proofs.tallying.add_sums.Given as goal
 
 abbrev pub invariant-loop-sums : goal.invariant-loop-sums
 invariant-loop-sums l = record {

@@ -1,10 +1,10 @@
 use Rattle.std.proofs.Common.{Some, ap, sym, subst, ◌∙◌}
 use Rattle.std.specs.FinMap.{get}
 use Rattle.std.specs.Option.{IfSome}
-use Rattle.cvr_collect.specs.Plain.{set_of}
-use Rattle.cvr_collect.specs.Tallied.{total_limit, IsBelow}
-use Rattle.cvr_collect.proofs.RowsOfKeys.{rows_law}
-use Rattle.cvr_collect.proofs.tallying.row_in.Goals as goal
+use Rattle.cvr_office.specs.Plain.{set_of}
+use Rattle.cvr_office.specs.Tallied.{total_limit, IsBelow}
+use Rattle.cvr_office.proofs.Laws.{rows_law}
+use Rattle.cvr_plain.proofs.tallying.row_in.Goals as goal
 
 pub returns-in-Some-clause-row : goal.returns-in-Some-clause-row
 returns-in-Some-clause-row c =

@@ -1,10 +1,10 @@
 use Rattle.std.proofs.Common.{◌∙◌, sym, ap, subst, arith, option_map}
 use Rattle.std.specs.FinMap.{get}
-use Rattle.cvr_collect.specs.Plain.{set_of, IsSpelled}
-use Rattle.cvr_collect.specs.Adding.{CurrentsAreSums, added, row_with}
-use Rattle.cvr_collect.proofs.CurrentSums.{currents_are_sums}
-use Rattle.cvr_collect.proofs.RecordWalk.{records-le, walk_begins, walk_shorter, walk_goes_on, walk_has_room, walk_ends, walk_below}
-use Rattle.cvr_collect.proofs.tallying.totals_in.Goals as goal
+use Rattle.cvr_office.specs.Plain.{set_of, IsSpelled}
+use Rattle.cvr_office.specs.Adding.{CurrentsAreSums, added, row_with}
+use Rattle.cvr_office.proofs.Laws.{currents_are_sums}
+use Rattle.cvr_plain.proofs.RecordWalk.{records-le, walk_begins, walk_shorter, walk_goes_on, walk_has_room, walk_ends, walk_below}
+use Rattle.cvr_plain.proofs.tallying.totals_in.Goals as goal
 
 pub loop-next-init : goal.loop-next-init
 loop-next-init c = record {

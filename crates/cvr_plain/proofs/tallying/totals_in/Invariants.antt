@@ -1,7 +1,7 @@
 use Rattle.std.proofs.Common.{◌≡◌, length, option_map}
-use Rattle.cvr_collect.specs.Plain.{set_of}
-use Rattle.cvr_collect.proofs.RecordWalk.{Walked, records_from}
-use Rattle.cvr_collect.proofs.tallying.totals_in.Given as goal
+use Rattle.cvr_office.specs.Plain.{set_of}
+use Rattle.cvr_plain.proofs.RecordWalk.{Walked, records_from}
+use Rattle.cvr_plain.proofs.tallying.totals_in.Given as goal
 
 abbrev pub invariant-loop-next : goal.invariant-loop-next
 invariant-loop-next l = record {

@@ -1,9 +1,9 @@
 use Rattle.std.proofs.Common.{◌≡◌, ◌++◌, Bor, List, ℕ, option_map, sym, ap, ◌∙◌, subst}
 use Rattle.serde_json.specs.Written.{comma_if}
-use Rattle.cvr_collect.specs.declared.conflict.ConflictName.TheVariants as name
-use Rattle.cvr_collect.specs.Names.{bodies_under}
+use Rattle.cvr_office.specs.declared.conflict.ConflictName.TheVariants as name
+use Rattle.cvr_office.specs.Names.{bodies_under}
 use Rattle.cvr_report.proofs.Picking.{shown_is}
-use Rattle.cvr_collect.specs.Readers.{device_list}
+use Rattle.cvr_office.specs.Readers.{device_list}
 use Rattle.cvr_report.specs.Page.{shown}
 use Rattle.cvr_report.specs.Writes.{Writes}
 use Rattle.cvr_report.proofs.Pieces.{some_prefix, writes, cut_short, goes_on}

@@ -1,7 +1,7 @@
 use Rattle.std.proofs.Common.{◌≡◌, ◌++◌, Bool, Bor, List, [], ℕ, Some, is_some, true, false, codes, refl, sym, ap, ◌∙◌, subst, append-nil}
 use Rattle.serde_json.specs.Written.{compact_text}
 use Rattle.cdf_types.specs.Device.{appended}
-use Rattle.cvr_collect.specs.Readers.{AreRecordFacts}
+use Rattle.cvr_office.specs.Readers.{AreRecordFacts}
 use Rattle.cvr_report.specs.Page.{stands, shown_record}
 use Rattle.cvr_report.specs.Volume.{record_data}
 use Rattle.cvr_report.specs.Writes.{Writes, record_piece}

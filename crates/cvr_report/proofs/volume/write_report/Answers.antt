@@ -1,6 +1,6 @@
 use Rattle.std.proofs.Common.{◌≡◌, ◌≢◌, ◌++◌, List, [], ℕ, false, sym, ap, ◌∙◌, subst}
 use Rattle.cdf_types.specs.Device.{appended}
-use Rattle.cvr_collect.specs.Names.{records, devices}
+use Rattle.cvr_office.specs.Names.{records, devices}
 use Rattle.cvr_report.specs.Record.{joined}
 use Rattle.cvr_report.specs.Writes.{WritesOrLess, list_text}
 use Rattle.cvr_report.specs.Pieces.{head_text, middle_text, end_text, record_texts, device_texts}

@@ -3,14 +3,14 @@ use Rattle.cdf_types.specs.Device.{appended}
 use Rattle.cvr_words.specs.Line.{named}
 use Rattle.cvr_words.specs.declared.request.Request.{Request}
 use Rattle.cvr_words.proofs.Laws.{one_request}
-use Rattle.cvr_cli.specs.Log.{Logs}
-use Rattle.cvr_cli.specs.Merge.{merge_lines}
-use Rattle.cvr_cli.specs.Opening.{AreAt}
-use Rattle.cvr_cli.specs.Outcome.{run_text, run_fault, any_refused}
-use Rattle.cvr_cli.specs.Told.{run_lines}
-use Rattle.cvr_cli.proofs.Unasked.{told_memory, not_asked, not_command_line}
-use Rattle.cvr_cli.proofs.Known.{not_done, not_refused}
-use Rattle.cvr_cli.proofs.answering.work.Goals as goal
+use Rattle.cvr_run.specs.Log.{Logs}
+use Rattle.cvr_run.specs.Merge.{merge_lines}
+use Rattle.cvr_run.specs.Opening.{AreAt}
+use Rattle.cvr_run.specs.Outcome.{run_text, run_fault, any_refused}
+use Rattle.cvr_run.specs.Told.{run_lines}
+use Rattle.cvr_run.proofs.Unasked.{told_memory, not_asked, not_command_line}
+use Rattle.cvr_run.proofs.Known.{not_done, not_refused}
+use Rattle.cvr_run.proofs.answering.work.Goals as goal
 
 pub returns-in-Ok : goal.returns-in-Ok
 returns-in-Ok g c =

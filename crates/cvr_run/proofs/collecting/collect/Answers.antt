@@ -1,12 +1,12 @@
 use Rattle.std.proofs.Common.{◌∙◌, ℕ, List, length, map, sym, ap, subst}
 use Rattle.std.specs.List.{list_any}
-use Rattle.cvr_cli.specs.Imported.{files_bytes}
-use Rattle.cvr_cli.specs.Refusals.{is_refusal, is_want, AreDue}
-use Rattle.cvr_cli.specs.Told.{file_dues, Tells}
-use Rattle.cvr_cli.proofs.Imports.{refused_some}
-use Rattle.cvr_cli.proofs.Outcomes.{path_texts}
-use Rattle.cvr_cli.proofs.Telling.{all_due}
-use Rattle.cvr_cli.proofs.collecting.collect.Goals as goal
+use Rattle.cvr_run.specs.Imported.{files_bytes}
+use Rattle.cvr_run.specs.Refusals.{is_refusal, is_want, AreDue}
+use Rattle.cvr_run.specs.Told.{file_dues, Tells}
+use Rattle.cvr_run.proofs.Imports.{refused_some}
+use Rattle.cvr_run.proofs.Outcomes.{path_texts}
+use Rattle.cvr_run.proofs.Telling.{all_due}
+use Rattle.cvr_run.proofs.collecting.collect.Goals as goal
 
 pub returns-clause-any_refusal : goal.returns-clause-any_refusal
 returns-clause-any_refusal g c = λ working.

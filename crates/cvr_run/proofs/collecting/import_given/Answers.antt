@@ -2,12 +2,12 @@ use Rattle.std.proofs.Common.{◌≡◌, ◌++◌, ◌∷◌, [], length, map, t
 use Rattle.std.proofs.lemmas.List.{length-map, nil_from_length, take_at}
 use Rattle.std.specs.FinSet.{empty}
 use Rattle.std.specs.Vec.Iter.{into_iter_items}
-use Rattle.cvr_collect.specs.Outcomes.{no_frame}
-use Rattle.cvr_cli.specs.Imported.{IsImported}
-use Rattle.cvr_cli.specs.Outcome.{bytes_of}
-use Rattle.cvr_cli.proofs.Imports.{get_or-one}
-use Rattle.cvr_cli.proofs.Turns.{IsMidway, midway_more, midway_last}
-use Rattle.cvr_cli.proofs.collecting.import_given.Goals as goal
+use Rattle.cvr_office.specs.Outcomes.{no_frame}
+use Rattle.cvr_run.specs.Imported.{IsImported}
+use Rattle.cvr_run.specs.Outcome.{bytes_of}
+use Rattle.cvr_run.proofs.Imports.{get_or-one}
+use Rattle.cvr_run.proofs.Turns.{IsMidway, midway_more, midway_last}
+use Rattle.cvr_run.proofs.collecting.import_given.Goals as goal
 
 pub loop-file-preserved : goal.loop-file-preserved
 loop-file-preserved g c =

@@ -1,9 +1,9 @@
 use Rattle.std.proofs.Common.{◌≡◌, ◌∷◌, [], map, get_or}
 use Rattle.std.specs.FinSet.{empty}
 use Rattle.std.specs.Vec.Iter.{into_iter_items}
-use Rattle.cvr_cli.specs.Outcome.{bytes_of}
-use Rattle.cvr_cli.proofs.Turns.{IsMidway}
-use Rattle.cvr_cli.proofs.collecting.import_given.Given as goal
+use Rattle.cvr_run.specs.Outcome.{bytes_of}
+use Rattle.cvr_run.proofs.Turns.{IsMidway}
+use Rattle.cvr_run.proofs.collecting.import_given.Given as goal
 
 -- the office has the definition, and took in the files before those that are left
 abbrev pub invariant-loop-file : goal.invariant-loop-file

@@ -1,13 +1,13 @@
 use Rattle.std.proofs.Common.{◌≡◌, ◌<◌, ◌∙◌, ℕ, [], ◌∷◌, length, get_or, map, sym, ap, subst, arith, rules}
 use Rattle.std.specs.FinSet.{empty}
 use Rattle.std.proofs.lemmas.List.{length-map}
-use Rattle.cvr_collect.specs.declared.event.Event.TheVariants.{Import, Exchange}
-use Rattle.cvr_collect.specs.Keeps.{starting}
-use Rattle.cvr_collect.specs.Reach.{content, history}
-use Rattle.cvr_collect.specs.Outcomes.{AreOutcomes}
-use Rattle.cvr_cli.specs.Outcome.{bytes_of}
-use Rattle.cvr_cli.proofs.Imports.{get_or-one, content_held, are_due}
-use Rattle.cvr_cli.proofs.collecting.import_lent.Goals as goal
+use Rattle.cvr_office.specs.declared.event.Event.TheVariants.{Import, Exchange}
+use Rattle.cvr_office.specs.Keeps.{starting}
+use Rattle.cvr_office.specs.Reach.{content, history}
+use Rattle.cvr_office.specs.Outcomes.{AreOutcomes}
+use Rattle.cvr_run.specs.Outcome.{bytes_of}
+use Rattle.cvr_run.proofs.Imports.{get_or-one, content_held, are_due}
+use Rattle.cvr_run.proofs.collecting.import_lent.Goals as goal
 
 pub returns : goal.returns
 returns g c =

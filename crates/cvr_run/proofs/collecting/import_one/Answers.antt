@@ -1,12 +1,12 @@
 use Rattle.std.proofs.Common.{◌≡◌, ◌<◌, ◌∙◌, [], ◌∷◌, length, get_or, map, ap, subst, arith}
 use Rattle.std.specs.FinSet.{empty}
 use Rattle.std.proofs.lemmas.List.{length-map}
-use Rattle.cvr_collect.specs.declared.event.Event.TheVariants.{Import}
-use Rattle.cvr_collect.specs.Reach.{content, history}
-use Rattle.cvr_collect.specs.Outcomes.{AreOutcomes}
-use Rattle.cvr_cli.specs.Outcome.{bytes_of}
-use Rattle.cvr_cli.proofs.Turns.{alone, one_imported}
-use Rattle.cvr_cli.proofs.collecting.import_one.Goals as goal
+use Rattle.cvr_office.specs.declared.event.Event.TheVariants.{Import}
+use Rattle.cvr_office.specs.Reach.{content, history}
+use Rattle.cvr_office.specs.Outcomes.{AreOutcomes}
+use Rattle.cvr_run.specs.Outcome.{bytes_of}
+use Rattle.cvr_run.proofs.Turns.{alone, one_imported}
+use Rattle.cvr_run.proofs.collecting.import_one.Goals as goal
 
 pub returns-clause-imported : goal.returns-clause-imported
 returns-clause-imported g c =

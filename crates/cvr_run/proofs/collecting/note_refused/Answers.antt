@@ -1,11 +1,11 @@
 use Rattle.std.proofs.Common.{◌≡◌, ◌+◌, ◌<◌, ◌∙◌, length, map, Some, None, option_map, sym, ap, subst, arith, rules, []}
 use Rattle.std.proofs.lemmas.List.{length-map, get_or-map}
-use Rattle.cvr_cli.specs.Refusals.{cause_in}
-use Rattle.cvr_cli.specs.Told.{Tells}
-use Rattle.cvr_cli.proofs.Outcomes.{due_where_told, none_where_not, refused_here, wanted_here, accepted_here, unwanted_here}
-use Rattle.cvr_cli.proofs.Telling.{tells_none, tells_noted, tells_accepted}
-use Rattle.cvr_cli.proofs.collecting.note_refused.Goals as goal
-use Rattle.cvr_cli.proofs.collecting.note_refused.Goals.{in-Some, in_default}
+use Rattle.cvr_run.specs.Refusals.{cause_in}
+use Rattle.cvr_run.specs.Told.{Tells}
+use Rattle.cvr_run.proofs.Outcomes.{due_where_told, none_where_not, refused_here, wanted_here, accepted_here, unwanted_here}
+use Rattle.cvr_run.proofs.Telling.{tells_none, tells_noted, tells_accepted}
+use Rattle.cvr_run.proofs.collecting.note_refused.Goals as goal
+use Rattle.cvr_run.proofs.collecting.note_refused.Goals.{in-Some, in_default}
 
 pub loop-place-init : goal.loop-place-init
 loop-place-init g c = record {

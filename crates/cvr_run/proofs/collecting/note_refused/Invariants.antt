@@ -1,8 +1,8 @@
 use Rattle.std.proofs.Common.{◌≡◌, List, map, take}
 use Rattle.std.specs.List.{list_any}
-use Rattle.cvr_cli.specs.Refusals.{Due, is_refusal, is_want, AreDue}
-use Rattle.cvr_cli.specs.Told.{Tells}
-use Rattle.cvr_cli.proofs.collecting.note_refused.Given as goal
+use Rattle.cvr_run.specs.Refusals.{Due, is_refusal, is_want, AreDue}
+use Rattle.cvr_run.specs.Told.{Tells}
+use Rattle.cvr_run.proofs.collecting.note_refused.Given as goal
 
 -- what the outcomes so far say, and what was told of them
 abbrev pub invariant-loop-place : goal.invariant-loop-place

@@ -1,7 +1,7 @@
 use Rattle.std.proofs.Common.{◌≡◌, ◌++◌, drop, string_bytes}
 use Rattle.std.specs.List.{flat_map}
-use Rattle.cvr_cli.specs.Currents.{conflict_line}
-use Rattle.cvr_cli.proofs.conflicts.push_conflicts.Given as goal
+use Rattle.cvr_run.specs.Currents.{conflict_line}
+use Rattle.cvr_run.proofs.conflicts.push_conflicts.Given as goal
 
 -- the text so far and the lines of the conflicts that are left
 abbrev pub invariant-loop-conflict : goal.invariant-loop-conflict

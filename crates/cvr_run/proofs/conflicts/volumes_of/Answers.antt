@@ -3,9 +3,9 @@ use Rattle.std.specs.List.{reduce}
 use Rattle.std.proofs.lemmas.Iterator.{YieldsList-from_slice, YieldsList-from_map}
 use Rattle.std.proofs.lemmas.Iterator.Consumers.{max_from_yields_List}
 use Rattle.std.proofs.lemmas.Iterator.Adapters.{option_map_id}
-use Rattle.cvr_collect.specs.declared.conflict.Conflict.{Conflict}
-use Rattle.cvr_cli.proofs.Most.{reduce-max}
-use Rattle.cvr_cli.proofs.conflicts.volumes_of.Goals as goal
+use Rattle.cvr_office.specs.declared.conflict.Conflict.{Conflict}
+use Rattle.cvr_run.proofs.Most.{reduce-max}
+use Rattle.cvr_run.proofs.conflicts.volumes_of.Goals as goal
 
 pub returns : goal.returns
 returns c =

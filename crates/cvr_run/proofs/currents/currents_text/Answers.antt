@@ -1,6 +1,6 @@
 use Rattle.std.proofs.Common.{◌++◌, Some, None, option_map, ap, ◌∙◌}
-use Rattle.cvr_cli.proofs.CurrentLines.{lines_from, lines_from-first, next_record_listed, fewer_from, line_more}
-use Rattle.cvr_cli.proofs.currents.currents_text.Goals as goal
+use Rattle.cvr_run.proofs.CurrentLines.{lines_from, lines_from-first, next_record_listed, fewer_from, line_more}
+use Rattle.cvr_run.proofs.currents.currents_text.Goals as goal
 
 pub loop-next-init : goal.loop-next-init
 loop-next-init g c =

@@ -1,8 +1,8 @@
 use Rattle.std.proofs.Common.{◌≡◌, ◌++◌, IfSome, Contains, length, option_map, string_bytes}
-use Rattle.cvr_collect.specs.Names.{records}
-use Rattle.cvr_cli.specs.Currents.{currents}
-use Rattle.cvr_cli.proofs.CurrentLines.{records_from, lines_from}
-use Rattle.cvr_cli.proofs.currents.currents_text.Given as goal
+use Rattle.cvr_office.specs.Names.{records}
+use Rattle.cvr_run.specs.Currents.{currents}
+use Rattle.cvr_run.proofs.CurrentLines.{records_from, lines_from}
+use Rattle.cvr_run.proofs.currents.currents_text.Given as goal
 
 -- the text so far and the lines from the next record on, which is one of the office's
 abbrev pub invariant-loop-next : goal.invariant-loop-next

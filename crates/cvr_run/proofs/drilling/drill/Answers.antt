@@ -2,16 +2,16 @@ use Rattle.std.proofs.Common.{◌≡◌, ◌++◌, ◌∙◌, false, take, drop,
 use Rattle.std.specs.Prelude.{replicate}
 use Rattle.std.specs.List.{list_any}
 use Rattle.std.proofs.lemmas.List.{length-map, length-replicate, take_at}
-use Rattle.cvr_collect.specs.Reach.{content, history}
-use Rattle.cvr_collect.specs.Outcomes.{AreOutcomes}
+use Rattle.cvr_office.specs.Reach.{content, history}
+use Rattle.cvr_office.specs.Outcomes.{AreOutcomes}
 use Rattle.cvr_words.specs.declared.request.Step.{Step}
-use Rattle.cvr_cli.specs.Drill.{event_of, events_of, new_offices, step_texts, step_dues}
-use Rattle.cvr_cli.specs.Outcome.{bytes_of}
-use Rattle.cvr_cli.specs.Refusals.{is_refusal, is_want, AreDue}
-use Rattle.cvr_cli.specs.Told.{Tells}
-use Rattle.cvr_cli.proofs.SameOffices.{of_one}
-use Rattle.cvr_cli.proofs.Steps.{steps_due, drill_refused_is, drilled_is}
-use Rattle.cvr_cli.proofs.drilling.drill.Goals as goal
+use Rattle.cvr_run.specs.Drill.{event_of, events_of, new_offices, step_texts, step_dues}
+use Rattle.cvr_run.specs.Outcome.{bytes_of}
+use Rattle.cvr_run.specs.Refusals.{is_refusal, is_want, AreDue}
+use Rattle.cvr_run.specs.Told.{Tells}
+use Rattle.cvr_run.proofs.SameOffices.{of_one}
+use Rattle.cvr_run.proofs.Steps.{steps_due, drill_refused_is, drilled_is}
+use Rattle.cvr_run.proofs.drilling.drill.Goals as goal
 
 pub returns : goal.returns
 returns g c =

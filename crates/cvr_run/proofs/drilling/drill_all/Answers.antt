@@ -1,9 +1,9 @@
 use Rattle.std.proofs.Common.{false, length, sym}
 use Rattle.std.proofs.lemmas.List.{length-map}
-use Rattle.cvr_cli.specs.Drill.{step_texts, step_due, step_dues}
-use Rattle.cvr_cli.specs.Outcome.{bytes_of}
-use Rattle.cvr_cli.proofs.Telling.{lacks}
-use Rattle.cvr_cli.proofs.drilling.drill_all.Goals as goal
+use Rattle.cvr_run.specs.Drill.{step_texts, step_due, step_dues}
+use Rattle.cvr_run.specs.Outcome.{bytes_of}
+use Rattle.cvr_run.proofs.Telling.{lacks}
+use Rattle.cvr_run.proofs.drilling.drill_all.Goals as goal
 
 pub returns-then-refusals-clause-cut_short : goal.returns-then-refusals-clause-cut_short
 returns-then-refusals-clause-cut_short g c = λ fault.

@@ -1,6 +1,6 @@
 use Rattle.std.proofs.Common.{◌≡◌, ◌++◌, drop}
-use Rattle.cvr_cli.specs.Drill.{events_of}
-use Rattle.cvr_cli.proofs.drilling.events_of.Given as goal
+use Rattle.cvr_run.specs.Drill.{events_of}
+use Rattle.cvr_run.proofs.drilling.events_of.Given as goal
 
 -- the events so far and those of the steps that are left
 abbrev pub invariant-loop-step : goal.invariant-loop-step

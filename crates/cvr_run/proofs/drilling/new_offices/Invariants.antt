@@ -1,7 +1,7 @@
 use Rattle.std.proofs.Common.{◌≡◌, ◌≤◌, ◌-◌, map}
 use Rattle.std.specs.Prelude.{replicate}
-use Rattle.cvr_cli.specs.Drill.{new_offices}
-use Rattle.cvr_cli.proofs.drilling.new_offices.Given as goal
+use Rattle.cvr_run.specs.Drill.{new_offices}
+use Rattle.cvr_run.proofs.drilling.new_offices.Given as goal
 
 abbrev pub invariant-offices : goal.invariant-offices
 invariant-offices g l = record {

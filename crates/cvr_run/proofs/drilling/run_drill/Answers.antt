@@ -1,13 +1,13 @@
 use Rattle.std.proofs.Common.{◌≡◌, false, None, length, sym, rules}
 use Rattle.std.proofs.lemmas.List.{length-map}
-use Rattle.cvr_cli.specs.declared.status.Status.TheVariants.{Memory}
-use Rattle.cvr_cli.specs.Drill.{step_texts, step_due, step_dues, drill_text, drill_refused}
-use Rattle.cvr_cli.specs.Outcome.{bytes_of}
-use Rattle.cvr_cli.specs.Printing.{Prints}
-use Rattle.cvr_cli.proofs.Endings.{ends_in_memory}
-use Rattle.cvr_cli.proofs.Printed.{ends_after, tells_after}
-use Rattle.cvr_cli.proofs.Telling.{wanted_unprinted}
-use Rattle.cvr_cli.proofs.drilling.run_drill.Goals as goal
+use Rattle.cvr_run.specs.declared.status.Status.TheVariants.{Memory}
+use Rattle.cvr_run.specs.Drill.{step_texts, step_due, step_dues, drill_text, drill_refused}
+use Rattle.cvr_run.specs.Outcome.{bytes_of}
+use Rattle.cvr_run.specs.Printing.{Prints}
+use Rattle.cvr_run.proofs.Endings.{ends_in_memory}
+use Rattle.cvr_run.proofs.Printed.{ends_after, tells_after}
+use Rattle.cvr_run.proofs.Telling.{wanted_unprinted}
+use Rattle.cvr_run.proofs.drilling.run_drill.Goals as goal
 
 pub returns-in-Ok-clause-ends : goal.returns-in-Ok-clause-ends
 returns-in-Ok-clause-ends g c =

@@ -4,13 +4,13 @@ use Rattle.std.specs.Fmt.{digits}
 use Rattle.std.specs.FinSet.{from_list}
 use Rattle.jiff.proofs.OnLiterals.{jiff_on_literals}
 use Rattle.cvr_facts.specs.Facts.{fact_cmp}
-use Rattle.cvr_collect.proofs.Lemmas.{conflicts-given}
+use Rattle.cvr_office.proofs.Lemmas.{conflicts-given}
 use Rattle.cvr_report.specs.Page.{volumes}
-use Rattle.cvr_cli.specs.Currents.{volumes_of}
-use Rattle.cvr_cli.specs.Examples.{with_devices, several_bodies, at_eight}
-use Rattle.cvr_cli.proofs.GivenMerges.{fault_with}
-use Rattle.cvr_cli.proofs.Last.{volumes_of-conflicts}
-use Rattle.cvr_cli.proofs.examples.merges.Goals as goal
+use Rattle.cvr_run.specs.Currents.{volumes_of}
+use Rattle.cvr_run.specs.Examples.{with_devices, several_bodies, at_eight}
+use Rattle.cvr_run.proofs.GivenMerges.{fault_with}
+use Rattle.cvr_run.proofs.Last.{volumes_of-conflicts}
+use Rattle.cvr_run.proofs.examples.merges.Goals as goal
 
 pub returns : goal.returns
 unfolding jiff_on_literals digits

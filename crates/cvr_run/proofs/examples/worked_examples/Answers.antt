@@ -2,13 +2,13 @@ use Rattle.std.proofs.Common.{ap, ◌∙◌, refl}
 use Rattle.std.specs.Fmt.{digits}
 use Rattle.serde_json.proofs.OnLiterals.{serde_json_on_literals}
 use Rattle.jiff.proofs.OnLiterals.{jiff_on_literals}
-use Rattle.cvr_collect.specs.Examples.{contests}
-use Rattle.cvr_collect.proofs.Lemmas.{conflicts-given, tally-given}
-use Rattle.cvr_cli.specs.Currents.{conflict_text}
-use Rattle.cvr_cli.specs.Examples.{of_five, several_bodies, one_body_each, ten_offices}
-use Rattle.cvr_cli.proofs.GivenOffices.{offices-given}
-use Rattle.cvr_cli.proofs.GivenTexts.{currents-given}
-use Rattle.cvr_cli.proofs.examples.worked_examples.Goals as goal
+use Rattle.cvr_office.specs.Examples.{contests}
+use Rattle.cvr_office.proofs.Lemmas.{conflicts-given, tally-given}
+use Rattle.cvr_run.specs.Currents.{conflict_text}
+use Rattle.cvr_run.specs.Examples.{of_five, several_bodies, one_body_each, ten_offices}
+use Rattle.cvr_run.proofs.GivenOffices.{offices-given}
+use Rattle.cvr_run.proofs.GivenTexts.{currents-given}
+use Rattle.cvr_run.proofs.examples.worked_examples.Goals as goal
 
 pub returns : goal.returns
 unfolding serde_json_on_literals jiff_on_literals digits

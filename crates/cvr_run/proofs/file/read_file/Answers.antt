@@ -1,6 +1,6 @@
 use Rattle.std.proofs.Common.{arith}
-use Rattle.cvr_cli.proofs.Files.{read_to_end, read_most, left_at_end, left_behind}
-use Rattle.cvr_cli.proofs.file.read_file.Goals as goal
+use Rattle.cvr_run.proofs.Files.{read_to_end, read_most, left_at_end, left_behind}
+use Rattle.cvr_run.proofs.file.read_file.Goals as goal
 
 pub returns-then-count-eq0-clause-bytes : goal.returns-then-count-eq0-clause-bytes
 returns-then-count-eq0-clause-bytes g c =

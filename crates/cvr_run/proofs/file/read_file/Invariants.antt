@@ -1,5 +1,5 @@
 use Rattle.std.proofs.Common.{◌≡◌, ◌≤◌, ◌-◌, List, ◌++◌, ℕ, Some, false, IfSome, length, vec_len}
-use Rattle.cvr_cli.proofs.file.read_file.Given as goal
+use Rattle.cvr_run.proofs.file.read_file.Given as goal
 
 abbrev pub invariant-reads : goal.invariant-reads
 invariant-reads g l = record {

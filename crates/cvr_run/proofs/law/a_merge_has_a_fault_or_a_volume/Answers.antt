@@ -1,5 +1,5 @@
-use Rattle.cvr_cli.proofs.Merging.{whole_volume, not_empty, no_text, number}
-use Rattle.cvr_cli.proofs.law.a_merge_has_a_fault_or_a_volume.Goals as goal
+use Rattle.cvr_run.proofs.Merging.{whole_volume, not_empty, no_text, number}
+use Rattle.cvr_run.proofs.law.a_merge_has_a_fault_or_a_volume.Goals as goal
 
 pub returns : goal.returns
 returns c = record {

@@ -1,5 +1,5 @@
-use Rattle.cvr_cli.proofs.HeldBytes.{held_text, held_lines, held_fault, held_refused}
-use Rattle.cvr_cli.proofs.law.held_bytes_are_enough.Goals as goal
+use Rattle.cvr_run.proofs.HeldBytes.{held_text, held_lines, held_fault, held_refused}
+use Rattle.cvr_run.proofs.law.held_bytes_are_enough.Goals as goal
 
 pub returns : goal.returns
 returns c = record {

@@ -1,10 +1,10 @@
 use Rattle.std.proofs.Common.{ap}
-use Rattle.cvr_collect.specs.Names.{conflicts}
-use Rattle.cvr_collect.specs.Tallied.{tally}
-use Rattle.cvr_cli.specs.Currents.{currents}
-use Rattle.cvr_cli.specs.Merge.{merge_fault, merge_text}
-use Rattle.cvr_cli.proofs.Members.{same_held, by_bytes}
-use Rattle.cvr_cli.proofs.law.order_and_repeats_change_nothing.Goals as goal
+use Rattle.cvr_office.specs.Names.{conflicts}
+use Rattle.cvr_office.specs.Tallied.{tally}
+use Rattle.cvr_run.specs.Currents.{currents}
+use Rattle.cvr_run.specs.Merge.{merge_fault, merge_text}
+use Rattle.cvr_run.proofs.Members.{same_held, by_bytes}
+use Rattle.cvr_run.proofs.law.order_and_repeats_change_nothing.Goals as goal
 
 pub returns : goal.returns
 returns c = record {

@@ -1,6 +1,6 @@
 use Rattle.std.proofs.Common.{sym, ◌∙◌}
-use Rattle.cvr_cli.proofs.Pieces.{next_piece, proper_prefix, front_of_piece, piece_taken, failed_works, where_err, where_ok}
-use Rattle.cvr_cli.proofs.log.say.Goals as goal
+use Rattle.cvr_run.proofs.Pieces.{next_piece, proper_prefix, front_of_piece, piece_taken, failed_works, where_err, where_ok}
+use Rattle.cvr_run.proofs.log.say.Goals as goal
 
 -- the log failed at this piece
 pub returns-then-is_err : goal.returns-then-is_err

@@ -1,7 +1,7 @@
 use Rattle.std.proofs.Common.{◌≡◌, ℕ, List, ◌++◌, drop, false}
 use Rattle.std.specs.List.{flat_map}
 use Rattle.cdf_types.specs.Device.{appended}
-use Rattle.cvr_cli.proofs.log.say.Given as goal
+use Rattle.cvr_run.proofs.log.say.Given as goal
 
 -- what was taken and the pieces to come are the line
 abbrev pub invariant-loop-piece : goal.invariant-loop-piece

@@ -1,6 +1,6 @@
 use Rattle.std.proofs.Common.{◌≡◌, drop}
-use Rattle.cvr_cli.specs.MemoryFiles.{found_at, can_fail_at}
-use Rattle.cvr_cli.proofs.memory_files.find.Given as goal
+use Rattle.cvr_run.specs.MemoryFiles.{found_at, can_fail_at}
+use Rattle.cvr_run.proofs.memory_files.find.Given as goal
 
 -- the file is one of those that are left
 abbrev pub invariant-loop-file : goal.invariant-loop-file

@@ -1,7 +1,7 @@
 use Rattle.std.proofs.Common.{arith, subst}
 use Rattle.cvr_report.specs.Head.{IsHead, IsFault}
-use Rattle.cvr_cli.proofs.Merging.{no_heading, volume_printed}
-use Rattle.cvr_cli.proofs.merge.print_volume.Goals as goal
+use Rattle.cvr_run.proofs.Merging.{no_heading, volume_printed}
+use Rattle.cvr_run.proofs.merge.print_volume.Goals as goal
 
 pub returns-in_err-heading : goal.returns-in_err-heading
 returns-in_err-heading g c =

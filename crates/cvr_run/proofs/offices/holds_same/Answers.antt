@@ -1,5 +1,5 @@
-use Rattle.cvr_cli.proofs.SameOffices.{same_is}
-use Rattle.cvr_cli.proofs.offices.holds_same.Goals as goal
+use Rattle.cvr_run.proofs.SameOffices.{same_is}
+use Rattle.cvr_run.proofs.offices.holds_same.Goals as goal
 
 pub returns : goal.returns
 returns g c =

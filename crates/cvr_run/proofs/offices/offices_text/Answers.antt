@@ -1,9 +1,9 @@
 use Rattle.std.proofs.Common.{◌<◌, ◌≤◌, ◌+◌, ◌++◌, ◌∙◌, length, map, drop, string_bytes, sym, ap, append_assoc, append-nil, arith}
 use Rattle.std.specs.List.{flat_map, range_with_len}
 use Rattle.std.proofs.lemmas.List.{length-map}
-use Rattle.cvr_cli.specs.Drill.{office_line}
-use Rattle.cvr_cli.proofs.SameOffices.{line_more, lines_end}
-use Rattle.cvr_cli.proofs.offices.offices_text.Goals as goal
+use Rattle.cvr_run.specs.Drill.{office_line}
+use Rattle.cvr_run.proofs.SameOffices.{line_more, lines_end}
+use Rattle.cvr_run.proofs.offices.offices_text.Goals as goal
 
 pub loop-place-preserved : goal.loop-place-preserved
 loop-place-preserved g c =

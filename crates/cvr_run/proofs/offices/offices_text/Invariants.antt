@@ -1,7 +1,7 @@
 use Rattle.std.proofs.Common.{◌≡◌, ◌++◌, map, length, drop, string_bytes}
 use Rattle.std.specs.List.{flat_map, range_with_len}
-use Rattle.cvr_cli.specs.Drill.{office_line, office_lines}
-use Rattle.cvr_cli.proofs.offices.offices_text.Given as goal
+use Rattle.cvr_run.specs.Drill.{office_line, office_lines}
+use Rattle.cvr_run.proofs.offices.offices_text.Given as goal
 
 -- the lines so far and those that are left
 abbrev pub invariant-loop-place : goal.invariant-loop-place

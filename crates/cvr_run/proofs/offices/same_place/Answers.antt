@@ -2,10 +2,10 @@ use Rattle.std.proofs.Common.{◌≡◌, ◌<◌, ◌∙◌, true, false, length
 use Rattle.std.specs.FinSet.{empty}
 use Rattle.std.specs.List.{position_or_len}
 use Rattle.std.proofs.lemmas.List.{length-map, get_or-map}
-use Rattle.cvr_collect.specs.Outcomes.{no_frame}
-use Rattle.cvr_cli.specs.Drill.{are_same}
-use Rattle.cvr_cli.proofs.SameOffices.{same_itself, first_here, first_later}
-use Rattle.cvr_cli.proofs.offices.same_place.Goals as goal
+use Rattle.cvr_office.specs.Outcomes.{no_frame}
+use Rattle.cvr_run.specs.Drill.{are_same}
+use Rattle.cvr_run.proofs.SameOffices.{same_itself, first_here, first_later}
+use Rattle.cvr_run.proofs.offices.same_place.Goals as goal
 
 pub holds_same-requires : goal.holds_same-requires
 holds_same-requires g c =

@@ -1,8 +1,8 @@
 use Rattle.std.proofs.Common.{◌≡◌, ◌+◌, map, get_or, drop}
 use Rattle.std.specs.FinSet.{empty}
 use Rattle.std.specs.List.{position_or_len}
-use Rattle.cvr_cli.specs.Drill.{are_same}
-use Rattle.cvr_cli.proofs.offices.same_place.Given as goal
+use Rattle.cvr_run.specs.Drill.{are_same}
+use Rattle.cvr_run.proofs.offices.same_place.Given as goal
 
 -- it is none of those so far
 abbrev pub invariant-loop-other : goal.invariant-loop-other

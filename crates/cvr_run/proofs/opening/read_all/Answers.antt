@@ -1,12 +1,12 @@
 use Rattle.std.proofs.Common.{◌≡◌, ◌+◌, ◌++◌, ◌∙◌, [], ◌∷◌, length, take, refl, sym, ap, subst, rules}
 use Rattle.std.proofs.lemmas.List.{get_or_default, length_push}
-use Rattle.cvr_cli.specs.Log.{memory_line, Logs}
-use Rattle.cvr_cli.specs.declared.status.Status.TheVariants.{Memory as NoMemory}
-use Rattle.cvr_cli.specs.Opening.{AreRead}
-use Rattle.cvr_cli.specs.Outcome.{bytes_of}
-use Rattle.cvr_cli.specs.Worked.{unread_status, unread_line, Stops}
-use Rattle.cvr_cli.proofs.Opened.{at_err, read_one_more, stops_at, stops_full}
-use Rattle.cvr_cli.proofs.opening.read_all.Goals as goal
+use Rattle.cvr_run.specs.Log.{memory_line, Logs}
+use Rattle.cvr_run.specs.declared.status.Status.TheVariants.{Memory as NoMemory}
+use Rattle.cvr_run.specs.Opening.{AreRead}
+use Rattle.cvr_run.specs.Outcome.{bytes_of}
+use Rattle.cvr_run.specs.Worked.{unread_status, unread_line, Stops}
+use Rattle.cvr_run.proofs.Opened.{at_err, read_one_more, stops_at, stops_full}
+use Rattle.cvr_run.proofs.opening.read_all.Goals as goal
 
 pub returns-in_err-file-clause-stops : goal.returns-in_err-file-clause-stops
 returns-in_err-file-clause-stops g c =

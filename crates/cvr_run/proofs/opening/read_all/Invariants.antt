@@ -1,7 +1,7 @@
 use Rattle.std.proofs.Common.{◌≡◌, length, take}
-use Rattle.cvr_cli.specs.Opening.{AreRead}
-use Rattle.cvr_cli.specs.Outcome.{bytes_of}
-use Rattle.cvr_cli.proofs.opening.read_all.Given as goal
+use Rattle.cvr_run.specs.Opening.{AreRead}
+use Rattle.cvr_run.specs.Outcome.{bytes_of}
+use Rattle.cvr_run.proofs.opening.read_all.Given as goal
 
 -- the files of the paths so far, with nothing told
 abbrev pub invariant-loop-path : goal.invariant-loop-path

@@ -5,10 +5,10 @@ use Rattle.jiff.proofs.OnLiterals.{jiff_on_literals}
 use Rattle.cdf_definition.specs.Acceptance.{frame_in}
 use Rattle.cdf_check.specs.Rows as file
 use Rattle.cdf_check.proofs.Lemmas.{ascii_refusal}
-use Rattle.cvr_cli.specs.Rows as row
-use Rattle.cvr_cli.proofs.GivenDrills.{value-ascii}
-use Rattle.cvr_cli.proofs.GivenValues.{same_values}
-use Rattle.cvr_cli.proofs.rows.files_of_one_value.Goals as goal
+use Rattle.cvr_run.specs.Rows as row
+use Rattle.cvr_run.proofs.GivenDrills.{value-ascii}
+use Rattle.cvr_run.proofs.GivenValues.{same_values}
+use Rattle.cvr_run.proofs.rows.files_of_one_value.Goals as goal
 
 pub returns : goal.returns
 unfolding serde_json_on_literals jiff_on_literals digits

@@ -5,9 +5,9 @@ use Rattle.serde_json.proofs.OnLiterals.{serde_json_on_literals}
 use Rattle.jiff.proofs.OnLiterals.{jiff_on_literals}
 use Rattle.cdf_check.specs.Rows as file
 use Rattle.cdf_check.proofs.Lemmas.{ascii_unsound, ascii_refusal}
-use Rattle.cvr_cli.specs.Rows as row
-use Rattle.cvr_cli.proofs.GivenChecks.{check-given}
-use Rattle.cvr_cli.proofs.rows.lines_of_check.Goals as goal
+use Rattle.cvr_run.specs.Rows as row
+use Rattle.cvr_run.proofs.GivenChecks.{check-given}
+use Rattle.cvr_run.proofs.rows.lines_of_check.Goals as goal
 
 pub returns : goal.returns
 unfolding serde_json_on_literals jiff_on_literals digits

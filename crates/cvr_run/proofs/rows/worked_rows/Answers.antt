@@ -9,10 +9,10 @@ use Rattle.cdf_types.specs.declared.rule.Rule.TheVariants.{Missing}
 use Rattle.cdf_definition.specs.Acceptance.{frame_in}
 use Rattle.cdf_check.specs.Rows as file
 use Rattle.cdf_check.proofs.Lemmas.{ascii_unsound, ascii_refusal}
-use Rattle.cvr_cli.specs.Rows as row
-use Rattle.cvr_cli.proofs.GivenDrills.{three_devices, of_one_file, with_second, second-given, starts-given, facts-given, drill-given, run-given}
-use Rattle.cvr_cli.proofs.ToldRows.{told_of_definition, told_of_one, told_of_three, told_of_drill, due_by, due_is, first_of}
-use Rattle.cvr_cli.proofs.rows.worked_rows.Goals as goal
+use Rattle.cvr_run.specs.Rows as row
+use Rattle.cvr_run.proofs.GivenDrills.{three_devices, of_one_file, with_second, second-given, starts-given, facts-given, drill-given, run-given}
+use Rattle.cvr_run.proofs.ToldRows.{told_of_definition, told_of_one, told_of_three, told_of_drill, due_by, due_is, first_of}
+use Rattle.cvr_run.proofs.rows.worked_rows.Goals as goal
 
 pub returns : goal.returns
 unfolding serde_json_on_literals jiff_on_literals digits escape_byte

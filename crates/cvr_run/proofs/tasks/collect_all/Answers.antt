@@ -1,8 +1,8 @@
 use Rattle.std.proofs.Common.{false, length}
-use Rattle.cvr_cli.specs.Imported.{files_bytes}
-use Rattle.cvr_cli.specs.Told.{file_dues}
-use Rattle.cvr_cli.proofs.Telling.{lacks, all_due}
-use Rattle.cvr_cli.proofs.tasks.collect_all.Goals as goal
+use Rattle.cvr_run.specs.Imported.{files_bytes}
+use Rattle.cvr_run.specs.Told.{file_dues}
+use Rattle.cvr_run.proofs.Telling.{lacks, all_due}
+use Rattle.cvr_run.proofs.tasks.collect_all.Goals as goal
 
 pub returns-then-refusals-clause-cut_short : goal.returns-then-refusals-clause-cut_short
 returns-then-refusals-clause-cut_short g c = λ fault.

@@ -2,14 +2,14 @@ use Rattle.std.proofs.Common.{◌<◌, ◌+◌, ◌∙◌, [], length, Some, opt
 use Rattle.std.proofs.lemmas.Grind.{common_steps}
 use Rattle.std.proofs.lemmas.List.{get_or_default}
 use Rattle.cdf_definition.specs.Acceptance.{first_refusal}
-use Rattle.cvr_cli.specs.declared.refusals.Refusals.{Refusals}
-use Rattle.cvr_collect.specs.declared.event.Cause.TheVariants.{Read}
-use Rattle.cvr_cli.specs.Outcome.{bytes_of}
-use Rattle.cvr_cli.specs.Refusals.{file_due, IsDue}
-use Rattle.cvr_cli.specs.Told.{file_dues, Tells}
-use Rattle.cvr_cli.proofs.Telling.{on_err, tells_none, tells_noted, tells_accepted, read_due, due_at, dues_count}
-use Rattle.cvr_cli.proofs.tasks.count_files.Goals as goal
-use Rattle.cvr_cli.proofs.tasks.count_files.Goals.{in-Ok+then-not-refusals+in_ok-push_count-in-Ok, in-Ok+else-not-refusals, in-Err}
+use Rattle.cvr_run.specs.declared.refusals.Refusals.{Refusals}
+use Rattle.cvr_office.specs.declared.event.Cause.TheVariants.{Read}
+use Rattle.cvr_run.specs.Outcome.{bytes_of}
+use Rattle.cvr_run.specs.Refusals.{file_due, IsDue}
+use Rattle.cvr_run.specs.Told.{file_dues, Tells}
+use Rattle.cvr_run.proofs.Telling.{on_err, tells_none, tells_noted, tells_accepted, read_due, due_at, dues_count}
+use Rattle.cvr_run.proofs.tasks.count_files.Goals as goal
+use Rattle.cvr_run.proofs.tasks.count_files.Goals.{in-Ok+then-not-refusals+in_ok-push_count-in-Ok, in-Ok+else-not-refusals, in-Err}
 
 pub loop-place-init : goal.loop-place-init
 loop-place-init g c = record {

@@ -1,9 +1,9 @@
 use Rattle.std.proofs.Common.{◌≡◌, ◌++◌, ◌||◌, drop, false, string_bytes}
 use Rattle.std.specs.List.{list_any}
-use Rattle.cvr_cli.specs.Accepted.{is_refused}
-use Rattle.cvr_cli.specs.Outcome.{bytes_of, check_lines}
-use Rattle.cvr_cli.specs.Told.{file_dues, Tells}
-use Rattle.cvr_cli.proofs.tasks.count_files.Given as goal
+use Rattle.cvr_run.specs.Accepted.{is_refused}
+use Rattle.cvr_run.specs.Outcome.{bytes_of, check_lines}
+use Rattle.cvr_run.specs.Told.{file_dues, Tells}
+use Rattle.cvr_run.proofs.tasks.count_files.Given as goal
 
 -- unless a file is lacking: what was refused so far and what will be, and the lines so far and those to come
 abbrev pub invariant-loop-place : goal.invariant-loop-place

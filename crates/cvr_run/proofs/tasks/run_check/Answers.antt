@@ -1,12 +1,12 @@
 use Rattle.std.proofs.Common.{◌≡◌, true, None, refl, length, rules, subst}
 use Rattle.std.specs.List.{list_any}
-use Rattle.cvr_cli.specs.Accepted.{is_refused}
-use Rattle.cvr_cli.specs.Outcome.{check_lines, bytes_of}
-use Rattle.cvr_cli.specs.Printing.{Prints}
-use Rattle.cvr_cli.specs.Told.{file_dues}
-use Rattle.cvr_cli.proofs.Printed.{ends_after, tells_whole, by_device}
-use Rattle.cvr_cli.proofs.Telling.{lacks, wanted, cut_by_memory, dues_count}
-use Rattle.cvr_cli.proofs.tasks.run_check.Goals as goal
+use Rattle.cvr_run.specs.Accepted.{is_refused}
+use Rattle.cvr_run.specs.Outcome.{check_lines, bytes_of}
+use Rattle.cvr_run.specs.Printing.{Prints}
+use Rattle.cvr_run.specs.Told.{file_dues}
+use Rattle.cvr_run.proofs.Printed.{ends_after, tells_whole, by_device}
+use Rattle.cvr_run.proofs.Telling.{lacks, wanted, cut_by_memory, dues_count}
+use Rattle.cvr_run.proofs.tasks.run_check.Goals as goal
 
 pub returns-then-refusals-clause-log : goal.returns-then-refusals-clause-log
 returns-then-refusals-clause-log g c =

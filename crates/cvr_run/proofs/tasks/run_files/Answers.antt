@@ -1,13 +1,13 @@
 use Rattle.std.proofs.Common.{ℕ, List, [], Bool, inr, sym, ◌∙◌, subst}
 use Rattle.cdf_definition.specs.Acceptance.{frame_in}
-use Rattle.cvr_cli.specs.Ends.{Ends}
-use Rattle.cvr_cli.specs.Imported.{files_bytes}
-use Rattle.cvr_cli.specs.Outcome.{task_text, task_fault, run_fault, any_refused}
-use Rattle.cvr_cli.specs.Log.{Logs}
-use Rattle.cvr_cli.specs.Told.{texts_of, dues_of, is_check, last_lines, IsCutShort}
-use Rattle.cvr_cli.proofs.Accepted.{text_beside, refused_beside, is_sound, lines_beside, fault_beside, none_last}
-use Rattle.cvr_cli.proofs.Telling.{definition_log, definition_cut_short}
-use Rattle.cvr_cli.proofs.tasks.run_files.Goals as goal
+use Rattle.cvr_run.specs.Ends.{Ends}
+use Rattle.cvr_run.specs.Imported.{files_bytes}
+use Rattle.cvr_run.specs.Outcome.{task_text, task_fault, run_fault, any_refused}
+use Rattle.cvr_run.specs.Log.{Logs}
+use Rattle.cvr_run.specs.Told.{texts_of, dues_of, is_check, last_lines, IsCutShort}
+use Rattle.cvr_run.proofs.Accepted.{text_beside, refused_beside, is_sound, lines_beside, fault_beside, none_last}
+use Rattle.cvr_run.proofs.Telling.{definition_log, definition_cut_short}
+use Rattle.cvr_run.proofs.tasks.run_files.Goals as goal
 
 pub returns-in-Ok-clause-ends : goal.returns-in-Ok-clause-ends
 returns-in-Ok-clause-ends g c =

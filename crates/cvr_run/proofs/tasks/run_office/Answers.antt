@@ -1,16 +1,16 @@
 use Rattle.std.proofs.Common.{◌≡◌, false, length, subst}
 use Rattle.std.specs.List.{list_any}
-use Rattle.cvr_cli.specs.declared.status.Status.TheVariants.{Memory}
-use Rattle.cvr_cli.specs.Accepted.{is_refused}
-use Rattle.cvr_cli.specs.Imported.{files_bytes}
-use Rattle.cvr_cli.specs.Outcome.{held, facts_fault, facts_text, task_fault}
-use Rattle.cvr_cli.specs.Printing.{Prints}
-use Rattle.cvr_cli.specs.Told.{file_dues}
-use Rattle.cvr_cli.proofs.Endings.{ends_in_memory}
-use Rattle.cvr_cli.proofs.Merging.{no_facts_text}
-use Rattle.cvr_cli.proofs.Printed.{ends_after, tells_after}
-use Rattle.cvr_cli.proofs.Telling.{wanted_unprinted, all_due}
-use Rattle.cvr_cli.proofs.tasks.run_office.Goals as goal
+use Rattle.cvr_run.specs.declared.status.Status.TheVariants.{Memory}
+use Rattle.cvr_run.specs.Accepted.{is_refused}
+use Rattle.cvr_run.specs.Imported.{files_bytes}
+use Rattle.cvr_run.specs.Outcome.{held, facts_fault, facts_text, task_fault}
+use Rattle.cvr_run.specs.Printing.{Prints}
+use Rattle.cvr_run.specs.Told.{file_dues}
+use Rattle.cvr_run.proofs.Endings.{ends_in_memory}
+use Rattle.cvr_run.proofs.Merging.{no_facts_text}
+use Rattle.cvr_run.proofs.Printed.{ends_after, tells_after}
+use Rattle.cvr_run.proofs.Telling.{wanted_unprinted, all_due}
+use Rattle.cvr_run.proofs.tasks.run_office.Goals as goal
 
 pub returns-in-Ok-clause-ends : goal.returns-in-Ok-clause-ends
 returns-in-Ok-clause-ends g c =

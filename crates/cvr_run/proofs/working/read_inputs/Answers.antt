@@ -1,8 +1,8 @@
 use Rattle.std.proofs.Common.{◌≡◌, ◌∷◌, sym, subst}
-use Rattle.cvr_cli.specs.Opening.{IsRead}
-use Rattle.cvr_cli.specs.Worked.{unread_status, Stops}
-use Rattle.cvr_cli.proofs.Opened.{at_err, stops_first, stops_later}
-use Rattle.cvr_cli.proofs.working.read_inputs.Goals as goal
+use Rattle.cvr_run.specs.Opening.{IsRead}
+use Rattle.cvr_run.specs.Worked.{unread_status, Stops}
+use Rattle.cvr_run.proofs.Opened.{at_err, stops_first, stops_later}
+use Rattle.cvr_run.proofs.working.read_inputs.Goals as goal
 
 pub returns-in_err-def-clause-stops : goal.returns-in_err-def-clause-stops
 returns-in_err-def-clause-stops g c =

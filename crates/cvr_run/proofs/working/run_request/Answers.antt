@@ -1,9 +1,9 @@
 use Rattle.std.proofs.Common.{◌∷◌, inr, sym, subst}
-use Rattle.cvr_cli.specs.Opening.{AreRead}
-use Rattle.cvr_cli.specs.Outcome.{bytes_of}
-use Rattle.cvr_cli.specs.Worked.{Runs}
-use Rattle.cvr_cli.proofs.Known.{text_known, log_known, done_known, refused_known}
-use Rattle.cvr_cli.proofs.working.run_request.Goals as goal
+use Rattle.cvr_run.specs.Opening.{AreRead}
+use Rattle.cvr_run.specs.Outcome.{bytes_of}
+use Rattle.cvr_run.specs.Worked.{Runs}
+use Rattle.cvr_run.proofs.Known.{text_known, log_known, done_known, refused_known}
+use Rattle.cvr_run.proofs.working.run_request.Goals as goal
 
 pub returns-in-Ok : goal.returns-in-Ok
 returns-in-Ok g c =

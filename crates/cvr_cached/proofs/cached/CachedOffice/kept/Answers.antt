@@ -1,6 +1,6 @@
 use Rattle.std.proofs.Common.{ap, ◌∙◌}
-use Rattle.cvr_collect.specs.Plain.{set_of}
-use Rattle.cvr_collect.specs.Tallied.{rows}
+use Rattle.cvr_office.specs.Plain.{set_of}
+use Rattle.cvr_office.specs.Tallied.{rows}
 use Rattle.cvr_cached.specs.Contents.{listed}
 use Rattle.cvr_cached.proofs.Bounds.{all_below}
 use Rattle.cvr_cached.proofs.cached.CachedOffice.kept.Goals as goal

@@ -1,8 +1,8 @@
 use Rattle.std.proofs.Common.{ap, ◌∙◌, subst, List, length, ◌≡◌, ◌≤◌, ◌+◌, ◌*◌}
 use Rattle.std.specs.FinSet.{union}
 use Rattle.cdf_parts.specs.Places.{Contest}
-use Rattle.cvr_collect.specs.Readers.{growth}
-use Rattle.cvr_collect.specs.Plain.{set_of, IsTheFiles}
+use Rattle.cvr_office.specs.Readers.{growth}
+use Rattle.cvr_office.specs.Plain.{set_of, IsTheFiles}
 use Rattle.cvr_cached.specs.Contents.{listed}
 use Rattle.cvr_cached.specs.Moves.{moved}
 use Rattle.cvr_cached.proofs.Importing.{theirs_none, more_named, set_is, import_told, import_plain}

@@ -1,9 +1,9 @@
 use Rattle.std.proofs.Common.{Some, ap, sym, subst, ◌∙◌}
 use Rattle.std.specs.FinMap.{get}
 use Rattle.std.specs.Option.{IfSome}
-use Rattle.cvr_collect.specs.Plain.{set_of}
-use Rattle.cvr_collect.specs.Tallied.{rows, total_limit, IsBelow}
-use Rattle.cvr_collect.proofs.Laws.{rows_law}
+use Rattle.cvr_office.specs.Plain.{set_of}
+use Rattle.cvr_office.specs.Tallied.{rows, total_limit, IsBelow}
+use Rattle.cvr_office.proofs.Laws.{rows_law}
 use Rattle.cvr_cached.specs.Contents.{listed}
 use Rattle.cvr_cached.proofs.Bounds.{all_below}
 use Rattle.cvr_cached.proofs.cached.CachedOfficeOffice.row.Goals as goal

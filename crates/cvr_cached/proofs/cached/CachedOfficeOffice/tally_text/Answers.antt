@@ -1,7 +1,7 @@
 use Rattle.std.proofs.Common.{◌∙◌, ap}
 use Rattle.cvr_tally.specs.Text.{tally_text}
-use Rattle.cvr_collect.specs.Plain.{set_of}
-use Rattle.cvr_collect.specs.Tallied.{rows}
+use Rattle.cvr_office.specs.Plain.{set_of}
+use Rattle.cvr_office.specs.Tallied.{rows}
 use Rattle.cvr_cached.specs.Contents.{listed}
 use Rattle.cvr_cached.proofs.cached.CachedOfficeOffice.tally_text.Goals as goal
 

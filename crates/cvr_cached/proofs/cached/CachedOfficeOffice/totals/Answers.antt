@@ -2,8 +2,8 @@ use Rattle.std.proofs.Common.{◌∙◌, ap, sym, subst}
 use Rattle.std.specs.FinMap.{get}
 use Rattle.std.specs.Option.{IfSome}
 use Rattle.cvr_tally.specs.Rows.{Rows}
-use Rattle.cvr_collect.specs.Plain.{set_of}
-use Rattle.cvr_collect.specs.Tallied.{rows, total_limit, IsBelow}
+use Rattle.cvr_office.specs.Plain.{set_of}
+use Rattle.cvr_office.specs.Tallied.{rows, total_limit, IsBelow}
 use Rattle.cvr_cached.specs.Contents.{listed}
 use Rattle.cvr_cached.proofs.Bounds.{all_below}
 use Rattle.cvr_cached.proofs.cached.CachedOfficeOffice.totals.Goals as goal

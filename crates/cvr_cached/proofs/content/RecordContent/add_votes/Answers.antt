@@ -1,5 +1,5 @@
 use Rattle.std.proofs.Common.{◌∙◌, ap, sym, arith}
-use Rattle.cvr_collect.specs.Adding.{key_for}
+use Rattle.cvr_office.specs.Adding.{key_for}
 use Rattle.cvr_cached.specs.Contents.{sums_in}
 use Rattle.cvr_cached.specs.Cells.{cell, stands}
 use Rattle.cvr_cached.proofs.CellSteps.{cell_plus, stands_plus, room_of}

@@ -2,7 +2,7 @@ use Rattle.std.proofs.Common.{◌∙◌, ◌<◌, length, Contains, ap, sym, sub
 use Rattle.std.proofs.lemmas.List.Elements.{Contains-get_or}
 use Rattle.cvr_facts.specs.declared.sums.VoteSums.{VoteSums}
 use Rattle.cvr_tally.specs.declared.key.RowKey.{RowKey}
-use Rattle.cvr_collect.specs.Adding.{key_for}
+use Rattle.cvr_office.specs.Adding.{key_for}
 use Rattle.cvr_cached.specs.Contents.{pairs_of, sums_in}
 use Rattle.cvr_cached.proofs.Opening.{here_more, kept_more, cells_more, others_more, closed_more}
 use Rattle.cvr_cached.proofs.Pairs.{pair_at}

@@ -1,8 +1,8 @@
 use Rattle.std.proofs.Common.{sym, subst, option_map}
-use Rattle.cvr_collect.specs.Plain.{set_of}
-use Rattle.cvr_collect.specs.Readers.{IsCurrent}
-use Rattle.cvr_collect.specs.Runs.{AreSpelled}
-use Rattle.cvr_collect.proofs.plain.PlainOfficeOffice.current.Goals as goal
+use Rattle.cvr_office.specs.Plain.{set_of}
+use Rattle.cvr_office.specs.Readers.{IsCurrent}
+use Rattle.cvr_office.specs.Runs.{AreSpelled}
+use Rattle.cvr_plain.proofs.plain.PlainOfficeOffice.current.Goals as goal
 
 pub returns : goal.returns
 returns c =

@@ -1,8 +1,8 @@
 use Rattle.std.proofs.Common.{ap, ◌∙◌}
-use Rattle.cvr_collect.specs.Readers.{growth}
-use Rattle.cvr_collect.specs.Plain.{set_of, IsTheFiles}
-use Rattle.cvr_collect.proofs.PlainLists.{told_is, import_is, plain_import}
-use Rattle.cvr_collect.proofs.plain.PlainOfficeOffice.import.Goals as goal
+use Rattle.cvr_office.specs.Readers.{growth}
+use Rattle.cvr_office.specs.Plain.{set_of, IsTheFiles}
+use Rattle.cvr_plain.proofs.Lists.{told_is, import_is, plain_import}
+use Rattle.cvr_plain.proofs.plain.PlainOfficeOffice.import.Goals as goal
 
 pub invariant_of-self-2 : goal.invariant_of-self-2
 invariant_of-self-2 c =

@@ -1,6 +1,6 @@
 use Rattle.std.proofs.Common.{refl}
-use Rattle.cvr_collect.proofs.PlainLists.{plain_after}
-use Rattle.cvr_collect.proofs.plain.PlainOfficeOffice.join.Goals as goal
+use Rattle.cvr_plain.proofs.Lists.{plain_after}
+use Rattle.cvr_plain.proofs.plain.PlainOfficeOffice.join.Goals as goal
 
 pub invariant_of-self : goal.invariant_of-self
 invariant_of-self c =

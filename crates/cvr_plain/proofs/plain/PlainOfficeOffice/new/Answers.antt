@@ -1,5 +1,6 @@
-use Rattle.cvr_collect.proofs.PlainLists.{none_rise, start_is, plain_start}
-use Rattle.cvr_collect.proofs.plain.PlainOfficeOffice.new.Goals as goal
+use Rattle.cvr_plain.proofs.Lists.{none_rise}
+use Rattle.cvr_office.proofs.Laws.{start_is, plain_start}
+use Rattle.cvr_plain.proofs.plain.PlainOfficeOffice.new.Goals as goal
 
 pub put_in-requires : goal.put_in-requires
 put_in-requires c = none_rise c.new-facts.result.items c.new-facts.ensures.items

@@ -1,7 +1,7 @@
 use Rattle.std.proofs.Common.{◌≡◌, subst}
-use Rattle.cvr_collect.specs.Plain.{set_of}
-use Rattle.cvr_collect.specs.Tallied.{row}
-use Rattle.cvr_collect.proofs.plain.PlainOfficeOffice.row.Goals as goal
+use Rattle.cvr_office.specs.Plain.{set_of}
+use Rattle.cvr_office.specs.Tallied.{row}
+use Rattle.cvr_plain.proofs.plain.PlainOfficeOffice.row.Goals as goal
 
 pub returns-clause-row : goal.returns-clause-row
 returns-clause-row c =

@@ -1,6 +1,6 @@
 use Rattle.std.proofs.Common.{◌∙◌, sym}
-use Rattle.cvr_collect.proofs.SameFacts.{same_iff}
-use Rattle.cvr_collect.proofs.plain.PlainOfficeOffice.same.Goals as goal
+use Rattle.cvr_plain.proofs.Lists.{same_iff}
+use Rattle.cvr_plain.proofs.plain.PlainOfficeOffice.same.Goals as goal
 
 pub returns-then-eq : goal.returns-then-eq
 returns-then-eq c =

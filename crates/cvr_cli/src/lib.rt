@@ -1,0 +1,11 @@
+//! The commands of `cvr`: runs over the office that remembers, and all else that the program calls.
+#![tactic(auto)]
+
+mod running;
+
+pub use cvr_run::{
+    FileFault, HELD, MemoryFile, MemoryFiles, Open, OverRead, OverWrite, Status, conflicts_text,
+    currents_text, examples, law, read_file, rows,
+};
+pub use cvr_words::{Act, Request, Step, Task, WordFault, read_words};
+pub use running::{run, work};

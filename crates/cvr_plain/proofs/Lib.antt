@@ -1,0 +1,4 @@
+pub mod Lists
+pub mod RowBounds
+pub mod AddedSums
+pub mod RecordWalk
