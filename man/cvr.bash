@@ -1,9 +1,8 @@
 # Made by tools/manual from the help of cvr. Change that.
 _cvr() {
     COMPREPLY=()
-    none() { compopt +o default 2>/dev/null; }
     if [ "$COMP_CWORD" -eq 1 ]; then
-        none
+        compopt +o default
         COMPREPLY=($(compgen -W 'currents conflicts tally check merge drill help -h --help' -- "$2"))
         return
     fi
@@ -12,13 +11,13 @@ _cvr() {
     esac
     case ${COMP_WORDS[1]}:$COMP_CWORD in
     help:*)
-        none
+        compopt +o default
         [ "$COMP_CWORD" -gt 2 ] || COMPREPLY=($(compgen -W 'currents conflicts tally check merge drill' -- "$2"))
         ;;
-    merge:3) none ;;
-    merge:4) none ;;
-    merge:5) none ;;
-    drill:3) none ;;
+    merge:3) compopt +o default ;;
+    merge:4) compopt +o default ;;
+    merge:5) compopt +o default ;;
+    drill:3) compopt +o default ;;
     esac
 }
 complete -o default -F _cvr cvr
