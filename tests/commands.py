@@ -18,7 +18,7 @@ import sys
 
 TOP = os.path.dirname(os.path.dirname(os.path.abspath(__file__)))
 FILES = ['README.md', 'docs/GUIDE.md', 'examples/README.md', 'examples/recipes/README.md', 'examples/many-machines/README.md']
-TOOLS = ['awk', 'comm', 'diff', 'jq', 'python3', 'sha256sum', 'sqlite3']
+TOOLS = ['awk', 'comm', 'diff', 'gzip', 'jq', 'python3', 'sha256sum', 'sqlite3', 'zcat']
 STATUS = 'echo $?'
 SECONDS = 300
 
@@ -63,10 +63,10 @@ def commands(text, skip):
             yield command, expected, is_shown
 
 
-def run(command, cvr, status):
-    """(output, status) of a command, run with `$?` as the command before left it."""
+def run(command, cvr, status, folder=TOP):
+    """(output, status) of a command, run in a folder with `$?` as the command before left it."""
     words = re.sub(r'(?<![^\s;|&(])\./cvr(?![^\s;|&)])', lambda _: shlex.quote(cvr), command)
-    done = subprocess.run(['sh', '-c', '(exit %d)\n%s' % (status, words)], cwd=TOP, stdin=subprocess.DEVNULL,
+    done = subprocess.run(['sh', '-c', '(exit %d)\n%s' % (status, words)], cwd=folder, stdin=subprocess.DEVNULL,
                           stdout=subprocess.PIPE, stderr=subprocess.STDOUT, timeout=SECONDS)
     return done.stdout.decode('utf-8', 'replace'), done.returncode
 

@@ -1,0 +1,136 @@
+#!/usr/bin/env python3
+"""package.py --cvr PATH
+
+What is installed and handed out: `make install` below a folder, and the package of Debian and the archive of tools/package,
+unpacked. In each the commands of README are run with its program, over its examples. `man` finds the page of the package and
+reads it, and the program needs the C library alone. PROVENANCE names the program's checksum and that of the sources, as the
+commands in it tell them. Packed a second time, each is the same byte for byte. Where lintian is there, it finds no error. Where
+git finds no commit at the top, as in an unpacked archive, one that is made of its files stands for it.
+
+The last line is `package: N right, M wrong`; the status is 0 only where M is 0 and N is not."""
+import argparse
+import hashlib
+import os
+import re
+import shutil
+import subprocess
+import sys
+import tempfile
+
+sys.dont_write_bytecode = True
+HERE = os.path.dirname(os.path.abspath(__file__))
+TOP = os.path.dirname(HERE)
+sys.path.insert(0, HERE)
+import commands  # noqa: E402 (it stands here)
+
+INSTALLED = ['bin/cvr', 'share/man/man1/cvr.1', 'share/bash-completion/completions/cvr', 'share/zsh/site-functions/_cvr',
+             'share/fish/vendor_completions.d/cvr.fish', 'share/doc/cvr/docs/FAULTS.md']
+LIBRARIES = {'linux-vdso.so.1', 'libc.so.6', 'ld-linux-x86-64.so.2', 'ld-linux-aarch64.so.1'}
+SECONDS = 300
+
+
+def done(*words, **more):
+    """(status, both outputs) of a command at the top."""
+    told = subprocess.run(words, cwd=TOP, stdin=subprocess.DEVNULL, stdout=subprocess.PIPE, stderr=subprocess.STDOUT, timeout=SECONDS, **more)
+    return told.returncode, told.stdout.decode('utf-8', 'replace')
+
+
+def stand_in_a_commit(folder):
+    """Has git find a commit of the files at the top, in this process and those that it begins."""
+    if done('git', 'rev-parse', 'HEAD')[0]:
+        os.environ.update(GIT_DIR=os.path.join(folder, 'git'), GIT_WORK_TREE=TOP)
+        for words in ['init', '-q'], ['add', '-A'], ['-c', 'user.name=cvr', '-c', 'user.email=cvr@example.org', 'commit', '-m', 'The files that stand here']:
+            subprocess.run(['git', *words], cwd=TOP, stdout=subprocess.DEVNULL, check=True)
+
+
+def held(path):
+    with open(path, 'rb') as file:
+        return file.read()
+
+
+def is_installed(prefix):
+    """Whether all stands below a prefix, for everybody to read, and the program to run."""
+    modes = [os.stat(os.path.join(prefix, name)).st_mode & 0o777 for name in INSTALLED]
+    return modes == [0o755] + [0o644] * (len(INSTALLED) - 1)
+
+
+def first_runs(prefix):
+    """Yields each command of README and whether the program installed below a prefix prints what it shows, over the examples there."""
+    folder, status = os.path.join(prefix, 'share/doc/cvr'), 0
+    shown = commands.commands(held(os.path.join(folder, 'README.md')).decode('utf-8'), lambda *_: None)
+    for command, expected, _ in shown:
+        found, status = commands.run(command, os.path.join(prefix, 'bin/cvr'), status, folder)
+        yield '%s below %s' % (command, os.path.basename(prefix)), found == expected
+
+
+def packed(cvr, out):
+    """The paths of what tools/package makes, by their ends."""
+    status, told = done(sys.executable, 'tools/package', '--cvr', cvr, '--out', out)
+    if status:
+        sys.exit(told + 'package: 0 right, 1 wrong')
+    return {end: os.path.join(out, name) for name in os.listdir(out) for end in ('.deb', '.tar.gz', 'PROVENANCE') if name.endswith(end)}
+
+
+def libraries(program):
+    """The libraries that a program needs."""
+    return {os.path.basename(word) for word in re.findall(r'^\s*(\S+)', done('ldd', program)[1], re.M)}
+
+
+def man_page(prefix):
+    """What `man` shows of the page below a prefix, and tells of it."""
+    return done('man', '--warnings', '-E', 'UTF-8', '-M', os.path.join(prefix, 'share/man'), 'cvr', env=dict(os.environ, MANPAGER='cat', MANWIDTH='100', LC_ALL='C.UTF-8'))
+
+
+def provenance(text, program):
+    """Yields what PROVENANCE has to tell, and whether it does."""
+    told = dict(re.findall(r'^(\w+) +(.*)$', text.split('\n\n')[1], re.M))
+    yield 'the sum of the program', told['program'] == hashlib.sha256(held(program)).hexdigest()
+    yield 'the sum of the sources', told['sources'] == done('sh', '-c', re.search(r'^ +(git ls-files .*)$', text, re.M).group(1))[1].split()[0]
+    yield 'the kit', told['kit'] == done('rt', 'version')[1].strip()
+    yield 'the commit', told['commit'].split(',')[0] == done('git', 'rev-parse', 'HEAD')[1].strip()
+
+
+def tried(cvr, folder):
+    """Yields each trial, and whether it is right."""
+    prefix = os.path.join(folder, 'a prefix')
+    yield 'make install', done('make', 'install', 'CVR=' + cvr, 'PREFIX=' + prefix)[0] == 0 and is_installed(prefix)
+    yield from first_runs(prefix)
+    made, again = packed(cvr, os.path.join(folder, 'one')), packed(cvr, os.path.join(folder, 'other'))
+    for end in '.deb', '.tar.gz', 'PROVENANCE':
+        yield 'packed twice: ' + end, held(made[end]) == held(again[end])
+    unpacked, below = os.path.join(folder, 'unpacked/usr'), os.path.join(folder, 'local')
+    os.mkdir(below)
+    yield 'dpkg-deb unpacks it', done('dpkg-deb', '-x', made['.deb'], os.path.dirname(unpacked))[0] == 0
+    yield 'tar unpacks it', done('tar', '-xzf', made['.tar.gz'], '-C', below, '--strip-components=1')[0] == 0 and is_installed(below)
+    for place in unpacked, below:
+        yield from first_runs(place)
+        yield 'the program in ' + place, held(os.path.join(place, 'bin/cvr')) == held(cvr)
+        yield 'PROVENANCE in ' + place, held(os.path.join(place, 'share/doc/cvr/PROVENANCE')) == held(made['PROVENANCE'])
+        yield 'copyright in ' + place, held(os.path.join(TOP, 'LICENSE')).strip() in held(os.path.join(place, 'share/doc/cvr/copyright'))
+    yield from provenance(held(made['PROVENANCE']).decode('utf-8'), cvr)
+    yield 'the C library alone', 'libc.so.6' in libraries(os.path.join(unpacked, 'bin/cvr')) <= LIBRARIES
+    yield 'libc6 alone', re.fullmatch(r'libc6 \(>= 2\.\d+\)\n', done('dpkg-deb', '-f', made['.deb'], 'Depends')[1]) is not None
+    status, text = man_page(unpacked)
+    yield 'man reads the page', status == 0 and re.search(r'cvr +- +check', text) is not None and 'warning' not in text
+    if shutil.which('lintian'):
+        status, text = done('lintian', '--allow-root', '--fail-on', 'error', made['.deb'])
+        yield 'lintian: ' + text, status == 0
+
+
+def main():
+    words = argparse.ArgumentParser()
+    words.add_argument('--cvr', required=True, help='the built program')
+    cvr = os.path.abspath(words.parse_args().cvr)
+    with tempfile.TemporaryDirectory() as folder:
+        stand_in_a_commit(folder)
+        found = list(tried(cvr, folder))
+    for what, is_right in found:
+        if not is_right:
+            print('WRONG: not so: ' + what)
+    wrong = sum(not is_right for _, is_right in found)
+    print('package: %d right, %d wrong' % (len(found) - wrong, wrong))
+    sys.exit(0 if found and not wrong else 1)
+
+
+if __name__ == '__main__':
+    main()
