@@ -5,7 +5,7 @@ use Rattle.std.specs.Map.{keys_of}
 use Rattle.cdf_parts.specs.Places.{Contest}
 use Rattle.cdf_definition.specs.Named.{Entry}
 use Rattle.cdf_definition.specs.Frame.{Frame}
-use Rattle.cvr_facts.specs.Facts.{Device, name_cmp}
+use Rattle.cvr_fact_types.specs.Facts.{Device, name_cmp}
 use Rattle.cvr_facts.proofs.Lemmas.{none_listed, in_map, from_map}
 use Rattle.cvr_tally.specs.Rows.{Rows}
 use Rattle.cvr_tally.specs.Keys.{key_cmp, keys_total, keys_exact}

@@ -7,7 +7,7 @@ use Rattle.std.specs.FinSet.{contains, difference, from_list, contains-differenc
 use Rattle.std.proofs.lemmas.Bool.{false≢true}
 use Rattle.cdf_parts.specs.Places.{Contest}
 use Rattle.cdf_typed.specs.Greatest.{greatest}
-use Rattle.cvr_facts.specs.Facts.{Fact, Facts, fact_cmp, name_cmp, fact_total, fact_exact}
+use Rattle.cvr_fact_types.specs.Facts.{Fact, Facts, fact_cmp, name_cmp, fact_total, fact_exact}
 use Rattle.cvr_facts.specs.Choosing.{choice_cmp, snapshot_body}
 use Rattle.cvr_facts.proofs.Lemmas.{in_set, from_set}
 use Rattle.cvr_office.specs.Names.{record_of, records}

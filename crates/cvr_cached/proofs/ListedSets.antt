@@ -6,8 +6,8 @@ use Rattle.std.specs.Map.{keys_of}
 use Rattle.std.specs.Option.{option_map_or}
 use Rattle.std.specs.FinSet.{from_list, union, empty}
 use Rattle.std.proofs.lemmas.List.{map-append}
-use Rattle.cvr_facts.specs.declared.name.RecordName.{RecordName}
-use Rattle.cvr_facts.specs.Facts.{Facts, name_cmp, fact_cmp, fact_total, fact_exact}
+use Rattle.cvr_fact_types.specs.declared.name.RecordName.{RecordName}
+use Rattle.cvr_fact_types.specs.Facts.{Facts, name_cmp, fact_cmp, fact_total, fact_exact}
 use Rattle.cvr_facts.specs.Unions.{union_laws}
 use Rattle.cvr_facts.proofs.Lemmas.{from_list-append}
 use Rattle.cvr_office.specs.declared.any_fact.AnyFact.{AnyFact}

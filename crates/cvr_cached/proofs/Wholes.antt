@@ -3,8 +3,8 @@ use Rattle.std.proofs.Common.{◌≡◌, List, [], ◌∷◌, Contains, inl, inr
 use Rattle.std.specs.List.Sorted.{IsStrictlySortedBy}
 use Rattle.std.specs.Map.{keys_of}
 use Rattle.std.specs.Option.{option_map_or}
-use Rattle.cvr_facts.specs.declared.name.RecordName.{RecordName}
-use Rattle.cvr_facts.specs.Facts.{name_cmp}
+use Rattle.cvr_fact_types.specs.declared.name.RecordName.{RecordName}
+use Rattle.cvr_fact_types.specs.Facts.{name_cmp}
 use Rattle.cvr_facts.specs.Sets.{JoinLaws}
 use Rattle.cvr_facts.proofs.Lemmas.{at_head, at_tail, head_or_tail, none_listed}
 use Rattle.cvr_cached.specs.Wholes.{part, whole}

@@ -2,7 +2,7 @@
 use Rattle.std.specs.Prelude.{◌≡◌, ℕ, List, [], ◌∷◌, ◌++◌, map, codes}
 use Rattle.std.specs.FinSet.{from_list, empty}
 use Rattle.cdf_parts.specs.Places.{Contest}
-use Rattle.cvr_facts.specs.Facts.{Fact, Device, Header, Snapshot, Facts}
+use Rattle.cvr_fact_types.specs.Facts.{Fact, Device, Header, Snapshot, Facts}
 use Rattle.cvr_office.specs.Examples.{contest, snapshot, header}
 use Rattle.cvr_cached.specs.Moves.{moved}
 

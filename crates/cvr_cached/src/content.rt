@@ -9,7 +9,7 @@ ghost use Rattle.cvr_tally.specs.Rows.{row_closed};
 ghost use Rattle.cvr_tally.specs.declared.key.RowKey.{RowKey};
 ghost use Rattle.cvr_office.specs.Place.{any_cmp, any_total};
 ghost use Rattle.cvr_office.specs.Plain.{set_of, IsPut};
-ghost use Rattle.cvr_facts.specs.Facts.{Facts, fact_total, fact_exact};
+ghost use Rattle.cvr_fact_types.specs.Facts.{Facts, fact_total, fact_exact};
 ghost use Rattle.cvr_facts.specs.Unions.{union_laws};
 ghost use Rattle.cvr_cached.specs.Contents.{header_in, current_in, pairs_of};
 ghost use Rattle.cvr_cached.specs.Cells.{Column, cell, cell_limit, shares, stands, is_row_of, AreFit};

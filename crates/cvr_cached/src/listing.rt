@@ -3,7 +3,7 @@ ghost use Rattle.std.specs.Prelude.{◌≡◌, ◌++◌, ◌∷◌, IfOk, None, 
 ghost use Rattle.std.specs.List.{flat_map};
 ghost use Rattle.std.specs.List.Sorted.{IsStrictlySortedBy};
 ghost use Rattle.std.specs.Map.{keys_of};
-ghost use Rattle.cvr_facts.specs.Facts.{name_cmp};
+ghost use Rattle.cvr_fact_types.specs.Facts.{name_cmp};
 ghost use Rattle.cvr_office.specs.Names.{conflicts, most, greatest_count};
 ghost use Rattle.cvr_office.specs.Place.{any_cmp};
 ghost use Rattle.cvr_office.specs.Plain.{set_of};

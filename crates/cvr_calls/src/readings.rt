@@ -14,7 +14,7 @@ use crate::writing::{DATE, DEVICE};
 use cdf_check::{Definition, check_report};
 use cdf_types::{Body, Memory, ReadFault, Rule};
 use cvr_collect::{CachedOffice, Office, PlainOffice, read_facts};
-use cvr_facts::text::{push_quoted, push_word, quoted};
+use cvr_fact_types::text::{push_quoted, push_word, quoted};
 use cvr_facts::{BodySet, DeviceFact, HeaderFact, RecordName, SnapshotFact, VoteSums};
 use cvr_report::{HeadFault, Heading};
 use cvr_tally::{RowKey, tally_text};

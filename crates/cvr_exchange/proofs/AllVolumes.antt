@@ -4,7 +4,7 @@ use Rattle.std.specs.List.{list_any, range_with_len}
 use Rattle.std.specs.Cmp.{both_ways}
 use Rattle.std.specs.FinSet.{contains, same_set}
 use Rattle.cdf_definition.specs.Frame.{Frame}
-use Rattle.cvr_facts.specs.Facts.{Fact, Device, Header, Snapshot, Facts, fact_total, fact_exact}
+use Rattle.cvr_fact_types.specs.Facts.{Fact, Device, Header, Snapshot, Facts, fact_total, fact_exact}
 use Rattle.cvr_facts.specs.Reports.{facts}
 use Rattle.cvr_facts.proofs.Lemmas.{none_listed, head_or_tail, at_head, at_tail}
 use Rattle.cvr_office.specs.Keeps.{Keeps}

@@ -1,7 +1,7 @@
 -- What an office holds after imports of volumes among other events.
 use Rattle.std.proofs.Common.{◌≡◌, ℕ, List, [], ◌∷◌, ◌++◌, get_or, Contains, true, inl, inr, sym, ◌∙◌, subst}
 use Rattle.std.specs.FinSet.{contains, union, contains-union}
-use Rattle.cvr_facts.specs.Facts.{Fact, Facts, fact_total}
+use Rattle.cvr_fact_types.specs.Facts.{Fact, Facts, fact_total}
 use Rattle.cvr_facts.specs.Reports.{facts}
 use Rattle.cvr_facts.proofs.Lemmas.{head_or_tail, none_listed}
 use Rattle.cvr_office.specs.declared.event.Event.{Event}

@@ -21,7 +21,7 @@ use Rattle.cdf_form.specs.ByRow.{AllClasses, find_row}
 use Rattle.cdf_parts.proofs.Lemmas.{inside}
 use Rattle.cdf_definition.specs.Depths.{id_row}
 use Rattle.cdf_definition.proofs.Laws.{has_id}
-use Rattle.cvr_facts.specs.Facts.{text_cmp}
+use Rattle.cvr_fact_types.specs.Facts.{text_cmp}
 use Rattle.cvr_facts.proofs.Laws.{text_total}
 use Rattle.cvr_facts.proofs.Lemmas.{at_head, at_tail, head_or_tail, none_listed}
 

@@ -4,9 +4,9 @@ use Rattle.std.specs.FinSet.{contains}
 use Rattle.serde_json.specs.Data.{Data}
 use Rattle.cdf_parts.specs.Parts.{array_at}
 use Rattle.cdf_definition.specs.Frame.{Frame}
-use Rattle.cvr_facts.specs.declared.name.RecordName.{RecordName}
+use Rattle.cvr_fact_types.specs.declared.name.RecordName.{RecordName}
 use Rattle.cvr_facts.specs.Choosing.{data_of}
-use Rattle.cvr_facts.specs.Facts.{Fact, Device, Header, Snapshot, Facts}
+use Rattle.cvr_fact_types.specs.Facts.{Fact, Device, Header, Snapshot, Facts}
 use Rattle.cvr_facts.specs.Reports.{device_fact, header_fact, snapshot_fact, report_facts, facts}
 use Rattle.cvr_facts.proofs.Lemmas.{in_map}
 use Rattle.cvr_facts.specs.Sources.{Source, of_device, of_header, of_snapshot}

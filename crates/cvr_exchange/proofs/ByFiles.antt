@@ -8,7 +8,7 @@ use Rattle.std.proofs.lemmas.List.{length-map, get_or-map}
 use Rattle.std.proofs.lemmas.Option.{get_or_from_slice_get, slice_get_within}
 use Rattle.cdf_definition.specs.Frame.{Frame, IsSame}
 use Rattle.cdf_check.proofs.Laws.{one_definition}
-use Rattle.cvr_facts.specs.Facts.{Facts}
+use Rattle.cvr_fact_types.specs.Facts.{Facts}
 use Rattle.cvr_facts.specs.Reports.{facts}
 use Rattle.cvr_office.specs.declared.event.Event.{Event}
 use Rattle.cvr_office.specs.declared.event.Event.TheVariants.{Import, Exchange}

@@ -6,7 +6,7 @@ use Rattle.std.specs.FinSet.{contains, union, empty, insert, items, same_set, co
 use Rattle.cdf_definition.specs.Acceptance.{first_refusal}
 use Rattle.cdf_definition.specs.Frame.{Frame}
 use Rattle.cdf_definition.proofs.Laws.{valid_file}
-use Rattle.cvr_facts.specs.Facts.{Facts, fact_total, fact_exact}
+use Rattle.cvr_fact_types.specs.Facts.{Facts, fact_total, fact_exact}
 use Rattle.cvr_facts.specs.Reports.{facts}
 use Rattle.cvr_facts.specs.Unions.{union_laws}
 use Rattle.cvr_facts.proofs.Lemmas.{at_head, at_tail}

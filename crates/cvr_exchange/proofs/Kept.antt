@@ -10,7 +10,7 @@ use Rattle.cdf_definition.specs.Acceptance.{Valid, first_refusal}
 use Rattle.cdf_definition.specs.Frame.{Frame, IsSame}
 use Rattle.cdf_definition.specs.Named.{texts_of}
 use Rattle.cdf_definition.proofs.Laws.{valid_file}
-use Rattle.cvr_facts.specs.Facts.{Facts, text_cmp}
+use Rattle.cvr_fact_types.specs.Facts.{Facts, text_cmp}
 use Rattle.cvr_facts.specs.Reports.{facts}
 use Rattle.cvr_facts.proofs.Laws.{text_total, text_exact}
 use Rattle.cvr_office.specs.declared.event.Event.TheVariants.{Import, Exchange}

@@ -4,9 +4,9 @@ use Rattle.std.specs.Prelude.{if◌then◌else◌}
 use Rattle.std.specs.List.{filter}
 use Rattle.std.specs.FinSet.{contains, items, len}
 use Rattle.std.proofs.lemmas.List.{length-reverse}
-use Rattle.cvr_facts.specs.declared.name.RecordName.{RecordName}
+use Rattle.cvr_fact_types.specs.declared.name.RecordName.{RecordName}
 use Rattle.cvr_facts.specs.Choosing.{choice_cmp}
-use Rattle.cvr_facts.specs.Facts.{Fact, Device, Header, Snapshot, Facts, text_cmp}
+use Rattle.cvr_fact_types.specs.Facts.{Fact, Device, Header, Snapshot, Facts, text_cmp}
 use Rattle.cvr_facts.specs.Ordered.{ordered}
 use Rattle.cvr_facts.proofs.Laws.{text_total, text_exact, choice_total, choice_exact, contains_iff}
 use Rattle.cvr_facts.proofs.Lemmas.{none_listed, head_or_tail, in_map, from_map, same_from_list, at_head, at_tail, ordered_rises, Contains-filter_map}

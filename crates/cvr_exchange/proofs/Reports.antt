@@ -34,8 +34,8 @@ use Rattle.cdf_definition.specs.References.{Scope, scope_of}
 use Rattle.cdf_definition.specs.Resolves.{Resolves, CvrResolves, ElectionResolves}
 use Rattle.cdf_definition.specs.Depths.{election_row}
 use Rattle.cdf_definition.proofs.Laws.{report_row, one_election}
-use Rattle.cvr_facts.specs.declared.name.RecordName.{RecordName}
-use Rattle.cvr_facts.specs.Facts.{Device, Facts, fact_total, fact_exact}
+use Rattle.cvr_fact_types.specs.declared.name.RecordName.{RecordName}
+use Rattle.cvr_fact_types.specs.Facts.{Device, Facts, fact_total, fact_exact}
 use Rattle.cvr_facts.proofs.Lemmas.{in_map, from_map, in_set}
 use Rattle.cvr_office.specs.Keeps.{Keeps}
 use Rattle.cvr_office.specs.Names.{records, devices}

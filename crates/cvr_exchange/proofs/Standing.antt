@@ -23,8 +23,8 @@ use Rattle.cdf_definition.specs.Resolves.{CvrResolves}
 use Rattle.cdf_check.proofs.Laws.{more_devices, header_stays, snapshot_stays}
 use Rattle.cdf_definition.proofs.Laws.{is_kept}
 use Rattle.cdf_check.specs.Wider.{Wider}
-use Rattle.cvr_facts.specs.declared.name.RecordName.{RecordName}
-use Rattle.cvr_facts.specs.Facts.{Device, Header, Snapshot, Facts, text_cmp}
+use Rattle.cvr_fact_types.specs.declared.name.RecordName.{RecordName}
+use Rattle.cvr_fact_types.specs.Facts.{Device, Header, Snapshot, Facts, text_cmp}
 use Rattle.cvr_facts.specs.Choosing.{data_of}
 use Rattle.cvr_facts.specs.Reports.{device_fact, header_fact, snapshot_fact}
 use Rattle.cvr_facts.specs.Stands.{Stands}

@@ -7,7 +7,7 @@ use Rattle.cdf_form.specs.Reading.{max_file}
 use Rattle.cdf_definition.specs.Frame.{Frame, IsSame}
 use Rattle.cdf_definition.specs.Sound.{IsFrame}
 use Rattle.cdf_definition.specs.Acceptance.{Valid}
-use Rattle.cvr_facts.specs.Facts.{Fact, Facts}
+use Rattle.cvr_fact_types.specs.Facts.{Fact, Facts}
 use Rattle.cvr_facts.specs.Reports.{facts}
 use Rattle.cvr_office.specs.declared.event.Event.TheVariants.{Exchange}
 use Rattle.cvr_office.specs.declared.event.Outcome.{Outcome}

@@ -3,7 +3,7 @@ ghost use Rattle.std.specs.Prelude.{◌≡◌, ◌<◌, ◌≤◌, length, true}
 ghost use Rattle.std.specs.FinSet.{contains};
 ghost use Rattle.cdf_form.specs.Reading.{max_file};
 ghost use Rattle.cdf_definition.specs.Acceptance.{Valid};
-ghost use Rattle.cvr_facts.specs.Facts.{Fact};
+ghost use Rattle.cvr_fact_types.specs.Facts.{Fact};
 ghost use Rattle.cvr_facts.specs.Reports.{facts};
 ghost use Rattle.cvr_report.specs.Head.{is_device_of};
 ghost use Rattle.cvr_report.specs.Volume.{volume};

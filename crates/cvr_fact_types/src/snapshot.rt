@@ -2,7 +2,7 @@ ghost use Rattle.std.specs.Prelude.{◌≡◌, IfOk, refl};
 ghost use Rattle.std.specs.Ordering.{as_partial_cmp, eq_by_cmp};
 ghost use Rattle.std.specs.Cmp.Rules.{comparing};
 ghost use Rattle.std.proofs.Common.{rules};
-ghost use Rattle.cvr_facts.specs.Lists.{snapshot_cmp};
+ghost use Rattle.cvr_fact_types.specs.Orders.{snapshot_cmp};
 
 use crate::name::RecordName;
 use crate::sums::VoteSums;

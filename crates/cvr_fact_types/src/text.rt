@@ -1,6 +1,6 @@
 ghost use Rattle.std.specs.Prelude.{◌≡◌, ◌⊎◌, ◌++◌, IfOk, OnOk, OnErr, string_bytes};
 ghost use Rattle.json.specs.Print.{quoted};
-ghost use Rattle.cvr_facts.specs.Text.{word};
+ghost use Rattle.cvr_fact_types.specs.Text.{word};
 
 use cdf_types::{Body, Memory};
 use json::Writer;

@@ -12,8 +12,8 @@ use Rattle.std.specs.FinMap.{IsAntisymmetric, nat_cmp-IsAntisymmetric, int_cmp-I
 use Rattle.cdf_types.specs.SnapshotKind.{snapshot_kind_rank}
 use Rattle.cdf_parts.specs.Parts.{id_of}
 use Rattle.cdf_typed.specs.Typed.{kind_of, moment_of, snapshot_of}
-use Rattle.cvr_facts.specs.declared.snapshot.SnapshotFact.{SnapshotFact}
-use Rattle.cvr_facts.specs.Facts.{text_cmp}
+use Rattle.cvr_fact_types.specs.declared.snapshot.SnapshotFact.{SnapshotFact}
+use Rattle.cvr_fact_types.specs.Facts.{text_cmp}
 use Rattle.cvr_facts.specs.Choosing.{data_of, choice_cmp, fact_choice, snapshot_bodies}
 use Rattle.cvr_facts.specs.Sums.{sums_in}
 use Rattle.cvr_facts.specs.Laws.{ChoosingLaw, EqualLaw, RankLaw, UndatedLaw, EarlierLaw, BytesLaw, BodiesLaw, ExactLaw, CurrentLaw, OneCurrentLaw}

@@ -14,12 +14,13 @@ use Rattle.std.proofs.lemmas.Map.Views.{Contains-from_any, list_any-from_Contain
 use Rattle.std.proofs.lemmas.Simd.{map-map}
 use Rattle.cdf_types.specs.declared.report.Report.{Report}
 use Rattle.cdf_parts.specs.Places.{Contest}
-use Rattle.cvr_facts.specs.declared.device.DeviceFact.{DeviceFact}
-use Rattle.cvr_facts.specs.declared.header.HeaderFact.{HeaderFact}
-use Rattle.cvr_facts.specs.declared.snapshot.SnapshotFact.{SnapshotFact}
+use Rattle.cvr_fact_types.specs.declared.device.DeviceFact.{DeviceFact}
+use Rattle.cvr_fact_types.specs.declared.header.HeaderFact.{HeaderFact}
+use Rattle.cvr_fact_types.specs.declared.snapshot.SnapshotFact.{SnapshotFact}
 use Rattle.cvr_facts.specs.declared.list.FactList.{FactList}
-use Rattle.cvr_facts.specs.Facts.{Fact, text_cmp, fact_cmp, fact_total, fact_exact}
-use Rattle.cvr_facts.specs.Lists.{told_device, told_header, told_snapshots, fact_of_device, fact_of_header, fact_of_snapshot, facts_in, told_facts, device_cmp, header_cmp, snapshot_cmp}
+use Rattle.cvr_fact_types.specs.Facts.{Fact, text_cmp, fact_cmp, fact_total, fact_exact}
+use Rattle.cvr_fact_types.specs.Orders.{device_cmp, header_cmp, snapshot_cmp}
+use Rattle.cvr_facts.specs.Lists.{told_device, told_header, told_snapshots, fact_of_device, fact_of_header, fact_of_snapshot, facts_in, told_facts}
 
 -- ---- ties
 

@@ -18,6 +18,5 @@ pub mod AddingUp
 pub mod ByPlace
 pub mod Gathering
 pub mod WorkedRows
-pub mod Printed
 pub mod Laws
 pub mod Lemmas

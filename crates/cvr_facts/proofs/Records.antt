@@ -6,8 +6,8 @@ use Rattle.std.proofs.lemmas.Slice.Eq.{bytes_eq-Decides}
 use Rattle.std.specs.List.{filter_map, cons_option, Contains}
 use Rattle.std.specs.Cmp.{Equal-is, eq_by_cmp_equiv}
 use Rattle.std.specs.FinSet.{contains, items, contains-items}
-use Rattle.cvr_facts.specs.declared.name.RecordName.{RecordName}
-use Rattle.cvr_facts.specs.Facts.{Fact, Device, Header, Snapshot, Facts, fact_cmp, fact_total, fact_exact}
+use Rattle.cvr_fact_types.specs.declared.name.RecordName.{RecordName}
+use Rattle.cvr_fact_types.specs.Facts.{Fact, Device, Header, Snapshot, Facts, fact_cmp, fact_total, fact_exact}
 use Rattle.cvr_facts.specs.Choosing.{is_name, header_body, snapshot_body, header_bodies, snapshot_bodies}
 use Rattle.cvr_facts.proofs.Greatest.{Contains-head, Contains-later, Contains-cases, Contains-none}
 

@@ -5,7 +5,7 @@ use Rattle.std.specs.FinSet.{contains}
 use Rattle.std.proofs.lemmas.List.Elements.{Contains-append_left, Contains-append_right, Contains-append_cases}
 use Rattle.serde_json.specs.Data.{Data}
 use Rattle.cdf_definition.specs.Acceptance.{value_in}
-use Rattle.cvr_facts.specs.Facts.{Fact, fact_total, fact_exact}
+use Rattle.cvr_fact_types.specs.Facts.{Fact, fact_total, fact_exact}
 use Rattle.cvr_facts.specs.Reports.{device_fact, header_fact, snapshot_fact, cvr_facts, report_facts, facts}
 use Rattle.cvr_facts.specs.Sources.{devices_in, cvrs_in, snapshots_in, Source, of_device, of_header, of_snapshot}
 use Rattle.cvr_facts.proofs.Members.{at_head, at_tail, head_or_tail, in_map, from_map, in_flat, from_flat, in_set, from_set}

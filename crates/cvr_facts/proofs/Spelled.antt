@@ -17,9 +17,9 @@ use Rattle.cdf_definition.specs.Frame.{Frame}
 use Rattle.cdf_definition.specs.Acceptance.{value_in}
 use Rattle.cdf_definition.specs.Bodies.{IsKept}
 use Rattle.cdf_definition.proofs.Laws.{valid_file, was_read, is_kept}
-use Rattle.cvr_facts.specs.declared.device.DeviceFact.{DeviceFact}
-use Rattle.cvr_facts.specs.declared.header.HeaderFact.{HeaderFact}
-use Rattle.cvr_facts.specs.declared.snapshot.SnapshotFact.{SnapshotFact}
+use Rattle.cvr_fact_types.specs.declared.device.DeviceFact.{DeviceFact}
+use Rattle.cvr_fact_types.specs.declared.header.HeaderFact.{HeaderFact}
+use Rattle.cvr_fact_types.specs.declared.snapshot.SnapshotFact.{SnapshotFact}
 use Rattle.cvr_facts.specs.declared.list.FactList.{FactList}
 use Rattle.cvr_facts.specs.Lists.{told_device, told_header, told_snapshot, told_snapshots, IsTold, IsReportOf}
 use Rattle.cvr_facts.specs.Stands.{IsSpelledDevice, IsSpelledHeader, IsSpelledSnapshot, AreSpelled}

@@ -10,7 +10,7 @@ use Rattle.cdf_parts.specs.Places.{Contest}
 use Rattle.cdf_typed.specs.Typed.{device_of, snapshot_of, cvr_of, report_of}
 use Rattle.cdf_definition.specs.Frame.{Frame}
 use Rattle.cdf_definition.specs.Acceptance.{value_in}
-use Rattle.cvr_facts.specs.Facts.{Fact, fact_cmp, fact_total, fact_exact}
+use Rattle.cvr_fact_types.specs.Facts.{Fact, fact_cmp, fact_total, fact_exact}
 use Rattle.cvr_facts.specs.Reports.{device_fact, header_fact, snapshot_fact, report_facts, facts}
 use Rattle.cvr_facts.specs.Lists.{told_device, told_header, told_snapshot, told_snapshots, fact_of_device, fact_of_header, fact_of_snapshot, told_facts, IsReportOf}
 use Rattle.cvr_facts.proofs.Members.{in_map, from_map, in_flat, from_flat, same_from_list}

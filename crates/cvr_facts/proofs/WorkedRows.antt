@@ -16,8 +16,8 @@ use Rattle.std.specs.FinSet.{contains-items, contains-union, contains-from_list,
 use Rattle.serde_json.specs.Data.{Data}
 use Rattle.cdf_typed.specs.Greatest.{greatest}
 use Rattle.cdf_definition.specs.Acceptance.{value_in}
-use Rattle.cvr_facts.specs.declared.name.RecordName.{RecordName}
-use Rattle.cvr_facts.specs.Facts.{Fact, fact_cmp, fact_total, fact_exact, text_cmp}
+use Rattle.cvr_fact_types.specs.declared.name.RecordName.{RecordName}
+use Rattle.cvr_fact_types.specs.Facts.{Fact, fact_cmp, fact_total, fact_exact, text_cmp}
 use Rattle.cvr_facts.specs.Reports.{facts, report_facts}
 use Rattle.cvr_facts.specs.Choosing.{data_of, choice_cmp, header_body, snapshot_body, header, current}
 use Rattle.cvr_facts.specs.Rows.{facts_of_files}

@@ -11,9 +11,9 @@ use Rattle.cdf_types.specs.declared.snapshot_kind.SnapshotKind.{SnapshotKind}
 use Rattle.cdf_types.specs.SnapshotKind.{snapshot_kind_rank}
 use Rattle.cdf_typed.specs.Greatest.{greatest}
 use Rattle.cdf_typed.specs.Typed.{kind_of, moment_of}
-use Rattle.cvr_facts.specs.declared.name.RecordName.{RecordName}
-use Rattle.cvr_facts.specs.declared.snapshot.SnapshotFact.{SnapshotFact}
-use Rattle.cvr_facts.specs.Facts.{Fact, Header, Snapshot, Facts, text_cmp}
+use Rattle.cvr_fact_types.specs.declared.name.RecordName.{RecordName}
+use Rattle.cvr_fact_types.specs.declared.snapshot.SnapshotFact.{SnapshotFact}
+use Rattle.cvr_fact_types.specs.Facts.{Fact, Header, Snapshot, Facts, text_cmp}
 
 -- the value that a body spells
 abbrev pub data_of : List ℕ → Data

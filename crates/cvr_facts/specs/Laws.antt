@@ -11,9 +11,9 @@ use Rattle.cdf_parts.specs.Parts.{array_at}
 use Rattle.cdf_parts.specs.Places.{Contest}
 use Rattle.cdf_typed.specs.Range.{ContestInRange}
 use Rattle.cdf_typed.specs.Typed.{instant_in, moment_of}
-use Rattle.cvr_facts.specs.declared.name.RecordName.{RecordName}
-use Rattle.cvr_facts.specs.declared.snapshot.SnapshotFact.{SnapshotFact}
-use Rattle.cvr_facts.specs.Facts.{Facts, fact_cmp, text_cmp}
+use Rattle.cvr_fact_types.specs.declared.name.RecordName.{RecordName}
+use Rattle.cvr_fact_types.specs.declared.snapshot.SnapshotFact.{SnapshotFact}
+use Rattle.cvr_fact_types.specs.Facts.{Facts, fact_cmp, text_cmp}
 use Rattle.cvr_facts.specs.Sets.{JoinLaws}
 use Rattle.cvr_facts.specs.Reports.{facts}
 use Rattle.cvr_facts.specs.Choosing.{choice_cmp, fact_choice, snapshot_bodies, current, IsGreatest}

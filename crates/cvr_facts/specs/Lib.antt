@@ -1,7 +1,5 @@
-pub mod Facts
 pub mod Ordered
 pub mod Sets
-pub mod Text
 pub mod Unions
 pub mod Reports
 pub mod Choosing

@@ -3,8 +3,6 @@ use Rattle.std.specs.Prelude.{◌≡◌, ℕ, List, ◌++◌, map, None}
 use Rattle.std.specs.List.{flat_map, Contains}
 use Rattle.std.specs.List.Sorted.{IsStrictlySortedBy}
 use Rattle.std.specs.FinSet.{from_list}
-use Rattle.std.specs.declared.cmp.Ordering.{Ordering}
-use Rattle.std.specs.Ordering.{ordering_then}
 use Rattle.cdf_types.specs.declared.report.Cvr.{Cvr}
 use Rattle.cdf_types.specs.declared.report.Snapshot.{Snapshot as ReportSnapshot}
 use Rattle.cdf_types.specs.declared.report.ReportingDevice.{ReportingDevice}
@@ -12,13 +10,14 @@ use Rattle.cdf_types.specs.declared.report.Report.{Report}
 use Rattle.cdf_parts.specs.Places.{Contest}
 use Rattle.cdf_definition.specs.Frame.{Frame}
 use Rattle.cdf_definition.specs.Acceptance.{first_refusal, report_in}
-use Rattle.cvr_facts.specs.declared.name.RecordName.{RecordName}
-use Rattle.cvr_facts.specs.declared.device.DeviceFact.{DeviceFact}
-use Rattle.cvr_facts.specs.declared.header.HeaderFact.{HeaderFact}
-use Rattle.cvr_facts.specs.declared.snapshot.SnapshotFact.{SnapshotFact}
+use Rattle.cvr_fact_types.specs.declared.name.RecordName.{RecordName}
+use Rattle.cvr_fact_types.specs.declared.device.DeviceFact.{DeviceFact}
+use Rattle.cvr_fact_types.specs.declared.header.HeaderFact.{HeaderFact}
+use Rattle.cvr_fact_types.specs.declared.snapshot.SnapshotFact.{SnapshotFact}
 use Rattle.cvr_facts.specs.declared.list.FactList.{FactList}
 use Rattle.cvr_facts.specs.declared.kept.KeptFacts.{KeptFacts}
-use Rattle.cvr_facts.specs.Facts.{Fact, Device, Header, Snapshot, fact_cmp, text_cmp, name_cmp}
+use Rattle.cvr_fact_types.specs.Facts.{Fact, Device, Header, Snapshot, fact_cmp}
+use Rattle.cvr_fact_types.specs.Orders.{device_cmp, header_cmp, snapshot_cmp}
 use Rattle.cvr_facts.specs.Sums.{sums_in}
 
 -- ---- what a report tells
@@ -70,18 +69,6 @@ told_facts contests report =
     ++ map fact_of_snapshot (flat_map (told_snapshots contests) report.cvrs))
 
 -- ---- lists in order
-
--- by id, then by body
-abbrev pub device_cmp : DeviceFact → DeviceFact → Ordering
-device_cmp a b = ordering_then (text_cmp a.id b.id) (text_cmp a.body b.body)
-
--- by record, then by body
-abbrev pub header_cmp : HeaderFact → HeaderFact → Ordering
-header_cmp a b = ordering_then (name_cmp a.key b.key) (text_cmp a.body b.body)
-
--- by record, then by id, then by body
-abbrev pub snapshot_cmp : SnapshotFact → SnapshotFact → Ordering
-snapshot_cmp a b = ordering_then (name_cmp a.key b.key) (ordering_then (text_cmp a.id b.id) (text_cmp a.body b.body))
 
 -- each fact stands once, in order
 pub record Rises (list : FactList) : Type 0 where

@@ -7,7 +7,7 @@ use Rattle.serde_json.specs.Written.{compact_text}
 use Rattle.cdf_parts.specs.Parts.{array_at, text_at, id_of}
 use Rattle.cdf_typed.specs.Typed.{header_of}
 use Rattle.cdf_definition.specs.Acceptance.{value_in}
-use Rattle.cvr_facts.specs.Facts.{Fact, Device, Header, Snapshot, Facts}
+use Rattle.cvr_fact_types.specs.Facts.{Fact, Device, Header, Snapshot, Facts}
 
 abbrev pub device_fact : Data → Fact
 device_fact device = Device (id_of device) (compact_text device)

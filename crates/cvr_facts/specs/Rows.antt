@@ -8,9 +8,9 @@ use Rattle.cdf_types.specs.declared.report.Report.{Report}
 use Rattle.cdf_parts.specs.Places.{Contest}
 use Rattle.cdf_definition.specs.Acceptance.{frame_in, report_in}
 use Rattle.cdf_definition.specs.Sample.{report, definition_file}
-use Rattle.cvr_facts.specs.declared.name.RecordName.{RecordName}
-use Rattle.cvr_facts.specs.declared.sums.VoteSums.{VoteSums}
-use Rattle.cvr_facts.specs.Facts.{Fact, Device, Header, Snapshot, Facts}
+use Rattle.cvr_fact_types.specs.declared.name.RecordName.{RecordName}
+use Rattle.cvr_fact_types.specs.declared.sums.VoteSums.{VoteSums}
+use Rattle.cvr_fact_types.specs.Facts.{Fact, Device, Header, Snapshot, Facts}
 use Rattle.cvr_facts.specs.Reports.{facts}
 use Rattle.cvr_facts.specs.Choosing.{choice_cmp, current, header}
 use Rattle.cvr_facts.specs.Lists.{told_header, told_snapshots, told_facts}

@@ -1,7 +1,7 @@
 -- What joining has to keep, and the members of a set of texts in order. (This project's own.)
 use Rattle.std.specs.Prelude.{◌≡◌, ℕ, List}
 use Rattle.std.specs.FinSet.{FinSet, items}
-use Rattle.cvr_facts.specs.Facts.{text_cmp}
+use Rattle.cvr_fact_types.specs.Facts.{text_cmp}
 use Rattle.cvr_facts.specs.Ordered.{ordered}
 
 pub record JoinLaws {M : Type 0} (join : M → M → M) (unit : M) : Type 0 where

@@ -7,8 +7,8 @@ use Rattle.std.specs.FinSet.{contains, items}
 use Rattle.serde_json.specs.Data.{Data}
 use Rattle.cdf_parts.specs.Parts.{array_at}
 use Rattle.cdf_definition.specs.Acceptance.{value_in}
-use Rattle.cvr_facts.specs.declared.name.RecordName.{RecordName}
-use Rattle.cvr_facts.specs.Facts.{Fact, Header, Snapshot, Facts, text_cmp}
+use Rattle.cvr_fact_types.specs.declared.name.RecordName.{RecordName}
+use Rattle.cvr_fact_types.specs.Facts.{Fact, Header, Snapshot, Facts, text_cmp}
 use Rattle.cvr_facts.specs.Reports.{device_fact, header_fact, snapshot_fact, report_facts, facts}
 use Rattle.cvr_facts.specs.Choosing.{choice_cmp, header_bodies, snapshot_bodies}
 

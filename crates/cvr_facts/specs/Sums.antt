@@ -11,7 +11,7 @@ use Rattle.cdf_types.specs.declared.report.SelectionVote.{SelectionVote}
 use Rattle.cdf_types.specs.declared.report.ContestVote.{ContestVote}
 use Rattle.cdf_parts.specs.Places.{Texts, Contest, selections_at}
 use Rattle.cdf_typed.specs.Range.{ContestInRange}
-use Rattle.cvr_facts.specs.declared.sums.VoteSums.{VoteSums}
+use Rattle.cvr_fact_types.specs.declared.sums.VoteSums.{VoteSums}
 
 -- ---- positions
 

@@ -3,7 +3,7 @@ ghost use Rattle.std.specs.List.{list_any, filter};
 ghost use Rattle.std.specs.List.Sorted.{IsStrictlySortedBy};
 ghost use Rattle.std.specs.Ordering.{eq_by_cmp};
 ghost use Rattle.std.specs.FinSet as set;
-ghost use Rattle.cvr_facts.specs.Facts.{text_cmp};
+ghost use Rattle.cvr_fact_types.specs.Facts.{text_cmp};
 ghost use Rattle.cvr_facts.specs.Sets.{in_order};
 ghost use Rattle.cvr_facts.specs.Unions.{text_union_laws};
 
@@ -22,7 +22,7 @@ impl Model for BodySet {
     ghost use Rattle.std.specs.Coded.{coded_list, coded_ℕ};
     ghost use Rattle.std.specs.FinSet as set;
     ghost use Rattle.std.specs.List.Sorted.{IsStrictlySortedBy};
-    ghost use Rattle.cvr_facts.specs.Facts.{text_cmp};
+    ghost use Rattle.cvr_fact_types.specs.Facts.{text_cmp};
 
     ghost Value = { set.FinSet text_cmp };
 

@@ -1,7 +1,7 @@
 ghost use Rattle.std.specs.Prelude.{◌≡◌};
 ghost use Rattle.cvr_facts.specs.Choosing.{fact_choice};
 
-use crate::snapshot::SnapshotFact;
+use cvr_fact_types::SnapshotFact;
 use std::cmp::Ordering;
 
 /// The order in which a record's current snapshot is chosen, which is this project's own: by the

@@ -3,21 +3,18 @@ ghost use Rattle.std.specs.List.{Contains, flat_map};
 ghost use Rattle.std.specs.FinSet.{from_list};
 ghost use Rattle.cdf_types.specs.declared.report.Cvr.{Cvr};
 ghost use Rattle.cdf_typed.specs.Range.{SnapshotInRange, CvrInRange, ReportInRange};
-ghost use Rattle.cvr_facts.specs.Facts.{fact_cmp};
+ghost use Rattle.cvr_fact_types.specs.Facts.{fact_cmp};
 ghost use Rattle.cvr_facts.specs.Lists.{name_of, told_device, told_header, told_snapshot, told_snapshots, facts_in, told_facts, Rises, IsTold, IsReportOf};
 ghost use Rattle.cvr_facts.specs.Reports.{facts};
 ghost use Rattle.cvr_facts.specs.Stands.{AreSpelled};
 
-use crate::device::DeviceFact;
-use crate::header::HeaderFact;
 use crate::kept::KeptFacts;
 use crate::list::{FactList, list_of};
-use crate::name::RecordName;
-use crate::snapshot::SnapshotFact;
 use crate::sums::sums_in;
-use crate::text::copy_optional;
 use cdf_definition::Definition;
 use cdf_types::{Cvr, Memory, Report, ReportingDevice, Snapshot};
+use cvr_fact_types::text::copy_optional;
+use cvr_fact_types::{DeviceFact, HeaderFact, RecordName, SnapshotFact};
 use std::alloc::Global;
 
 /// The facts of a report that was accepted beside a definition, each once and in order: of each

@@ -12,11 +12,7 @@ ghost use Rattle.cvr_facts.specs.Reports.{facts};
 ghost use Rattle.cvr_facts.specs.Stands.{AreSpelled};
 ghost use Rattle.cdf_definition.specs.Frame.{Frame};
 
-use crate::device::DeviceFact;
-use crate::header::HeaderFact;
 use crate::list::{FactList, list_of};
-use crate::name::RecordName;
-use crate::snapshot::SnapshotFact;
 use crate::sums::sums_in;
 use cdf_definition::Keep;
 use cdf_node::Node;
@@ -24,6 +20,7 @@ use cdf_parts::contests::Contests;
 use cdf_parts::{items_at, text_at, text_in};
 use cdf_typed::{compact, header_text, kind_of, moment_of, own_text, own_text_in};
 use cdf_types::{Memory, ReportingDevice, Seq};
+use cvr_fact_types::{DeviceFact, HeaderFact, RecordName, SnapshotFact};
 use std::alloc::Global;
 
 /// The facts of cast vote records, as the records come.

@@ -1,14 +1,13 @@
 //! Laws of joining, of the order of choosing, of sums and of the facts of a file.
 ghost use Rattle.std.specs.Prelude.{◌≡◌};
-ghost use Rattle.cvr_facts.specs.Facts.{name_cmp};
-ghost use Rattle.cvr_facts.specs.Lists.{device_cmp};
+ghost use Rattle.cvr_fact_types.specs.Facts.{name_cmp};
+ghost use Rattle.cvr_fact_types.specs.Orders.{device_cmp};
 ghost use Rattle.cvr_facts.specs.Laws.{ChoosingLaw, EqualLaw, RankLaw, UndatedLaw, EarlierLaw, BytesLaw, BodiesLaw, ExactLaw, CurrentLaw, OneCurrentLaw, MomentLaw, NoMomentLaw, JoiningLaw, SumsLaw};
 ghost use Rattle.cvr_facts.specs.SumLaws.{ApartLaw, MarkedLaw, AbsentLaw, VotesLaw, InRangeLaw, EachOnceLaw, InOrderLaw};
 ghost use Rattle.cvr_facts.specs.Sources.{FactSourceLaw, DeviceListedLaw, HeaderListedLaw, SnapshotListedLaw, FactHeldLaw};
 ghost use Rattle.cvr_facts.specs.Sources.{ItemsLaw, HeaderBodiesLaw, SnapshotBodiesLaw, TextsInOrder, TextsAreExact, BodiesInOrder, BodiesAreExact};
 
-use crate::device::DeviceFact;
-use crate::name::RecordName;
+use cvr_fact_types::{DeviceFact, RecordName};
 
 /// To join facts is commutative, associative and idempotent, and to join nothing changes nothing.
 pub fn joining()

@@ -4,27 +4,18 @@
 
 mod bodies;
 mod choice;
-mod device;
 mod gather;
-mod header;
 mod join;
 mod kept;
 pub mod law;
 mod list;
-mod name;
 pub mod rows;
-mod snapshot;
 mod sums;
-pub mod text;
 
 pub use bodies::BodySet;
 pub use choice::choice_cmp;
-pub use device::DeviceFact;
+pub use cvr_fact_types::{DeviceFact, HeaderFact, RecordName, SnapshotFact, VoteSums};
 pub use gather::facts_of;
-pub use header::HeaderFact;
 pub use join::{Join, join_both};
 pub use kept::{Facts, KeptFacts, facts_of_kept};
 pub use list::FactList;
-pub use name::RecordName;
-pub use snapshot::SnapshotFact;
-pub use sums::VoteSums;

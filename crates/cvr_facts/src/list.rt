@@ -6,11 +6,9 @@ ghost use Rattle.cdf_types.specs.declared.report.Report.{Report};
 ghost use Rattle.cdf_parts.specs.Places.{Contest};
 ghost use Rattle.cvr_facts.specs.Lists.{told_device, AreOfRecords, IsListOf, Rises};
 
-use crate::device::DeviceFact;
-use crate::header::HeaderFact;
 use crate::kept::KeptFacts;
-use crate::snapshot::SnapshotFact;
 use cdf_types::Seq;
+use cvr_fact_types::{DeviceFact, HeaderFact, SnapshotFact};
 
 /// The facts of a report, each once.
 #[derive(Drop)]

@@ -16,8 +16,8 @@ use Rattle.std.proofs.lemmas.List.Sums.{sum_by-cons, length-filter}
 use Rattle.std.proofs.lemmas.Map.Keys.{sorted_head, sorted_tail}
 use Rattle.std.proofs.lemmas.Map.Views.{Contains-from_any}
 use Rattle.cdf_definition.specs.Frame.{Frame}
-use Rattle.cvr_facts.specs.declared.name.RecordName.{RecordName}
-use Rattle.cvr_facts.specs.Facts.{Facts, Snapshot}
+use Rattle.cvr_fact_types.specs.declared.name.RecordName.{RecordName}
+use Rattle.cvr_fact_types.specs.Facts.{Facts, Snapshot}
 use Rattle.cvr_facts.specs.Choosing.{header, current, header_bodies, snapshot_bodies}
 use Rattle.cvr_facts.proofs.Laws.{text_total, text_exact, choice_total, Contains-header_bodies, Contains-snapshot_bodies}
 use Rattle.cvr_facts.proofs.Lemmas.{greatest_is, is_greatest, has_greatest, none_listed, at_head, at_tail, head_or_tail, in_map, keys_rise}

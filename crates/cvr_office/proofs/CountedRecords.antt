@@ -7,8 +7,8 @@ use Rattle.std.specs.Ordering.{is_gt}
 use Rattle.std.proofs.lemmas.List.{take_more, take_all, length_push}
 use Rattle.std.proofs.lemmas.List.Elements.{filter_map-append}
 use Rattle.std.proofs.lemmas.Option.{get_or_from_slice_get, slice_get_read}
-use Rattle.cvr_facts.specs.declared.name.RecordName.{RecordName}
-use Rattle.cvr_facts.specs.Facts.{name_cmp}
+use Rattle.cvr_fact_types.specs.declared.name.RecordName.{RecordName}
+use Rattle.cvr_fact_types.specs.Facts.{name_cmp}
 use Rattle.cvr_facts.specs.Ordered.{ordered}
 use Rattle.cvr_facts.proofs.Lemmas.{from-filter_map}
 use Rattle.cvr_office.specs.declared.any_fact.AnyFact.{AnyFact}

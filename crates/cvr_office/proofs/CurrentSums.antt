@@ -17,8 +17,8 @@ use Rattle.cdf_definition.specs.Frame.{Frame}
 use Rattle.cdf_definition.specs.Sound.{IsFrame}
 use Rattle.cdf_definition.proofs.Laws.{was_read}
 use Rattle.cdf_check.proofs.Laws.{in_range, contests_agree}
-use Rattle.cvr_facts.specs.declared.name.RecordName.{RecordName}
-use Rattle.cvr_facts.specs.Facts.{Fact, Device, Header, Snapshot, Facts}
+use Rattle.cvr_fact_types.specs.declared.name.RecordName.{RecordName}
+use Rattle.cvr_fact_types.specs.Facts.{Fact, Device, Header, Snapshot, Facts}
 use Rattle.cvr_facts.specs.Choosing.{data_of, is_name, snapshot_body}
 use Rattle.cvr_facts.proofs.Laws.{AreInRange-from_snapshot, current as current_is, contains_iff, fact_source}
 use Rattle.cvr_facts.proofs.Lemmas.{in_map, from-filter_map}

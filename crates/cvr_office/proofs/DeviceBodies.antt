@@ -9,7 +9,7 @@ use Rattle.std.specs.Cmp.{Equal-is, both_ways, tied_itself, upto}
 use Rattle.std.specs.FinSet.{items}
 use Rattle.std.proofs.lemmas.List.Kept.{IsStrictlySortedBy-filter}
 use Rattle.std.proofs.lemmas.Slice.Eq.{bytes_eq-Decides}
-use Rattle.cvr_facts.specs.Facts.{Fact, Device, Header, Snapshot, text_cmp}
+use Rattle.cvr_fact_types.specs.Facts.{Fact, Device, Header, Snapshot, text_cmp}
 use Rattle.cvr_facts.proofs.Laws.{text_total, text_exact}
 use Rattle.cvr_facts.proofs.Lemmas.{in_map, from_map}
 use Rattle.cvr_office.specs.declared.any_fact.AnyFact.{AnyFact}

@@ -8,7 +8,7 @@ use Rattle.cdf_parts.specs.Parts.{id_of, text_at, text_in}
 use Rattle.cdf_form.proofs.Lemmas.{some_of}
 use Rattle.cdf_definition.specs.Acceptance.{IsReport, value_in}
 use Rattle.cdf_check.proofs.Laws.{report_read}
-use Rattle.cvr_facts.specs.Facts.{Fact, Device}
+use Rattle.cvr_fact_types.specs.Facts.{Fact, Device}
 use Rattle.cvr_facts.specs.Stands.{IsWhole, IsOfWhole}
 use Rattle.cvr_office.specs.FileFacts.{RecordsWholeLaw}
 use Rattle.cvr_facts.specs.Reports.{device_fact, header_fact, snapshot_fact, facts}

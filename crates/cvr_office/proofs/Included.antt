@@ -9,7 +9,7 @@ use Rattle.cdf_parts.specs.Places.{Texts}
 use Rattle.cdf_definition.specs.References.{Scope}
 use Rattle.cdf_check.proofs.Laws.{header_stays, snapshot_stays}
 use Rattle.cdf_check.specs.Wider.{Includes, Wider}
-use Rattle.cvr_facts.specs.Facts.{Fact, Device, Header, Snapshot, Facts, fact_total}
+use Rattle.cvr_fact_types.specs.Facts.{Fact, Device, Header, Snapshot, Facts, fact_total}
 use Rattle.cvr_facts.specs.Stands.{Stands, IsWhole, IsOfWhole}
 use Rattle.cvr_facts.proofs.Laws.{contains_iff}
 use Rattle.cvr_facts.proofs.Lemmas.{Contains-filter_map, from-filter_map}

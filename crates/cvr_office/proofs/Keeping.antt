@@ -11,7 +11,7 @@ use Rattle.cdf_check.specs.Same.{AreEqualButDevices}
 use Rattle.cdf_definition.specs.Sound.{IsFrame}
 use Rattle.cdf_check.proofs.Laws.{same_definitions, more_devices, bodies_utf8}
 use Rattle.cdf_check.specs.Wider.{Includes}
-use Rattle.cvr_facts.specs.Facts.{Fact, Facts, texts}
+use Rattle.cvr_fact_types.specs.Facts.{Fact, Facts, texts}
 use Rattle.cvr_facts.specs.Reports.{facts, device_fact}
 use Rattle.cvr_facts.specs.Stands.{Stands, IsOfWhole}
 use Rattle.cvr_facts.proofs.Lemmas.{from_map}

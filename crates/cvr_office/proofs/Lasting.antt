@@ -4,7 +4,7 @@ use Rattle.std.proofs.lemmas.List.{get_or-map}
 use Rattle.std.proofs.lemmas.Option.{slice_get_within, get_or_from_slice_get}
 use Rattle.std.specs.FinSet.{union, empty, items, contains, contains-union}
 use Rattle.cdf_definition.specs.Frame.{Frame}
-use Rattle.cvr_facts.specs.Facts.{Fact, Facts}
+use Rattle.cvr_fact_types.specs.Facts.{Fact, Facts}
 use Rattle.cvr_office.specs.declared.event.Event.TheVariants.{Import, Exchange}
 use Rattle.cvr_office.specs.declared.event.Outcome.TheVariants.{Accepted}
 use Rattle.cvr_office.specs.Reach.{Origin, File, History, reached, brought, content}

@@ -1,7 +1,7 @@
 -- A set and its growth by another are the union.
 use Rattle.std.proofs.Common.{◌≤◌, subst, arith}
 use Rattle.std.specs.FinSet.{len, union, items}
-use Rattle.cvr_facts.specs.Facts.{fact_total, fact_exact}
+use Rattle.cvr_fact_types.specs.Facts.{fact_total, fact_exact}
 use Rattle.cvr_facts.proofs.Laws.{contains_iff}
 use Rattle.cvr_office.specs.Counting.{GrowthLaw}
 use Rattle.cvr_office.proofs.Rising.{set_is, len-union}

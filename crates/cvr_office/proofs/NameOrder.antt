@@ -7,8 +7,8 @@ use Rattle.std.specs.Cmp.Lexicographic.{lists_total, nat_list_cmp_total}
 use Rattle.std.proofs.lemmas.Cmp.{on_total}
 use Rattle.std.proofs.lemmas.Slice.Eq.{bytes_eq-Decides}
 use Rattle.std.specs.FinMap.{IsAntisymmetric, nat_cmp-IsAntisymmetric, slice_cmp-IsAntisymmetric}
-use Rattle.cvr_facts.specs.declared.name.RecordName.{RecordName}
-use Rattle.cvr_facts.specs.Facts.{Fact, Device, Header, Snapshot, text_cmp}
+use Rattle.cvr_fact_types.specs.declared.name.RecordName.{RecordName}
+use Rattle.cvr_fact_types.specs.Facts.{Fact, Device, Header, Snapshot, text_cmp}
 use Rattle.cvr_facts.specs.Choosing.{is_name}
 use Rattle.cvr_office.specs.declared.conflict.ConflictName.{ConflictName}
 use Rattle.cvr_office.specs.declared.conflict.ConflictName.TheVariants as name

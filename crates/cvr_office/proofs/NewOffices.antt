@@ -8,7 +8,7 @@ use Rattle.std.proofs.lemmas.List.{get_or-map, length-map}
 use Rattle.std.proofs.lemmas.Option.{slice_get_within, get_or_from_slice_get}
 use Rattle.cdf_definition.specs.Frame.{Frame}
 use Rattle.cdf_check.proofs.Laws.{one_definition}
-use Rattle.cvr_facts.specs.Facts.{Facts}
+use Rattle.cvr_fact_types.specs.Facts.{Facts}
 use Rattle.cvr_office.specs.declared.event.Event.TheVariants.{Import, Exchange}
 use Rattle.cvr_office.specs.declared.event.Outcome.TheVariants.{Accepted, Refused}
 use Rattle.cvr_office.specs.Keeps.{starting}

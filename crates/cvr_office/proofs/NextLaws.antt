@@ -8,7 +8,7 @@ use Rattle.std.specs.FinMap.{IsAntisymmetric}
 use Rattle.std.specs.FinSet.{items}
 use Rattle.std.proofs.lemmas.Bool.{false≢true}
 use Rattle.std.proofs.lemmas.Map.Keys.{sorted_tail}
-use Rattle.cvr_facts.specs.Facts.{Fact, Facts}
+use Rattle.cvr_fact_types.specs.Facts.{Fact, Facts}
 use Rattle.cvr_facts.specs.Ordered.{ordered}
 use Rattle.cvr_facts.proofs.Lemmas.{none_listed, at_head, at_tail, head_or_tail, ordered_rises, Contains-filter_map, from-filter_map}
 use Rattle.cvr_facts.proofs.Laws.{contains_iff}

@@ -9,7 +9,7 @@ use Rattle.std.specs.FinMap.{IsAntisymmetric}
 use Rattle.std.specs.FinSet.{items}
 use Rattle.std.proofs.lemmas.Bool.{cases_lt}
 use Rattle.std.proofs.lemmas.Option.{get_or_from_slice_get, slice_get_within, none-some}
-use Rattle.cvr_facts.specs.Facts.{Fact, fact_total, fact_exact}
+use Rattle.cvr_fact_types.specs.Facts.{Fact, fact_total, fact_exact}
 use Rattle.cvr_facts.specs.Ordered.{ordered}
 use Rattle.cvr_facts.proofs.Lemmas.{in_map, from_map, in_set, from_set, ordered_rises, Contains-filter_map, from-filter_map}
 use Rattle.cvr_facts.proofs.Laws.{contains_iff}

@@ -7,10 +7,10 @@ use Rattle.std.specs.Ordering.{is_gt, ordering_then}
 use Rattle.std.proofs.lemmas.List.Kept.{IsStrictlySortedBy-filter}
 use Rattle.cdf_parts.specs.Places.{Contest}
 use Rattle.cdf_typed.specs.Greatest.{greatest}
-use Rattle.cvr_facts.specs.declared.name.RecordName.{RecordName}
-use Rattle.cvr_facts.specs.declared.header.HeaderFact.{HeaderFact}
-use Rattle.cvr_facts.specs.declared.snapshot.SnapshotFact.{SnapshotFact}
-use Rattle.cvr_facts.specs.Facts.{text_cmp}
+use Rattle.cvr_fact_types.specs.declared.name.RecordName.{RecordName}
+use Rattle.cvr_fact_types.specs.declared.header.HeaderFact.{HeaderFact}
+use Rattle.cvr_fact_types.specs.declared.snapshot.SnapshotFact.{SnapshotFact}
+use Rattle.cvr_fact_types.specs.Facts.{text_cmp}
 use Rattle.cvr_facts.specs.Choosing.{choice_cmp, fact_choice, header_bodies, snapshot_bodies, header, current, IsGreatest}
 use Rattle.cvr_facts.specs.Stands.{IsSpelledHeader, IsSpelledSnapshot}
 use Rattle.cvr_facts.proofs.Laws.{text_total, text_exact, choice_total, choice_exact, bodies, Contains-header_bodies, Contains-snapshot_bodies}

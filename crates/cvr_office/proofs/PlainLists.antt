@@ -9,7 +9,7 @@ use Rattle.cdf_definition.specs.Named.{Entry}
 use Rattle.cdf_definition.specs.Frame.{Frame}
 use Rattle.cdf_definition.specs.Sound.{IsFrame}
 use Rattle.cvr_facts.specs.declared.list.FactList.{FactList}
-use Rattle.cvr_facts.specs.Facts.{Fact, Device, fact_cmp, fact_total, fact_exact}
+use Rattle.cvr_fact_types.specs.Facts.{Fact, Device, fact_cmp, fact_total, fact_exact}
 use Rattle.cvr_facts.specs.Lists.{fact_of_header, fact_of_snapshot, facts_in}
 use Rattle.cvr_facts.specs.Stands.{AreSpelled}
 use Rattle.cvr_facts.specs.Unions.{empty_union}

@@ -5,7 +5,7 @@ use Rattle.std.specs.List.Sorted.{IsStrictlySortedBy, IsSorted, IsPermutation}
 use Rattle.std.specs.Ordering.{eq_by_cmp}
 use Rattle.std.proofs.lemmas.List.{take_more, map-append, get_or-map, length-map}
 use Rattle.cdf_definition.specs.Named.{Entry, ids_of, texts_of}
-use Rattle.cvr_facts.specs.Facts.{Fact, Device, fact_total, fact_exact}
+use Rattle.cvr_fact_types.specs.Facts.{Fact, Device, fact_total, fact_exact}
 use Rattle.cvr_office.specs.declared.any_fact.AnyFact.{AnyFact}
 use Rattle.cvr_office.specs.declared.any_fact.AnyFact.TheVariants as any
 use Rattle.cvr_office.specs.Readers.{growth}

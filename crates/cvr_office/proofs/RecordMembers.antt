@@ -6,10 +6,10 @@ use Rattle.std.specs.FinMap.{IsAntisymmetric}
 use Rattle.std.specs.FinSet.{contains}
 use Rattle.std.specs.Ordering.{is_eq, ordering_then}
 use Rattle.std.specs.Cmp.{Equal-is, tied_itself}
-use Rattle.cvr_facts.specs.declared.name.RecordName.{RecordName}
-use Rattle.cvr_facts.specs.declared.header.HeaderFact.{HeaderFact}
-use Rattle.cvr_facts.specs.declared.snapshot.SnapshotFact.{SnapshotFact}
-use Rattle.cvr_facts.specs.Facts.{Header, Snapshot, text_cmp, name_cmp, fact_total, fact_exact}
+use Rattle.cvr_fact_types.specs.declared.name.RecordName.{RecordName}
+use Rattle.cvr_fact_types.specs.declared.header.HeaderFact.{HeaderFact}
+use Rattle.cvr_fact_types.specs.declared.snapshot.SnapshotFact.{SnapshotFact}
+use Rattle.cvr_fact_types.specs.Facts.{Header, Snapshot, text_cmp, name_cmp, fact_total, fact_exact}
 use Rattle.cvr_facts.proofs.Laws.{text_total, text_exact}
 use Rattle.cvr_facts.proofs.Lemmas.{at_head, at_tail, head_or_tail, none_listed, in_map, from_map, in_set, from_set, Contains-filter_map, from-filter_map}
 use Rattle.cvr_office.specs.declared.any_fact.AnyFact.{AnyFact}

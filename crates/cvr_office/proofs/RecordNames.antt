@@ -4,8 +4,8 @@ use Rattle.std.specs.Prelude.{◌&&◌, ◌↔◌, bytes_eq, if◌then◌else◌
 use Rattle.std.specs.List.{filter, filter_map}
 use Rattle.std.specs.FinSet.{contains, items}
 use Rattle.std.proofs.lemmas.Slice.Eq.{bytes_eq-Decides}
-use Rattle.cvr_facts.specs.declared.name.RecordName.{RecordName}
-use Rattle.cvr_facts.specs.Facts.{Fact, Device, Header, Snapshot, Facts}
+use Rattle.cvr_fact_types.specs.declared.name.RecordName.{RecordName}
+use Rattle.cvr_fact_types.specs.Facts.{Fact, Device, Header, Snapshot, Facts}
 use Rattle.cvr_facts.specs.Choosing.{is_name}
 use Rattle.cvr_facts.proofs.Lemmas.{in_map, from_map, Contains-filter_map, from-filter_map}
 use Rattle.cvr_facts.proofs.Laws.{contains_iff}

@@ -5,7 +5,7 @@ use Rattle.std.specs.List.Sorted.{IsStrictlySortedBy}
 use Rattle.std.specs.Ordering.{on}
 use Rattle.std.specs.Cmp.Lexicographic.{pointwise}
 use Rattle.std.specs.FinSet.{contains}
-use Rattle.cvr_facts.specs.Facts.{Fact, fact_total, fact_exact}
+use Rattle.cvr_fact_types.specs.Facts.{Fact, fact_total, fact_exact}
 use Rattle.cvr_facts.proofs.Lemmas.{in_set, from_set, same_lists_of_members}
 use Rattle.cvr_office.specs.declared.any_fact.AnyFact.{AnyFact}
 use Rattle.cvr_office.specs.Place.{fact_of, place_cmp, place_total, place_exact, any_cmp}

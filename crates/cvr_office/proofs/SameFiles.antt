@@ -5,7 +5,7 @@ use Rattle.std.specs.Cmp.{both_ways}
 use Rattle.std.specs.FinSet.{empty, contains, items, same_set, contains-insert, from_list}
 use Rattle.serde_json.specs.Data.{Data}
 use Rattle.cdf_definition.specs.Acceptance.{value_in}
-use Rattle.cvr_facts.specs.Facts.{Fact, Facts, fact_cmp, fact_total, fact_exact}
+use Rattle.cvr_fact_types.specs.Facts.{Fact, Facts, fact_cmp, fact_total, fact_exact}
 use Rattle.cvr_facts.specs.Reports.{report_facts}
 use Rattle.cvr_office.specs.Reach.{Origin, Start, File, History, reached, brought, content}
 use Rattle.cvr_office.specs.Alike.{HasReached, HaveSameFiles, BeganAlike, SamePlacesLaw}

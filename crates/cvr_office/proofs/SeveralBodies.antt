@@ -4,7 +4,7 @@ use Rattle.std.specs.Prelude.{nat_le}
 use Rattle.std.specs.List.{filter}
 use Rattle.std.specs.FinSet.{items}
 use Rattle.std.proofs.lemmas.Bool.{leb-true, le-leb}
-use Rattle.cvr_facts.specs.Facts.{Facts}
+use Rattle.cvr_fact_types.specs.Facts.{Facts}
 use Rattle.cvr_facts.proofs.Laws.{text_total, text_exact}
 use Rattle.cvr_facts.proofs.Lemmas.{one_listed, in_map, from_map}
 use Rattle.cvr_office.specs.declared.conflict.Conflict.{Conflict}

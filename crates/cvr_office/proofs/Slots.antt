@@ -3,7 +3,7 @@ use Rattle.std.proofs.Common.{◌≡◌, ℕ, ◌-◌, ◌<◌, List, [], ◌++�
 use Rattle.std.proofs.lemmas.List.{map-set, set-append_left, set-append_right, set-get_or, get_or-map, get_or-append_right, get_or_append_left}
 use Rattle.std.proofs.Math.Seq.{map-set_same}
 use Rattle.std.specs.FinSet.{empty, len}
-use Rattle.cvr_facts.specs.Facts.{Facts}
+use Rattle.cvr_fact_types.specs.Facts.{Facts}
 use Rattle.cvr_facts.specs.Reports.{facts}
 use Rattle.cvr_office.specs.Readers.{growth}
 use Rattle.cvr_office.specs.Outcomes.{contents_after, held_after}

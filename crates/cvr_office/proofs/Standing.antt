@@ -8,7 +8,7 @@ use Rattle.cdf_definition.specs.Sound.{IsFrame}
 use Rattle.cdf_definition.specs.Acceptance.{Valid, value_in}
 use Rattle.cdf_definition.proofs.Laws.{references}
 use Rattle.cdf_check.proofs.Laws.{contests_agree, devices_stand, headers_stand, snapshots_stand}
-use Rattle.cvr_facts.specs.Facts.{Fact}
+use Rattle.cvr_fact_types.specs.Facts.{Fact}
 use Rattle.cvr_facts.specs.Stands.{Stands}
 use Rattle.cvr_office.specs.FileFacts.{FactsStandLaw}
 use Rattle.cvr_facts.specs.Sources.{Source, of_device, of_header, of_snapshot}

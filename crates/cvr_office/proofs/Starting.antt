@@ -11,7 +11,7 @@ use Rattle.cdf_definition.specs.Named.{Entry, named}
 use Rattle.cdf_definition.specs.Sound.{IsFrame, WasRead}
 use Rattle.cdf_check.proofs.Laws.{lists, devices_stand, bodies_utf8}
 use Rattle.cdf_definition.proofs.Laws.{sound}
-use Rattle.cvr_facts.specs.Facts.{Fact, Device, fact_total, fact_exact, texts}
+use Rattle.cvr_fact_types.specs.Facts.{Fact, Device, fact_total, fact_exact, texts}
 use Rattle.cvr_facts.specs.Reports.{facts, device_fact}
 use Rattle.cvr_facts.specs.Stands.{Stands, IsOfWhole}
 use Rattle.cvr_facts.proofs.Lemmas.{from_map, from_set}

@@ -8,7 +8,7 @@ use Rattle.std.specs.Ordering.{eq_by_cmp}
 use Rattle.std.specs.Cmp.{IsTotalOrder, both_ways, Equal-is, tied_itself}
 use Rattle.std.specs.FinSet.{FinSet, union, empty, insert, from_list, items, contains, same_set, contains-union, contains-empty, contains-insert, contains-items}
 use Rattle.std.specs.FinMap.{IsAntisymmetric}
-use Rattle.cvr_facts.specs.Facts.{Fact, Facts, fact_cmp, fact_total, fact_exact}
+use Rattle.cvr_fact_types.specs.Facts.{Fact, Facts, fact_cmp, fact_total, fact_exact}
 use Rattle.cvr_office.specs.Reach.{union_over}
 
 pub or_cases : (a b : Bool) → (a || b) ≡ true → (a ≡ true) ⊎ (b ≡ true)

@@ -2,7 +2,7 @@
 use Rattle.std.proofs.Common.{◌≡◌, true, inl, inr, sym, ◌∙◌, subst}
 use Rattle.std.specs.Cmp.{both_ways}
 use Rattle.std.specs.FinSet.{union, contains, contains-union, same_set}
-use Rattle.cvr_facts.specs.Facts.{Fact, Facts, fact_total, fact_exact}
+use Rattle.cvr_fact_types.specs.Facts.{Fact, Facts, fact_total, fact_exact}
 use Rattle.cvr_facts.specs.Unions.{union_comm}
 use Rattle.cvr_office.specs.Keeps.{starting}
 use Rattle.cvr_office.specs.Alike.{NewOfficeLaw}

@@ -7,7 +7,7 @@ use Rattle.std.specs.Cmp.{IsTotalOrder, tied_itself, back_total}
 use Rattle.std.specs.Cmp.Lexicographic.{options_total}
 use Rattle.std.proofs.lemmas.Map.Keys.{Less-from_sorted}
 use Rattle.std.proofs.Math.Nat.{eq-or-lt_of_le}
-use Rattle.cvr_facts.specs.Facts.{Fact, Device, Header, Snapshot, text_cmp, name_cmp}
+use Rattle.cvr_fact_types.specs.Facts.{Fact, Device, Header, Snapshot, text_cmp, name_cmp}
 use Rattle.cvr_office.specs.Names.{record_of, device_in}
 use Rattle.cvr_office.specs.Place.{place_cmp}
 

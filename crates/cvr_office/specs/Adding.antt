@@ -4,9 +4,9 @@ use Rattle.std.specs.List.{Contains, IsDistinct}
 use Rattle.std.specs.Option.{IfSome}
 use Rattle.std.specs.FinMap as map_of
 use Rattle.cdf_parts.specs.Places.{Contest, selections_at}
-use Rattle.cvr_facts.specs.declared.name.RecordName.{RecordName}
-use Rattle.cvr_facts.specs.declared.sums.VoteSums.{VoteSums}
-use Rattle.cvr_facts.specs.Facts.{Facts}
+use Rattle.cvr_fact_types.specs.declared.name.RecordName.{RecordName}
+use Rattle.cvr_fact_types.specs.declared.sums.VoteSums.{VoteSums}
+use Rattle.cvr_fact_types.specs.Facts.{Facts}
 use Rattle.cvr_facts.specs.Choosing.{header, current}
 use Rattle.cvr_facts.specs.Sums.{sum_limit, AreBelow}
 use Rattle.cvr_tally.specs.declared.key.RowKey.{RowKey}

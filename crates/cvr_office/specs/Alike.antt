@@ -7,10 +7,10 @@ use Rattle.cdf_definition.specs.Acceptance.{value_in}
 use Rattle.cdf_definition.specs.Frame.{Frame, IsSame}
 use Rattle.cdf_check.specs.Same.{IsOne}
 use Rattle.cdf_definition.specs.Sound.{IsFrame}
-use Rattle.cvr_facts.specs.declared.name.RecordName.{RecordName}
-use Rattle.cvr_facts.specs.declared.header.HeaderFact.{HeaderFact}
-use Rattle.cvr_facts.specs.declared.snapshot.SnapshotFact.{SnapshotFact}
-use Rattle.cvr_facts.specs.Facts.{Facts}
+use Rattle.cvr_fact_types.specs.declared.name.RecordName.{RecordName}
+use Rattle.cvr_fact_types.specs.declared.header.HeaderFact.{HeaderFact}
+use Rattle.cvr_fact_types.specs.declared.snapshot.SnapshotFact.{SnapshotFact}
+use Rattle.cvr_fact_types.specs.Facts.{Facts}
 use Rattle.cvr_facts.specs.Choosing.{header, current}
 use Rattle.cvr_tally.specs.declared.key.RowKey.{RowKey}
 use Rattle.cvr_office.specs.Names.{conflicts}

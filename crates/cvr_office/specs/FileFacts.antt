@@ -5,7 +5,7 @@ use Rattle.cdf_parts.specs.Parts.{ids_at}
 use Rattle.cdf_definition.specs.Sound.{IsFrame}
 use Rattle.cdf_definition.specs.Frame.{Frame, scope_in}
 use Rattle.cdf_definition.specs.Acceptance.{Valid, value_in}
-use Rattle.cvr_facts.specs.Facts.{Fact}
+use Rattle.cvr_fact_types.specs.Facts.{Fact}
 use Rattle.cvr_facts.specs.Reports.{facts}
 use Rattle.cvr_facts.specs.Stands.{Stands, IsOfWhole}
 

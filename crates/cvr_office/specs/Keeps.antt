@@ -7,7 +7,7 @@ use Rattle.cdf_definition.specs.References.{Scope}
 use Rattle.cdf_definition.specs.Frame.{Frame, scope_in}
 use Rattle.cdf_definition.specs.Sound.{IsFrame}
 use Rattle.cdf_definition.specs.Acceptance.{Valid}
-use Rattle.cvr_facts.specs.Facts.{Fact, Device, Facts, texts}
+use Rattle.cvr_fact_types.specs.Facts.{Fact, Device, Facts, texts}
 use Rattle.cvr_facts.specs.Reports.{facts}
 use Rattle.cvr_facts.specs.Stands.{Stands, IsOfWhole}
 use Rattle.cvr_office.specs.Names.{device_in}

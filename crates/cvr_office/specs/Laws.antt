@@ -9,7 +9,7 @@ use Rattle.cdf_parts.specs.Places.{Contest}
 use Rattle.cdf_definition.specs.Frame.{Frame, IsSame}
 use Rattle.cdf_definition.specs.Sound.{IsFrame}
 use Rattle.cdf_definition.specs.Acceptance.{Valid}
-use Rattle.cvr_facts.specs.Facts.{Fact, Facts}
+use Rattle.cvr_fact_types.specs.Facts.{Fact, Facts}
 use Rattle.cvr_facts.specs.Reports.{facts}
 use Rattle.cvr_office.specs.Readers.{next}
 use Rattle.cvr_office.specs.Keeps.{Keeps, starting}

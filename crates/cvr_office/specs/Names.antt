@@ -5,9 +5,9 @@ use Rattle.std.specs.FinSet.{items}
 use Rattle.std.specs.declared.cmp.Ordering.{Ordering}
 use Rattle.std.specs.Ordering.{on}
 use Rattle.std.specs.Cmp.Lexicographic.{slice_cmp}
-use Rattle.cvr_facts.specs.declared.name.RecordName.{RecordName}
-use Rattle.cvr_facts.specs.Facts.{Fact, Facts, text_cmp, name_cmp}
-use Rattle.cvr_facts.specs.Facts.{Device, Header, Snapshot}
+use Rattle.cvr_fact_types.specs.declared.name.RecordName.{RecordName}
+use Rattle.cvr_fact_types.specs.Facts.{Fact, Facts, text_cmp, name_cmp}
+use Rattle.cvr_fact_types.specs.Facts.{Device, Header, Snapshot}
 use Rattle.cvr_facts.specs.Ordered.{ordered}
 use Rattle.cvr_facts.specs.Choosing.{is_name}
 use Rattle.cvr_office.specs.declared.conflict.ConflictName.{ConflictName}

@@ -5,7 +5,7 @@ use Rattle.cdf_types.specs.declared.fault.ReadFault.{ReadFault}
 use Rattle.cdf_types.specs.declared.fault.ReadFault.TheVariants as read
 use Rattle.cdf_definition.specs.Frame.{Frame, IsSame}
 use Rattle.cdf_definition.specs.Acceptance.{first_refusal}
-use Rattle.cvr_facts.specs.Facts.{Facts}
+use Rattle.cvr_fact_types.specs.Facts.{Facts}
 use Rattle.cvr_facts.specs.Reports.{facts}
 use Rattle.cvr_office.specs.declared.event.Event.{Event}
 use Rattle.cvr_office.specs.declared.event.Event.TheVariants.{Import, Exchange}

@@ -4,8 +4,8 @@ use Rattle.std.specs.List.{Contains, zip, flat_map}
 use Rattle.std.specs.List.Sorted.{IsPermutation, IsStrictlySortedBy}
 use Rattle.std.specs.FinSet.{union}
 use Rattle.cdf_parts.specs.Places.{Contest}
-use Rattle.cvr_facts.specs.declared.name.RecordName.{RecordName}
-use Rattle.cvr_facts.specs.Facts.{Facts, name_cmp}
+use Rattle.cvr_fact_types.specs.declared.name.RecordName.{RecordName}
+use Rattle.cvr_fact_types.specs.Facts.{Facts, name_cmp}
 use Rattle.cvr_facts.specs.Choosing.{header, current}
 use Rattle.cvr_tally.specs.declared.key.RowKey.{RowKey}
 use Rattle.cvr_tally.specs.declared.row.Row.{Row}

@@ -9,7 +9,7 @@ use Rattle.cdf_parts.specs.Places.{Contest}
 use Rattle.cdf_definition.specs.Named.{Entry}
 use Rattle.cdf_definition.specs.Frame.{Frame}
 use Rattle.cvr_facts.specs.declared.list.FactList.{FactList}
-use Rattle.cvr_facts.specs.Facts.{Facts, fact_cmp, coded_facts}
+use Rattle.cvr_fact_types.specs.Facts.{Facts, fact_cmp, coded_facts}
 use Rattle.cvr_facts.specs.Lists.{facts_in}
 use Rattle.cvr_facts.specs.Reports.{facts}
 use Rattle.cvr_facts.specs.Stands.{IsSpelledHeader, IsSpelledSnapshot, AreSpelled}

@@ -3,9 +3,9 @@ use Rattle.std.specs.Prelude.{◌≡◌, ℕ, List, [], ◌∷◌, ◌++◌, tru
 use Rattle.std.specs.FinSet.{contains}
 use Rattle.cdf_parts.specs.Places.{Contest}
 use Rattle.cdf_definition.specs.Frame.{Frame}
-use Rattle.cvr_facts.specs.declared.name.RecordName.{RecordName}
-use Rattle.cvr_facts.specs.declared.sums.VoteSums.{VoteSums}
-use Rattle.cvr_facts.specs.Facts.{Facts, Snapshot}
+use Rattle.cvr_fact_types.specs.declared.name.RecordName.{RecordName}
+use Rattle.cvr_fact_types.specs.declared.sums.VoteSums.{VoteSums}
+use Rattle.cvr_fact_types.specs.Facts.{Facts, Snapshot}
 use Rattle.cvr_facts.specs.Choosing.{header, current}
 use Rattle.cvr_tally.specs.declared.key.RowKey.{RowKey}
 use Rattle.cvr_office.specs.Keeps.{Keeps}

@@ -7,9 +7,9 @@ use Rattle.std.specs.FinMap.{from_entries}
 use Rattle.cdf_parts.specs.Parts.{text_in}
 use Rattle.cdf_parts.specs.Places.{Contest, selections_at}
 use Rattle.cdf_typed.specs.Typed.{snapshot_of}
-use Rattle.cvr_facts.specs.declared.name.RecordName.{RecordName}
-use Rattle.cvr_facts.specs.declared.sums.VoteSums.{VoteSums}
-use Rattle.cvr_facts.specs.Facts.{Facts}
+use Rattle.cvr_fact_types.specs.declared.name.RecordName.{RecordName}
+use Rattle.cvr_fact_types.specs.declared.sums.VoteSums.{VoteSums}
+use Rattle.cvr_fact_types.specs.Facts.{Facts}
 use Rattle.cvr_facts.specs.Choosing.{data_of, header, current}
 use Rattle.cvr_facts.specs.Sums.{sums_in}
 use Rattle.cvr_tally.specs.declared.key.RowKey.{RowKey}

@@ -6,8 +6,8 @@ use Rattle.std.specs.FinMap.{IsAntisymmetric}
 use Rattle.std.specs.FinSet.{contains, items}
 use Rattle.cdf_parts.specs.Places.{Texts}
 use Rattle.cdf_check.specs.Wider.{Includes}
-use Rattle.cvr_facts.specs.declared.name.RecordName.{RecordName}
-use Rattle.cvr_facts.specs.Facts.{Device, Header, Snapshot, Facts, name_cmp}
+use Rattle.cvr_fact_types.specs.declared.name.RecordName.{RecordName}
+use Rattle.cvr_fact_types.specs.Facts.{Device, Header, Snapshot, Facts, name_cmp}
 use Rattle.cvr_office.specs.declared.conflict.ConflictName.TheVariants as name
 use Rattle.cvr_office.specs.Names.{is_named, body_of, id_in, device_in, conflict_cmp}
 

@@ -2,7 +2,7 @@ ghost use Rattle.std.specs.Prelude.{◌≡◌, map, option_map, false, Some};
 ghost use Rattle.std.specs.Option.{option_cmp, option_map_or};
 ghost use Rattle.std.specs.Ordering.{is_lt, is_le};
 ghost use Rattle.std.specs.List.Sorted.{IsStrictlySortedBy};
-ghost use Rattle.cvr_facts.specs.Facts.{text_cmp};
+ghost use Rattle.cvr_fact_types.specs.Facts.{text_cmp};
 ghost use Rattle.cvr_office.specs.Names.{body_of, bodies_under, count_under, device_in, devices};
 ghost use Rattle.cvr_office.specs.declared.conflict.ConflictName.TheVariants as name;
 ghost use Rattle.cvr_office.specs.Readers.{next, numbered, device_list};

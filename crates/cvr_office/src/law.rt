@@ -1,6 +1,6 @@
 //! Laws of offices: what they keep, how files reach them, and which hold and answer the same.
 ghost use Rattle.cvr_office.specs.Reach.{ReachLaw};
-ghost use Rattle.cvr_facts.specs.Facts.{text_cmp, name_cmp};
+ghost use Rattle.cvr_fact_types.specs.Facts.{text_cmp, name_cmp};
 ghost use Rattle.cvr_office.specs.Under.{HeaderUnderLaw, SnapshotUnderLaw, IdUnderLaw, KnownDeviceLaw, DeviceKnownLaw, IncludesLaw};
 ghost use Rattle.cvr_office.specs.Under.{RecordsInOrder, RecordsAreExact, NamesInOrder, NamesAreExact};
 ghost use Rattle.cvr_office.specs.Own.{OwnAgreesLaw, SameAgreesLaw, EntryLaw};

@@ -7,7 +7,7 @@ ghost use Rattle.cdf_form.specs.Reading.{IsMemory};
 ghost use Rattle.cdf_parts.specs.Parts.{record_count};
 ghost use Rattle.cdf_definition.specs.Frame.{Frame, IsSame};
 ghost use Rattle.cdf_definition.specs.Acceptance.{Valid, first_refusal, value_in};
-ghost use Rattle.cvr_facts.specs.Facts.{Facts, text_cmp, name_cmp};
+ghost use Rattle.cvr_fact_types.specs.Facts.{Facts, text_cmp, name_cmp};
 ghost use Rattle.cvr_facts.specs.Reports.{facts};
 ghost use Rattle.cvr_tally.specs.declared.key.RowKey.{RowKey};
 ghost use Rattle.cvr_office.specs.Names.{records, devices, count_under, conflicts, greatest_count};

@@ -1,6 +1,6 @@
 ghost use Rattle.std.specs.Prelude.{◌≡◌, ◌++◌, map, IfOk, OnOk, OnErr};
 ghost use Rattle.std.specs.List.Sorted.{IsStrictlySortedBy};
-ghost use Rattle.cvr_facts.specs.Facts.{Device};
+ghost use Rattle.cvr_fact_types.specs.Facts.{Device};
 ghost use Rattle.cvr_office.specs.Readers.{growth};
 ghost use Rattle.cvr_office.specs.declared.any_fact.AnyFact.TheVariants as any;
 ghost use Rattle.cvr_office.specs.Place.{fact_of, any_cmp};

@@ -3,7 +3,7 @@ ghost use Rattle.cdf_parts.specs.Places.{Contest};
 ghost use Rattle.std.specs.List.{last_or, filter, Contains};
 ghost use Rattle.std.specs.List.Sorted.{IsStrictlySortedBy};
 ghost use Rattle.std.specs.Ordering.{is_lt};
-ghost use Rattle.cvr_facts.specs.Facts.{name_cmp};
+ghost use Rattle.cvr_fact_types.specs.Facts.{name_cmp};
 ghost use Rattle.cvr_facts.specs.Stands.{IsSpelledHeader};
 ghost use Rattle.cvr_office.specs.declared.any_fact.AnyFact.{AnyFact};
 ghost use Rattle.cvr_office.specs.declared.any_fact.AnyFact.TheVariants as any;

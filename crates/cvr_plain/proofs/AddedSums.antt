@@ -12,7 +12,7 @@ use Rattle.std.proofs.lemmas.List.Folds.{find-append}
 use Rattle.std.proofs.lemmas.Map.Keys.{apart_from_distinct}
 use Rattle.std.proofs.Common.{get_or-take, length-take-le, inl, inr}
 use Rattle.cdf_parts.specs.Places.{Contest, selections_at}
-use Rattle.cvr_facts.specs.declared.sums.VoteSums.{VoteSums}
+use Rattle.cvr_fact_types.specs.declared.sums.VoteSums.{VoteSums}
 use Rattle.cvr_facts.specs.Sums.{sum_limit, AreBelow}
 use Rattle.cvr_tally.specs.declared.key.RowKey.{RowKey}
 use Rattle.cvr_tally.specs.declared.row.Row.{Row}

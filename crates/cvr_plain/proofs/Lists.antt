@@ -12,7 +12,7 @@ use Rattle.cdf_check.proofs.Laws.{same_definitions}
 use Rattle.cdf_definition.specs.Acceptance.{Valid}
 use Rattle.cdf_definition.specs.Frame.{Frame, IsSame}
 use Rattle.cvr_facts.proofs.Lemmas.{tie_decides}
-use Rattle.cvr_facts.specs.Facts.{fact_cmp, fact_total, fact_exact}
+use Rattle.cvr_fact_types.specs.Facts.{fact_cmp, fact_total, fact_exact}
 use Rattle.cvr_facts.specs.Reports.{facts}
 use Rattle.cvr_facts.specs.declared.list.FactList.{FactList}
 use Rattle.cvr_office.specs.Keeps.{Keeps}

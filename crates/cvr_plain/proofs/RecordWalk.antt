@@ -5,8 +5,8 @@ use Rattle.std.specs.FinMap.{get, empty, get-empty, same_map, len, len-insert, l
 use Rattle.std.specs.Cmp.{IsTotalOrder}
 use Rattle.std.proofs.lemmas.List.{length-map, length-append}
 use Rattle.cdf_parts.specs.Places.{Contest}
-use Rattle.cvr_facts.specs.declared.name.RecordName.{RecordName}
-use Rattle.cvr_facts.specs.Facts.{Facts, name_cmp}
+use Rattle.cvr_fact_types.specs.declared.name.RecordName.{RecordName}
+use Rattle.cvr_fact_types.specs.Facts.{Facts, name_cmp}
 use Rattle.cvr_facts.specs.Ordered.{keys_of, ordered}
 use Rattle.cvr_facts.proofs.Lemmas.{ordered_rises}
 use Rattle.cvr_tally.specs.declared.key.RowKey.{RowKey}

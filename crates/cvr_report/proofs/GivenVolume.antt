@@ -7,8 +7,8 @@ use Rattle.std.specs.FinMap.{IsAntisymmetric, from_entries}
 use Rattle.std.specs.FinSet.{items, from_list}
 use Rattle.serde_json.specs.Written.{compact_text}
 use Rattle.cdf_definition.specs.Frame.{Frame}
-use Rattle.cvr_facts.specs.declared.name.RecordName.{RecordName}
-use Rattle.cvr_facts.specs.Facts.{Fact, Facts, fact_total, fact_exact, text_cmp, name_cmp}
+use Rattle.cvr_fact_types.specs.declared.name.RecordName.{RecordName}
+use Rattle.cvr_fact_types.specs.Facts.{Fact, Facts, fact_total, fact_exact, text_cmp, name_cmp}
 use Rattle.cvr_facts.specs.Ordered.{keys_of, ordered}
 use Rattle.cvr_facts.specs.Choosing.{choice_cmp}
 use Rattle.cvr_facts.proofs.Laws.{text_total, text_exact, choice_total, choice_exact, contains_iff}

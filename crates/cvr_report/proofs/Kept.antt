@@ -13,8 +13,8 @@ use Rattle.cdf_form.specs.Form.{class_in, find_class}
 use Rattle.cdf_parts.specs.Proper.{IsWell, MembersAreWell}
 use Rattle.cdf_form.specs.Tables.{classes_of}
 use Rattle.cdf_definition.specs.Frame.{Frame}
-use Rattle.cvr_facts.specs.declared.name.RecordName.{RecordName}
-use Rattle.cvr_facts.specs.Facts.{Fact, Device, Header, Snapshot, Facts}
+use Rattle.cvr_fact_types.specs.declared.name.RecordName.{RecordName}
+use Rattle.cvr_fact_types.specs.Facts.{Fact, Device, Header, Snapshot, Facts}
 use Rattle.cvr_facts.specs.Stands.{Stands, IsWhole, IsOfWhole}
 use Rattle.cvr_facts.specs.Choosing.{data_of}
 use Rattle.cvr_facts.proofs.Laws.{text_total, text_exact, choice_total, choice_exact, contains_iff}

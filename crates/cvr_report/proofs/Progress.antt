@@ -5,8 +5,8 @@ use Rattle.std.specs.Cmp.Lexicographic.{nat_list_cmp_total}
 use Rattle.serde_json.specs.Written.{comma_if}
 use Rattle.cdf_types.specs.Device.{appended, AppendsPrefix}
 use Rattle.cdf_types.proofs.Lemmas.{appended_twice}
-use Rattle.cvr_facts.specs.declared.name.RecordName.{RecordName}
-use Rattle.cvr_facts.specs.Facts.{Facts, name_cmp, text_cmp}
+use Rattle.cvr_fact_types.specs.declared.name.RecordName.{RecordName}
+use Rattle.cvr_fact_types.specs.Facts.{Facts, name_cmp, text_cmp}
 use Rattle.cvr_facts.proofs.Lemmas.{ordered_rises}
 use Rattle.cvr_office.specs.Names.{records, devices}
 use Rattle.cvr_office.specs.Readers.{next, device_list}

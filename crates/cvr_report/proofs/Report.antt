@@ -5,8 +5,8 @@ use Rattle.json.specs.Print.{quoted, escape_byte}
 use Rattle.serde_json.specs.Data.{Data, array, string, Items, no_items, item, Members, no_members, member}
 use Rattle.serde_json.specs.Written.{compact_text, items_text, members_text}
 use Rattle.serde_json.specs.View.{items_of}
-use Rattle.cvr_facts.specs.declared.name.RecordName.{RecordName}
-use Rattle.cvr_facts.specs.Facts.{Facts}
+use Rattle.cvr_fact_types.specs.declared.name.RecordName.{RecordName}
+use Rattle.cvr_fact_types.specs.Facts.{Facts}
 use Rattle.cvr_report.specs.Record.{joined, texts_of}
 use Rattle.cvr_report.specs.Writes.{list_text}
 use Rattle.cvr_report.specs.Page.{stands, shown_record}

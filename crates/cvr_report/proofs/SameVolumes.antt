@@ -3,7 +3,7 @@ use Rattle.std.proofs.Common.{map, ap}
 use Rattle.serde_json.specs.Written.{compact_text}
 use Rattle.cdf_definition.specs.Frame.{Frame}
 use Rattle.cdf_definition.specs.Named.{texts_of}
-use Rattle.cvr_facts.specs.Facts.{Facts}
+use Rattle.cvr_fact_types.specs.Facts.{Facts}
 use Rattle.cvr_office.proofs.Laws.{answer_alike, same_content, same_definition}
 use Rattle.cvr_report.specs.Page.{Shown, page, volumes}
 use Rattle.cvr_report.specs.Volume.{volume_of, values_of, records_data}

@@ -7,10 +7,10 @@ use Rattle.serde_json.specs.Written.{compact_text}
 use Rattle.cdf_parts.specs.Places.{Contest}
 use Rattle.cdf_typed.specs.Greatest.{greatest}
 use Rattle.cdf_definition.specs.Frame.{Frame}
-use Rattle.cvr_facts.specs.declared.name.RecordName.{RecordName}
-use Rattle.cvr_facts.specs.declared.header.HeaderFact.{HeaderFact}
-use Rattle.cvr_facts.specs.declared.snapshot.SnapshotFact.{SnapshotFact}
-use Rattle.cvr_facts.specs.Facts.{Facts}
+use Rattle.cvr_fact_types.specs.declared.name.RecordName.{RecordName}
+use Rattle.cvr_fact_types.specs.declared.header.HeaderFact.{HeaderFact}
+use Rattle.cvr_fact_types.specs.declared.snapshot.SnapshotFact.{SnapshotFact}
+use Rattle.cvr_fact_types.specs.Facts.{Facts}
 use Rattle.cvr_facts.specs.Choosing.{choice_cmp, fact_choice, data_of}
 use Rattle.cvr_facts.specs.Stands.{IsSpelledSnapshot}
 use Rattle.cvr_facts.proofs.Laws as choosing

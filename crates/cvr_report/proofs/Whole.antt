@@ -21,7 +21,7 @@ use Rattle.cdf_definition.specs.Named.{Entry, named, texts_of}
 use Rattle.cdf_definition.specs.Sound.{IsFrame}
 use Rattle.cdf_check.proofs.Laws.{lists}
 use Rattle.cdf_definition.proofs.Laws.{sound}
-use Rattle.cvr_facts.specs.Facts.{Fact, Device, Header, Snapshot, Facts}
+use Rattle.cvr_fact_types.specs.Facts.{Fact, Device, Header, Snapshot, Facts}
 use Rattle.cvr_facts.specs.Choosing.{data_of}
 use Rattle.cvr_facts.specs.Stands.{Stands}
 use Rattle.cvr_facts.proofs.Laws.{text_total, text_exact, contains_iff}

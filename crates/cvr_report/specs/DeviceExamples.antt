@@ -2,7 +2,7 @@
 use Rattle.std.specs.Prelude.{◌≡◌, ℕ, List, [], ◌∷◌, ◌++◌, codes}
 use Rattle.std.specs.FinSet.{from_list}
 use Rattle.cdf_definition.specs.Frame.{Frame}
-use Rattle.cvr_facts.specs.Facts.{Fact, Device, Header, Snapshot}
+use Rattle.cvr_fact_types.specs.Facts.{Fact, Device, Header, Snapshot}
 use Rattle.cvr_report.specs.Head.{Head}
 use Rattle.cvr_report.specs.Page.{volumes}
 use Rattle.cvr_report.specs.Volume.{volume}

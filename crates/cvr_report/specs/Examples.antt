@@ -2,8 +2,8 @@
 use Rattle.std.specs.Prelude.{◌≡◌, ℕ, List, [], ◌∷◌, ◌++◌, map, codes}
 use Rattle.std.specs.FinSet.{from_list}
 use Rattle.cdf_definition.specs.Frame.{Frame}
-use Rattle.cvr_facts.specs.declared.name.RecordName.{RecordName}
-use Rattle.cvr_facts.specs.Facts.{Fact, Facts, Device, Header, Snapshot}
+use Rattle.cvr_fact_types.specs.declared.name.RecordName.{RecordName}
+use Rattle.cvr_fact_types.specs.Facts.{Fact, Facts, Device, Header, Snapshot}
 use Rattle.cvr_report.specs.Head.{Head}
 use Rattle.cvr_report.specs.Page.{volumes, shown_record}
 use Rattle.cvr_report.specs.Volume.{volume}

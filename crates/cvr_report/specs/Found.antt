@@ -2,8 +2,8 @@
 use Rattle.std.specs.Prelude.{◌<◌, ◌-◌, ℕ, List, [], ◌∷◌, map, length, min, get_or, None}
 use Rattle.std.specs.List.{Contains}
 use Rattle.cdf_types.specs.declared.snapshot_kind.SnapshotKind.TheVariants.{Original}
-use Rattle.cvr_facts.specs.declared.header.HeaderFact.{HeaderFact}
-use Rattle.cvr_facts.specs.declared.snapshot.SnapshotFact.{SnapshotFact}
+use Rattle.cvr_fact_types.specs.declared.header.HeaderFact.{HeaderFact}
+use Rattle.cvr_fact_types.specs.declared.snapshot.SnapshotFact.{SnapshotFact}
 use Rattle.cvr_office.specs.declared.record_facts.IdFacts.{IdFacts}
 use Rattle.cvr_office.specs.declared.record_facts.RecordFacts.{RecordFacts}
 use Rattle.cvr_report.specs.Page.{Shown, shown}

@@ -2,7 +2,7 @@
 use Rattle.std.specs.Prelude.{◌≡◌, ℕ, List, Some}
 use Rattle.std.specs.List.{slice_get}
 use Rattle.cdf_definition.specs.Frame.{Frame, IsSame}
-use Rattle.cvr_facts.specs.Facts.{Facts}
+use Rattle.cvr_fact_types.specs.Facts.{Facts}
 use Rattle.cvr_office.specs.Reach.{History}
 use Rattle.cvr_office.specs.Alike.{AreNewOfOne, ArePlayed, HaveSameFiles, AreAlike}
 use Rattle.cvr_report.specs.Head.{Head}

@@ -4,8 +4,8 @@ use Rattle.std.specs.List.{filter}
 use Rattle.std.specs.Option.{option_map_or}
 use Rattle.std.specs.Ordering.{on}
 use Rattle.cdf_typed.specs.Greatest.{greatest}
-use Rattle.cvr_facts.specs.declared.name.RecordName.{RecordName}
-use Rattle.cvr_facts.specs.Facts.{Facts}
+use Rattle.cvr_fact_types.specs.declared.name.RecordName.{RecordName}
+use Rattle.cvr_fact_types.specs.Facts.{Facts}
 use Rattle.cvr_facts.specs.Choosing.{choice_cmp}
 use Rattle.cvr_office.specs.Names.{records, devices, snapshot_ids, most, greatest_count}
 use Rattle.cvr_office.specs.Readers.{numbered, header_list, device_list, snapshot_list}

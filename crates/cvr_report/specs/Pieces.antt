@@ -5,8 +5,8 @@ use Rattle.json.specs.Print.{quoted}
 use Rattle.serde_json.specs.Written.{compact_text}
 use Rattle.cdf_definition.specs.Frame.{Frame}
 use Rattle.cdf_definition.specs.Named.{texts_of}
-use Rattle.cvr_facts.specs.declared.name.RecordName.{RecordName}
-use Rattle.cvr_facts.specs.Facts.{Facts}
+use Rattle.cvr_fact_types.specs.declared.name.RecordName.{RecordName}
+use Rattle.cvr_fact_types.specs.Facts.{Facts}
 use Rattle.cvr_office.specs.Readers.{device_list}
 use Rattle.cvr_report.specs.Record.{joined}
 use Rattle.cvr_report.specs.Page.{shown, stands, shown_record}

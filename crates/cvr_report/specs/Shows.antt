@@ -2,8 +2,8 @@
 use Rattle.std.specs.Prelude.{◌≡◌, ◌-◌, ◌<◌, ℕ, List, length, min, get_or}
 use Rattle.std.specs.List.{Contains}
 use Rattle.cdf_definition.specs.Frame.{Frame}
-use Rattle.cvr_facts.specs.declared.name.RecordName.{RecordName}
-use Rattle.cvr_facts.specs.Facts.{Facts}
+use Rattle.cvr_fact_types.specs.declared.name.RecordName.{RecordName}
+use Rattle.cvr_fact_types.specs.Facts.{Facts}
 use Rattle.cvr_office.specs.Keeps.{Keeps}
 use Rattle.cvr_office.specs.Names.{records, snapshot_ids}
 use Rattle.cvr_office.specs.Readers.{header_list, snapshot_list}

@@ -5,7 +5,7 @@ ghost use Rattle.json.specs.Print.{quoted};
 ghost use Rattle.cvr_report.specs.Unescaped.{is_unescaped_byte};
 
 use cdf_types::Memory;
-use cvr_facts::text::push_quoted;
+use cvr_fact_types::text::push_quoted;
 use std::alloc::Global;
 
 fn is_unescaped_byte(byte: u8) -> bool

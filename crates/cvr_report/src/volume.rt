@@ -19,8 +19,8 @@ use crate::record::{push_joined, push_shown};
 use crate::shown::stands;
 use cdf_check::Definition;
 use cdf_types::{Body, Memory, Sink, write_all};
+use cvr_fact_types::text::push_quoted;
 use cvr_facts::RecordName;
-use cvr_facts::text::push_quoted;
 use cvr_office::Office;
 use std::alloc::Global;
 

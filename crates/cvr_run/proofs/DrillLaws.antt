@@ -11,7 +11,7 @@ use Rattle.serde_json.specs.Data.{Data}
 use Rattle.cdf_definition.specs.Frame.{Frame}
 use Rattle.cdf_definition.specs.Acceptance.{value_in}
 use Rattle.cdf_definition.proofs.Laws.{valid_file}
-use Rattle.cvr_facts.specs.Facts.{Facts, fact_total, fact_exact}
+use Rattle.cvr_fact_types.specs.Facts.{Facts, fact_total, fact_exact}
 use Rattle.cvr_facts.specs.Unions.{union_empty}
 use Rattle.cvr_facts.proofs.Lemmas.{in_map, from_map}
 use Rattle.cvr_office.specs.Alike.{HasReached}

@@ -13,7 +13,7 @@ use Rattle.cdf_types.specs.declared.fault.ReadFault.{ReadFault}
 use Rattle.cdf_definition.specs.Frame.{Frame}
 use Rattle.cdf_definition.specs.Acceptance.{first_refusal, value_in}
 use Rattle.cdf_definition.proofs.Laws.{valid_file}
-use Rattle.cvr_facts.specs.Facts.{Fact, Facts, fact_cmp, fact_total, fact_exact}
+use Rattle.cvr_fact_types.specs.Facts.{Fact, Facts, fact_cmp, fact_total, fact_exact}
 use Rattle.cvr_facts.specs.Reports.{facts}
 use Rattle.cvr_facts.specs.Unions.{union_empty}
 use Rattle.cvr_facts.proofs.Lemmas.{none_listed, head_or_tail, tie_itself}

@@ -11,7 +11,7 @@ use Rattle.std.proofs.lemmas.Str.Ascii.{IsAscii-nil, IsAscii-cons}
 use Rattle.cdf_definition.specs.Frame.{Frame, frame_of}
 use Rattle.cdf_definition.specs.Acceptance.{value_in, frame_in, first_unsound}
 use Rattle.cdf_check.specs.Rows as file
-use Rattle.cvr_facts.specs.Facts.{Fact, Device, Header, Snapshot, Facts, fact_cmp, fact_total, fact_exact}
+use Rattle.cvr_fact_types.specs.Facts.{Fact, Device, Header, Snapshot, Facts, fact_cmp, fact_total, fact_exact}
 use Rattle.cvr_facts.specs.Choosing.{data_of}
 use Rattle.cvr_facts.specs.Reports.{report_facts, facts}
 use Rattle.cvr_facts.specs.Rows.{device_body, header_body}

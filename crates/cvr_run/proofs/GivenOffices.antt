@@ -7,7 +7,7 @@ use Rattle.std.specs.Cmp.{both_ways}
 use Rattle.std.specs.FinSet.{empty, insert, contains, from_list, len, is_subset, len-empty, len-insert, contains-empty, contains-insert, contains-from_list, contains-is_subset, is_subset-contains}
 use Rattle.std.proofs.lemmas.Bool.{and_parts, and_from, false≢true}
 use Rattle.std.proofs.lemmas.List.{length-map}
-use Rattle.cvr_facts.specs.Facts.{Fact, Facts, fact_cmp, fact_total, fact_exact, name_cmp}
+use Rattle.cvr_fact_types.specs.Facts.{Fact, Facts, fact_cmp, fact_total, fact_exact, name_cmp}
 use Rattle.cvr_facts.proofs.Lemmas.{tie_is, tie_itself}
 use Rattle.cvr_office.specs.Names.{record_of, records}
 use Rattle.cvr_office.proofs.Lemmas.{sorted, records-given, or_cases, or_left, or_right}

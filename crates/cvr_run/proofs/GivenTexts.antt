@@ -3,7 +3,7 @@ use Rattle.std.proofs.Common.{◌≡◌, List}
 use Rattle.std.specs.List.{filter_map, flat_map}
 use Rattle.std.specs.FinSet.{from_list}
 use Rattle.cdf_typed.specs.Greatest.{greatest}
-use Rattle.cvr_facts.specs.Facts.{Fact, name_cmp}
+use Rattle.cvr_fact_types.specs.Facts.{Fact, name_cmp}
 use Rattle.cvr_facts.specs.Choosing.{choice_cmp, snapshot_body}
 use Rattle.cvr_office.specs.Names.{record_of}
 use Rattle.cvr_office.proofs.Lemmas.{sorted, records-given, current-given}

@@ -6,7 +6,7 @@ use Rattle.std.specs.FinSet.{union, empty}
 use Rattle.std.proofs.lemmas.List.{length-map, take_all}
 use Rattle.cdf_definition.specs.Frame.{Frame}
 use Rattle.cdf_definition.specs.Acceptance.{value_refusal, first_refusal}
-use Rattle.cvr_facts.specs.Facts.{Facts}
+use Rattle.cvr_fact_types.specs.Facts.{Facts}
 use Rattle.cvr_facts.specs.Reports.{facts}
 use Rattle.cvr_office.specs.declared.event.Cause.{Cause}
 use Rattle.cvr_office.specs.declared.event.Cause.TheVariants.{NoOffice, NoFile}

@@ -12,7 +12,7 @@ use Rattle.cdf_types.specs.declared.fault.ReadFault.{ReadFault}
 use Rattle.cdf_definition.specs.Frame.{Frame}
 use Rattle.cdf_definition.specs.Acceptance.{Valid, first_refusal, value_in}
 use Rattle.cdf_definition.proofs.Laws.{valid_file}
-use Rattle.cvr_facts.specs.Facts.{Fact, Facts, fact_cmp, fact_total, fact_exact}
+use Rattle.cvr_fact_types.specs.Facts.{Fact, Facts, fact_cmp, fact_total, fact_exact}
 use Rattle.cvr_facts.specs.Reports.{report_facts, facts}
 use Rattle.cvr_facts.proofs.Lemmas.{at_head, at_tail}
 use Rattle.cvr_office.specs.Keeps.{starting}

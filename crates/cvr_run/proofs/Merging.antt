@@ -7,7 +7,7 @@ use Rattle.std.proofs.lemmas.Bool.Decides.{nat_tests}
 use Rattle.cdf_types.specs.Device.{appended}
 use Rattle.cdf_form.specs.Form.{is_moment}
 use Rattle.cdf_definition.specs.Frame.{Frame}
-use Rattle.cvr_facts.specs.Facts.{Facts}
+use Rattle.cvr_fact_types.specs.Facts.{Facts}
 use Rattle.cvr_report.specs.declared.heading.HeadFault.{HeadFault}
 use Rattle.cvr_report.specs.declared.heading.HeadFault.TheVariants as head
 use Rattle.cvr_report.specs.Head.{Head, IsHead, IsFault, is_device_of}

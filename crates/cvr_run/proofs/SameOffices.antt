@@ -8,7 +8,7 @@ use Rattle.std.proofs.lemmas.Bool.{and_parts, and_from}
 use Rattle.std.proofs.lemmas.List.{drop_all, drop_more, get_or-replicate, length-replicate}
 use Rattle.std.proofs.lemmas.List.FromFn.{length-range_with_len, get_or-range_with_len}
 use Rattle.cdf_definition.specs.Frame.{Frame, IsSame}
-use Rattle.cvr_facts.specs.Facts.{Facts, fact_total, fact_exact}
+use Rattle.cvr_fact_types.specs.Facts.{Facts, fact_total, fact_exact}
 use Rattle.cvr_office.specs.Outcomes.{no_frame}
 use Rattle.cvr_run.specs.Drill.{are_same, office_line, AreOfOne}
 use Rattle.cvr_run.specs.Laws.{LeastSameLaw}

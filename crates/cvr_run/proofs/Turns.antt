@@ -9,7 +9,7 @@ use Rattle.cdf_types.specs.declared.fault.ReadFault.{ReadFault}
 use Rattle.cdf_types.specs.declared.fault.ReadFault.TheVariants as read
 use Rattle.cdf_definition.specs.Frame.{Frame}
 use Rattle.cdf_definition.specs.Acceptance.{first_refusal}
-use Rattle.cvr_facts.specs.Facts.{Facts, fact_total, fact_exact}
+use Rattle.cvr_fact_types.specs.Facts.{Facts, fact_total, fact_exact}
 use Rattle.cvr_facts.specs.Reports.{facts}
 use Rattle.cvr_facts.specs.Unions.{union_assoc, union_empty}
 use Rattle.cvr_office.specs.declared.event.Event.TheVariants.{Import}

@@ -4,10 +4,10 @@ use Rattle.std.specs.List.{flat_map}
 use Rattle.cdf_types.specs.SnapshotKind.{snapshot_kind_text}
 use Rattle.cdf_parts.specs.Parts.{id_of}
 use Rattle.cdf_typed.specs.Typed.{kind_of}
-use Rattle.cvr_facts.specs.declared.name.RecordName.{RecordName}
-use Rattle.cvr_facts.specs.Facts.{Facts}
+use Rattle.cvr_fact_types.specs.declared.name.RecordName.{RecordName}
+use Rattle.cvr_fact_types.specs.Facts.{Facts}
 use Rattle.cvr_facts.specs.Choosing.{data_of, current}
-use Rattle.cvr_facts.specs.Text.{word}
+use Rattle.cvr_fact_types.specs.Text.{word}
 use Rattle.cvr_office.specs.declared.conflict.Conflict.{Conflict}
 use Rattle.cvr_office.specs.declared.conflict.ConflictName.{ConflictName}
 use Rattle.cvr_office.specs.declared.conflict.ConflictName.TheVariants as name

@@ -4,7 +4,7 @@ use Rattle.std.specs.List.{list_any, flat_map, range_with_len, position_or_len}
 use Rattle.std.specs.FinSet.{empty, len, is_subset}
 use Rattle.cdf_definition.specs.Frame.{Frame}
 use Rattle.cdf_definition.specs.Acceptance.{first_refusal}
-use Rattle.cvr_facts.specs.Facts.{Facts}
+use Rattle.cvr_fact_types.specs.Facts.{Facts}
 use Rattle.cvr_facts.specs.Reports.{facts}
 use Rattle.cvr_office.specs.declared.event.Cause.{Cause}
 use Rattle.cvr_office.specs.declared.event.Cause.TheVariants.{Join, NoOffice, NoFile}

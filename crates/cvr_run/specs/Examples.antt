@@ -2,7 +2,7 @@
 use Rattle.std.specs.Prelude.{◌≡◌, ℕ, List, [], ◌∷◌, ◌++◌, map, codes, Option, Some, None}
 use Rattle.std.specs.FinSet.{from_list}
 use Rattle.cdf_definition.specs.Frame.{Frame}
-use Rattle.cvr_facts.specs.Facts.{Fact, Device, Header, Snapshot}
+use Rattle.cvr_fact_types.specs.Facts.{Fact, Device, Header, Snapshot}
 use Rattle.cvr_tally.specs.Examples.{ballot_box, dot}
 use Rattle.cvr_office.specs.Examples.{contests, position, selection, choice, contest, snapshot}
 use Rattle.cvr_words.specs.declared.request.Task.TheVariants.{Currents, Conflicts, Tally}

@@ -4,7 +4,7 @@ use Rattle.std.specs.List.{list_any}
 use Rattle.cdf_types.specs.declared.fault.ReadFault.TheVariants as read
 use Rattle.cdf_definition.specs.Frame.{Frame}
 use Rattle.cdf_definition.specs.Acceptance.{first_refusal}
-use Rattle.cvr_facts.specs.Facts.{Facts}
+use Rattle.cvr_fact_types.specs.Facts.{Facts}
 use Rattle.cvr_facts.specs.Reports.{facts}
 use Rattle.cvr_office.specs.declared.event.Outcome.{Outcome}
 use Rattle.cvr_office.specs.declared.event.Outcome.TheVariants.{Refused}

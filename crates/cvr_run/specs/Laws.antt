@@ -5,7 +5,7 @@ use Rattle.std.specs.FinSet.{contains, empty, union, len}
 use Rattle.serde_json.specs.Data.{Data}
 use Rattle.cdf_definition.specs.Frame.{Frame}
 use Rattle.cdf_definition.specs.Acceptance.{Valid, first_refusal, value_in}
-use Rattle.cvr_facts.specs.Facts.{Facts}
+use Rattle.cvr_fact_types.specs.Facts.{Facts}
 use Rattle.cvr_facts.specs.Reports.{facts}
 use Rattle.cvr_office.specs.declared.event.Event.{Event}
 use Rattle.cvr_office.specs.declared.event.Event.TheVariants.{Import}

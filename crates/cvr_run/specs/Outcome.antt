@@ -8,7 +8,7 @@ use Rattle.std.specs.Option.{option_map_or}
 use Rattle.cdf_parts.specs.Parts.{record_count}
 use Rattle.cdf_definition.specs.Frame.{Frame}
 use Rattle.cdf_definition.specs.Acceptance.{frame_in}
-use Rattle.cvr_facts.specs.Facts.{Facts}
+use Rattle.cvr_fact_types.specs.Facts.{Facts}
 use Rattle.cvr_facts.specs.Reports.{facts}
 use Rattle.cvr_run.specs.declared.merge.MergeFault.{MergeFault}
 use Rattle.cvr_words.specs.declared.request.Task.{Task}

@@ -1,12 +1,12 @@
 ghost use Rattle.std.specs.Prelude.{◌≡◌, ◌++◌, OnOk, IfOk, string_bytes};
 ghost use Rattle.std.specs.List.{flat_map};
-ghost use Rattle.cvr_facts.specs.Text.{word};
+ghost use Rattle.cvr_fact_types.specs.Text.{word};
 ghost use Rattle.cvr_run.specs.Currents.{words_of, conflict_line, volumes_of, conflict_text};
 
 use crate::number::push_number;
 use cdf_types::Memory;
+use cvr_fact_types::text::push_word;
 use cvr_facts::RecordName;
-use cvr_facts::text::push_word;
 use cvr_office::{Conflict, ConflictList, ConflictName};
 use std::alloc::Global;
 

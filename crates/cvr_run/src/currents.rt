@@ -1,11 +1,11 @@
 ghost use Rattle.std.specs.Prelude.{◌≡◌, ◌++◌, ◌∷◌, [], OnOk, IfOk, string_bytes};
 ghost use Rattle.cdf_types.specs.SnapshotKind.{snapshot_kind_text};
 ghost use Rattle.cvr_facts.specs.Choosing.{current};
-ghost use Rattle.cvr_facts.specs.Text.{word};
+ghost use Rattle.cvr_fact_types.specs.Text.{word};
 ghost use Rattle.cvr_run.specs.Currents.{line_of, currents};
 
 use cdf_types::Memory;
-use cvr_facts::text::push_word;
+use cvr_fact_types::text::push_word;
 use cvr_facts::{RecordName, SnapshotFact};
 use cvr_office::Office;
 use std::alloc::Global;

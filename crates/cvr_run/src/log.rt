@@ -3,7 +3,7 @@ ghost use Rattle.std.specs.List.{flat_map};
 ghost use Rattle.cvr_run.specs.Log.{fault_line, cause_line, memory_line, has_path, has_path_in, Logs};
 
 use cdf_types::{Memory, ReadFault, Sink, write_all};
-use cvr_facts::text::quoted;
+use cvr_fact_types::text::quoted;
 use cvr_office::{Cause, JoinFault};
 use itoa::Buffer;
 use std::alloc::Global;

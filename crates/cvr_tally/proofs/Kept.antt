@@ -5,7 +5,7 @@ use Rattle.std.specs.Cmp.{Equal-is}
 use Rattle.std.specs.Option.{IfSome, option_map_or, unwrap_or}
 use Rattle.std.specs.FinMap.{get, insert, remove, empty, get-empty, get-insert, get-remove}
 use Rattle.cdf_parts.specs.Places.{Contest, selections_at}
-use Rattle.cvr_facts.specs.declared.sums.VoteSums.{VoteSums}
+use Rattle.cvr_fact_types.specs.declared.sums.VoteSums.{VoteSums}
 use Rattle.cvr_tally.specs.declared.key.RowKey.{RowKey}
 use Rattle.cvr_tally.specs.declared.row.Row.{Row}
 use Rattle.cvr_tally.specs.Keys.{key_cmp, is_key, keys_total, keys_exact}

@@ -10,7 +10,7 @@ use Rattle.std.specs.Cmp.Lexicographic.{nat_list_cmp_total, options_total}
 use Rattle.std.proofs.lemmas.Cmp.{on_total, then_total, nat_cmp_total}
 use Rattle.std.proofs.lemmas.Map.Lookups.{exact_pairs, exact_unsigned, exact_bytes}
 use Rattle.std.specs.FinMap.{IsAntisymmetric}
-use Rattle.cvr_facts.specs.Facts.{text_cmp}
+use Rattle.cvr_fact_types.specs.Facts.{text_cmp}
 use Rattle.cvr_tally.specs.declared.key.RowKey.{RowKey}
 
 -- a unit or a batch: none before all texts, texts by their bytes

@@ -4,7 +4,7 @@ use Rattle.std.specs.List.{flat_map, zip}
 use Rattle.std.specs.FinMap.{entries}
 use Rattle.json.specs.Print.{quoted}
 use Rattle.cdf_parts.specs.Places.{Contest, contest_ids, selections_at}
-use Rattle.cvr_facts.specs.Text.{word}
+use Rattle.cvr_fact_types.specs.Text.{word}
 use Rattle.cvr_tally.specs.declared.key.RowKey.{RowKey}
 use Rattle.cvr_tally.specs.declared.row.Row.{Row}
 use Rattle.cvr_tally.specs.Rows.{Rows}

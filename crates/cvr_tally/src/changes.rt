@@ -4,7 +4,7 @@ ghost use Rattle.std.specs.List.{zip};
 ghost use Rattle.cvr_tally.specs.Rows.{HasRoom, HasSums, row_plus, row_minus};
 
 use crate::row::Row;
-use cvr_facts::VoteSums;
+use cvr_fact_types::VoteSums;
 
 // Adds numbers place by place.
 fn add_votes(votes: &mut [u128], sums: &[u64])

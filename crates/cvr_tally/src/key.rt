@@ -1,8 +1,8 @@
 ghost use Rattle.std.specs.Prelude.{◌≡◌, IfOk};
 
 use cdf_types::{Body, Memory};
-use cvr_facts::HeaderFact;
-use cvr_facts::text::copy_optional;
+use cvr_fact_types::HeaderFact;
+use cvr_fact_types::text::copy_optional;
 
 /// What a row of the tally is of: a contest, and the unit and the batch of the records (members
 /// BallotStyleUnitId and BatchId of class CVR in NIST SP 1500-103). Keys are ordered by contest,

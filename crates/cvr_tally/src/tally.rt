@@ -8,7 +8,7 @@ use crate::key::RowKey;
 use crate::row::Row;
 use crate::totals::Totals;
 use cdf_types::{Body, Memory};
-use cvr_facts::text::{push_word, quoted};
+use cvr_fact_types::text::{push_word, quoted};
 use itoa::Buffer;
 use std::alloc::Global;
 

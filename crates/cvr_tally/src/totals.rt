@@ -18,7 +18,7 @@ use crate::moves::Moves;
 use crate::row::Row;
 use cdf_definition::Definition;
 use cdf_types::Memory;
-use cvr_facts::VoteSums;
+use cvr_fact_types::VoteSums;
 use std::alloc::Global;
 use std::collections::{BTreeMap, btree_map};
 use std::marker::Model;

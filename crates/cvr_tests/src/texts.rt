@@ -1,7 +1,7 @@
 //! Texts, lists and sinks, and what is printed of a fault.
 use crate::files::body;
 use cdf_types::{MemorySink, ReadFault, Rule, Seq, write_all};
-use cvr_facts::text::{push_quoted, push_word};
+use cvr_fact_types::text::{push_quoted, push_word};
 use std::process::Abort;
 
 #[test]

@@ -1,5 +1,5 @@
 use Rattle.std.specs.BTreeMap.{get}
-use Rattle.cvr_facts.specs.Facts.{name_cmp}
+use Rattle.cvr_fact_types.specs.Facts.{name_cmp}
 use Rattle.cvr_cached.specs.Contents.{facts_at}
 use Rattle.cvr_cached.specs.Plans.{IsPlanned}
 use Rattle.cvr_cached.proofs.Theirs.{first_name, AreLeft}

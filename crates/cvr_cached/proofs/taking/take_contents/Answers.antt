@@ -1,7 +1,7 @@
 use Rattle.std.proofs.Common.{length, ◌*◌}
 use Rattle.std.specs.BTreeMap.{get}
 use Rattle.std.proofs.lemmas.Map.Lookups.{btree_map_from_get}
-use Rattle.cvr_facts.specs.Facts.{name_cmp}
+use Rattle.cvr_fact_types.specs.Facts.{name_cmp}
 use Rattle.cvr_office.proofs.Laws.{name_exact, name_total}
 use Rattle.cvr_cached.specs.Contents.{listed, facts_at}
 use Rattle.cvr_cached.specs.Plans.{all_moves}

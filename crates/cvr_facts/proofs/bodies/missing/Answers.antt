@@ -1,5 +1,5 @@
 use Rattle.std.proofs.Common.{◌≡◌, ◌++◌, ◌∷◌, [], sym, ap, ◌∙◌}
-use Rattle.cvr_facts.specs.Facts.{text_cmp}
+use Rattle.cvr_fact_types.specs.Facts.{text_cmp}
 use Rattle.cvr_facts.specs.Unions.{text_total, text_exact}
 use Rattle.cvr_facts.proofs.Sorted.{filter-pushed, filter-passed, is_err-search, is_missing}
 use Rattle.cvr_facts.proofs.bodies.missing.Goals as goal

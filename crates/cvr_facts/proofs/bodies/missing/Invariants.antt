@@ -1,7 +1,7 @@
 use Rattle.std.proofs.Common.{◌≡◌, take, not}
 use Rattle.std.specs.List.{filter, list_any}
 use Rattle.std.specs.Ordering.{eq_by_cmp}
-use Rattle.cvr_facts.specs.Facts.{text_cmp}
+use Rattle.cvr_fact_types.specs.Facts.{text_cmp}
 use Rattle.cvr_facts.proofs.bodies.missing.Given as goal
 
 -- those of theirs so far

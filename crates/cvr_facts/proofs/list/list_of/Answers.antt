@@ -1,6 +1,7 @@
 use Rattle.std.proofs.Common.{map}
 use Rattle.std.specs.List.{flat_map}
-use Rattle.cvr_facts.specs.Lists.{told_device, told_header, told_snapshots, fact_of_device, fact_of_header, fact_of_snapshot, device_cmp, header_cmp, snapshot_cmp}
+use Rattle.cvr_fact_types.specs.Orders.{device_cmp, header_cmp, snapshot_cmp}
+use Rattle.cvr_facts.specs.Lists.{told_device, told_header, told_snapshots, fact_of_device, fact_of_header, fact_of_snapshot}
 use Rattle.cvr_facts.proofs.Gathering.{Keeps, keeps, same_told, device_tied, header_tied, snapshot_tied}
 use Rattle.cvr_facts.proofs.list.list_of.Goals as goal
 

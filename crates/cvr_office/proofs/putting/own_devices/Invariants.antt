@@ -1,5 +1,5 @@
 use Rattle.std.proofs.Common.{◌≡◌, map, take}
-use Rattle.cvr_facts.specs.Facts.{Device}
+use Rattle.cvr_fact_types.specs.Facts.{Device}
 use Rattle.cvr_office.specs.Place.{fact_of}
 use Rattle.cvr_office.proofs.putting.own_devices.Given as goal
 

@@ -2,7 +2,7 @@ use Rattle.std.proofs.Common.{Bor, map, rules, ap, ◌∙◌, subst}
 use Rattle.std.specs.List.Sorted.{IsPermutation}
 use Rattle.std.specs.Ordering.{is_lt}
 use Rattle.std.proofs.lemmas.List.Sorted.{IsPermutation-map, ranks_by, answers_always}
-use Rattle.cvr_facts.specs.declared.snapshot.SnapshotFact.{SnapshotFact}
+use Rattle.cvr_fact_types.specs.declared.snapshot.SnapshotFact.{SnapshotFact}
 use Rattle.cvr_facts.specs.Choosing.{fact_choice}
 use Rattle.cvr_facts.proofs.Laws.{fact_total}
 use Rattle.cvr_office.proofs.ViewedLists.{map-reverse, sorted-map}

@@ -1,7 +1,7 @@
 use Rattle.std.proofs.Common.{Bor, map, refl, sym, ap, ◌∙◌}
 use Rattle.std.specs.Prelude.{reverse}
 use Rattle.std.proofs.lemmas.List.{take_all}
-use Rattle.cvr_facts.specs.declared.header.HeaderFact.{HeaderFact}
+use Rattle.cvr_fact_types.specs.declared.header.HeaderFact.{HeaderFact}
 use Rattle.cvr_office.specs.Runs.{headers}
 use Rattle.cvr_office.proofs.RunSteps.{header_taken, header_passed}
 use Rattle.cvr_office.proofs.ViewedLists.{pushed, map-reverse}

@@ -1,7 +1,7 @@
 use Rattle.std.proofs.Common.{◌≡◌, rules, arith, option_map, ap, ◌∙◌}
 use Rattle.std.specs.Option.{option_cmp}
 use Rattle.std.specs.Ordering.{is_gt}
-use Rattle.cvr_facts.specs.Facts.{name_cmp}
+use Rattle.cvr_fact_types.specs.Facts.{name_cmp}
 use Rattle.cvr_office.specs.Names.{record_of}
 use Rattle.cvr_office.specs.Place.{fact_of}
 use Rattle.cvr_office.proofs.CountedRecords.{counted_same, counted_none, counted_new, counted_old, counted_all}

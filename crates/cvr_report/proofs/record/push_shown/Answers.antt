@@ -1,6 +1,6 @@
 use Rattle.std.proofs.Common.{Bor, ◌≡◌, ◌++◌, List, map, Result, Ok, Err, OnOk, Contains, sym, ap, ◌∙◌, subst}
 use Rattle.serde_json.specs.Written.{compact_text}
-use Rattle.cvr_facts.specs.declared.header.HeaderFact.{HeaderFact}
+use Rattle.cvr_fact_types.specs.declared.header.HeaderFact.{HeaderFact}
 use Rattle.cvr_office.specs.Readers.{header_list}
 use Rattle.cvr_report.specs.Record.{record_of}
 use Rattle.cvr_report.specs.Found.{shown_bodies}

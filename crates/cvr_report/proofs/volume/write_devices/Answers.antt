@@ -1,6 +1,6 @@
 use Rattle.std.proofs.Common.{◌++◌, Some, None, option_map, true, false, refl, ap}
 use Rattle.serde_json.specs.Written.{comma_if}
-use Rattle.cvr_facts.specs.Facts.{text_cmp}
+use Rattle.cvr_fact_types.specs.Facts.{text_cmp}
 use Rattle.cvr_office.specs.Names.{devices}
 use Rattle.cvr_office.specs.Readers.{next, device_list}
 use Rattle.cvr_report.specs.Record.{joined}

@@ -1,5 +1,5 @@
 use Rattle.std.proofs.Common.{◌≡◌, ◌||◌, Bor, List, ℕ, Some, None, option_map, is_some, false, refl, sym, ap, ◌∙◌, subst}
-use Rattle.cvr_facts.specs.Facts.{name_cmp}
+use Rattle.cvr_fact_types.specs.Facts.{name_cmp}
 use Rattle.cvr_office.specs.Names.{records}
 use Rattle.cvr_office.specs.Readers.{next}
 use Rattle.cvr_report.specs.Writes.{Writes, list_text, record_piece, list_end}

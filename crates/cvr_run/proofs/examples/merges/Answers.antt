@@ -3,7 +3,7 @@ use Rattle.std.specs.Prelude.{codes}
 use Rattle.std.specs.Fmt.{digits}
 use Rattle.std.specs.FinSet.{from_list}
 use Rattle.jiff.proofs.OnLiterals.{jiff_on_literals}
-use Rattle.cvr_facts.specs.Facts.{fact_cmp}
+use Rattle.cvr_fact_types.specs.Facts.{fact_cmp}
 use Rattle.cvr_office.proofs.Lemmas.{conflicts-given}
 use Rattle.cvr_report.specs.Page.{volumes}
 use Rattle.cvr_run.specs.Currents.{volumes_of}

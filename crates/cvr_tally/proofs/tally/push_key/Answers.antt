@@ -1,5 +1,5 @@
 use Rattle.std.proofs.Common.{◌++◌, sym, ◌∙◌, ap, string_bytes}
-use Rattle.cvr_facts.specs.Text.{word}
+use Rattle.cvr_fact_types.specs.Text.{word}
 use Rattle.cvr_tally.proofs.ContestAt.{id_at}
 use Rattle.cvr_tally.proofs.Pushes.{after_three}
 use Rattle.cvr_tally.proofs.tally.push_key.Goals as goal

@@ -1,5 +1,5 @@
 use Rattle.std.proofs.Common.{◌∙◌, sym, ap, option_map}
-use Rattle.cvr_facts.specs.Facts.{name_cmp}
+use Rattle.cvr_fact_types.specs.Facts.{name_cmp}
 use Rattle.cvr_office.specs.Readers.{next}
 use Rattle.cvr_cached.proofs.Answering.{records_are}
 use Rattle.cvr_cached.proofs.cached.CachedOfficeOffice.next_record.Goals as goal

@@ -3,7 +3,7 @@ use Rattle.std.specs.List.{list_any}
 use Rattle.std.specs.FinMap.{get}
 use Rattle.cvr_tally.specs.Keys.{is_key}
 use Rattle.cvr_tally.specs.declared.key.RowKey.{RowKey}
-use Rattle.cvr_facts.specs.declared.sums.VoteSums.{VoteSums}
+use Rattle.cvr_fact_types.specs.declared.sums.VoteSums.{VoteSums}
 use Rattle.cvr_office.specs.Adding.{key_for}
 use Rattle.cvr_cached.specs.Contents.{pairs_of, sums_in}
 use Rattle.cvr_cached.proofs.Closing.{closed_more, get-closed}

@@ -1,6 +1,6 @@
 use Rattle.std.proofs.Common.{◌∙◌, ◌<◌, length, Contains, ap, sym, subst}
 use Rattle.std.proofs.lemmas.List.Elements.{Contains-get_or}
-use Rattle.cvr_facts.specs.declared.sums.VoteSums.{VoteSums}
+use Rattle.cvr_fact_types.specs.declared.sums.VoteSums.{VoteSums}
 use Rattle.cvr_tally.specs.declared.key.RowKey.{RowKey}
 use Rattle.cvr_office.specs.Adding.{key_for}
 use Rattle.cvr_cached.specs.Contents.{pairs_of, sums_in}

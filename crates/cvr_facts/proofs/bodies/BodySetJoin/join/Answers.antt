@@ -1,7 +1,7 @@
 use Rattle.std.proofs.Common.{◌≡◌, ap, ◌∙◌, length, arith}
 use Rattle.std.specs.List.{filter}
 use Rattle.std.specs.FinSet as set
-use Rattle.cvr_facts.specs.Facts.{text_cmp}
+use Rattle.cvr_fact_types.specs.Facts.{text_cmp}
 use Rattle.cvr_facts.specs.Unions.{text_total, text_exact}
 use Rattle.cvr_facts.proofs.Growth.{len-union}
 use Rattle.cvr_facts.proofs.Sorted.{is_missing, from_list-append, union-missing, AreNew-missing}

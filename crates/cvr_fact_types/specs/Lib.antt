@@ -1,0 +1,3 @@
+pub mod Facts
+pub mod Orders
+pub mod Text
