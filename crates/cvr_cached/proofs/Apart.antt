@@ -17,15 +17,17 @@ use Rattle.cvr_office.specs.declared.conflict.Conflict.{Conflict}
 use Rattle.cvr_office.specs.declared.conflict.ConflictName.{ConflictName}
 use Rattle.cvr_office.specs.declared.conflict.ConflictName.TheVariants as name
 use Rattle.cvr_office.specs.Names.{name_of, record_of, conflicts, most, greatest_count}
-use Rattle.cvr_office.specs.AnyNames.{any_name, has_name}
+use Rattle.cvr_lists.specs.AnyNames.{any_name, has_name}
 use Rattle.cvr_office.specs.Place.{fact_of, any_cmp}
 use Rattle.cvr_office.specs.Plain.{set_of}
-use Rattle.cvr_office.proofs.Laws.{name_total, name_is, conflicts-is, greatest_count-is}
-use Rattle.cvr_office.proofs.Lemmas.{most-cons}
+use Rattle.cvr_office.proofs.Laws.{name_total}
+use Rattle.cvr_lists.proofs.Laws.{name_is}
+use Rattle.cvr_lists.proofs.Laws.{conflicts-is, greatest_count-is}
+use Rattle.cvr_lists.proofs.Lemmas.{most-cons}
 use Rattle.cvr_cached.specs.Contents.{Entries, listed}
 use Rattle.cvr_cached.specs.Held.{AreOwn}
 use Rattle.cvr_cached.proofs.Listed.{each_of, own_each, found_own, listed_rises}
-use Rattle.cvr_office.specs.NameRuns.{runs_from, counted_runs, of_several, most_of}
+use Rattle.cvr_lists.specs.NameRuns.{runs_from, counted_runs, of_several, most_of}
 
 -- ---- a name is of one record
 

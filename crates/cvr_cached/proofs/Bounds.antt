@@ -15,7 +15,7 @@ use Rattle.cvr_office.specs.declared.any_fact.AnyFact.{AnyFact}
 use Rattle.cvr_office.specs.Place.{fact_of}
 use Rattle.cvr_office.specs.Plain.{set_of}
 use Rattle.cvr_office.specs.Tallied.{rows, total_limit, IsBelow}
-use Rattle.cvr_office.proofs.Laws.{currents_are_sums}
+use Rattle.cvr_lists.proofs.Laws.{currents_are_sums}
 use Rattle.cvr_cached.specs.Contents.{Entries, listed, pairs_of}
 use Rattle.cvr_cached.specs.Cells.{Column, Ballots, Overvotes, Undervotes, WriteIns, Pending, Unassigned, Vote, shares, total}
 use Rattle.cvr_cached.specs.Held.{IsCached, IsSummed}

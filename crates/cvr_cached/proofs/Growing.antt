@@ -9,7 +9,7 @@ use Rattle.cvr_fact_types.specs.declared.name.RecordName.{RecordName}
 use Rattle.cvr_office.specs.declared.any_fact.AnyFact.{AnyFact}
 use Rattle.cvr_office.specs.Place.{fact_of, any_cmp}
 use Rattle.cvr_office.specs.Plain.{set_of, IsPut}
-use Rattle.cvr_office.proofs.Laws.{put_growth}
+use Rattle.cvr_lists.proofs.Laws.{put_growth}
 use Rattle.cvr_cached.specs.Contents.{Entries}
 use Rattle.cvr_cached.specs.Plans.{IsPushed, IsStep}
 use Rattle.cvr_cached.proofs.Listed.{len-set_of}

@@ -29,7 +29,7 @@ use Rattle.cvr_office.specs.Place.{fact_of}
 use Rattle.cvr_office.specs.Plain.{IsSpelled}
 use Rattle.cvr_office.specs.Runs.{as_snapshot, snapshots}
 use Rattle.cvr_office.proofs.Lemmas.{found}
-use Rattle.cvr_office.proofs.Laws.{facts_are_sums}
+use Rattle.cvr_lists.proofs.Laws.{facts_are_sums}
 use Rattle.cvr_cached.specs.Contents.{Entries, facts_at, header_in, current_in, pairs_of, pairs_of}
 use Rattle.cvr_cached.specs.Cells.{Column, Ballots, Overvotes, Undervotes, WriteIns, Pending, Unassigned, Vote, worth, cell_limit, shares, total, AreFit}
 use Rattle.cvr_cached.specs.Held.{IsRoomy, IsSummed}

@@ -17,8 +17,8 @@ use Rattle.cvr_office.specs.declared.any_fact.AnyFact.{AnyFact}
 use Rattle.cvr_office.specs.Names.{record_of, records}
 use Rattle.cvr_office.specs.Place.{fact_of, place_cmp, place_total, place_exact, any_cmp}
 use Rattle.cvr_office.specs.Plain.{set_of}
-use Rattle.cvr_office.proofs.Lemmas.{pointwise-on}
-use Rattle.cvr_office.proofs.Laws.{same_facts}
+use Rattle.cvr_lists.proofs.Lemmas.{pointwise-on}
+use Rattle.cvr_lists.proofs.Laws.{same_facts}
 use Rattle.cvr_cached.specs.Contents.{Entries, listed, facts_at}
 use Rattle.cvr_cached.specs.Held.{AreOwn}
 use Rattle.cvr_cached.proofs.Answering.{records_are}

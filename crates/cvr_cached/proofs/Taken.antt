@@ -30,7 +30,8 @@ use Rattle.cvr_office.specs.Readers.{growth}
 use Rattle.cvr_office.specs.Runs.{is_of, run}
 use Rattle.cvr_office.specs.Tallied.{rows}
 use Rattle.cvr_office.proofs.Lemmas.{from_filter, in_filter, in_union}
-use Rattle.cvr_office.proofs.Laws.{rows_law, ballots_law, currents_are_sums, spelled_put}
+use Rattle.cvr_office.proofs.Laws.{rows_law, ballots_law}
+use Rattle.cvr_lists.proofs.Laws.{currents_are_sums, spelled_put}
 use Rattle.cvr_cached.specs.Contents.{Entries, facts_at, standing, listed}
 use Rattle.cvr_cached.specs.Cells.{total, Agrees}
 use Rattle.cvr_cached.specs.Held.{AreOwn, IsHeld, IsRoomy, IsTold, IsSummed}

@@ -19,8 +19,8 @@ use crate::remembered::{
 };
 use cdf_types::Memory;
 use cvr_facts::{HeaderFact, Join, SnapshotFact};
+use cvr_lists::putting::{copies, put_in};
 use cvr_office::any_fact::AnyFact;
-use cvr_office::putting::{copies, put_in};
 use cvr_tally::{RowKey, Totals};
 use std::alloc::Global;
 use std::marker::Model;

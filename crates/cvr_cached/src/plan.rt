@@ -16,9 +16,9 @@ ghost use Rattle.cvr_cached.specs.Plans.{IsPlan, IsPushed, IsStep};
 use crate::content::RecordContent;
 use cdf_types::Memory;
 use cvr_facts::RecordName;
+use cvr_lists::putting::copies;
+use cvr_lists::records::{first_record, take_run};
 use cvr_office::any_fact::AnyFact;
-use cvr_office::putting::copies;
-use cvr_office::records::{first_record, take_run};
 use std::alloc::Global;
 use std::collections::{BTreeMap, VecDeque};
 

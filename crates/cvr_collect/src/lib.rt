@@ -2,8 +2,9 @@
 #![tactic(auto)]
 
 pub use cvr_cached::CachedOffice;
+pub use cvr_lists::read_facts;
 pub use cvr_office::{
     Cause, Conflict, ConflictList, ConflictName, Event, IdFacts, JoinFault, Office, Outcome,
-    Receipt, RecordFacts, examples, law, play, read_facts,
+    Receipt, RecordFacts, examples, law, play,
 };
 pub use cvr_plain::PlainOffice;

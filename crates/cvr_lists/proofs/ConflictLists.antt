@@ -21,10 +21,12 @@ use Rattle.cvr_office.specs.declared.conflict.ConflictName.{ConflictName}
 use Rattle.cvr_office.specs.Names.{name_of, body_of, is_named, names, bodies_under, count_under, counted, conflicts, most, greatest_count}
 use Rattle.cvr_office.specs.Place.{fact_of, any_cmp}
 use Rattle.cvr_office.specs.Plain.{set_of}
-use Rattle.cvr_office.specs.AnyNames.{any_name, has_name}
-use Rattle.cvr_office.specs.NameRuns.{counted_runs, of_several, most_of}
-use Rattle.cvr_office.proofs.NameOrder.{conflict_total, conflict_exact, name_is, bodies_less}
-use Rattle.cvr_office.proofs.NameRuns.{count, run_names, runs_counted, run_names-rise, in_run_names, from_run_names}
+use Rattle.cvr_lists.specs.AnyNames.{any_name, has_name}
+use Rattle.cvr_lists.specs.NameRuns.{counted_runs, of_several, most_of}
+use Rattle.cvr_office.proofs.Laws.{conflict_total, conflict_exact}
+use Rattle.cvr_office.proofs.Lemmas.{name_is}
+use Rattle.cvr_office.proofs.Lemmas.{bodies_less}
+use Rattle.cvr_lists.proofs.NameRuns.{count, run_names, runs_counted, run_names-rise, in_run_names, from_run_names}
 
 -- ---- a list in order
 

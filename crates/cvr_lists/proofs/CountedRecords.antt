@@ -15,9 +15,10 @@ use Rattle.cvr_office.specs.declared.any_fact.AnyFact.{AnyFact}
 use Rattle.cvr_office.specs.Names.{record_of, records}
 use Rattle.cvr_office.specs.Place.{fact_of, any_cmp}
 use Rattle.cvr_office.specs.Plain.{set_of}
-use Rattle.cvr_office.proofs.Highest.{IsHighest, none_highest, ordered-nil, ordered-pushed, highest_pushed, ordered-held, highest_held}
-use Rattle.cvr_office.proofs.NextNames.{ordered-given}
-use Rattle.cvr_office.proofs.NextInFacts.{name_total, name_exact, record_up}
+use Rattle.cvr_lists.proofs.Highest.{IsHighest, none_highest, ordered-nil, ordered-pushed, highest_pushed, ordered-held, highest_held}
+use Rattle.cvr_office.proofs.Lemmas.{ordered-given}
+use Rattle.cvr_office.proofs.Laws.{name_total, name_exact}
+use Rattle.cvr_office.proofs.Lemmas.{record_up}
 
 abbrev pub names_to : List AnyFact → ℕ → List RecordName
 names_to xs i = filter_map (λ x. record_of (fact_of x)) (take i xs)

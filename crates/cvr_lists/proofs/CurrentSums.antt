@@ -26,7 +26,7 @@ use Rattle.cvr_facts.specs.Sources.{cvrs_in, snapshots_in, Source, of_device, of
 use Rattle.cvr_office.specs.Tallied.{sums_of_body}
 use Rattle.cvr_office.specs.Keeps.{Keeps}
 use Rattle.cvr_office.specs.Adding.{AreSums, CurrentsAreSums}
-use Rattle.cvr_office.proofs.RowSums.{sums_in_place}
+use Rattle.cvr_office.proofs.Lemmas.{sums_in_place}
 use Rattle.std.proofs.lemmas.Map.Keys.{IsDistinct-prop}
 
 -- the snapshot that a fact spells, if it is one

@@ -17,12 +17,9 @@ use Rattle.cvr_office.specs.declared.conflict.ConflictName.TheVariants as name
 use Rattle.cvr_office.specs.Names.{is_named, body_of, bodies_under, device_in}
 use Rattle.cvr_office.specs.Place.{fact_of, any_cmp, place_cmp}
 use Rattle.cvr_office.specs.Plain.{set_of}
-use Rattle.cvr_office.proofs.Orderings.{then-Equal}
-use Rattle.cvr_office.proofs.Firsts.{ordered-members}
-use Rattle.cvr_office.proofs.NextNames.{in_items, from_items}
-use Rattle.cvr_office.proofs.NextInFacts.{device_passes, devices_parted, device_up}
-use Rattle.cvr_office.proofs.Upward.{none_last}
-use Rattle.cvr_office.proofs.Sides.{filter-between, map-rises, parted_behind, Contains-filter, from-filter}
+use Rattle.cvr_lists.proofs.Orderings.{then-Equal}
+use Rattle.cvr_office.proofs.Lemmas.{ordered-members, in_items, from_items, device_passes, devices_parted, device_up, none_last}
+use Rattle.cvr_lists.proofs.Sides.{filter-between, map-rises, parted_behind, Contains-filter, from-filter}
 
 module _ (id : List ℕ) where
   abbrev pub is_own : AnyFact → Bool
@@ -61,7 +58,7 @@ module _ (id : List ℕ) where
 
     pub bodies_under-filter : bodies_under (set_of xs) (name.Device id) ≡ map text (filter is_own xs)
     bodies_under-filter = ordered-members text_total text_exact (map body_of (filter (is_named (name.Device id)) (items (set_of xs)))) (map text (filter is_own xs))
-        (map-rises any_cmp text_cmp text is_own (λ x y e h less. bodies_up (fact_of x) (fact_of y) e h less) xs (IsStrictlySortedBy-filter any_cmp is_own xs rises)) there back
+        (map-rises any_cmp text_cmp text is_own (λ x y e h less. bodies_up (fact_of x) (fact_of y) e h less) xs (IsStrictlySortedBy-filter any_cmp is_own xs rises)) back there
 
 -- ---- where they begin and end
 

@@ -10,7 +10,7 @@ use Rattle.std.proofs.lemmas.List.Elements.{Contains-append_left, Contains-push,
 use Rattle.std.proofs.lemmas.Option.{none-some, same_Some}
 use Rattle.cvr_facts.specs.Ordered.{ordered}
 use Rattle.cvr_facts.proofs.Lemmas.{ordered_rises, none_listed, at_head, at_tail}
-use Rattle.cvr_office.proofs.Firsts.{in_ordered, from_ordered, ordered-members}
+use Rattle.cvr_office.proofs.Lemmas.{in_ordered, from_ordered, ordered-members}
 
 -- the highest of some keys, or none where there are none
 pub record IsHighest {K : Type 0} (R : K → K → Ordering) (ks : List K) (last : Option K) : Type 0 where
@@ -58,13 +58,13 @@ module _ {K : Type 0} {R : K → K → Ordering} (t : IsTotalOrder R) (e : IsAnt
   pub ordered-pushed : (last : Option K) (k : K) → IsHighest R ks last → is_gt (option_cmp R (Some k) last) ≡ true → ordered R (ks ++ k ∷ []) ≡ ordered R ks ++ k ∷ []
   ordered-pushed last k h new = ordered-members t e (ks ++ k ∷ []) (ordered R ks ++ k ∷ [])
       (rises_pushed R (ordered R ks) k (ordered_rises R ks) (λ y at. above_each last k h new y (from_ordered t e ks y at)))
-      (λ y at. elim (Contains-push_cases ks k y at) [
-        | inl was ↦ Contains-append_left (ordered R ks) (k ∷ []) y (in_ordered t e ks y was)
-        | inr is ↦ subst (Contains (ordered R ks ++ k ∷ [])) is (Contains-push (ordered R ks) k)
-      ])
       (λ y at. elim (Contains-push_cases (ordered R ks) k y at) [
         | inl was ↦ Contains-append_left ks (k ∷ []) y (from_ordered t e ks y was)
         | inr is ↦ subst (Contains (ks ++ k ∷ [])) is (Contains-push ks k)
+      ])
+      (λ y at. elim (Contains-push_cases ks k y at) [
+        | inl was ↦ Contains-append_left (ordered R ks) (k ∷ []) y (in_ordered t e ks y was)
+        | inr is ↦ subst (Contains (ordered R ks ++ k ∷ [])) is (Contains-push (ordered R ks) k)
       ])
 
   pub highest_pushed : (last : Option K) (k : K) → IsHighest R ks last → is_gt (option_cmp R (Some k) last) ≡ true → IsHighest R (ks ++ k ∷ []) (Some k)
@@ -86,11 +86,11 @@ module _ {K : Type 0} {R : K → K → Ordering} (t : IsTotalOrder R) (e : IsAnt
   ordered-held last k h low old =
       let held = is_held last k h low old in
       ordered-members t e (ks ++ k ∷ []) (ordered R ks) (ordered_rises R ks)
+      (λ y at. Contains-append_left ks (k ∷ []) y (from_ordered t e ks y at))
       (λ y at. elim (Contains-push_cases ks k y at) [
         | inl was ↦ in_ordered t e ks y was
         | inr is ↦ in_ordered t e ks y (subst (Contains ks) is held)
       ])
-      (λ y at. Contains-append_left ks (k ∷ []) y (from_ordered t e ks y at))
 
   pub highest_held : (last : Option K) (k : K) → IsHighest R ks last → is_gt (option_cmp R (Some k) last) ≡ false → IsHighest R (ks ++ k ∷ []) last
   highest_held last k h old = record {

@@ -11,9 +11,11 @@ use Rattle.cvr_office.specs.declared.conflict.Conflict.{Conflict}
 use Rattle.cvr_office.specs.declared.conflict.ConflictName.{ConflictName}
 use Rattle.cvr_office.specs.Names.{conflict_cmp}
 use Rattle.cvr_office.specs.Place.{fact_of, any_cmp}
-use Rattle.cvr_office.specs.AnyNames.{any_name, has_name}
-use Rattle.cvr_office.specs.NameRuns.{runs_from, counted_runs}
-use Rattle.cvr_office.proofs.NameOrder.{conflict_total, not_below, has_own_name, name_is, Reaches, names_reach}
+use Rattle.cvr_lists.specs.AnyNames.{any_name, has_name}
+use Rattle.cvr_lists.specs.NameRuns.{runs_from, counted_runs}
+use Rattle.cvr_office.proofs.Laws.{conflict_total}
+use Rattle.cvr_office.proofs.Lemmas.{name_is}
+use Rattle.cvr_office.proofs.Lemmas.{not_below, has_own_name, Reaches, names_reach}
 
 -- ---- runs
 

@@ -7,9 +7,9 @@ use Rattle.std.proofs.lemmas.Bool.Decides.{leb_tells}
 use Rattle.cvr_office.specs.declared.any_fact.AnyFact.{AnyFact}
 use Rattle.cvr_office.specs.declared.conflict.Conflict.{Conflict}
 use Rattle.cvr_office.specs.Names.{most}
-use Rattle.cvr_office.specs.AnyNames.{any_name, has_name}
-use Rattle.cvr_office.specs.NameRuns.{counted_runs, of_several, most_of}
-use Rattle.cvr_office.proofs.NameRuns.{counted_runs-is, prefix_len-some}
+use Rattle.cvr_lists.specs.AnyNames.{any_name, has_name}
+use Rattle.cvr_lists.specs.NameRuns.{counted_runs, of_several, most_of}
+use Rattle.cvr_lists.proofs.NameRuns.{counted_runs-is, prefix_len-some}
 
 -- `more` is what is left of `rest` after its first run, of `bodies` facts
 pub record IsCut (first : AnyFact) (bodies : ℕ) (rest more : List AnyFact) : Type 0 where

@@ -21,9 +21,9 @@ use Rattle.cvr_office.specs.Place.{any_cmp}
 use Rattle.cvr_office.specs.Plain.{set_of}
 use Rattle.cvr_office.specs.Readers.{IsHeader, IsCurrent, IsSnapshotOf}
 use Rattle.cvr_office.specs.Runs.{is_of, run, as_header, headers, snapshots, IsChosen, AreSpelled}
-use Rattle.cvr_office.proofs.Lifting.{rises-filter_map, rises-map, last_greatest, last_or-map, last_listed, none_last}
-use Rattle.cvr_office.proofs.Orderings.{then-Equal}
-use Rattle.cvr_office.proofs.RecordMembers.{past_key, header_held, held_header, from_headers, snapshot_held, held_snapshot, from_snapshots}
+use Rattle.cvr_lists.proofs.Lifting.{rises-filter_map, rises-map, last_greatest, last_or-map, last_listed, none_last}
+use Rattle.cvr_lists.proofs.Orderings.{then-Equal}
+use Rattle.cvr_office.proofs.Lemmas.{past_key, header_held, held_header, from_headers, snapshot_held, held_snapshot, from_snapshots}
 
 -- a list with no members has no greatest
 none_greatest : {K : Type 0} (R : K → K → Ordering) (ks : List K) → ((k : K) → Contains ks k → ⊥) → greatest R ks ≡ None

@@ -19,7 +19,7 @@ use Rattle.cvr_office.specs.declared.any_fact.AnyFact.TheVariants as any
 use Rattle.cvr_office.specs.Keeps.{Keeps, starting}
 use Rattle.cvr_office.specs.Place.{fact_of}
 use Rattle.cvr_office.specs.Plain.{set_of, all_of, IsSpelled, IsPlain, IsPut}
-use Rattle.cvr_office.proofs.Starting.{start_keeps}
+use Rattle.cvr_office.proofs.Laws.{start_keeps}
 
 -- ---- what is put in
 

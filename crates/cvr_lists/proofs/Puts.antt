@@ -11,7 +11,7 @@ use Rattle.cvr_office.specs.declared.any_fact.AnyFact.TheVariants as any
 use Rattle.cvr_office.specs.Readers.{growth}
 use Rattle.cvr_office.specs.Place.{fact_of, place_total, place_exact, any_cmp}
 use Rattle.cvr_office.specs.Plain.{set_of, IsPut}
-use Rattle.cvr_office.proofs.Rising.{put_in, growth_is}
+use Rattle.cvr_office.proofs.Lemmas.{put_in, growth_is}
 
 pub put : (old more sorted new : List AnyFact) → IsPermutation (old ++ more) sorted → IsSorted any_cmp sorted → new ≡ dedup (eq_by_cmp any_cmp) sorted → IsPut old more new
 put old more sorted new moved rises is =

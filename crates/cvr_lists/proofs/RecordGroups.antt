@@ -25,14 +25,14 @@ use Rattle.cvr_office.specs.Names.{snapshot_ids}
 use Rattle.cvr_office.specs.Place.{any_cmp}
 use Rattle.cvr_office.specs.Plain.{set_of}
 use Rattle.cvr_office.specs.Runs.{is_of, run, as_snapshot, snapshots}
-use Rattle.cvr_office.specs.Groups.{id_of, id_order, under, ids, RisesById}
-use Rattle.cvr_office.proofs.InOrder.{ordered-members}
-use Rattle.cvr_office.proofs.Lifting.{rises-filter_map, rises-map}
-use Rattle.cvr_office.proofs.Orderings.{then-Equal}
-use Rattle.cvr_office.proofs.RecordMembers.{past_key, same_name, of_snapshot, from_filter, in_filter, from_snapshots, snapshot_held, held_snapshot}
-use Rattle.cvr_office.proofs.RecordNames.{id_under}
-use Rattle.cvr_office.proofs.Runs.{not_before}
-use Rattle.cvr_office.proofs.ViewedLists.{sorted-map}
+use Rattle.cvr_lists.specs.Groups.{id_of, id_order, under, ids, RisesById}
+use Rattle.cvr_office.proofs.Lemmas.{ordered-members}
+use Rattle.cvr_lists.proofs.Lifting.{rises-filter_map, rises-map}
+use Rattle.cvr_lists.proofs.Orderings.{then-Equal}
+use Rattle.cvr_office.proofs.Lemmas.{past_key, same_name, of_snapshot, from_filter, in_filter, from_snapshots, snapshot_held, held_snapshot}
+use Rattle.cvr_office.proofs.Laws.{id_under}
+use Rattle.cvr_office.proofs.Lemmas.{not_before}
+use Rattle.cvr_office.proofs.Lemmas.{sorted-map}
 
 -- ---- ids along a run
 

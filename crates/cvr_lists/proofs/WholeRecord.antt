@@ -27,14 +27,15 @@ use Rattle.cvr_office.specs.Place.{fact_of, any_cmp}
 use Rattle.cvr_office.specs.Plain.{set_of}
 use Rattle.cvr_office.specs.Readers.{header_list, snapshot_list, IsHeaderOf, IsSnapshotOf, AreIdFacts, AreFactsOf}
 use Rattle.cvr_office.specs.Runs.{is_of, run, headers, snapshots, AreSpelled}
-use Rattle.cvr_office.specs.Groups.{under, IsFalling, AreGrouped}
-use Rattle.cvr_office.proofs.InOrder.{ordered-members, from_ordered, in_ordered, rises-distinct, map-map}
-use Rattle.cvr_office.proofs.OneRecord as one
-use Rattle.cvr_office.proofs.RecordGroups.{ids_are, in_under, from_under, bodies_rise}
-use Rattle.cvr_office.proofs.RecordMembers.{name_exact, same_name, own_name, from_filter, in_filter, header_held, held_header, from_headers, snapshot_held, held_snapshot, from_snapshots}
-use Rattle.cvr_office.proofs.RecordNames.{header_under, snapshot_under}
-use Rattle.cvr_office.proofs.Runs.{name_total}
-use Rattle.cvr_office.proofs.ViewedLists.{map-reverse, sorted-map}
+use Rattle.cvr_lists.specs.Groups.{under, IsFalling, AreGrouped}
+use Rattle.cvr_office.proofs.Lemmas.{ordered-members, from_ordered, in_ordered, rises-distinct, map-map}
+use Rattle.cvr_lists.proofs.OneRecord as one
+use Rattle.cvr_lists.proofs.RecordGroups.{ids_are, in_under, from_under, bodies_rise}
+use Rattle.cvr_office.proofs.Laws.{name_exact}
+use Rattle.cvr_office.proofs.Lemmas.{same_name, own_name, from_filter, in_filter, header_held, held_header, from_headers, snapshot_held, held_snapshot, from_snapshots}
+use Rattle.cvr_office.proofs.Laws.{header_under, snapshot_under}
+use Rattle.cvr_office.proofs.Laws.{name_total}
+use Rattle.cvr_office.proofs.Lemmas.{map-reverse, sorted-map}
 
 -- bodies that differ don't tie in the order of choosing
 untied : (x y : List ℕ) → eq_by_cmp text_cmp x y ≡ false → eq_by_cmp choice_cmp y x ≡ false

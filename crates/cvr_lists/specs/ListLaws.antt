@@ -26,8 +26,8 @@ use Rattle.cvr_office.specs.Place.{fact_of, any_cmp}
 use Rattle.cvr_office.specs.Plain.{set_of, all_of, IsSpelled, IsPlain, IsPut}
 use Rattle.cvr_office.specs.Readers.{growth, IsHeader, IsCurrent, AreFactsOf}
 use Rattle.cvr_office.specs.Runs.{run, headers, snapshots, IsChosen, AreSpelled}
-use Rattle.cvr_office.specs.Groups.{RisesById, AreGrouped}
-use Rattle.cvr_office.specs.NameRuns.{counted_runs, of_several, most_of}
+use Rattle.cvr_lists.specs.Groups.{RisesById, AreGrouped}
+use Rattle.cvr_lists.specs.NameRuns.{counted_runs, of_several, most_of}
 
 -- ---- what is put in
 

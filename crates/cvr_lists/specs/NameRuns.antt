@@ -5,7 +5,7 @@ use Rattle.cvr_office.specs.declared.any_fact.AnyFact.{AnyFact}
 use Rattle.cvr_office.specs.declared.conflict.Conflict.{Conflict}
 use Rattle.cvr_office.specs.declared.conflict.ConflictName.{ConflictName}
 use Rattle.cvr_office.specs.Names.{most}
-use Rattle.cvr_office.specs.AnyNames.{any_name, has_name}
+use Rattle.cvr_lists.specs.AnyNames.{any_name, has_name}
 
 -- the runs of a list that goes on after `bodies` facts of the name `n`
 abbrev pub runs_from : ConflictName → ℕ → List AnyFact → List Conflict

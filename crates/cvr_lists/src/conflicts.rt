@@ -2,13 +2,13 @@ ghost use Rattle.std.specs.Prelude.{◌≡◌, ◌≤◌, IfOk, length};
 ghost use Rattle.std.specs.List.{prefix_len};
 ghost use Rattle.std.specs.List.Sorted.{IsStrictlySortedBy};
 ghost use Rattle.cvr_office.specs.Names.{conflicts, greatest_count};
-ghost use Rattle.cvr_office.specs.AnyNames.{any_name, has_name};
+ghost use Rattle.cvr_lists.specs.AnyNames.{any_name, has_name};
 ghost use Rattle.cvr_office.specs.Place.{any_cmp};
 ghost use Rattle.cvr_office.specs.Plain.{set_of};
 
-use crate::any_fact::AnyFact;
-use crate::conflict::{Conflict, ConflictList, ConflictName};
 use cdf_types::{Memory, Seq};
+use cvr_office::any_fact::AnyFact;
+use cvr_office::{Conflict, ConflictList, ConflictName};
 use std::alloc::Global;
 
 // The names with two bodies or more, in order.

@@ -9,8 +9,8 @@ ghost use Rattle.cvr_office.specs.Readers.{next, numbered, device_list};
 ghost use Rattle.cvr_office.specs.Place.{fact_of, any_cmp};
 ghost use Rattle.cvr_office.specs.Plain.{set_of};
 
-use crate::any_fact::AnyFact;
 use cdf_types::Body;
+use cvr_office::any_fact::AnyFact;
 
 // The least device id above the given one, or the least of all. Takes no memory.
 pub fn next_device_in<'a>(facts: &'a [AnyFact], after: Option<&str>) -> Option<&'a str>

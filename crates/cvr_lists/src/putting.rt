@@ -6,10 +6,10 @@ ghost use Rattle.cvr_office.specs.declared.any_fact.AnyFact.TheVariants as any;
 ghost use Rattle.cvr_office.specs.Place.{fact_of, any_cmp};
 ghost use Rattle.cvr_office.specs.Plain.{set_of, all_of, IsPut};
 
-use crate::any_fact::AnyFact;
 use cdf_check::Definition;
 use cdf_types::{Body, Memory, Seq};
 use cvr_facts::{DeviceFact, FactList, HeaderFact, SnapshotFact};
+use cvr_office::any_fact::AnyFact;
 use std::alloc::Global;
 use std::mem::swap;
 

@@ -7,13 +7,13 @@ ghost use Rattle.cvr_office.specs.Place.{any_cmp};
 ghost use Rattle.cvr_office.specs.Plain.{set_of};
 ghost use Rattle.cvr_office.specs.Readers.{AreRecordFacts};
 ghost use Rattle.cvr_office.specs.Runs.{headers, snapshots, AreSpelled};
-ghost use Rattle.cvr_office.specs.Groups.{id_order, under, ids, RisesById, IsFalling, AreGrouped};
+ghost use Rattle.cvr_lists.specs.Groups.{id_order, under, ids, RisesById, IsFalling, AreGrouped};
 
-use crate::any_fact::AnyFact;
-use crate::record_facts::{IdFacts, RecordFacts};
 use crate::records::run_of;
 use cdf_types::Memory;
 use cvr_facts::{HeaderFact, RecordName, SnapshotFact, choice_cmp};
+use cvr_office::any_fact::AnyFact;
+use cvr_office::{IdFacts, RecordFacts};
 use std::alloc::Global;
 use std::cmp::Ordering;
 

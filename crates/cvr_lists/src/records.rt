@@ -13,9 +13,9 @@ ghost use Rattle.cvr_office.specs.Plain.{set_of};
 ghost use Rattle.cvr_office.specs.Readers.{next, IsHeader, IsCurrent};
 ghost use Rattle.cvr_office.specs.Runs.{record_order, is_of, first_record, run, headers, snapshots, chosen, IsChosen, AreSpelled};
 
-use crate::any_fact::AnyFact;
 use cdf_types::Memory;
 use cvr_facts::{HeaderFact, RecordName, SnapshotFact, choice_cmp};
+use cvr_office::any_fact::AnyFact;
 use std::alloc::Global;
 use std::cmp::Ordering;
 use std::collections::VecDeque;

@@ -1,31 +1,13 @@
--- Members put in order, and the first of them that passes a test.
+-- The first of members in order that passes a test.
 use Rattle.std.proofs.Common.{◌≡◌, Bool, true, false, cond, List, [], ◌∷◌, Contains, Option, Some, None, Ordering, Less, inl, inr, refl, sym, ap, ◌∙◌, true≢false}
 use Rattle.std.specs.List.{find}
 use Rattle.std.specs.List.Sorted.{IsStrictlySortedBy}
 use Rattle.std.specs.Option.{option_cmp}
 use Rattle.std.specs.Ordering.{is_lt, is_gt}
-use Rattle.std.specs.Cmp.{IsTotalOrder}
-use Rattle.std.specs.FinMap.{IsAntisymmetric}
 use Rattle.std.proofs.lemmas.List.Elements.{All-contains, All-from_recursion}
 use Rattle.std.proofs.lemmas.Map.Keys.{sorted_head, sorted_tail}
-use Rattle.std.proofs.lemmas.Map.Made.{is_member-Decides}
-use Rattle.cvr_facts.specs.Ordered.{ordered}
-use Rattle.cvr_facts.proofs.Lemmas.{tie_decides, none_listed, at_head, at_tail, head_or_tail, ordered_rises, list_any-ordered, same_lists_of_members}
+use Rattle.cvr_facts.proofs.Lemmas.{none_listed, at_head, at_tail, head_or_tail}
 use Rattle.cvr_office.specs.Readers.{next}
-
--- ---- members put in order
-
-module _ {K : Type 0} {R : K → K → Ordering} (t : IsTotalOrder R) (e : IsAntisymmetric R) where
-  pub in_ordered : (ks : List K) (k : K) → Contains ks k → Contains (ordered R ks) k
-  in_ordered ks k at = (is_member-Decides (tie_decides t e) (ordered R ks) k).0 (list_any-ordered t ks k ∙ (is_member-Decides (tie_decides t e) ks k).1 at)
-
-  pub from_ordered : (ks : List K) (k : K) → Contains (ordered R ks) k → Contains ks k
-  from_ordered ks k at = (is_member-Decides (tie_decides t e) ks k).0 (sym (list_any-ordered t ks k) ∙ (is_member-Decides (tie_decides t e) (ordered R ks) k).1 at)
-
-  -- what rises and has the members is it
-  pub ordered-members : (ks xs : List K) → IsStrictlySortedBy R xs → ((k : K) → Contains ks k → Contains xs k) → ((k : K) → Contains xs k → Contains ks k) → ordered R ks ≡ xs
-  ordered-members ks xs h there back =
-      same_lists_of_members t e (ordered R ks) xs (ordered_rises R ks) h (λ k at. there k (from_ordered ks k at)) (λ k at. in_ordered ks k (back k at))
 
 -- ---- the first that passes
 

@@ -27,7 +27,7 @@ use Rattle.cvr_office.specs.declared.conflict.ConflictName.{ConflictName}
 use Rattle.cvr_office.specs.declared.conflict.Conflict.{Conflict}
 use Rattle.cvr_office.specs.Names.{name_of, body_of, conflict_cmp, is_named, record_of, names, records, conflicts}
 use Rattle.cvr_office.specs.Tallied.{unit_of, batch_of, sums_of_body, is_headed, row, rows, tally}
-use Rattle.cvr_office.proofs.Firsts.{in_ordered, from_ordered, ordered-members}
+use Rattle.cvr_office.proofs.InOrder.{in_ordered, from_ordered, ordered-members}
 use Rattle.cvr_office.proofs.NameOrder.{conflict_total, conflict_exact}
 use Rattle.cvr_office.proofs.NextInFacts.{name_total, name_exact}
 use Rattle.cvr_office.proofs.RecordMembers.{from_filter, in_filter}
@@ -52,7 +52,7 @@ pub record HaveSame {K : Type 0} (xs ys : List K) : Type 0 where
 
 sorted-same : {K : Type 0} {R : K → K → Ordering} → IsTotalOrder R → IsAntisymmetric R → (xs ys : List K) → HaveSame xs ys → ordered R xs ≡ sorted R ys
 sorted-same {R = R} t e xs ys same =
-    ordered-members t e xs (ordered R ys) (ordered_rises R ys) (λ k at. in_ordered t e ys k (same.there k at)) (λ k at. same.back k (from_ordered t e ys k at))
+    ordered-members t e xs (ordered R ys) (ordered_rises R ys) (λ k at. same.back k (from_ordered t e ys k at)) (λ k at. in_ordered t e ys k (same.there k at))
     ∙ ordered-is t ys
 
 pub greatest-same : {K : Type 0} {R : K → K → Ordering} → IsTotalOrder R → IsAntisymmetric R → (xs ys : List K) → HaveSame xs ys → greatest R xs ≡ greatest R ys

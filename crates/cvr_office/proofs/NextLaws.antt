@@ -14,7 +14,8 @@ use Rattle.cvr_facts.proofs.Lemmas.{none_listed, at_head, at_tail, head_or_tail,
 use Rattle.cvr_facts.proofs.Laws.{contains_iff}
 use Rattle.cvr_office.specs.Readers.{next}
 use Rattle.cvr_office.specs.Laws.{ListedLaw, IsAbove, NextLaw, NoNextLaw}
-use Rattle.cvr_office.proofs.Firsts.{in_ordered, from_ordered, each_above, IsFirst, find_is, is_above, next-find}
+use Rattle.cvr_office.proofs.InOrder.{in_ordered, from_ordered}
+use Rattle.cvr_office.proofs.Firsts.{each_above, IsFirst, find_is, is_above, next-find}
 
 -- ---- the first that passes is the least that does
 

@@ -17,7 +17,8 @@ use Rattle.cvr_office.specs.declared.any_fact.AnyFact.{AnyFact}
 use Rattle.cvr_office.specs.Readers.{next}
 use Rattle.cvr_office.specs.Place.{fact_of}
 use Rattle.cvr_office.specs.Plain.{set_of}
-use Rattle.cvr_office.proofs.Firsts.{in_ordered, from_ordered, ordered-members, find_is, IsFirst, is_above, next-find}
+use Rattle.cvr_office.proofs.InOrder.{in_ordered, from_ordered, ordered-members}
+use Rattle.cvr_office.proofs.Firsts.{find_is, IsFirst, is_above, next-find}
 
 -- ---- what the facts of a list are
 
@@ -46,8 +47,8 @@ module _ {K : Type 0} (kind : Fact → Option K) (xs : List AnyFact) where
   ordered-given {R} t e =
       let of : AnyFact → Option K = λ x. kind (fact_of x) in
       ordered-members t e given (ordered R (filter_map of xs)) (ordered_rises R (filter_map of xs))
-      (λ k at. let found = from_given k at in in_ordered t e (filter_map of xs) k (Contains-filter_map of xs found.0 k found.1 found.2))
       (λ k at. let found = from-filter_map of xs k (from_ordered t e (filter_map of xs) k at) in in_given found.0 k found.1 found.2)
+      (λ k at. let found = from_given k at in in_ordered t e (filter_map of xs) k (Contains-filter_map of xs found.0 k found.1 found.2))
 
 -- ---- the first behind those that are not above
 

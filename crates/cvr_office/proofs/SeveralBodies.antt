@@ -11,7 +11,7 @@ use Rattle.cvr_office.specs.declared.conflict.Conflict.{Conflict}
 use Rattle.cvr_office.specs.declared.conflict.ConflictName.{ConflictName}
 use Rattle.cvr_office.specs.Names.{name_of, body_of, is_named, names, bodies_under, count_under, counted}
 use Rattle.cvr_office.specs.Counting.{ConflictsLaw}
-use Rattle.cvr_office.proofs.Firsts.{in_ordered, from_ordered}
+use Rattle.cvr_office.proofs.InOrder.{in_ordered, from_ordered}
 use Rattle.cvr_office.proofs.NameOrder.{conflict_total, conflict_exact, name_is}
 use Rattle.cvr_office.proofs.RecordMembers.{from_filter, in_filter}
 

@@ -8,16 +8,11 @@ pub mod Outcomes
 pub mod Laws
 pub mod Place
 pub mod Plain
-pub mod AnyNames
-pub mod NameRuns
 pub mod Runs
-pub mod Groups
 pub mod Tallied
 pub mod Adding
 pub mod Alike
 pub mod Lasting
-pub mod ListLaws
-pub mod SumLaws
 pub mod Counting
 pub mod Parts
 pub mod Examples

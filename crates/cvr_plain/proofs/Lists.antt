@@ -20,8 +20,8 @@ use Rattle.cvr_office.specs.Place.{fact_of, place_cmp, place_total, place_exact,
 use Rattle.cvr_office.specs.Plain.{set_of, all_of, IsSpelled, IsPlain, IsPut, IsTheFiles}
 use Rattle.cvr_office.specs.declared.any_fact.AnyFact.{AnyFact}
 use Rattle.cvr_office.proofs.Laws.{import_keeps, join_keeps}
-use Rattle.cvr_office.proofs.Laws.{spelled_put, map-all_of, all_spelled, same_facts}
-use Rattle.cvr_office.proofs.Lemmas.{pointwise-on}
+use Rattle.cvr_lists.proofs.Laws.{spelled_put, map-all_of, all_spelled, same_facts}
+use Rattle.cvr_lists.proofs.Lemmas.{pointwise-on}
 use Rattle.cvr_office.proofs.Lemmas.{len-from_list}
 
 -- ---- order and number

@@ -19,7 +19,8 @@ use Rattle.cvr_office.specs.Plain.{set_of}
 use Rattle.cvr_office.specs.Readers.{next}
 use Rattle.cvr_office.specs.Tallied.{row, row_over, rows, total_limit, IsBelow}
 use Rattle.cvr_office.specs.Adding.{CurrentsAreSums, added, row_with, CanGrow, HaveRoom}
-use Rattle.cvr_office.proofs.Laws.{name_total, name_exact, row_over-more, rows_law}
+use Rattle.cvr_office.proofs.Laws.{name_total, name_exact, rows_law}
+use Rattle.cvr_lists.proofs.Laws.{row_over-more}
 use Rattle.cvr_office.proofs.Lemmas.{ordered-given, from, next_listed, from-next_none, from-some}
 use Rattle.cvr_plain.proofs.RowBounds.{row_over-below, row_over-grows}
 

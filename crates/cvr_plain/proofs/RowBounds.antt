@@ -15,7 +15,7 @@ use Rattle.cvr_tally.specs.Rows.{ballot_limit}
 use Rattle.cvr_tally.specs.declared.key.RowKey.{RowKey}
 use Rattle.cvr_office.specs.Adding.{CurrentsAreSums, CanGrow}
 use Rattle.cvr_office.specs.Tallied.{sums_at, stands_in, column, row_of, row_over, total_limit, IsBelow}
-use Rattle.cvr_office.proofs.Laws.{sums_there}
+use Rattle.cvr_lists.proofs.Laws.{sums_there}
 
 -- ---- columns
 

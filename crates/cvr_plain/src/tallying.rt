@@ -12,8 +12,8 @@ ghost use Rattle.cvr_office.specs.Adding.{AreSums, CurrentsAreSums, key_for, sum
 use cdf_check::Definition;
 use cdf_types::Memory;
 use cvr_facts::{HeaderFact, RecordName, VoteSums};
+use cvr_lists::records::{current_in, header_in, next_record_in};
 use cvr_office::any_fact::AnyFact;
-use cvr_office::records::{current_in, header_in, next_record_in};
 use cvr_tally::{Row, RowKey, Totals, tally_text};
 use std::alloc::Global;
 

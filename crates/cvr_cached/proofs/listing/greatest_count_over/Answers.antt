@@ -6,7 +6,7 @@ use Rattle.cvr_fact_types.specs.declared.name.RecordName.{RecordName}
 use Rattle.cvr_office.specs.declared.any_fact.AnyFact.{AnyFact}
 use Rattle.cvr_office.specs.Names.{most, greatest_count}
 use Rattle.cvr_office.specs.Plain.{set_of}
-use Rattle.cvr_office.proofs.Lemmas.{most-cons}
+use Rattle.cvr_lists.proofs.Lemmas.{most-cons}
 use Rattle.cvr_cached.proofs.listing.greatest_count_over.Goals as goal
 
 abbrev of : List (RecordName × List AnyFact) → List ℕ

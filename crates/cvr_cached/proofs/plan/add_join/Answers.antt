@@ -7,7 +7,7 @@ use Rattle.cvr_fact_types.specs.Facts.{name_cmp}
 use Rattle.cvr_office.specs.declared.any_fact.AnyFact.{AnyFact}
 use Rattle.cvr_office.specs.Place.{fact_of}
 use Rattle.cvr_office.specs.Plain.{set_of, IsPut}
-use Rattle.cvr_office.proofs.Laws.{put_growth}
+use Rattle.cvr_lists.proofs.Laws.{put_growth}
 use Rattle.cvr_cached.specs.Contents.{facts_at}
 use Rattle.cvr_cached.specs.Plans.{IsPushed, IsStep}
 use Rattle.cvr_cached.proofs.Growing.{step_added}

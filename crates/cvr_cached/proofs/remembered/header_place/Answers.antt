@@ -1,6 +1,6 @@
 use Rattle.std.proofs.Common.{None, sym, ap, ◌∙◌}
 use Rattle.std.specs.List.{last_or}
-use Rattle.cvr_office.proofs.Lemmas.{last_taken, header_passed}
+use Rattle.cvr_lists.proofs.Lemmas.{last_taken, header_passed}
 use Rattle.cvr_cached.specs.Contents.{header_at}
 use Rattle.cvr_cached.proofs.Places.{header_here}
 use Rattle.cvr_cached.proofs.remembered.header_place.Goals as goal

@@ -1,8 +1,8 @@
 use Rattle.std.proofs.Common.{◌++◌, [], ◌∷◌, length, refl, ap, sym, ◌∙◌, append-nil, arith}
-use Rattle.cvr_office.specs.NameRuns.{counted_runs, of_several}
-use Rattle.cvr_office.proofs.ConflictLists.{conflicts-is}
-use Rattle.cvr_office.proofs.NameSteps.{cut, list-more, list-same, runs-end}
-use Rattle.cvr_office.proofs.conflicts.conflicts_in.Goals as goal
+use Rattle.cvr_lists.specs.NameRuns.{counted_runs, of_several}
+use Rattle.cvr_lists.proofs.ConflictLists.{conflicts-is}
+use Rattle.cvr_lists.proofs.NameSteps.{cut, list-more, list-same, runs-end}
+use Rattle.cvr_lists.proofs.conflicts.conflicts_in.Goals as goal
 
 pub loop-first-preserved-in_ok-push : goal.loop-first-preserved-in_ok-push
 loop-first-preserved-in_ok-push c =

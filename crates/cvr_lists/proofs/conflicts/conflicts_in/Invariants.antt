@@ -1,6 +1,6 @@
 use Rattle.std.proofs.Common.{◌≡◌, ◌++◌, length}
-use Rattle.cvr_office.specs.NameRuns.{counted_runs, of_several}
-use Rattle.cvr_office.proofs.conflicts.conflicts_in.Given as goal
+use Rattle.cvr_lists.specs.NameRuns.{counted_runs, of_several}
+use Rattle.cvr_lists.proofs.conflicts.conflicts_in.Given as goal
 
 abbrev pub invariant-loop-first : goal.invariant-loop-first
 invariant-loop-first l = l.list ++ of_several (counted_runs l.rest) ≡ of_several (counted_runs l.fn.facts)

@@ -1,8 +1,8 @@
 use Rattle.std.proofs.Common.{ap, arith}
-use Rattle.cvr_office.specs.NameRuns.{counted_runs, most_of}
-use Rattle.cvr_office.proofs.ConflictLists.{greatest_count-is}
-use Rattle.cvr_office.proofs.NameSteps.{cut, greatest-more, runs-end}
-use Rattle.cvr_office.proofs.conflicts.greatest_count_in.Goals as goal
+use Rattle.cvr_lists.specs.NameRuns.{counted_runs, most_of}
+use Rattle.cvr_lists.proofs.ConflictLists.{greatest_count-is}
+use Rattle.cvr_lists.proofs.NameSteps.{cut, greatest-more, runs-end}
+use Rattle.cvr_lists.proofs.conflicts.greatest_count_in.Goals as goal
 
 pub loop-first-preserved : goal.loop-first-preserved
 loop-first-preserved c =

@@ -1,7 +1,7 @@
 use Rattle.std.proofs.Common.{◌≡◌, length}
 use Rattle.std.specs.Prelude.{max}
-use Rattle.cvr_office.specs.NameRuns.{counted_runs, most_of}
-use Rattle.cvr_office.proofs.conflicts.greatest_count_in.Given as goal
+use Rattle.cvr_lists.specs.NameRuns.{counted_runs, most_of}
+use Rattle.cvr_lists.proofs.conflicts.greatest_count_in.Given as goal
 
 abbrev pub invariant-loop-first : goal.invariant-loop-first
 invariant-loop-first l = max l.greatest (most_of (counted_runs l.rest)) ≡ most_of (counted_runs l.fn.facts)

@@ -3,8 +3,8 @@ use Rattle.std.specs.Prelude.{slice_get}
 use Rattle.std.proofs.lemmas.Option.{gets}
 use Rattle.cvr_office.specs.Names.{body_of}
 use Rattle.cvr_office.specs.Place.{fact_of}
-use Rattle.cvr_office.proofs.Numbered.{none_numbered, one_numbered}
-use Rattle.cvr_office.proofs.devices.device_body_in.Goals as goal
+use Rattle.cvr_lists.proofs.Numbered.{none_numbered, one_numbered}
+use Rattle.cvr_lists.proofs.devices.device_body_in.Goals as goal
 
 pub returns-in_err-place : goal.returns-in_err-place
 returns-in_err-place c =

@@ -1,8 +1,8 @@
 use Rattle.std.proofs.Common.{rules}
 use Rattle.std.proofs.lemmas.List.{take_rest}
 use Rattle.std.proofs.lemmas.List.Sorted.{IsPartitionPoint-from_clause}
-use Rattle.cvr_office.proofs.DeviceBodies.{device_below, below_parted, up_to_own, up_to_parted, bodies_between}
-use Rattle.cvr_office.proofs.devices.devices_under.Goals as goal
+use Rattle.cvr_lists.proofs.DeviceBodies.{device_below, below_parted, up_to_own, up_to_parted, bodies_between}
+use Rattle.cvr_lists.proofs.devices.devices_under.Goals as goal
 
 pub returns : goal.returns
 returns c =

@@ -1,8 +1,8 @@
 use Rattle.std.proofs.Common.{rules, option_map, refl, ap, ◌∙◌}
 use Rattle.std.proofs.lemmas.List.Sorted.{IsPartitionPoint-from_clause}
 use Rattle.std.proofs.lemmas.Option.{slice_get_read}
-use Rattle.cvr_office.proofs.NextInFacts.{device_passes, devices_parted, next_device_none, next_device_some}
-use Rattle.cvr_office.proofs.devices.next_device_in.Goals as goal
+use Rattle.cvr_office.proofs.Lemmas.{device_passes, devices_parted, next_device_none, next_device_some}
+use Rattle.cvr_lists.proofs.devices.next_device_in.Goals as goal
 
 pub returns-in_err-get : goal.returns-in_err-get
 returns-in_err-get c =

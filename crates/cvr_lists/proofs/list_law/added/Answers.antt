@@ -1,6 +1,6 @@
-use Rattle.cvr_office.proofs.RowSteps.{row_over-more}
-use Rattle.cvr_office.proofs.RowsOfKeys.{added_is, added-no_header, added-no_current}
-use Rattle.cvr_office.proofs.list_law.added.Goals as goal
+use Rattle.cvr_office.proofs.Lemmas.{row_over-more}
+use Rattle.cvr_office.proofs.Lemmas.{added_is, added-no_header, added-no_current}
+use Rattle.cvr_lists.proofs.list_law.added.Goals as goal
 
 pub returns : goal.returns
 returns c = record {

@@ -1,5 +1,5 @@
-use Rattle.cvr_office.proofs.PlainLists.{map-all_of, all_spelled}
-use Rattle.cvr_office.proofs.list_law.files.Goals as goal
+use Rattle.cvr_lists.proofs.PlainLists.{map-all_of, all_spelled}
+use Rattle.cvr_lists.proofs.list_law.files.Goals as goal
 
 pub returns : goal.returns
 returns c = record {

@@ -1,6 +1,6 @@
-use Rattle.cvr_office.proofs.NameOrder.{name_is}
-use Rattle.cvr_office.proofs.ConflictLists.{conflicts-is, greatest_count-is}
-use Rattle.cvr_office.proofs.list_law.names.Goals as goal
+use Rattle.cvr_office.proofs.Lemmas.{name_is}
+use Rattle.cvr_lists.proofs.ConflictLists.{conflicts-is, greatest_count-is}
+use Rattle.cvr_lists.proofs.list_law.names.Goals as goal
 
 pub returns : goal.returns
 returns c = record {

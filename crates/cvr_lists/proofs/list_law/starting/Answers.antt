@@ -1,5 +1,5 @@
-use Rattle.cvr_office.proofs.PlainLists.{start_is, plain_start}
-use Rattle.cvr_office.proofs.list_law.starting.Goals as goal
+use Rattle.cvr_lists.proofs.PlainLists.{start_is, plain_start}
+use Rattle.cvr_lists.proofs.list_law.starting.Goals as goal
 
 pub returns : goal.returns
 returns c = record {

@@ -1,6 +1,6 @@
-use Rattle.cvr_office.proofs.CurrentSums.{currents_are_sums, facts_are_sums}
-use Rattle.cvr_office.proofs.RowSteps.{sums_there}
-use Rattle.cvr_office.proofs.list_law.sums.Goals as goal
+use Rattle.cvr_lists.proofs.CurrentSums.{currents_are_sums, facts_are_sums}
+use Rattle.cvr_office.proofs.Lemmas.{sums_there}
+use Rattle.cvr_lists.proofs.list_law.sums.Goals as goal
 
 pub returns : goal.returns
 returns c = record {

@@ -1,6 +1,6 @@
 use Rattle.std.proofs.Common.{◌∙◌}
-use Rattle.cvr_office.proofs.Puts.{more_devices}
-use Rattle.cvr_office.proofs.putting.own_devices.Goals as goal
+use Rattle.cvr_lists.proofs.Puts.{more_devices}
+use Rattle.cvr_lists.proofs.putting.own_devices.Goals as goal
 
 pub loop-place-preserved : goal.loop-place-preserved
 loop-place-preserved c =

@@ -1,7 +1,7 @@
 use Rattle.std.proofs.Common.{arith}
 use Rattle.std.proofs.lemmas.List.Filters.{dedup_is}
-use Rattle.cvr_office.proofs.Puts.{put, put_growth}
-use Rattle.cvr_office.proofs.putting.put_in.Goals as goal
+use Rattle.cvr_lists.proofs.Puts.{put, put_growth}
+use Rattle.cvr_lists.proofs.putting.put_in.Goals as goal
 
 pub returns-clause-put : goal.returns-clause-put
 returns-clause-put c =

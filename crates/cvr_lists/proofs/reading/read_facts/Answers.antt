@@ -1,5 +1,5 @@
 use Rattle.cdf_definition.proofs.Laws.{valid_file}
-use Rattle.cvr_office.proofs.reading.read_facts.Goals as goal
+use Rattle.cvr_lists.proofs.reading.read_facts.Goals as goal
 
 pub returns-clause-facts : goal.returns-clause-facts
 returns-clause-facts c =

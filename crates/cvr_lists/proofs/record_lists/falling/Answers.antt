@@ -5,8 +5,8 @@ use Rattle.std.proofs.lemmas.List.Sorted.{IsPermutation-map, ranks_by, answers_a
 use Rattle.cvr_fact_types.specs.declared.snapshot.SnapshotFact.{SnapshotFact}
 use Rattle.cvr_facts.specs.Choosing.{fact_choice}
 use Rattle.cvr_facts.proofs.Laws.{fact_total}
-use Rattle.cvr_office.proofs.ViewedLists.{map-reverse, sorted-map}
-use Rattle.cvr_office.proofs.record_lists.falling.Goals as goal
+use Rattle.cvr_office.proofs.Lemmas.{map-reverse, sorted-map}
+use Rattle.cvr_lists.proofs.record_lists.falling.Goals as goal
 
 pub returns : goal.returns
 returns c =

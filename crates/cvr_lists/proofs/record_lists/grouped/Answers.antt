@@ -2,9 +2,9 @@ use Rattle.std.proofs.Common.{ℕ, List, Bor, map, inl, inr, refl, ap, ◌∙◌
 use Rattle.std.proofs.lemmas.List.{map-append, take_more}
 use Rattle.cvr_office.specs.declared.record_facts.IdFacts.{IdFacts}
 use Rattle.cvr_office.specs.Runs.{snapshots}
-use Rattle.cvr_office.specs.Groups.{under, IsFalling}
-use Rattle.cvr_office.proofs.ViewedLists.{pushed, pushed_cases}
-use Rattle.cvr_office.proofs.record_lists.grouped.Goals as goal
+use Rattle.cvr_lists.specs.Groups.{under, IsFalling}
+use Rattle.cvr_office.proofs.Lemmas.{pushed, pushed_cases}
+use Rattle.cvr_lists.proofs.record_lists.grouped.Goals as goal
 
 pub loop-id-preserved : goal.loop-id-preserved
 loop-id-preserved c =

@@ -1,8 +1,8 @@
 use Rattle.std.proofs.Common.{◌≡◌, take, map, Contains}
 use Rattle.cvr_office.specs.declared.record_facts.IdFacts.{IdFacts}
 use Rattle.cvr_office.specs.Runs.{snapshots}
-use Rattle.cvr_office.specs.Groups.{under, IsFalling}
-use Rattle.cvr_office.proofs.record_lists.grouped.Given as goal
+use Rattle.cvr_lists.specs.Groups.{under, IsFalling}
+use Rattle.cvr_lists.proofs.record_lists.grouped.Given as goal
 
 abbrev pub invariant-loop-id : goal.invariant-loop-id
 invariant-loop-id l = record {

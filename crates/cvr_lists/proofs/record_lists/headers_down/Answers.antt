@@ -3,10 +3,10 @@ use Rattle.std.specs.Prelude.{reverse}
 use Rattle.std.proofs.lemmas.List.{take_all}
 use Rattle.cvr_fact_types.specs.declared.header.HeaderFact.{HeaderFact}
 use Rattle.cvr_office.specs.Runs.{headers}
-use Rattle.cvr_office.proofs.RunSteps.{header_taken, header_passed}
-use Rattle.cvr_office.proofs.ViewedLists.{pushed, map-reverse}
-use Rattle.cvr_office.proofs.record_lists.headers_down.Goals as goal
-use Rattle.cvr_office.proofs.record_lists.headers_down.Goals.{in-Header+in_ok-push, in_default}
+use Rattle.cvr_lists.proofs.RunSteps.{header_taken, header_passed}
+use Rattle.cvr_office.proofs.Lemmas.{pushed, map-reverse}
+use Rattle.cvr_lists.proofs.record_lists.headers_down.Goals as goal
+use Rattle.cvr_lists.proofs.record_lists.headers_down.Goals.{in-Header+in_ok-push, in_default}
 
 pub loop-fact-preserved : goal.loop-fact-preserved
 loop-fact-preserved c =

@@ -3,11 +3,11 @@ use Rattle.std.specs.Prelude.{bytes_eq}
 use Rattle.std.specs.List.{dedup}
 use Rattle.std.proofs.lemmas.List.{map-append, take_all}
 use Rattle.std.proofs.lemmas.List.Filters.{dedup_is}
-use Rattle.cvr_office.specs.Groups.{ids}
-use Rattle.cvr_office.proofs.RunSteps.{snapshot_taken, snapshot_passed}
-use Rattle.cvr_office.proofs.ViewedLists.{pushed, map-dedup}
-use Rattle.cvr_office.proofs.record_lists.ids_in.Goals as goal
-use Rattle.cvr_office.proofs.record_lists.ids_in.Goals.{in-Snapshot+in_ok-push, in_default}
+use Rattle.cvr_lists.specs.Groups.{ids}
+use Rattle.cvr_lists.proofs.RunSteps.{snapshot_taken, snapshot_passed}
+use Rattle.cvr_office.proofs.Lemmas.{pushed, map-dedup}
+use Rattle.cvr_lists.proofs.record_lists.ids_in.Goals as goal
+use Rattle.cvr_lists.proofs.record_lists.ids_in.Goals.{in-Snapshot+in_ok-push, in_default}
 
 pub loop-fact-preserved : goal.loop-fact-preserved
 loop-fact-preserved c =

@@ -2,10 +2,10 @@ use Rattle.std.proofs.Common.{sym, ap, ◌∙◌, subst}
 use Rattle.std.specs.Prelude.{reverse}
 use Rattle.cvr_office.specs.declared.record_facts.RecordFacts.{RecordFacts}
 use Rattle.cvr_office.specs.Runs.{headers}
-use Rattle.cvr_office.specs.Groups.{RisesById, AreGrouped}
-use Rattle.cvr_office.proofs.RecordGroups.{rises_by_id}
-use Rattle.cvr_office.proofs.WholeRecord.{no_record, some_record, facts_are}
-use Rattle.cvr_office.proofs.record_lists.record_facts_in.Goals as goal
+use Rattle.cvr_lists.specs.Groups.{RisesById, AreGrouped}
+use Rattle.cvr_lists.proofs.RecordGroups.{rises_by_id}
+use Rattle.cvr_lists.proofs.WholeRecord.{no_record, some_record, facts_are}
+use Rattle.cvr_lists.proofs.record_lists.record_facts_in.Goals as goal
 
 pub returns-then-is_empty : goal.returns-then-is_empty
 returns-then-is_empty c contests spelled = no_record _ _ _ c.run_of-run.ensures (sym c.is_empty.ensures ∙ c.if-is_empty.true)

@@ -1,8 +1,8 @@
 use Rattle.std.proofs.Common.{map, refl, sym, ap, ◌∙◌}
-use Rattle.cvr_office.proofs.RunSteps.{snapshot_taken, snapshot_passed}
-use Rattle.cvr_office.proofs.ViewedLists.{pushed}
-use Rattle.cvr_office.proofs.record_lists.snapshots_in.Goals as goal
-use Rattle.cvr_office.proofs.record_lists.snapshots_in.Goals.{in-Snapshot+in_ok-push, in_default}
+use Rattle.cvr_lists.proofs.RunSteps.{snapshot_taken, snapshot_passed}
+use Rattle.cvr_office.proofs.Lemmas.{pushed}
+use Rattle.cvr_lists.proofs.record_lists.snapshots_in.Goals as goal
+use Rattle.cvr_lists.proofs.record_lists.snapshots_in.Goals.{in-Snapshot+in_ok-push, in_default}
 
 pub loop-fact-preserved : goal.loop-fact-preserved
 loop-fact-preserved c =

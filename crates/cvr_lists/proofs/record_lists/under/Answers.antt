@@ -1,10 +1,10 @@
 use Rattle.std.proofs.Common.{refl, rules}
 use Rattle.std.specs.Ordering.{is_lt, is_eq}
 use Rattle.std.proofs.lemmas.List.Sorted.{IsPartitionPoint-from_clause}
-use Rattle.cvr_office.specs.Groups.{id_order}
-use Rattle.cvr_office.proofs.Between.{lesser_first, equal_first, run_is}
-use Rattle.cvr_office.proofs.Groups.{id_order_rises}
-use Rattle.cvr_office.proofs.record_lists.under.Goals as goal
+use Rattle.cvr_lists.specs.Groups.{id_order}
+use Rattle.cvr_lists.proofs.Between.{lesser_first, equal_first, run_is}
+use Rattle.cvr_lists.proofs.Groups.{id_order_rises}
+use Rattle.cvr_lists.proofs.record_lists.under.Goals as goal
 
 pub returns : goal.returns
 returns c =

@@ -1,7 +1,7 @@
 use Rattle.std.proofs.Common.{option_map, subst}
 use Rattle.cvr_office.specs.Runs.{snapshots, IsChosen}
-use Rattle.cvr_office.proofs.OneRecord.{current_is}
-use Rattle.cvr_office.proofs.records.current_in.Goals as goal
+use Rattle.cvr_lists.proofs.OneRecord.{current_is}
+use Rattle.cvr_lists.proofs.records.current_in.Goals as goal
 
 pub returns : goal.returns
 returns c contests spelled =

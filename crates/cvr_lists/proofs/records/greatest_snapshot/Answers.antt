@@ -1,7 +1,7 @@
 use Rattle.std.proofs.Common.{Some, ap, ◌∙◌, option_map}
-use Rattle.cvr_office.proofs.RunSteps.{snapshot_taken, snapshot_passed, chosen_more}
-use Rattle.cvr_office.proofs.records.greatest_snapshot.Goals as goal
-use Rattle.cvr_office.proofs.records.greatest_snapshot.Goals.{in-Snapshot, in_default}
+use Rattle.cvr_lists.proofs.RunSteps.{snapshot_taken, snapshot_passed, chosen_more}
+use Rattle.cvr_lists.proofs.records.greatest_snapshot.Goals as goal
+use Rattle.cvr_lists.proofs.records.greatest_snapshot.Goals.{in-Snapshot, in_default}
 
 pub loop-fact-preserved : goal.loop-fact-preserved
 loop-fact-preserved c =

@@ -1,8 +1,8 @@
 use Rattle.std.proofs.Common.{None, sym, ap, ◌∙◌, option_map}
 use Rattle.std.specs.List.{last_or}
-use Rattle.cvr_office.proofs.RunSteps.{last_taken, header_passed}
-use Rattle.cvr_office.proofs.records.last_header.Goals as goal
-use Rattle.cvr_office.proofs.records.last_header.Goals.{in-Header, in_default}
+use Rattle.cvr_lists.proofs.RunSteps.{last_taken, header_passed}
+use Rattle.cvr_lists.proofs.records.last_header.Goals as goal
+use Rattle.cvr_lists.proofs.records.last_header.Goals.{in-Header, in_default}
 
 pub loop-fact-preserved : goal.loop-fact-preserved
 loop-fact-preserved c =

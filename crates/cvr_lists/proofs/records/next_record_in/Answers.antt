@@ -1,8 +1,8 @@
 use Rattle.std.proofs.Common.{rules, option_map, refl, ap, ◌∙◌}
 use Rattle.std.proofs.lemmas.List.Sorted.{IsPartitionPoint-from_clause}
 use Rattle.std.proofs.lemmas.Option.{slice_get_read}
-use Rattle.cvr_office.proofs.NextInFacts.{record_passes, records_parted, next_record_none, next_record_some}
-use Rattle.cvr_office.proofs.records.next_record_in.Goals as goal
+use Rattle.cvr_office.proofs.Lemmas.{record_passes, records_parted, next_record_none, next_record_some}
+use Rattle.cvr_lists.proofs.records.next_record_in.Goals as goal
 
 pub returns-in_err-get : goal.returns-in_err-get
 returns-in_err-get c =

@@ -4,9 +4,9 @@ use Rattle.std.specs.Ordering.{is_gt}
 use Rattle.cvr_fact_types.specs.Facts.{name_cmp}
 use Rattle.cvr_office.specs.Names.{record_of}
 use Rattle.cvr_office.specs.Place.{fact_of}
-use Rattle.cvr_office.proofs.CountedRecords.{counted_same, counted_none, counted_new, counted_old, counted_all}
-use Rattle.cvr_office.proofs.records.record_count_in.Goals as goal
-use Rattle.cvr_office.proofs.records.record_count_in.Goals.{then-gt, else-gt}
+use Rattle.cvr_lists.proofs.CountedRecords.{counted_same, counted_none, counted_new, counted_old, counted_all}
+use Rattle.cvr_lists.proofs.records.record_count_in.Goals as goal
+use Rattle.cvr_lists.proofs.records.record_count_in.Goals.{then-gt, else-gt}
 
 pub loop-fact-init : goal.loop-fact-init
 loop-fact-init c = counted_none c.args.facts.now

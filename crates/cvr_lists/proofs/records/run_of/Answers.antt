@@ -2,9 +2,9 @@ use Rattle.std.proofs.Common.{refl, rules}
 use Rattle.std.specs.Ordering.{is_lt, is_eq}
 use Rattle.std.proofs.lemmas.List.Sorted.{IsPartitionPoint-from_clause}
 use Rattle.cvr_office.specs.Runs.{record_order}
-use Rattle.cvr_office.proofs.Between.{lesser_first, equal_first, run_is}
-use Rattle.cvr_office.proofs.Runs.{record_order_rises}
-use Rattle.cvr_office.proofs.records.run_of.Goals as goal
+use Rattle.cvr_lists.proofs.Between.{lesser_first, equal_first, run_is}
+use Rattle.cvr_office.proofs.Lemmas.{record_order_rises}
+use Rattle.cvr_lists.proofs.records.run_of.Goals as goal
 
 pub returns : goal.returns
 returns c =

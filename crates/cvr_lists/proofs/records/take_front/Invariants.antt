@@ -1,5 +1,5 @@
 use Rattle.std.proofs.Common.{◌≡◌, take, drop}
-use Rattle.cvr_office.proofs.records.take_front.Given as goal
+use Rattle.cvr_lists.proofs.records.take_front.Given as goal
 
 abbrev pub invariant-loop-place : goal.invariant-loop-place
 invariant-loop-place l = record {

@@ -3,9 +3,9 @@ use Rattle.std.specs.Prelude.{IfOk, OnOk}
 use Rattle.std.specs.Ordering.{is_eq}
 use Rattle.std.proofs.lemmas.List.Sorted.{IsPartitionPoint-from_clause}
 use Rattle.cvr_office.specs.Runs.{record_order}
-use Rattle.cvr_office.proofs.Between.{equal_leads, run_leads, others_follow}
-use Rattle.cvr_office.proofs.Runs.{record_order_rises}
-use Rattle.cvr_office.proofs.records.take_run.Goals as goal
+use Rattle.cvr_lists.proofs.Between.{equal_leads, run_leads, others_follow}
+use Rattle.cvr_office.proofs.Lemmas.{record_order_rises}
+use Rattle.cvr_lists.proofs.records.take_run.Goals as goal
 
 pub returns-clause-run : goal.returns-clause-run
 returns-clause-run c =

@@ -5,7 +5,7 @@ use Rattle.cvr_tally.specs.declared.key.RowKey.{RowKey}
 use Rattle.cvr_office.specs.declared.any_fact.AnyFact.TheVariants as any
 use Rattle.cvr_office.specs.Plain.{set_of}
 use Rattle.cvr_office.specs.Adding.{AreSums, sums_for, row_with}
-use Rattle.cvr_office.proofs.Laws.{added_is, added-no_header, added-no_current}
+use Rattle.cvr_lists.proofs.Laws.{added_is, added-no_header, added-no_current}
 use Rattle.cvr_plain.proofs.tallying.add_record.Goals as goal
 
 pub header_in-requires-clause-spelled : goal.header_in-requires-clause-spelled

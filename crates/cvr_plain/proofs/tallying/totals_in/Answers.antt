@@ -2,7 +2,7 @@ use Rattle.std.proofs.Common.{◌∙◌, sym, ap, subst, arith, option_map}
 use Rattle.std.specs.FinMap.{get}
 use Rattle.cvr_office.specs.Plain.{set_of, IsSpelled}
 use Rattle.cvr_office.specs.Adding.{CurrentsAreSums, added, row_with}
-use Rattle.cvr_office.proofs.Laws.{currents_are_sums}
+use Rattle.cvr_lists.proofs.Laws.{currents_are_sums}
 use Rattle.cvr_plain.proofs.RecordWalk.{records-le, walk_begins, walk_shorter, walk_goes_on, walk_has_room, walk_ends, walk_below}
 use Rattle.cvr_plain.proofs.tallying.totals_in.Goals as goal
 

@@ -1,6 +1,6 @@
 use Rattle.std.proofs.Common.{◌∙◌, ap, arith}
 use Rattle.cvr_office.specs.Plain.{set_of}
-use Rattle.cvr_office.proofs.Laws.{start_is, plain_start}
+use Rattle.cvr_lists.proofs.Laws.{start_is, plain_start}
 use Rattle.cvr_cached.proofs.Begins.{alone, cached_start}
 use Rattle.cvr_cached.proofs.Listed.{rises_none}
 use Rattle.cvr_cached.proofs.cached.CachedOfficeOffice.new.Goals as goal

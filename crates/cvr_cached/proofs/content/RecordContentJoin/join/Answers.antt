@@ -2,7 +2,7 @@ use Rattle.std.proofs.Common.{ap, sym, subst, arith, length}
 use Rattle.cvr_office.specs.Place.{any_cmp}
 use Rattle.cvr_office.specs.Plain.{IsPut}
 use Rattle.std.specs.List.Sorted.{IsStrictlySortedBy}
-use Rattle.cvr_office.proofs.Laws.{put_growth}
+use Rattle.cvr_lists.proofs.Laws.{put_growth}
 use Rattle.cvr_cached.proofs.Growing.{grown_set}
 use Rattle.cvr_cached.proofs.content.RecordContentJoin.join.Goals as goal
 

@@ -1,0 +1,5 @@
+pub mod AnyNames
+pub mod NameRuns
+pub mod Groups
+pub mod ListLaws
+pub mod SumLaws

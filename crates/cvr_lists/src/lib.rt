@@ -1,0 +1,13 @@
+//! What an office holds as a list of facts in order: those of a file, of a record, of a device and of
+//! a name in it.
+#![tactic(auto)]
+
+pub mod conflicts;
+pub mod devices;
+pub mod list_law;
+pub mod putting;
+pub mod reading;
+pub mod record_lists;
+pub mod records;
+
+pub use reading::read_facts;
