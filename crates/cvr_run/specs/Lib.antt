@@ -16,6 +16,7 @@ pub mod Opening
 pub mod MemoryFiles
 pub mod Worked
 pub mod Answered
+pub mod OwnWords
 pub mod HeldBytes
 pub mod Laws
 pub mod Rows

@@ -1,0 +1,30 @@
+-- Words that ask for a text of the program's own: it is printed, and no file is opened. (This project's own.)
+use Rattle.std.specs.Prelude.{◌≡◌, ◌⊎◌, ℕ, List, [], ◌∷◌, codes, Bool, false, if◌then◌else◌, Option}
+use Rattle.clap.specs.Words.{fault_of}
+use Rattle.clap.specs.declared.error.ErrorKind.TheVariants.{UnknownArgument}
+use Rattle.cdf_types.specs.Device.{appended, AppendsPrefix}
+use Rattle.cvr_words.specs.Line.{cvr_line, named}
+use Rattle.cvr_run.specs.declared.status.Status.{Status}
+use Rattle.cvr_run.specs.declared.status.Status.TheVariants.{Done, Device}
+use Rattle.cvr_run.specs.Log.{Logs}
+use Rattle.cvr_run.specs.Told.{out_line}
+
+-- the version, and the kit that built the program
+abbrev pub version_text : List ℕ
+version_text = codes "cvr 1.0.0 (rattle-kit-13f)\n"
+
+-- either word alone
+abbrev pub AsksVersion : List (List ℕ) → Type 0
+AsksVersion words = (words ≡ codes "--version" ∷ []) ⊎ (words ≡ codes "-V" ∷ [])
+
+-- the line of the commands has neither word
+abbrev pub UnknownVersionLaw : Type 0
+UnknownVersionLaw = (words : List (List ℕ)) → AsksVersion words → fault_of cvr_line (named words) ≡ UnknownArgument ∷ []
+
+-- the text is printed whole; or the output has failed, which is reported
+pub record PrintsOwn (text : List ℕ) (answer : Status) (out_before out_after : Option (List ℕ)) (out_failed : Bool)
+    (before : Option (List ℕ)) (had_failed : Bool) (after : Option (List ℕ)) (has_failed : Bool) : Type 0 where
+  pub status : answer ≡ (if out_failed then Device else Done)
+  pub whole : out_failed ≡ false → out_after ≡ appended out_before text
+  pub prefix : AppendsPrefix out_before out_after text
+  pub log : Logs before had_failed after has_failed (out_line out_failed)
