@@ -3,7 +3,7 @@ _cvr() {
     COMPREPLY=()
     if [ "$COMP_CWORD" -eq 1 ]; then
         compopt +o default
-        COMPREPLY=($(compgen -W 'currents conflicts tally check merge drill help -h --help' -- "$2"))
+        COMPREPLY=($(compgen -W 'currents conflicts tally check merge drill help -h --help -V --version' -- "$2"))
         return
     fi
     case $2 in

@@ -1,6 +1,7 @@
 # Made by tools/manual from the help of cvr. Change that.
 complete -c cvr -f
 complete -c cvr -s h -l help -d 'Print help'
+complete -c cvr -n __fish_use_subcommand -s V -l version -d 'Print the version'
 complete -c cvr -n __fish_use_subcommand -a currents -d 'Print which snapshot of each cast vote record is current'
 complete -c cvr -n __fish_use_subcommand -a conflicts -d 'Print each device, record and snapshot that the files give in two ways or more'
 complete -c cvr -n __fish_use_subcommand -a tally -d 'Add up the votes of the current snapshots, by contest, unit and batch'

@@ -6,7 +6,7 @@ mod progress;
 ghost use Rattle.std.specs.Prelude.{true};
 ghost use Rattle.cvr_run.specs.Opening.{Unknown};
 
-use cvr_cli::{FileFault, Open, OverRead, OverWrite, Status, work};
+use cvr_cli::{FileFault, Open, OverRead, OverWrite, Status, respond};
 use progress::{Cleared, Counted, Progress};
 use std::io::{ErrorKind, IsTerminal};
 use std::process::ExitCode;
@@ -66,7 +66,7 @@ fn work_on_words(rt: &HostRuntime) -> Status {
                 rt,
                 progress: &progress,
             };
-            let status = work(rt.alloc(), &system, words.as_slice(), &mut out, &mut log);
+            let status = respond(rt.alloc(), &system, words.as_slice(), &mut out, &mut log);
             progress.clear();
             status
         }

@@ -126,7 +126,7 @@ static LINES: [(&str, &[&str]); 4] = [
     ("read_line, a bad step", &["drill", "d", "2", "1=a", "x"]),
 ];
 
-static WORKS: [(&str, &[&str]); 5] = [
+static WORKS: [(&str, &[&str]); 6] = [
     ("work currents", &["currents", DEFINITION, SCAN, BATCHED]),
     (
         "work drill",
@@ -144,6 +144,7 @@ static WORKS: [(&str, &[&str]); 5] = [
     ("work, help", &["help", "merge"]),
     ("work, a wrong word", &["taly", DEFINITION]),
     ("work, a bad step", &["drill", DEFINITION, "2", "x"]),
+    ("respond, the version", &["--version"]),
 ];
 
 // A file, and the new facts that it brings.

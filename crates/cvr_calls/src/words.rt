@@ -5,7 +5,7 @@ use crate::running::{PIECE, Ran, is_like};
 use crate::trying::{Ended, Reading, try_reading};
 use cdf_types::{MemorySink, ReadFault, Seq, Sink};
 use cvr_cli::{
-    Act, MemoryFile, MemoryFiles, Request, Status, Step, Task, WordFault, read_words, work,
+    Act, MemoryFile, MemoryFiles, Request, Status, Step, Task, WordFault, read_words, respond,
 };
 use std::alloc::{AllocError, Global};
 
@@ -163,7 +163,7 @@ fn work_over(alloc: Global, working: &Working) -> Option<Ran> {
     let mut out = MemorySink::new(alloc, PIECE, 0);
     let mut log = MemorySink::new(alloc, PIECE, 0);
     let opener = MemoryFiles { files: &files };
-    let status = work(alloc, &opener, working.words.as_slice(), &mut out, &mut log);
+    let status = respond(alloc, &opener, working.words.as_slice(), &mut out, &mut log);
     Some(Ran { status, out, log })
 }
 

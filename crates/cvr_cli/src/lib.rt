@@ -8,4 +8,4 @@ pub use cvr_run::{
     currents_text, examples, law, read_file, rows,
 };
 pub use cvr_words::{Act, Request, Step, Task, WordFault, read_words};
-pub use running::{run, work};
+pub use running::{respond, run, work};

@@ -22,6 +22,7 @@ pub mod HeldBytes
 pub mod Opened
 pub mod Known
 pub mod Unasked
+pub mod VersionWords
 pub mod GivenTexts
 pub mod GivenOffices
 pub mod Drilled

@@ -16,6 +16,7 @@ use Rattle.cvr_run.specs.declared.status.Status.{Status}
 use Rattle.cvr_run.specs.declared.status.Status.TheVariants as status
 use Rattle.cvr_run.specs.Log.{Logs}
 use Rattle.cvr_run.specs.Outcome.{IsWhole}
+use Rattle.cvr_run.specs.OwnWords.{PrintsOwn}
 use Rattle.cvr_run.specs.Printing.{Prints, is_output, end_line, print_line, print_status, status_after}
 use Rattle.cvr_run.specs.Refusals.{status_of}
 use Rattle.cvr_run.specs.Told.{out_line}
@@ -51,6 +52,27 @@ help_line (Refused text) g is = cc
 help_line (Help text) g is = refl
 help_line (BadStep place step) g is = cc
 help_line Memory g is = cc
+
+-- a text of the program's own that was printed, or not whole
+pub own_told : {T : Type 0} (text : List ℕ) (printed : Result T PrintFault) (r : Refusals) (answer : Status) (c d : Option (List ℕ)) (g : Bool) (b : Option (List ℕ)) (f : Bool) (a : Option (List ℕ)) (h : Bool)
+    → Prints c d g printed None text → IfErr printed (λ e. e ≡ fault.Device) → r.any_refusal ≡ false → r.file_lacking ≡ false → r.path_unspelled ≡ false
+    → answer ≡ status_after printed r → Logs b f a h (end_line printed) → PrintsOwn text answer c d g b f a h
+own_told text (Ok x) r answer c d g b f a h p e any lacking unspelled is log = record {
+  status = is ∙ (none_refused r any lacking unspelled ∙ sym (ap (λ (o : Bool). if o then status.Device else status.Done) p.1));
+  whole = λ _. p.0;
+  prefix = whole_front c d text p.0;
+  log = subst (λ (o : Bool). Logs b f a h (out_line o)) (sym p.1) log;
+}
+own_told text (Err x) r answer c d g b f a h p e any lacking unspelled is log =
+    let failed : g ≡ true = p.1 ∙ ap is_output e in
+    record {
+      status =
+          is ∙ (ap (λ (o : Bool). if o then status.Memory else print_status x) unspelled
+          ∙ (ap print_status e ∙ sym (ap (λ (o : Bool). if o then status.Device else status.Done) failed)));
+      whole = λ works. absurd (let bad : true ≡ false = sym failed ∙ works in cc);
+      prefix = p.0;
+      log = subst (λ (o : Bool). Logs b f a h (out_line o)) (sym failed) (subst (λ y. Logs b f a h (print_line y)) e log);
+    }
 
 -- help that was printed, or not whole
 pub help_told : {T : Type 0} (unchanged : Type 0) (k : LineFault) (printed : Result T PrintFault) (r : Refusals) (answer : Status) (c d : Option (List ℕ)) (g : Bool) (b : Option (List ℕ)) (f : Bool) (a : Option (List ℕ)) (h : Bool)

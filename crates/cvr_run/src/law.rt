@@ -3,6 +3,7 @@ ghost use Rattle.cdf_form.specs.Reading.{max_file};
 ghost use Rattle.cvr_run.specs.File.{held_bytes};
 ghost use Rattle.cvr_run.specs.HeldBytes.{HeldTextLaw, HeldLinesLaw, HeldFaultLaw, HeldRefusedLaw};
 ghost use Rattle.cvr_run.specs.Laws.{HeldLaw, ByBytesLaw, SameFactsLaw, SameCurrentsLaw, SameConflictsLaw, SameTallyLaw, SameMergeFaultLaw, SameVolumeLaw, NoFaultLaw, NoTextLaw, ToldNumberLaw, LastNumberLaw, DueLaw, LeastSameLaw, StartLaw, ImportLaw, ExchangeLaw, FilesReachedLaw, ReachedLaw, SameReachedLaw, AllImportedLaw, ByPlacesLaw, BothWaysLaw, EachImportsBothLaw, OneLineLaw, TwoLinesLaw, AloneOrEachLaw};
+ghost use Rattle.cvr_run.specs.OwnWords.{UnknownVersionLaw};
 
 /// What a run holds, the devices of the definition and the facts of the accepted files, is the content
 /// of one new office after the import of each file.
@@ -84,4 +85,9 @@ pub fn offices_of_a_drill_hold_what_a_run_holds()
 /// Where memory ends a run of any task but `check`, it tells `memory` alone, or each file or step.
 pub fn want_of_memory_is_told_alone_or_after_each_file()
     ensures { AloneOrEachLaw }
+{}
+
+/// The commands of the line leave the words for the version free: without `respond` both are refused.
+pub fn words_for_the_version_are_unknown()
+    ensures { UnknownVersionLaw }
 {}
