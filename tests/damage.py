@@ -212,9 +212,10 @@ def failing_drills():
 
 
 def failing_words():
-    """Help on an output that fails, and what is told of words on a log that does."""
+    """Help and the version on an output that fails, and what is told of words on a log that does."""
     for how in ('fails', 'nothing'):
-        yield from cut_short(stated('help-drill'), 1, how, b'out: X1\n', 3)
+        for name in 'help-drill', 'version':
+            yield from cut_short(stated(name), 1, how, b'out: X1\n', 3)
         for name in ('no-command-taly-alone', 'no-step-x'):
             yield from cut_short(stated(name), 2, how)
 
