@@ -1,0 +1,1 @@
+"""What cvr-audit is made of: a module for each command, and those that they share."""

@@ -1,0 +1,106 @@
+"""What a record adds to the tally; the rows and the text of a tally (FORMAT, Printed texts)."""
+import json
+
+from . import reading
+from .reading import spelled
+
+COLUMNS = 'ballots', 'overvotes', 'undervotes', 'write-ins', 'pending', 'unassigned'
+STATED = 'Overvotes', 'Undervotes', 'WriteIns'
+
+
+def selections_of(definition):
+    """The selections of each contest, in the definition's order."""
+    contests = definition['Election'][0]['Contest']
+    return {it['@id']: [one['@id'] for one in it.get('ContestSelection', [])] for it in contests}
+
+
+def counts(position):
+    """Whether the votes of a position count."""
+    allocable = position.get('IsAllocable')
+    return allocable == 'yes' or allocable is None and position['HasIndication'] == 'yes'
+
+
+def is_pending(position):
+    return position['HasIndication'] == 'yes' and position.get('IsAllocable') == 'unknown'
+
+
+def positions_of(contest):
+    """Each position: its place among the CVRContestSelections and in its own, the id of the
+    selection or None, and itself."""
+    for i, chosen in enumerate(contest.get('CVRContestSelection', [])):
+        for k, position in enumerate(chosen['SelectionPosition']):
+            yield i, k, chosen.get('ContestSelectionId'), position
+
+
+def places_of(contest, selection):
+    """The places of the positions that count for a selection, each with its votes."""
+    return [(i, k, position['NumberVotes']) for i, k, one, position in positions_of(contest)
+            if one == selection and counts(position)]
+
+
+def sums(contest, selections):
+    """The numbers that a contest of a snapshot adds to its row: the six columns, then the votes of
+    the selections."""
+    counted, pending = dict.fromkeys([None] + selections, 0), 0
+    for _, _, selection, position in positions_of(contest):
+        if counts(position):
+            counted[selection] += position['NumberVotes']
+        elif is_pending(position):
+            pending += position['NumberVotes']
+    return [1, *(contest.get(name, 0) for name in STATED), pending, *counted.values()]
+
+
+def row_of(contest, header):
+    """The row in which a record stands with a contest of its current snapshot."""
+    return contest['ContestId'], header.get('BallotStyleUnitId'), header.get('BatchId')
+
+
+def rows_of(header, snapshot, selections):
+    """The numbers that a record adds to each of its rows."""
+    return {row_of(it, header): sums(it, selections[it['ContestId']])
+            for it in snapshot.get('CVRContest', [])}
+
+
+def add(rows, row, numbers):
+    held = rows.get(row)
+    rows[row] = [a + b for a, b in zip(held, numbers)] if held else list(numbers)
+
+
+def nothing_first(name):
+    """The key of a name among names and None: None before all."""
+    return name is not None, name or ''
+
+
+def in_order(rows, selections):
+    """Rows by the contest's place in the definition, then by unit and batch, nothing first."""
+    places = {contest: place for place, contest in enumerate(selections)}
+    return sorted(rows, key=lambda row: (places[row[0]], *map(nothing_first, row[1:])))
+
+
+def named(row):
+    """Contest, unit and batch of a row, as they are printed."""
+    return ' '.join(map(spelled, row))
+
+
+def columns_of(contest, selections):
+    """The columns of a row, as they are printed: words, and selections as JSON strings."""
+    return list(COLUMNS) + list(map(spelled, selections[contest]))
+
+
+def text_of(rows, selections):
+    """The text of a tally of these rows."""
+    lines = []
+    for row in in_order(rows, selections):
+        numbers, names = rows[row], map(spelled, selections[row[0]])
+        votes = [part for pair in zip(names, numbers[6:]) for part in pair]
+        lines.append(' '.join(map(str, [named(row), *numbers[:6], *votes])) + '\n')
+    return ''.join(lines)
+
+
+def rows_in(text):
+    """The rows of a printed tally."""
+    rows = {}
+    for line in text.split('\n')[:-1]:
+        words = reading.words_of(line)
+        rows[tuple(map(json.loads, words[:3]))] = list(map(int, words[3:9] + words[10::2]))
+    return rows

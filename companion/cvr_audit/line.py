@@ -1,0 +1,174 @@
+"""The words of the command line, and how a run ends."""
+import argparse
+import sys
+
+from . import compare, program, records, table, trace, warnings
+
+ABOUT = ('Print cast vote records one by one, compare two sets of files, trace a number of the '
+         'tally, and warn of what needs a person.')
+STATUSES = [
+    ('0', 'all was done; `compare` found no difference, and `warnings` nothing to warn of'),
+    ('1', 'a file was refused, the two sides differ, or there is a warning'),
+    ('2', 'the words fit no command, the definition lacks a contest or selection that they name, '
+          'or the manifest has another form; nothing is printed'),
+    ('3', 'a file could not be read or written'),
+    ('4', 'out of memory; nothing is printed'),
+    ('69', 'there is no `cvr` of version 1; nothing is printed'),
+    ('70', 'the numbers don\'t come to those of `cvr`, or a file was changed during the run; '
+           'nothing is printed'),
+]
+EPILOG = 'Statuses: ' + '. '.join('%s: %s' % it for it in STATUSES) + '.'
+COMMANDS = {
+    'records': (records.run, 'Print a line of CSV for each record: its current snapshot, and what '
+                             'it adds to the tally.'),
+    'compare': (compare.run, 'Print what differs between two sets of files, and between their '
+                             'tallies.'),
+    'trace': (trace.run, 'Print the records, the places in files and the votes that make up a '
+                         'number of the tally.'),
+    'warnings': (warnings.run, 'Print a line for each thing that needs a person before the tally '
+                               'is used.'),
+}
+# the options of each command, with what stands for their values
+OPTIONS = {
+    'records': [
+        (('-o',), 'CSV', {'dest': 'output',
+                          'help': 'the file to write to, in place of standard output'}),
+        (('--columns',), 'FORM', {'choices': list(table.FORMS),
+                                  'help': 'another form: `manifest`, `batches` or `cvrs`'}),
+    ],
+    'compare': [
+        (('--one',), 'FILE', {'nargs': '*', 'required': True, 'help': 'the files of one side'}),
+        (('--other',), 'FILE', {'nargs': '*', 'required': True,
+                                'help': 'the files of the other side'}),
+    ],
+    'trace': [
+        (('--contest',), 'ID', {'required': True, 'help': 'the @id of a contest'}),
+        (('--unit',), 'ID', {'help': 'only the rows with this BallotStyleUnitId'}),
+        (('--batch',), 'ID', {'help': 'only the rows with this BatchId'}),
+        (('--selection',), 'ID', {'help': 'the @id of a selection of the contest: its votes, in '
+                                          'place of the ballots'}),
+    ],
+    'warnings': [
+        (('--manifest',), 'CSV', {'help': 'a file of lines `batch,ballots`'}),
+    ],
+}
+
+
+def usage_of(name):
+    """The words of a command, as help shows them."""
+    parts = ['cvr-audit', name, 'DEF'] + ['[FILE ...]'] * (name != 'compare')
+    for words, value, more in OPTIONS[name]:
+        option = '%s %s' % (words[0], '[%s ...]' % value if 'nargs' in more else value)
+        parts.append(option if more.get('required') else '[%s]' % option)
+    return ' '.join(parts)
+
+
+class Command:
+    """A command with two parsers: one for help, and one for its options alone, which may stand
+    before, between and after the files."""
+
+    def __init__(self, name, commands):
+        self.run, about = COMMANDS[name]
+        self.options = argparse.ArgumentParser(add_help=False, allow_abbrev=False)
+        for words, value, more in OPTIONS[name]:
+            self.options.add_argument(*words, metavar=value, **more)
+        self.parser = commands.add_parser(name, parents=[self.options], help=about, epilog=EPILOG,
+                                          description=about, usage=usage_of(name))
+        self.parser.add_argument('definition', metavar='DEF', help='a report of the election; its '
+                                                                   'own records are not counted')
+        self.takes_files = name != 'compare'
+        if self.takes_files:
+            self.parser.add_argument('files', metavar='FILE', nargs='*',
+                                     help='reports of cast vote records')
+        self.options.error = self.parser.error
+
+    def read(self, words):
+        """The words, by name; what stands after `--` is no option."""
+        place = words.index('--') if '--' in words else len(words)
+        if {'-h', '--help'} & {*words[:place]}:
+            self.parser.parse_args(['--help'])
+        values, left = self.options.parse_known_args(words[:place])
+        paths = left + words[place + 1:]
+        unknown = [it for it in left if it.startswith('-') and it != '-']
+        unknown = unknown or ([] if self.takes_files else paths[1:])
+        if unknown:
+            self.parser.error('unrecognized arguments: ' + ' '.join(unknown))
+        if not paths:
+            self.parser.error('the following arguments are required: DEF')
+        values.run, values.definition, values.files = self.run, paths[0], paths[1:]
+        values.output = getattr(values, 'output', None)
+        return values
+
+
+def parsers():
+    """The parser of the first word, and the commands by name."""
+    first = argparse.ArgumentParser(prog='cvr-audit', description=ABOUT, epilog=EPILOG)
+    commands = first.add_subparsers(metavar='COMMAND', required=True)
+    return first, {name: Command(name, commands) for name in COMMANDS}
+
+
+def read(words):
+    """The words of a command, by name."""
+    first, commands = parsers()
+    if words and words[0] in commands:
+        return commands[words[0]].read(words[1:])
+    return first.parse_args(words)
+
+
+def log(lines):
+    """Writes lines to standard error. Where that fails the run goes on, as one of `cvr` does."""
+    try:
+        sys.stderr.buffer.write(lines)
+        sys.stderr.buffer.flush()
+    except (AttributeError, OSError):       # standard error is closed, or can't be written
+        pass
+
+
+def sides(words):
+    """The files of the run, of `compare` those of either side; the log has the refused ones."""
+    found = program.find()
+    lists = [words.one, words.other] if words.run is compare.run else [words.files]
+    held = []
+    for files in lists:
+        held.append(program.Files(found, words.definition, files, sys.stderr))
+        log(held[-1].log)
+    return held
+
+
+def made(words):
+    """The text that the words ask for, and the status of a run that prints it."""
+    try:
+        files = sides(words)
+        text, is_found = words.run(*files, words)
+        for side in files:
+            side.see_unchanged()
+    except OSError as fault:
+        parts = [str(it) for it in (fault.filename, fault.strerror) if it]
+        raise program.ended(program.FAILED, ': '.join(parts)) from None
+    return text, 1 if is_found or any(side.status for side in files) else 0
+
+
+def write(text, path):
+    """Writes the text to the file at the path, or to standard output."""
+    try:
+        if not path and sys.stdout is None:
+            raise OSError('standard output is closed')
+        with open(path or sys.stdout.fileno(), 'wb', closefd=bool(path)) as file:
+            file.write(text.encode('utf-8', 'surrogateescape'))
+    except OSError:
+        raise program.Ended(program.FAILED, b'out: X1\n') from None
+
+
+def main(words):
+    """Does what the words ask for; the status."""
+    words = read(words)
+    try:
+        text, status = made(words)
+        write(text, words.output)
+        return status
+    except program.Ended as end:
+        log(end.log)
+        return end.status
+    except MemoryError:
+        log(b'memory\n')
+        return program.MEMORY

@@ -1,0 +1,174 @@
+"""What `cvr` prints of a definition and files: it alone says which files are accepted, and which
+body of a name counts."""
+import errno
+import os
+import re
+import shutil
+import stat
+import subprocess
+import tempfile
+
+from . import reading
+from .progress import Progress
+
+DATE = '1970-01-01T00:00:00Z'       # of the heading of a volume, which nothing here reads
+WORDS = 2                           # the status of words that can't be done
+FAILED = 3                          # the status where a file can't be read or written
+MEMORY = 4
+UNFIT = 69                          # where there is no `cvr` of this version
+MISMATCH = 70                       # where a text doesn't come to what `cvr` prints
+VERSION = re.compile(rb'cvr 1\.[0-9]+\.[0-9]+( [^\n]*)?\n')     # whose printed texts are known here
+
+
+class Ended(Exception):
+    """The end of a run before its text: a status, and lines for standard error."""
+
+    def __init__(self, status, log):
+        super().__init__(status, log)
+        self.status, self.log = status, log
+
+
+def ended(status, text):
+    return Ended(status, ('cvr-audit: %s\n' % text).encode('utf-8', 'surrogateescape'))
+
+
+def mismatch(text):
+    return ended(MISMATCH, text)
+
+
+def find():
+    """The program: the one that the variable CVR names, or else `cvr` on the PATH; of version 1."""
+    program = os.environ.get('CVR') or shutil.which('cvr')
+    if not program:
+        raise ended(UNFIT, 'no program `cvr` on the PATH; the variable CVR may name it')
+    done = started([program, '--version'])
+    if done.returncode or not VERSION.fullmatch(done.stdout):
+        raise ended(UNFIT, '%s: `--version` prints no version 1 of `cvr`' % program)
+    return program
+
+
+def started(words, out=subprocess.PIPE):
+    """A run of the program that has ended."""
+    try:
+        return subprocess.run(words, stdin=subprocess.DEVNULL, stdout=out, stderr=subprocess.PIPE)
+    except OSError as fault:
+        if fault.errno == errno.ENOMEM:
+            raise MemoryError from None
+        raise ended(UNFIT, '%s: %s' % (words[0], fault.strerror)) from None
+
+
+def mark_of(path):
+    """A mark that a file keeps while nobody changes it; None where there is no file, which `cvr`
+    reports."""
+    try:
+        held = os.stat(path)
+    except OSError:
+        return None
+    if not stat.S_ISREG(held.st_mode) and not stat.S_ISDIR(held.st_mode):
+        raise ended(FAILED, '%s: no regular file; it has to be read more than once' % path)
+    return held.st_dev, held.st_ino, held.st_size, held.st_mtime_ns
+
+
+class Files:
+    """A definition and files. `accepted` has the paths of those that are, each with the number of
+    its records, and `log` the lines of the others; `own_records` is the number of the records of
+    the definition, which are not counted."""
+
+    def __init__(self, program, definition, files, log):
+        self.program, self.definition, self.files = program, definition, files
+        self.progress = Progress(log, len(files))
+        self.marks = {path: mark_of(path) for path in [definition] + files}
+        status, out, log = self.run('check', [definition, definition])
+        if status:
+            raise Ended(status, log)
+        self.own_records = accepted_in([definition], out)[0][1]
+        self.status, out, self.log = self.run('check', [definition] + files)
+        if self.status > 1:
+            raise Ended(self.status, self.log)
+        self.accepted = accepted_in(files, out)
+        self.report = self.report_at(definition)
+
+    def run(self, task, words, out=subprocess.PIPE):
+        """(status, output, log) of a command of the program."""
+        self.progress.show('cvr %s: %d files' % (task, len(self.files)))
+        done = started([self.program, task, '--'] + words, out)
+        self.progress.end()
+        return done.returncode, done.stdout, done.stderr
+
+    def text(self, task):
+        """The text that a command prints of the accepted files."""
+        status, out, log = self.run(task, [self.definition] + self.files)
+        self.see_same(status, log)
+        return out.decode('utf-8')
+
+    def see_same(self, status, log):
+        """Stops where a command failed, or refused other files than `check` did."""
+        if status > 1:
+            raise Ended(status, log[len(self.log):] if log.startswith(self.log) else log)
+        if (status, log) != (self.status, self.log):
+            raise mismatch('a file was changed while it was read')
+
+    def see_unchanged(self):
+        """Stops where a file isn't the one that it was before `check`."""
+        for path, mark in self.marks.items():
+            if mark_of(path) != mark:
+                raise mismatch('%s was changed while it was read' % path)
+
+    def tally(self):
+        return self.text('tally')
+
+    def volume(self, number):
+        """A volume of the files, in a file that has no name and goes with this process."""
+        devices = self.report['ReportingDevice']
+        if not devices:
+            raise ended(1, 'DEF has no ReportingDevice, and `cvr merge` needs one of its own')
+        file = tempfile.TemporaryFile()
+        words = [self.definition, DATE, devices[0]['@id'], str(number)] + self.files
+        status, _, log = self.run('merge', words, file)
+        self.see_same(status, log)
+        file.seek(0)
+        return reading.Volume(file)
+
+    def each_report(self, take):
+        """Hands on the path and the value of each accepted file. One value at a time is in memory:
+        nothing holds it after the call."""
+        try:
+            for place, (path, _) in enumerate(self.accepted):
+                self.progress.show('read %d of %d files' % (place, len(self.accepted)))
+                take(path, self.report_at(path))
+        finally:
+            self.progress.end()
+
+    def report_at(self, path):
+        """The value of an accepted file, as it was when `check` read it."""
+        try:
+            report = reading.report(path)
+        except ValueError:              # no JSON
+            report = None
+        if report is None or mark_of(path) != self.marks[path]:
+            raise mismatch('%s was changed while it was read' % path)
+        return report
+
+
+def accepted_in(files, text):
+    """(path, number of records) of each accepted file, by the lines of `check`, which stand in the
+    order of the files."""
+    held, place = [], 0
+    for path in files:
+        count, end = line_of(path, b' ', text, place)
+        if count.isdigit():
+            held.append((path, int(count)))
+            place = end
+    if place != len(text):
+        raise mismatch('the lines of `cvr check` are of other files than it was given')
+    return held
+
+
+def line_of(path, mark, text, place):
+    """The line at a place of a text of `cvr`, behind the path of a file and the mark, and where the
+    next line begins; the line is empty where it is another file's."""
+    head = os.fsencode(path) + mark
+    if not text.startswith(head, place):
+        return b'', place
+    end = text.index(b'\n', place + len(head))
+    return text[place + len(head):end], end + 1

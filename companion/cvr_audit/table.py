@@ -1,0 +1,106 @@
+"""The lines of records: their columns, what they add up to, and the forms in which they are
+printed as CSV."""
+from . import counting
+
+HEADER = ['CreatingDeviceId', 'UniqueId', 'BallotStyleUnitId', 'BatchId', 'BallotStyleId',
+          'BallotAuditId']
+NAMES = HEADER + ['CurrentSnapshotId', 'Type', 'TimeStamp', 'AdjudicatorName', 'files']
+DEVICE, UNIQUE, UNIT, BATCH, _, AUDIT = range(len(HEADER))
+NUMBERS = counting.COLUMNS[1:]      # of a contest in a line, before the votes of its selections
+MARKS = ',', '"', '\n', '\r'
+
+
+def heads_of(selections, columns):
+    """The names of the columns of contests: `CONTEST COLUMN` of these, and for each selection
+    `CONTEST: SELECTION`."""
+    heads = []
+    for contest, chosen in selections.items():
+        heads += ['%s %s' % (contest, column) for column in columns]
+        heads += ['%s: %s' % (contest, selection) for selection in chosen]
+    return heads
+
+
+def contests_in(cells, selections):
+    """The numbers of each contest in a line; all None where the record's current snapshot doesn't
+    have it."""
+    place = len(NAMES)
+    for contest, chosen in selections.items():
+        end = place + len(NUMBERS) + len(chosen)
+        yield contest, cells[place:end]
+        place = end
+
+
+def added(lines, selections, name_of):
+    """What the lines add up to, the number of ballots first, by contest and by `name_of` a line."""
+    rows = {}
+    for cells in lines:
+        for contest, numbers in contests_in(cells, selections):
+            if numbers[0] is not None:
+                counting.add(rows, (contest, *name_of(cells)), [1] + numbers)
+    return rows
+
+
+def unit_and_batch(cells):
+    return cells[UNIT], cells[BATCH]
+
+
+def device_and_batch(cells):
+    return cells[DEVICE], cells[BATCH]
+
+
+def sizes_of(lines):
+    """How many records each batch of a device has, in the order of these names, nothing first."""
+    sizes = {}
+    for cells in lines:
+        name = device_and_batch(cells)
+        sizes[name] = sizes.get(name, 0) + 1
+    return sorted(sizes.items(), key=lambda it: list(map(counting.nothing_first, it[0])))
+
+
+def whole(lines, selections):
+    """Each record with all its columns."""
+    yield NAMES + heads_of(selections, NUMBERS)
+    yield from lines
+
+
+def manifest(lines, selections):
+    """Each batch of a device, with the number of its records."""
+    yield ['CreatingDeviceId', 'BatchId', 'ballots']
+    yield from ([*name, size] for name, size in sizes_of(lines))
+
+
+def batches(lines, selections):
+    """Each batch of a device, with the number of its records and the sums of each contest."""
+    rows = added(lines, selections, device_and_batch)
+    absent = {contest: [None] * (len(counting.COLUMNS) + len(chosen))
+              for contest, chosen in selections.items()}
+    yield ['CreatingDeviceId', 'BatchId', 'ballots'] + heads_of(selections, counting.COLUMNS)
+    for name, size in sizes_of(lines):
+        sums = [rows.get((contest, *name), absent[contest]) for contest in selections]
+        yield [*name, size] + [number for numbers in sums for number in numbers]
+
+
+def cvrs(lines, selections):
+    """Each record, with the votes of each selection alone."""
+    kept = DEVICE, BATCH, UNIQUE, AUDIT, UNIT
+    yield [NAMES[place] for place in kept] + heads_of(selections, [])
+    for cells in lines:
+        votes = [vote for _, numbers in contests_in(cells, selections)
+                 for vote in numbers[len(NUMBERS):]]
+        yield [cells[place] for place in kept] + votes
+
+
+FORMS = {'manifest': manifest, 'batches': batches, 'cvrs': cvrs}
+
+
+def cell(value):
+    """A cell of CSV (RFC 4180). Nothing is an empty cell, and the empty text one in quotes."""
+    if value is None:
+        return ''
+    text = str(value)
+    is_quoted = text == '' or any(mark in text for mark in MARKS)
+    return '"%s"' % text.replace('"', '""') if is_quoted else text
+
+
+def text_of(lines):
+    return ''.join(','.join(map(cell, cells)) + '\n' for cells in lines)

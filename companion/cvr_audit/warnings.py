@@ -1,0 +1,161 @@
+"""cvr-audit warnings: a line for each thing that needs a person before the tally is used."""
+from . import bodies, counting, reading
+from .manifest import manifest_in
+from .program import line_of, mismatch
+from .reading import spelled
+
+ADVICE = {
+    'refused': 'it is left out of every number; have it exported again',
+    'definition': 'the records of DEF are not counted; take the report from before the first '
+                  'ballot, or name it among the files, too',
+    'device': 'ask whether there were two machines with one id, whose records may have been joined',
+    'header': 'find the ballot, decide where it belongs, and have the wrong file exported again; '
+              'text 1 counts',
+    'snapshot': 'look at both in the adjudication log, and have the wrong file exported again; '
+                'text 1 is the one that can count',
+    'pending': 'nobody has decided on these marks, and they are in no selection\'s votes; finish '
+               'the adjudication',
+    'unassigned': 'these votes count for no selection; ask the maker of the files',
+    'votes': 'more votes than the ballots allow; look for a record that was made twice, and ask '
+             'the maker of the files',
+    'sum': 'votes, overvotes, undervotes, pending and unassigned don\'t come to the ballots; '
+           'explain what is short or over',
+    'unstated': 'no file states this number for the contest, so the zeros of its column mean '
+                'nothing; ask the maker of the files',
+    'contest': 'no record has this contest; ask whether a file is missing',
+    'record': 'its current snapshot has no contest, so it stands in no row; look at the ballot',
+    'batch': 'the manifest and the records don\'t agree; look for a file that is missing or a '
+             'batch that was scanned twice',
+    'ballot': 'records of one ballot, or one id that was given twice; look at the ballots',
+}
+
+
+class Seen:
+    """What was seen of the records: the number in each batch, the names with each BallotAuditId,
+    the names of records without a contest, and which contests have which number stated."""
+
+    def __init__(self):
+        self.batches, self.ballots, self.empty, self.stated = {}, {}, [], set()
+
+    def take(self, record):
+        """Notes a record of volume 1."""
+        batch, ballot = record.get('BatchId'), record.get('BallotAuditId')
+        self.batches[batch] = self.batches.get(batch, 0) + 1
+        if ballot is not None:
+            self.ballots.setdefault(ballot, []).append(reading.name_of(record))
+        if not reading.current_of(record).get('CVRContest'):
+            self.empty.append(reading.name_of(record))
+        for snapshot in record['CVRSnapshot']:
+            self.take_stated(snapshot)
+
+    def take_stated(self, snapshot):
+        for contest in snapshot.get('CVRContest', []):
+            for name in ('Overvotes', 'Undervotes'):
+                if name in contest:
+                    self.stated.add((contest['ContestId'], name))
+
+
+def seen_in(files):
+    """What was seen of the records of files, and the bodies of each name in conflict."""
+    seen, conflicts, texts = Seen(), bodies.conflicts_of(files), {}
+    volume = files.volume(1)
+    for record in volume:
+        seen.take(record)
+        texts.update(conflicts.of({'ReportingDevice': [], 'CVR': [record]}))
+    texts.update(conflicts.of(volume.rest))
+    for (kind, *_), held in texts.items():
+        for snapshot in held.values() if kind == 'snapshot' else ():
+            seen.take_stated(snapshot)
+    return seen, {name: [conflicts.paths[name][text] for text in held]
+                  for name, held in texts.items()}
+
+
+def refused_lines(files):
+    """A line for each refused file, by the log, whose lines stand in the order of the files."""
+    accepted, place = {path for path, _ in files.accepted}, 0
+    for path in files.files:
+        if path not in accepted:
+            fault, place = line_of(path, b': ', files.log, place)
+            if not fault:
+                raise mismatch('the log of `cvr check` is of other files than it was given')
+            yield 'refused', [spelled(path), fault.decode('utf-8')]
+
+
+def conflict_lines(texts):
+    """A line for each name in conflict, with the paths of each of its texts."""
+    for name in sorted(texts, key=lambda it: (bodies.KINDS.index(it[0]), it)):
+        kind, *parts = name
+        line = list(map(spelled, parts))
+        for number, paths in enumerate(texts[name], 1):
+            line += ['text %d' % number, *map(spelled, paths)]
+        yield kind, line
+
+
+def allowed_of(definition):
+    """How many votes a ballot has in each contest, where the definition says so."""
+    allowed = {it['@id']: it.get('VotesAllowed') for it in definition['Election'][0]['Contest']}
+    return {contest: most for contest, most in allowed.items() if type(most) is int and most > 0}
+
+
+def row_lines(row, numbers, allowed):
+    ballots, overvotes, undervotes, _, pending, unassigned, *votes = numbers
+    name, most = counting.named(row), allowed.get(row[0])
+    counted = sum(votes) + unassigned
+    total = counted + overvotes + undervotes + pending
+    if pending:
+        yield 'pending', [name, str(pending)]
+    if unassigned:
+        yield 'unassigned', [name, str(unassigned)]
+    if most and counted > ballots * most:
+        yield 'votes', [name, str(counted), str(ballots * most)]
+    elif most == 1 and total != ballots:
+        yield 'sum', [name, str(total), str(ballots)]
+
+
+def contest_lines(selections, rows, stated):
+    """The lines of contests that no record has, and of numbers that no file states."""
+    shown = {row[0] for row in rows}
+    for contest in selections:
+        if contest not in shown:
+            yield 'contest', [spelled(contest)]
+            continue
+        for name in ('Overvotes', 'Undervotes'):
+            if (contest, name) not in stated:
+                yield 'unstated', [spelled(contest), name]
+
+
+def manifest_lines(path, batches):
+    expected = manifest_in(path)
+    for batch in sorted({*expected, *batches}, key=counting.nothing_first):
+        numbers = expected.get(batch, '-'), batches.get(batch, 0)
+        if numbers[0] != numbers[1]:
+            yield 'batch', [spelled(batch), *map(str, numbers)]
+
+
+def ballot_lines(ballots):
+    for ballot, names in sorted(ballots.items()):
+        if len(names) > 1:
+            yield 'ballot', [spelled(ballot), *(spelled(part) for name in names for part in name)]
+
+
+def found_in(files, manifest):
+    """Each warning as its kind and its parts."""
+    yield from refused_lines(files)
+    if files.own_records:
+        yield 'definition', [spelled(files.definition), str(files.own_records)]
+    seen, texts = seen_in(files)
+    yield from conflict_lines(texts)
+    rows, allowed = counting.rows_in(files.tally()), allowed_of(files.report)
+    for row, numbers in rows.items():
+        yield from row_lines(row, numbers, allowed)
+    yield from contest_lines(counting.selections_of(files.report), rows, seen.stated)
+    yield from (('record', list(map(spelled, name))) for name in seen.empty)
+    yield from manifest_lines(manifest, seen.batches) if manifest else ()
+    yield from ballot_lines(seen.ballots)
+
+
+def run(files, words):
+    """The text, and whether there is a warning."""
+    lines = ['%s %s: %s\n' % (kind, ' '.join(parts), ADVICE[kind])
+             for kind, parts in found_in(files, words.manifest)]
+    return ''.join(lines), bool(lines)
