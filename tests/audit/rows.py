@@ -1,0 +1,134 @@
+"""rows.py: the rows of rows.json, each run in a folder of its own, in which the files of
+examples/county lie and those of the row; its output, log and status are compared.
+
+The log isn't, where it is argparse's, which differs between versions of Python. A line that ends
+with `@KIND` is one of `warnings` with its advice of that kind."""
+import json
+import os
+import shutil
+import subprocess
+import sys
+import tempfile
+
+HERE = os.path.dirname(os.path.abspath(__file__))
+TOP = os.path.dirname(os.path.dirname(HERE))
+COUNTY = os.path.join(TOP, 'examples', 'county')
+ALLOWED = ['"VoteVariation": "plurality"', '"VoteVariation": "plurality", "VotesAllowed": 1']
+SECONDS = 300
+
+
+def held():
+    with open(os.path.join(HERE, 'rows.json'), encoding='utf-8') as file:
+        return json.load(file)['rows']
+
+
+# ---- the files of a row
+
+def county(name):
+    with open(os.path.join(COUNTY, name), encoding='utf-8') as file:
+        return file.read()
+
+
+def selection_of(parts):
+    """A CVRContestSelection of its id or None, HasIndication, IsAllocable or None, NumberVotes."""
+    name, indication, allocable, votes = parts
+    position = {'@type': 'CVR.SelectionPosition', 'HasIndication': indication, 'NumberVotes': votes}
+    position.update({'IsAllocable': allocable} if allocable else {})
+    selection = {'@type': 'CVR.CVRContestSelection', 'SelectionPosition': [position]}
+    return dict({'ContestSelectionId': name} if name else {}, **selection)
+
+
+def contest_of(short):
+    chosen = list(map(selection_of, short['CVRContestSelection']))
+    return dict(short, **{'@type': 'CVR.CVRContest', 'CVRContestSelection': chosen})
+
+
+def snapshot_of(short):
+    contests = list(map(contest_of, short.get('contests', [])))
+    members = {name: part for name, part in short.items() if name != 'contests'}
+    return dict(members, **{'@type': 'CVR.CVRSnapshot', 'CVRContest': contests})
+
+
+def record_of(short):
+    """A CVR of its short form in rows.json."""
+    snapshots = list(map(snapshot_of, short['snapshots']))
+    members = {name: part for name, part in short.items() if name != 'snapshots'}
+    return dict(members, **{'@type': 'CVR.CVR', 'ElectionId': 'election-2024',
+                            'CurrentSnapshotId': snapshots[0]['@id'], 'CVRSnapshot': snapshots})
+
+
+def replaced(text, part):
+    """The text of a file of the county with what the row changes in it."""
+    for old, new in part.get('replace', []) + [ALLOWED] * part.get('allowed', False):
+        if text.count(old) != 1:
+            raise ValueError('%r stands %d times, not once' % (old, text.count(old)))
+        text = text.replace(old, new)
+    return text
+
+
+def content(part):
+    """The text of a file of a row: a text, a changed file of the county, or the county's definition
+    with records."""
+    if isinstance(part, str):
+        return part
+    is_made = part['of'] == 'report'
+    text = replaced(county('definition.json' if is_made else part['of']), part)
+    if 'records' not in part:
+        return text
+    report = json.loads(text)
+    if is_made:
+        report['CVR'] = list(map(record_of, part['records']))
+    else:
+        report['CVR'] = [it for it in report['CVR'] if it['UniqueId'] in part['records']]
+    return json.dumps(report)
+
+
+def lay(folder, files):
+    for name in os.listdir(COUNTY):
+        shutil.copy(os.path.join(COUNTY, name), folder)
+    for name, part in files.items():
+        with open(os.path.join(folder, name), 'w', encoding='utf-8') as file:
+            file.write(content(part))
+        os.chmod(os.path.join(folder, name), 0o700)     # one may be a program
+
+
+# ---- a run
+
+def closed_pipe():
+    """A pipe that nobody reads."""
+    ours, theirs = os.pipe()
+    os.close(ours)
+    return theirs
+
+
+def run(companion, cvr, row, folder):
+    """(output, log, status) of the row's words."""
+    script = '%s\nexec "$@" %s' % (row.get('before', ':'), row.get('redirected', ''))
+    words = ['sh', '-c', script, 'sh', sys.executable, os.path.join(companion, 'cvr-audit')]
+    env = dict(os.environ, CVR=row.get('program', cvr), REAL=cvr)
+    with open(os.path.join(folder, 'out'), 'wb') as out:
+        done = subprocess.run(words + row['words'], cwd=folder, env=env, stdin=subprocess.DEVNULL,
+                              stdout=closed_pipe() if row.get('pipe') else out,
+                              stderr=subprocess.PIPE, timeout=SECONDS)
+    with open(os.path.join(folder, 'out'), encoding='utf-8', newline='') as out:
+        return out.read(), done.stderr.decode('utf-8', 'replace'), done.returncode
+
+
+def spelled(lines, advice):
+    """The text of a row's lines, in which `@KIND` stands for the advice of a kind."""
+    text = ''
+    for line in lines:
+        head, mark, kind = line.rpartition(': @')
+        text += ('%s: %s' % (head, advice[kind]) if mark else line) + '\n'
+    return text
+
+
+def differences(companion, cvr, row, advice):
+    """What a row's run gives otherwise than the row says, as lines."""
+    with tempfile.TemporaryDirectory() as folder:
+        lay(folder, row.get('files', {}))
+        got = run(companion, cvr, row, folder)
+    log = got[1] if row['err'] is None else spelled(row['err'], advice)
+    expected = spelled(row['out'], advice), log, row['status']
+    return ['row %s: %s\n    got      %r\n    expected %r' % (row['name'], what, a, b)
+            for what, a, b in zip(('output', 'log', 'status'), got, expected) if a != b]

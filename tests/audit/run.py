@@ -1,0 +1,118 @@
+#!/usr/bin/env python3
+"""run.py --cvr PATH [--sets N] [--seed N]
+
+Tries companion/cvr-audit with the program given: the rows of rows.json, what a terminal shows, and
+sets of files by chance (sets.py). Then the wrong ways of wrong_ways.py: each is made in a copy, and
+the row that it names, the terminal or the sets have to find it. The last line is `audit: N right, M
+wrong`; the status is 0 only where M is 0 and N is not."""
+import argparse
+import os
+import subprocess
+import sys
+import tempfile
+from concurrent.futures import ThreadPoolExecutor
+
+sys.dont_write_bytecode = True
+HERE = os.path.dirname(os.path.abspath(__file__))
+TOP = os.path.dirname(os.path.dirname(HERE))
+COMPANION = os.path.join(TOP, 'companion')
+sys.path.insert(0, HERE)
+sys.path.insert(0, os.path.dirname(HERE))
+import rows        # noqa: E402
+import sets        # noqa: E402
+import terminal    # noqa: E402
+import wrong_ways  # noqa: E402 (these stand beside this file, and terminal in tests/)
+
+SIDE_BY_SIDE = 4
+FEW = 12            # the sets that try a wrong way
+SHOWN = ['cvr check: 3 files', 'cvr check: 3 files', 'read 0 of 2 files', 'read 1 of 2 files',
+         'cvr merge: 3 files', 'cvr tally: 3 files']
+BROKEN = 'NameError', 'SyntaxError', 'ImportError'
+
+
+def terminal_differences(companion, cvr):
+    """What is wrong with what a terminal shows of a run over three files, one of them refused."""
+    words = ['records', 'definition.json', 'scan.json', 'damaged.json', 'adjudicated.json']
+    with tempfile.TemporaryDirectory() as folder:
+        rows.lay(folder, {})
+        log = terminal.End('terminal')
+        done = subprocess.run([sys.executable, os.path.join(companion, 'cvr-audit')] + words,
+                              cwd=folder, env=dict(os.environ, CVR=cvr), stdin=subprocess.DEVNULL,
+                              stdout=subprocess.PIPE, stderr=log.theirs, timeout=rows.SECONDS)
+        os.close(log.theirs)
+    screen, before = terminal.screen(log.all())
+    found = []
+    if (screen, done.returncode) != (['damaged.json: E3 /CVR/0/UniqueId 2', ''], 1):
+        found.append('terminal: the screen has %r, the status is %d' % (screen, done.returncode))
+    if [one for one in before if one] != SHOWN:
+        found.append('terminal: the line said %r' % before)
+    return found
+
+
+def set_differences(companion, cvr, seed):
+    """What a few sets show to be wrong with a copy of the companion, which has a process for
+    itself."""
+    words = [companion, cvr, str(seed), str(FEW)]
+    done = subprocess.run([sys.executable, os.path.join(HERE, 'sets.py')] + words,
+                          stdin=subprocess.DEVNULL, stdout=subprocess.PIPE,
+                          stderr=subprocess.STDOUT, timeout=rows.SECONDS)
+    return done.stdout.decode('utf-8', 'replace').splitlines()
+
+
+def way_differences(cvr, seed, held, advice, way):
+    """Nothing where what a wrong way names finds it."""
+    with tempfile.TemporaryDirectory() as folder:
+        copy = wrong_ways.made(COMPANION, folder, way)
+        if way.row == wrong_ways.TERMINAL:
+            found = terminal_differences(copy, cvr)
+        elif way.row == wrong_ways.SETS:
+            found = set_differences(copy, cvr, seed)
+        else:
+            found = rows.differences(copy, cvr, held[way.row], advice)
+    if any(word in line for line in found for word in BROKEN):
+        return ['wrong way %s: the copy doesn\'t run' % way.name]
+    return [] if found else ['wrong way %s: not found by: %s' % (way.name, way.row)]
+
+
+def jobs(words, cvr):
+    """What is tried, each as a call that answers what is wrong."""
+    package = sets.package_in(COMPANION)
+    advice, held = package.warnings.ADVICE, {row['name']: row for row in rows.held()}
+    yield from ((rows.differences, COMPANION, cvr, row, advice) for row in held.values())
+    yield terminal_differences, COMPANION, cvr
+    for seed in range(words.seed, words.seed + words.sets):
+        yield sets.differences, package, cvr, seed
+    for way in wrong_ways.WAYS:
+        yield way_differences, cvr, words.seed, held, advice, way
+
+
+def tried(job):
+    """What a job shows to be wrong; a job that fails is wrong, too."""
+    try:
+        return job[0](*job[1:])
+    except Exception as fault:
+        name = getattr(job[-1], 'name', job[-1])
+        return ['%s of %s: %s: %s' % (job[0].__name__, name, type(fault).__name__, fault)]
+
+
+def read_words():
+    words = argparse.ArgumentParser()
+    words.add_argument('--cvr', required=True, help='the program to try it with')
+    words.add_argument('--sets', type=int, default=60)
+    words.add_argument('--seed', type=int, default=1)
+    return words.parse_args()
+
+
+def main():
+    words, right, wrong = read_words(), 0, 0
+    with ThreadPoolExecutor(min(SIDE_BY_SIDE, len(os.sched_getaffinity(0)))) as pool:
+        for found in pool.map(tried, jobs(words, os.path.abspath(words.cvr))):
+            right, wrong = right + (not found), wrong + bool(found)
+            for line in found:
+                print('WRONG ' + line)
+    print('audit: %d right, %d wrong' % (right, wrong))
+    sys.exit(0 if right and not wrong else 1)
+
+
+if __name__ == '__main__':
+    main()

@@ -1,0 +1,320 @@
+"""sets.py COMPANION CVR SEED N: N sets of files by chance, and what cvr-audit gives of them, held
+against `cvr` and against the files. Each line is a difference; run.py runs most sets in its own
+process.
+
+A set is a definition and files as random_files.py makes them, so that most records come again with
+other bodies and some files are refused. Of each set `records` has to add up to the tally again,
+`compare` to agree with `drill` and with the tallies of both sides, `trace` to come to the number of
+each row by places that are there in the files, and `warnings` to have what the texts of `cvr` hold.
+The bodies that the companion finds in the files have to be those of volumes 1 to N."""
+import importlib
+import json
+import os
+import random
+import re
+import sys
+import tempfile
+from types import SimpleNamespace
+
+TOP = os.path.dirname(os.path.dirname(os.path.dirname(os.path.abspath(__file__))))
+sys.path.insert(0, os.path.join(TOP, 'tests', 'rows'))
+sys.dont_write_bytecode = True
+import members                # noqa: E402
+import random_files           # noqa: E402
+import rules as format_rules  # noqa: E402 (they stand in rows/)
+
+CELL = re.compile(r'("(?:[^"]|"")*"|[^,"\r\n]*)([,\n])')
+WORD = re.compile(r'"(?:[^"\\]|\\.)*"|[^ ]+')
+COLUMNS = ['ballots', 'overvotes', 'undervotes', 'write-ins', 'pending', 'unassigned']
+FIXED = 11          # columns of a record before those of the contests
+KINDS = 'device', 'header', 'snapshot'
+HEADING = '2024-11-06T18:00:00-05:00'
+RULES = format_rules.Rules()
+NAMES = sorted({'@type', '@id', 'x', '', 'BallotAuditId'}.union(*RULES.classes.values()))
+
+
+class Wrong(Exception):
+    """What a set shows to be wrong."""
+
+
+def see(is_right, text):
+    if not is_right:
+        raise Wrong(text)
+
+
+def csv_lines(text):
+    """The cells of each line of a CSV text; None where a cell is empty and has no quotes."""
+    lines, cells, place = [], [], 0
+    while place < len(text):
+        found = CELL.match(text, place)
+        cell, end = found.groups()
+        cells.append(cell[1:-1].replace('""', '"') if cell[:1] == '"' else cell or None)
+        place = found.end()
+        if end == '\n':
+            lines.append(cells)
+            cells = []
+    return lines
+
+
+def spelled(value):
+    return json.dumps(value, ensure_ascii=False, sort_keys=True, separators=(',', ':'))
+
+
+def tally_rows(text):
+    """The numbers of each column of each row of a printed tally, by contest, unit and batch."""
+    rows = {}
+    for words in lines_in(text):
+        numbers = map(int, words[3:9] + words[10::2])
+        rows[tuple(map(json.loads, words[:3]))] = dict(zip(COLUMNS + words[9::2], numbers))
+    return rows
+
+
+def lines_in(text):
+    return [WORD.findall(line) for line in text.split('\n')[:-1]]
+
+
+def changes(one, other):
+    """What each column of each row grows by from one tally to the other, where it changes."""
+    grown = {}
+    for row in {*one, *other}:
+        for column in {*one.get(row, {}), *other.get(row, {})}:
+            number = other.get(row, {}).get(column, 0) - one.get(row, {}).get(column, 0)
+            grown.update({row + (column,): number} if number else {})
+    return grown
+
+
+class Set:
+    """A definition and files by chance, in a folder of their own."""
+
+    def __init__(self, package, cvr, chance, folder):
+        self.package, self.cvr, self.chance, self.folder = package, cvr, chance, folder
+        definition, files = random_files.reports(chance, NAMES)
+        self.definition = self.lay('definition', definition)
+        self.paths = [self.lay(name, data) for name, data in files.items()]
+        self.known = random_files.read(RULES, definition)
+        self.accepted = {}
+        for path, data in zip(self.paths, files.values()):
+            value = random_files.read(RULES, data, self.known)
+            if not isinstance(value, str):          # the line of a fault
+                self.accepted[path] = value
+        contests = self.known['Election'][0]['Contest']
+        self.contests = {it['@id']: [one['@id'] for one in it.get('ContestSelection', [])]
+                         for it in contests}
+
+    def lay(self, name, data):
+        path = os.path.join(self.folder, name)
+        with open(path, 'wb') as file:
+            file.write(data)
+        return path
+
+    def files(self, paths):
+        return self.package.program.Files(self.cvr, self.definition, paths, None)
+
+    def printed(self, task, paths, *words):
+        run = [task, '--', self.definition, *words, *paths]
+        return random_files.run(self.cvr, run, self.folder)[0]
+
+    # ---- records
+
+    def added_up(self, lines):
+        """The rows that the lines of CSV add up to, by the places of their cells."""
+        rows = {}
+        for cells in lines[1:]:
+            place = FIXED
+            for contest, chosen in self.contests.items():
+                columns = COLUMNS + list(map(spelled, chosen))
+                numbers = cells[place:place + len(columns) - 1]
+                place += len(numbers)
+                if any(it is not None for it in numbers):
+                    row = rows.setdefault((contest, cells[2], cells[3]), dict.fromkeys(columns, 0))
+                    for column, number in zip(columns, [1, *map(int, numbers)]):
+                        row[column] += number
+        return rows
+
+    def see_records(self):
+        words = SimpleNamespace(columns=None)
+        lines = csv_lines(self.package.records.run(self.files(self.paths), words)[0])
+        tally = tally_rows(self.printed('tally', self.paths))
+        see(self.added_up(lines) == tally, 'records don\'t add up to the tally')
+        currents = [list(map(json.loads, words[:3])) + words[3:]
+                    for words in lines_in(self.printed('currents', self.paths))]
+        found = [[it[0], it[1], it[6], it[7]] for it in lines[1:]]
+        see(found == currents, 'records are not those of currents')
+        for cells in lines[1:]:
+            held = [path for path, value in self.accepted.items() if self.has(value, cells[:2])]
+            see(cells[10] == '; '.join(held), 'the files of a record are others')
+
+    @staticmethod
+    def has(report, name):
+        records = report.get('CVR', [])
+        return any([it['CreatingDeviceId'], it['UniqueId']] == name for it in records)
+
+    # ---- bodies
+
+    def see_bodies(self):
+        """Holds the bodies of each name against volumes 1 to N; that of volume 1 stands first."""
+        found, shown, files = {}, {}, self.files(self.paths)
+        bodies = self.package.bodies
+        conflicts, volume = bodies.conflicts_of(files), files.volume(1)
+        for record in (bodies.record_of(it, conflicts) for it in volume):
+            found[('header', *record.name)] = record.headers
+            for snapshot, held in record.snapshots.items():
+                found[('snapshot', *record.name, snapshot)] = held
+        for device, held in bodies.devices(volume, conflicts).items():
+            found[('device', device)] = held
+        count = int(self.printed('conflicts', self.paths).split()[-1])
+        device = self.known['ReportingDevice'][0]['@id']
+        for number in range(1, count + 1):
+            text = self.printed('merge', self.paths, HEADING, device, str(number))
+            for name, value in bodies.facts_of(json.loads(text)):
+                shown.setdefault(name, {})[spelled(value)] = None
+        see(found.keys() == shown.keys(), 'other names than those of the volumes')
+        for name, held in found.items():
+            see(held.keys() == shown[name].keys(), 'other bodies than those of the volumes')
+            see(next(iter(held)) == next(iter(shown[name])), 'the body of volume 1 isn\'t first')
+            see(all(spelled(value) == text for text, value in held.items()), 'another value')
+
+    # ---- compare
+
+    def see_compare(self):
+        sides = [[path for path in self.paths if self.chance.random() < 0.7] for _ in range(2)]
+        text, is_found = self.package.compare.run(*map(self.files, sides), None)
+        steps = ['%d=%s' % (number, path) for number in (1, 2) for path in sides[number - 1]]
+        is_same = self.printed('drill', steps, '2').endswith(' same 1\n')
+        see(is_same == (text == '') == (not is_found), 'compare and drill differ')
+        grown = changes(*(tally_rows(self.printed('tally', side)) for side in sides))
+        lines = lines_in(text)
+        for kind in ('row', 'part'):
+            found = {}
+            for words in (it for it in lines if it[0] == kind):
+                place = tuple(map(json.loads, words[1:4])) + (words[4],)
+                found[place] = found.get(place, 0) + int(words[-1]) - int(words[-2])
+            see(found == grown, '%s lines don\'t make the difference' % kind)
+        one, other = ({tuple(words[:2]) for words in lines_in(self.printed('currents', side))}
+                      for side in sides)
+        for side, alone in (('one', one - other), ('other', other - one)):
+            found = {tuple(it[1:3]) for it in lines if it[0] == 'record' and it[3] == side}
+            see(found == alone, 'records of %s alone' % side)
+
+    # ---- trace
+
+    def see_trace(self):
+        contest = self.chance.choice(sorted(self.contests))
+        selection = self.chance.choice([None] + self.contests[contest])
+        words = SimpleNamespace(contest=contest, unit=None, batch=None, selection=selection)
+        column = 'ballots' if selection is None else spelled(selection)
+        tally = tally_rows(self.printed('tally', self.paths))
+        expected = {row: numbers[column] for row, numbers in tally.items() if row[0] == contest}
+        rows, parts, row, name = {}, {}, None, None
+        for line in lines_in(self.package.trace.run(self.files(self.paths), words)[0]):
+            if line[0] == 'row':
+                row, number = tuple(map(json.loads, line[1:4])), int(line[5])
+                rows[row] = [number, 0]
+            elif line[0] == 'record':
+                name = tuple(map(json.loads, line[1:4]))
+                rows[row][1] += int(line[4])
+                parts[name] = [int(line[4]), {}, 0]
+            else:
+                self.see_place(line, row, name, selection, parts[name])
+        both = {row: [number, number] for row, number in expected.items()}
+        see(rows == both, 'trace doesn\'t come to the rows')
+        for votes, held, headers in parts.values():
+            is_whole = headers and held and all(it == votes for it in held.values())
+            see(is_whole, 'the places of a record don\'t come to its votes')
+
+    def see_place(self, line, row, name, selection, part):
+        """Holds a place against the file, and adds its votes to those of the file."""
+        path, steps = json.loads(line[1]), json.loads(line[2]).split('/')[1:]
+        value = cvr = self.accepted[path]['CVR'][int(steps[1])]
+        is_it = (cvr['CreatingDeviceId'], cvr['UniqueId']) == name[:2]
+        see(is_it, 'a place in another record')
+        if line[0] == 'header':
+            is_of_row = (cvr.get('BallotStyleUnitId'), cvr.get('BatchId')) == row[1:]
+            see(is_of_row, 'a header of another row')
+            part[2] += 1
+            return
+        seen = {}
+        for step in steps[2:]:
+            value = value[int(step)] if isinstance(value, list) else value[step]
+            for member, kind in (('SelectionPosition', 'selection'), ('ContestId', 'contest')):
+                if isinstance(value, dict) and member in value:
+                    seen[kind] = value
+        is_there = cvr['CVRSnapshot'][int(steps[3])]['@id'] == name[2]
+        see(is_there and seen['contest']['ContestId'] == row[0], 'a place in another snapshot')
+        if selection is not None:
+            is_counted = value.get('IsAllocable', value['HasIndication']) == 'yes'
+            is_its = seen['selection']['ContestSelectionId'] == selection
+            see(is_counted and is_its, 'a place that doesn\'t count')
+        place, votes = (path, steps[1]), 1 if selection is None else value['NumberVotes']
+        part[1][place] = part[1].get(place, 0) + votes
+        see(int(line[3]) == votes, 'other votes than at the place')
+
+    # ---- warnings
+
+    def see_warnings(self):
+        words = SimpleNamespace(manifest=None)
+        text, is_found = self.package.warnings.run(self.files(self.paths), words)
+        see(is_found == bool(text), 'whether there is a warning')
+        kinds = {}
+        for words in lines_in(text):
+            kinds.setdefault(words[0], []).append(words)
+        refused = len(self.paths) - len(self.accepted)
+        see(len(kinds.get('refused', [])) == refused, 'refused files')
+        see(self.conflicts(kinds) == self.printed_conflicts(), 'conflicts')
+        rows = tally_rows(self.printed('tally', self.paths))
+        for column in ('pending', 'unassigned'):
+            found = {tuple(map(json.loads, words[1:4])): int(words[4].rstrip(':'))
+                     for words in kinds.get(column, [])}
+            held = {row: numbers[column] for row, numbers in rows.items() if numbers[column]}
+            see(found == held, column)
+        lacking = {json.loads(words[1].rstrip(':')) for words in kinds.get('contest', [])}
+        see(lacking == set(self.contests) - {row[0] for row in rows}, 'contests without a row')
+
+    @staticmethod
+    def conflicts(kinds):
+        """Each conflict of the warnings: its kind, and how many texts it has."""
+        return sorted((kind, words[:words.index(':')].count('text'))
+                      for kind in KINDS for words in kinds.get(kind, []))
+
+    def printed_conflicts(self):
+        lines = lines_in(self.printed('conflicts', self.paths))[:-1]
+        return sorted((words[0] if words[0] == 'device' else words[2], int(words[-1]))
+                      for words in lines)
+
+
+def package_in(companion):
+    """The modules of the companion in a folder."""
+    sys.path.insert(0, companion)
+    return importlib.import_module('cvr_audit.line') and sys.modules['cvr_audit']
+
+
+def differences(package, cvr, seed):
+    """What one set shows to be wrong, as lines."""
+    found = []
+    for task in ('records', 'bodies', 'compare', 'trace', 'warnings'):
+        with tempfile.TemporaryDirectory() as folder:
+            held = Set(package, cvr, random.Random(seed), folder)
+            try:
+                getattr(held, 'see_' + task)()
+            except Wrong as wrong:
+                found.append('set %d: %s: %s' % (seed, task, wrong))
+            except package.program.Ended as end:
+                found.append('set %d: %s: status %d, %r' % (seed, task, end.status, end.log))
+            except Exception as fault:
+                name = type(fault).__name__
+                found.append('set %d: %s: %s %s' % (seed, task, name, fault))
+    return found
+
+
+def main():
+    companion, cvr, seed, count = sys.argv[1:]
+    package = package_in(companion)
+    for number in range(int(count)):
+        found = differences(package, cvr, int(seed) + number)
+        print(''.join(line + '\n' for line in found), end='')
+        if found:
+            break
+
+
+if __name__ == '__main__':
+    main()
