@@ -4,8 +4,8 @@ DESTDIR =
 CVR = crates/cvr/out/cvr
 ZSH = $(PREFIX)/share/zsh/site-functions
 SHARE = $(DESTDIR)$(PREFIX)/share
-DOCUMENTS = README.md CHANGELOG.md docs/GUIDE.md docs/FORMAT.md docs/FAULTS.md docs/DEFINITIONS.md docs/PROMISES.md \
-	examples/README.md $(wildcard examples/*/*.*)
+DOCUMENTS = README.md CHANGELOG.md docs/GUIDE.md docs/AUDITING.md docs/FORMAT.md docs/FAULTS.md \
+	docs/DEFINITIONS.md docs/PROMISES.md examples/README.md $(wildcard examples/*/*.*)
 
 .PHONY: all install package
 
@@ -14,10 +14,15 @@ all:
 
 install:
 	install -D -m 755 "$(CVR)" "$(DESTDIR)$(PREFIX)/bin/cvr"
-	install -D -m 644 man/cvr.1 "$(SHARE)/man/man1/cvr.1"
-	install -D -m 644 man/cvr.bash "$(SHARE)/bash-completion/completions/cvr"
-	install -D -m 644 man/_cvr "$(DESTDIR)$(ZSH)/_cvr"
-	install -D -m 644 man/cvr.fish "$(SHARE)/fish/vendor_completions.d/cvr.fish"
+	install -D -m 755 companion/cvr-audit "$(SHARE)/cvr/cvr-audit"
+	for file in companion/cvr_audit/*.py; do \
+		install -D -m 644 "$$file" "$(SHARE)/cvr/cvr_audit/$${file##*/}" || exit; done
+	ln -sf ../share/cvr/cvr-audit "$(DESTDIR)$(PREFIX)/bin/cvr-audit"
+	for name in cvr cvr-audit; do \
+		install -D -m 644 "man/$$name.1" "$(SHARE)/man/man1/$$name.1" && \
+		install -D -m 644 "man/$$name.bash" "$(SHARE)/bash-completion/completions/$$name" && \
+		install -D -m 644 "man/_$$name" "$(DESTDIR)$(ZSH)/_$$name" && \
+		install -D -m 644 "man/$$name.fish" "$(SHARE)/fish/vendor_completions.d/$$name.fish" || exit; done
 	for file in $(DOCUMENTS); do install -D -m 644 "$$file" "$(SHARE)/doc/cvr/$$file" || exit; done
 
 package: all

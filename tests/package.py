@@ -1,17 +1,20 @@
 #!/usr/bin/env python3
 """package.py --cvr PATH
 
-What is installed and handed out: `make install` below a folder, and the package of Debian and the archive of tools/package,
-unpacked. In each the commands of README are run with its program, over its examples. `man` finds the page of the package and
-reads it, and the program needs the C library alone. PROVENANCE names the program's checksum and that of the sources, as the
-commands in it tell them. Packed a second time, each is the same byte for byte. Where lintian is there, it finds no error. Where
-git finds no commit at the top, as in an unpacked archive, one that is made of its files stands for it.
+What is installed and handed out: `make install` below a folder, and the package of Debian and the
+archive of tools/package, unpacked. In each the commands of README and of AUDITING are run with its
+programs, over its examples. `man` finds the pages of the package and reads them, and the program
+needs the C library alone. PROVENANCE names the program's checksum and that of the sources, as the
+commands in it print them. Packed a second time, each is the same byte for byte. Where lintian is
+there, it finds no error. Where git finds no commit at the top, as in an unpacked archive, one that
+is made of its files stands for it.
 
 The last line is `package: N right, M wrong`; the status is 0 only where M is 0 and N is not."""
 import argparse
 import hashlib
 import os
 import re
+import shlex
 import shutil
 import subprocess
 import sys
@@ -23,8 +26,12 @@ TOP = os.path.dirname(HERE)
 sys.path.insert(0, HERE)
 import commands  # noqa: E402 (it stands here)
 
-INSTALLED = ['bin/cvr', 'share/man/man1/cvr.1', 'share/bash-completion/completions/cvr', 'share/zsh/site-functions/_cvr',
-             'share/fish/vendor_completions.d/cvr.fish', 'share/doc/cvr/docs/FAULTS.md']
+RUN = ['bin/cvr', 'bin/cvr-audit']
+FOR_EACH = ['share/man/man1/%s.1', 'share/bash-completion/completions/%s',
+            'share/zsh/site-functions/_%s', 'share/fish/vendor_completions.d/%s.fish']
+READ = [path % name for name in ('cvr', 'cvr-audit') for path in FOR_EACH]
+READ += ['share/doc/cvr/docs/FAULTS.md', 'share/doc/cvr/docs/AUDITING.md']
+READ += ['share/cvr/cvr_audit/line.py']
 LIBRARIES = {'linux-vdso.so.1', 'libc.so.6', 'ld-linux-x86-64.so.2', 'ld-linux-aarch64.so.1'}
 SECONDS = 300
 
@@ -49,18 +56,22 @@ def held(path):
 
 
 def is_installed(prefix):
-    """Whether all stands below a prefix, for everybody to read, and the program to run."""
-    modes = [os.stat(os.path.join(prefix, name)).st_mode & 0o777 for name in INSTALLED]
-    return modes == [0o755] + [0o644] * (len(INSTALLED) - 1)
+    """Whether all stands below a prefix, for everybody to read, and the programs to run."""
+    modes = [os.stat(os.path.join(prefix, name)).st_mode & 0o777 for name in RUN + READ]
+    return modes == [0o755] * len(RUN) + [0o644] * len(READ)
 
 
 def first_runs(prefix):
-    """Yields each command of README and whether the program installed below a prefix prints what it shows, over the examples there."""
+    """Yields each command of README and AUDITING and whether the programs installed below a prefix
+    print what it shows, over the examples there."""
     folder, status = os.path.join(prefix, 'share/doc/cvr'), 0
-    shown = commands.commands(held(os.path.join(folder, 'README.md')).decode('utf-8'), lambda *_: None)
-    for command, expected, _ in shown:
-        found, status = commands.run(command, os.path.join(prefix, 'bin/cvr'), status, folder)
-        yield '%s below %s' % (command, os.path.basename(prefix)), found == expected
+    for document in 'README.md', 'docs/AUDITING.md':
+        text = held(os.path.join(folder, document)).decode('utf-8')
+        for command, expected, _ in commands.commands(text, lambda *_: None):
+            audit = shlex.quote(os.path.join(prefix, 'bin/cvr-audit'))
+            command = command.replace('companion/cvr-audit', audit)
+            found, status = commands.run(command, os.path.join(prefix, 'bin/cvr'), status, folder)
+            yield '%s below %s' % (command, os.path.basename(prefix)), found == expected
 
 
 def packed(cvr, out):
@@ -76,9 +87,11 @@ def libraries(program):
     return {os.path.basename(word) for word in re.findall(r'^\s*(\S+)', done('ldd', program)[1], re.M)}
 
 
-def man_page(prefix):
-    """What `man` shows of the page below a prefix, and tells of it."""
-    return done('man', '--warnings', '-E', 'UTF-8', '-M', os.path.join(prefix, 'share/man'), 'cvr', env=dict(os.environ, MANPAGER='cat', MANWIDTH='100', LC_ALL='C.UTF-8'))
+def man_page(prefix, name):
+    """(status, both outputs) of `man` for a page below a prefix."""
+    words = ['--warnings', '-E', 'UTF-8', '-M', os.path.join(prefix, 'share/man'), name]
+    env = dict(os.environ, MANPAGER='cat', MANWIDTH='100', LC_ALL='C.UTF-8')
+    return done('man', *words, env=env)
 
 
 def provenance(text, program):
@@ -110,8 +123,10 @@ def tried(cvr, folder):
     yield from provenance(held(made['PROVENANCE']).decode('utf-8'), cvr)
     yield 'the C library alone', 'libc.so.6' in libraries(os.path.join(unpacked, 'bin/cvr')) <= LIBRARIES
     yield 'libc6 alone', re.fullmatch(r'libc6 \(>= 2\.\d+\)\n', done('dpkg-deb', '-f', made['.deb'], 'Depends')[1]) is not None
-    status, text = man_page(unpacked)
-    yield 'man reads the page', status == 0 and re.search(r'cvr +- +check', text) is not None and 'warning' not in text
+    for name, about in ('cvr', r'cvr +- +check'), ('cvr-audit', r'cvr-audit +- +print'):
+        status, text = man_page(unpacked, name)
+        is_read = status == 0 and re.search(about, text) and not re.search(r':\d+: warning', text)
+        yield 'man reads the page of ' + name, bool(is_read)
     if shutil.which('lintian'):
         status, text = done('lintian', '--allow-root', '--fail-on', 'error', made['.deb'])
         yield 'lintian: ' + text, status == 0
