@@ -4,8 +4,8 @@
 Runs the commands that the documents named in FILES show, and compares what they print. A command stands in a
 fenced block whose first line begins with `$ `: each line that begins so is a command for `sh`, run at the top of the
 repository, and the lines up to the next one are what it prints on both outputs together. `./cvr` in a command is the
-program given, so that nothing is built here. A command ends with status 0, unless the next command is `echo $?`,
-which prints the status. Other blocks are not run. Where a machine lacks one of TOOLS, a block that names it is not
+program given, and the variable CVR names it, so that nothing is built here. A command ends with
+status 0, unless the next command is `echo $?`, which prints the status. Other blocks are not run. Where a machine lacks one of TOOLS, a block that names it is not
 run: a line `skipped NAME` tells so, and none of its commands counts as right. Each file must have a command that is run;
 the last line is `commands: N right, M wrong`, and the status is 0 only where M is 0."""
 import argparse
@@ -17,7 +17,8 @@ import subprocess
 import sys
 
 TOP = os.path.dirname(os.path.dirname(os.path.abspath(__file__)))
-FILES = ['README.md', 'docs/GUIDE.md', 'examples/README.md', 'examples/recipes/README.md', 'examples/many-machines/README.md']
+FILES = ['README.md', 'docs/GUIDE.md', 'docs/AUDITING.md', 'examples/README.md',
+         'examples/recipes/README.md', 'examples/many-machines/README.md']
 TOOLS = ['awk', 'comm', 'diff', 'gzip', 'jq', 'python3', 'sha256sum', 'sqlite3', 'zcat']
 STATUS = 'echo $?'
 SECONDS = 300
@@ -66,7 +67,8 @@ def commands(text, skip):
 def run(command, cvr, status, folder=TOP):
     """(output, status) of a command, run in a folder with `$?` as the command before left it."""
     words = re.sub(r'(?<![^\s;|&(])\./cvr(?![^\s;|&)])', lambda _: shlex.quote(cvr), command)
-    done = subprocess.run(['sh', '-c', '(exit %d)\n%s' % (status, words)], cwd=folder, stdin=subprocess.DEVNULL,
+    done = subprocess.run(['sh', '-c', '(exit %d)\n%s' % (status, words)], cwd=folder,
+                          env=dict(os.environ, CVR=cvr), stdin=subprocess.DEVNULL,
                           stdout=subprocess.PIPE, stderr=subprocess.STDOUT, timeout=SECONDS)
     return done.stdout.decode('utf-8', 'replace'), done.returncode
 

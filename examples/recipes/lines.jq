@@ -6,9 +6,6 @@ def spelled: [scan("\"(?:[^\"\\\\]|\\\\.)*\"|[^ ]+")];
 # Each part as a value: texts, numbers, null.
 def parts: spelled | map(if test("^[\"0-9]|^null$") then fromjson else . end);
 
-# The record of a line of `currents`: device and UniqueId, as they are spelled.
-def record: spelled[:2] | join(" ");
-
 # Of a line of `tally` contest, unit and batch, and the six numbers after them.
 def numbers: parts[:9];
 
