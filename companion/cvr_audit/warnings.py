@@ -32,10 +32,12 @@ ADVICE = {
 
 class Seen:
     """What was seen of the records: the number in each batch, the names with each BallotAuditId,
-    the names of records without a contest, and which contests have which number stated."""
+    the names of records without a contest, which contests have which number stated, and the texts
+    of each name in conflict, each as its value with the paths of the files that have it."""
 
     def __init__(self):
         self.batches, self.ballots, self.empty, self.stated = {}, {}, [], set()
+        self.texts = {}
 
     def take(self, record):
         """Notes a record of volume 1."""
@@ -55,9 +57,9 @@ class Seen:
                     self.stated.add((contest['ContestId'], name))
 
 
-def seen_in(files):
-    """What was seen of the records of files, and the bodies of each name in conflict."""
-    seen, conflicts, texts = Seen(), bodies.conflicts_of(files), {}
+def see(files, seen):
+    """Notes what is to be seen of the records of files, and of the names in conflict."""
+    conflicts, texts = bodies.conflicts_of(files), {}
     volume = files.volume(1)
     for record in volume:
         seen.take(record)
@@ -66,8 +68,9 @@ def seen_in(files):
     for (kind, *_), held in texts.items():
         for snapshot in held.values() if kind == 'snapshot' else ():
             seen.take_stated(snapshot)
-    return seen, {name: [conflicts.paths[name][text] for text in held]
-                  for name, held in texts.items()}
+    for name in sorted(texts, key=lambda it: (bodies.KINDS.index(it[0]), it)):
+        paths = conflicts.paths[name]
+        seen.texts[name] = [(value, [*paths[text]]) for text, value in texts[name].items()]
 
 
 def refused_lines(files):
@@ -83,10 +86,9 @@ def refused_lines(files):
 
 def conflict_lines(texts):
     """A line for each name in conflict, with the paths of each of its texts."""
-    for name in sorted(texts, key=lambda it: (bodies.KINDS.index(it[0]), it)):
-        kind, *parts = name
+    for (kind, *parts), held in texts.items():
         line = list(map(spelled, parts))
-        for number, paths in enumerate(texts[name], 1):
+        for number, (_, paths) in enumerate(held, 1):
             line += ['text %d' % number, *map(spelled, paths)]
         yield kind, line
 
@@ -138,13 +140,13 @@ def ballot_lines(ballots):
             yield 'ballot', [spelled(ballot), *(spelled(part) for name in names for part in name)]
 
 
-def found_in(files, manifest):
-    """Each warning as its kind and its parts."""
+def found_in(files, manifest, seen):
+    """Each warning as its kind and its parts. What is seen of the records is noted in `seen`."""
     yield from refused_lines(files)
     if files.own_records:
         yield 'definition', [spelled(files.definition), str(files.own_records)]
-    seen, texts = seen_in(files)
-    yield from conflict_lines(texts)
+    see(files, seen)
+    yield from conflict_lines(seen.texts)
     rows, allowed = counting.rows_in(files.tally()), allowed_of(files.report)
     for row, numbers in rows.items():
         yield from row_lines(row, numbers, allowed)
@@ -157,5 +159,5 @@ def found_in(files, manifest):
 def run(files, words):
     """The text, and whether there is a warning."""
     lines = ['%s %s: %s\n' % (kind, ' '.join(parts), ADVICE[kind])
-             for kind, parts in found_in(files, words.manifest)]
+             for kind, parts in found_in(files, words.manifest, Seen())]
     return ''.join(lines), bool(lines)
