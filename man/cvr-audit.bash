@@ -3,7 +3,7 @@ _cvr_audit() {
     COMPREPLY=()
     if [ "$COMP_CWORD" -eq 1 ]; then
         compopt +o default
-        COMPREPLY=($(compgen -W 'records compare trace warnings -h --help' -- "$2"))
+        COMPREPLY=($(compgen -W 'records compare trace page warnings -h --help' -- "$2"))
         return
     fi
     case $3 in
@@ -17,6 +17,7 @@ _cvr_audit() {
     records:-*) COMPREPLY=($(compgen -W '-o --columns -h --help' -- "$2")) ;;
     compare:-*) COMPREPLY=($(compgen -W '--one --other -h --help' -- "$2")) ;;
     trace:-*) COMPREPLY=($(compgen -W '--contest --unit --batch --selection -h --help' -- "$2")) ;;
+    page:-*) COMPREPLY=($(compgen -W '--manifest --public -o -h --help' -- "$2")) ;;
     warnings:-*) COMPREPLY=($(compgen -W '--manifest -h --help' -- "$2")) ;;
     esac
 }

@@ -2,7 +2,7 @@
 import argparse
 import sys
 
-from . import compare, program, records, table, trace, warnings
+from . import compare, page, program, records, table, trace, warnings
 
 ABOUT = ('Print cast vote records one by one, compare two sets of files, trace a number of the '
          'tally, and warn of what needs a person.')
@@ -25,6 +25,8 @@ COMMANDS = {
                              'tallies.'),
     'trace': (trace.run, 'Print the records, the places in files and the votes that make up a '
                          'number of the tally.'),
+    'page': (page.run, 'Print a page for a browser: the tally by name, with warnings, conflicts '
+                       'and adjudications, and lines to sign.'),
     'warnings': (warnings.run, 'Print a line for each thing that needs a person before the tally '
                                'is used.'),
 }
@@ -48,6 +50,13 @@ OPTIONS = {
         (('--selection',), 'ID', {'help': 'the @id of a selection of the contest: its votes, in '
                                           'place of the ballots'}),
     ],
+    'page': [
+        (('--manifest',), 'CSV', {'help': 'a file of lines `batch,ballots`'}),
+        (('--public',), None, {'action': 'store_true', 'help': 'a page for the public: no path, no '
+                               'record, and no number from which one below ten follows'}),
+        (('-o',), 'HTML', {'dest': 'output',
+                           'help': 'the file to write to, in place of standard output'}),
+    ],
     'warnings': [
         (('--manifest',), 'CSV', {'help': 'a file of lines `batch,ballots`'}),
     ],
@@ -58,7 +67,8 @@ def usage_of(name):
     """The words of a command, as help shows them."""
     parts = ['cvr-audit', name, 'DEF'] + ['[FILE ...]'] * (name != 'compare')
     for words, value, more in OPTIONS[name]:
-        option = '%s %s' % (words[0], '[%s ...]' % value if 'nargs' in more else value)
+        value = '[%s ...]' % value if 'nargs' in more else value
+        option = ' '.join(filter(None, [words[0], value]))
         parts.append(option if more.get('required') else '[%s]' % option)
     return ' '.join(parts)
 
@@ -71,7 +81,7 @@ class Command:
         self.run, about = COMMANDS[name]
         self.options = argparse.ArgumentParser(add_help=False, allow_abbrev=False)
         for words, value, more in OPTIONS[name]:
-            self.options.add_argument(*words, metavar=value, **more)
+            self.options.add_argument(*words, **(dict(more, metavar=value) if value else more))
         self.parser = commands.add_parser(name, parents=[self.options], help=about, epilog=EPILOG,
                                           description=about, usage=usage_of(name))
         self.parser.add_argument('definition', metavar='DEF', help='a report of the election; its '

@@ -1,0 +1,183 @@
+"""The numbers of the page: of each contest, and of it by unit and by batch."""
+from . import counting, page_masking, page_names
+from .page_tree import element, folded, listed, section, table
+
+MANY = 12           # rows of a table, or contests, of which a page folds the tables
+COLUMNS = 6         # of numbers in one table, so that a sheet of paper has room for them
+STATED = {'overvotes': 'Overvotes', 'undervotes': 'Undervotes'}
+WITHHELD = '*'
+UNKNOWN = ('The definition does not say how many votes a ballot has (VotesAllowed), so nothing is '
+           'said of whether they come to the ballots.')
+ALLOWED = 'Votes and unassigned come to {:,}, and the ballots have {:,}: {}.'
+SUMS = 'Votes, overvotes, undervotes, pending and unassigned come to {:,}, the ballots to {:,}: {}.'
+NOTE = ('* stands for a number that is withheld: it is below ten, or one below ten would follow '
+        'from it.')
+HEADS = [it.capitalize() for it in counting.COLUMNS]
+
+
+def added(rows):
+    """The sums of the columns of rows."""
+    return [sum(column) for column in zip(*rows)]
+
+
+def by(rows, place):
+    """The sums of rows by unit (1) or by batch (2), nothing first."""
+    held = {}
+    for row, numbers in rows.items():
+        held.setdefault(row[place], []).append(numbers)
+    return {key: added(held[key]) for key in sorted(held, key=counting.nothing_first)}
+
+
+class Contest:
+    """A contest with its rows of the tally, its sums, and which of its numbers are withheld."""
+
+    def __init__(self, facts, key, rows):
+        self.key, self.rows, self.selections = key, rows, facts.selections[key]
+        self.numbers = added(rows.values()) or [0] * (len(HEADS) + len(self.selections))
+        self.ballots, self.votes = self.numbers[0], self.numbers[len(HEADS):]
+        self.allowed, self.is_whole = facts.allowed.get(key), not facts.is_public
+        self.hidden = set()
+        if facts.is_public:
+            self.hidden = page_masking.totals_withheld(self.ballots, self.votes, self.allowed or 1)
+
+    def title(self, facts):
+        return element('h3', facts.names.contest(self.key))
+
+
+def contests_of(facts):
+    rows = {key: {} for key in facts.selections}
+    for row, numbers in facts.rows.items():
+        rows[row[0]][row] = numbers
+    return [Contest(facts, key, held) for key, held in rows.items()]
+
+
+# ---- by contest
+
+def share(votes, counted):
+    """Per cent to one decimal, a half upwards."""
+    if not counted:
+        return '–'
+    tenths = (2000 * votes + counted) // (2 * counted)
+    return '%d.%d' % divmod(tenths, 10)
+
+
+def bar(votes, most):
+    """A bar as long as these votes are of the most of the contest."""
+    width = '%.1f%%' % (100 * votes / most) if most else '0'
+    return element('span', '\u00a0', class_='bar', style='width: ' + width, aria_hidden='true')
+
+
+def selection_rows(facts, contest):
+    """The selections: bar, votes and, where none of them is withheld, per cent."""
+    most, counted = max(contest.votes, default=0), sum(contest.votes)
+    for place, (key, votes) in enumerate(zip(contest.selections, contest.votes)):
+        name = facts.names.selection(contest.key, key)
+        if place in contest.hidden:
+            yield [name, '', WITHHELD]
+        else:
+            yield [name, bar(votes, most), votes] + [share(votes, counted)] * (not contest.hidden)
+
+
+def sums_of(contest):
+    """Whether the sums come to the ballots, as a sentence."""
+    _, overvotes, undervotes, _, pending, unassigned = contest.numbers[:len(HEADS)]
+    counted = sum(contest.votes) + unassigned
+    if contest.allowed is None:
+        return UNKNOWN
+    if contest.allowed > 1:
+        most = contest.ballots * contest.allowed
+        return ALLOWED.format(counted, most, 'too many' if counted > most else 'not too many')
+    total = counted + overvotes + undervotes + pending
+    return SUMS.format(total, contest.ballots, 'the same' if total == contest.ballots else
+                       'not the same')
+
+
+def is_stated(facts, contest, place):
+    """Whether a file states the number of a column; where none does, its zeros say nothing."""
+    member = STATED.get(counting.COLUMNS[place])
+    return member is None or (contest.key, member) in facts.seen.stated
+
+
+def others_of(facts, contest):
+    """The numbers beside the votes."""
+    for place, head in enumerate(HEADS[1:], 1):
+        yield head, contest.numbers[place] if is_stated(facts, contest, place) else 'not stated'
+
+
+def contest_parts(facts, contest):
+    """What the page has of a contest."""
+    yield contest.title(facts)
+    if contest.hidden is None:
+        yield element('p', 'Fewer than ten ballots: its numbers are withheld.')
+        return
+    yield listed([('Ballots', contest.ballots)])
+    heads = ['Selection', 'Bar', 'Votes'] + ['Per cent'] * (not contest.hidden)
+    foot = None if contest.hidden else ['Votes counted', '', sum(contest.votes), '']
+    yield table('Selections', heads, selection_rows(facts, contest), foot)
+    if contest.is_whole:
+        yield listed(others_of(facts, contest))
+        yield element('p', sums_of(contest))
+
+
+def totals(facts, contests):
+    """Each contest with its sums."""
+    parts = [element('div', *contest_parts(facts, it), class_='contest') for it in contests]
+    note = element('p', NOTE) if facts.is_public else None
+    return section('contests', 'Contests', note, *parts)
+
+
+# ---- by unit and by batch
+
+def chunks(columns):
+    return [columns[place:place + COLUMNS] for place in range(0, len(columns), COLUMNS)]
+
+
+def columns_of(facts, contest):
+    """The heads of the columns with their places in a row, in parts that a sheet has room for."""
+    votes = [(facts.names.short_selection(contest.key, key), len(HEADS) + place)
+             for place, key in enumerate(contest.selections) if place not in contest.hidden]
+    numbers = [(head, place) for place, head in enumerate(HEADS)
+               if is_stated(facts, contest, place)]
+    return chunks(numbers) * contest.is_whole + chunks(votes)
+
+
+def masked(held, contest):
+    """The numbers of each row, without those that are withheld."""
+    rows = {key: list(numbers) for key, numbers in held.items()}
+    for place in range(len(contest.numbers)) if not contest.is_whole else ():
+        column = [numbers[place] for numbers in held.values()]
+        for hidden in page_masking.withheld(column):
+            rows[list(rows)[hidden]][place] = WITHHELD
+    return rows
+
+
+def tables(facts, contest, what, held, name):
+    """The tables of a contest by unit or by batch."""
+    rows = masked(held, contest)
+    for columns in columns_of(facts, contest):
+        heads = [what] + [head for head, _ in columns]
+        lines = [[name(key)] + [numbers[place] for _, place in columns]
+                 for key, numbers in rows.items()]
+        sums = ['Sum'] + [contest.numbers[place] for _, place in columns]
+        caption = 'By ' + what.lower()
+        is_many = max(len(lines), len(facts.selections)) > MANY
+        yield folded(is_many, '{}: {:,} lines'.format(caption, len(lines)),
+                     table(caption, heads, lines, sums))
+
+
+def parts_of(facts, contest):
+    """What the page has of a contest by unit and by batch."""
+    yield contest.title(facts)
+    if not contest.rows or contest.hidden is None:
+        yield element('p', 'No record has this contest.' if contest.is_whole else 'Withheld.')
+        return
+    yield from tables(facts, contest, 'Unit', by(contest.rows, 1), facts.names.unit)
+    if contest.is_whole:
+        yield from tables(facts, contest, 'Batch', by(contest.rows, 2), page_names.batch)
+
+
+def details(facts, contests):
+    """The same numbers by unit and by batch."""
+    title = 'By unit' if facts.is_public else 'By unit and by batch'
+    parts = [element('div', *parts_of(facts, it)) for it in contests]
+    return section('units', title, *parts)

@@ -1,0 +1,53 @@
+"""What a page is made of: the texts of `cvr`, and what was seen of records and files."""
+from . import counting, manifest, page_names, warnings
+from .page_records import adjudicated_in
+
+
+class Seen(warnings.Seen):
+    """What was seen of the records; of batches also the devices, and of records what adjudication
+    changed."""
+
+    def __init__(self, facts):
+        super().__init__()
+        self.facts, self.sizes, self.adjudicated = facts, {}, []
+
+    def take(self, record):
+        """Notes a record of volume 1."""
+        super().take(record)
+        sizes, device = self.sizes.setdefault(record.get('BatchId'), {}), record['CreatingDeviceId']
+        sizes[device] = sizes.get(device, 0) + 1
+        self.adjudicated += adjudicated_in(self.facts, record)
+
+
+class Facts:
+    """What a page is made of."""
+
+    def __init__(self, files, words):
+        self.files, self.is_public = files, words.public
+        self.names = page_names.Names(files.report)
+        self.selections = counting.selections_of(files.report)
+        self.allowed = warnings.allowed_of(files.report)
+        self.manifest = manifest.manifest_in(words.manifest) if words.manifest else None
+        self.seen = Seen(self)
+        self.warnings = list(warnings.found_in(files, words.manifest, self.seen))
+        self.refused = faults_in(files)
+        self.devices = devices_in(files)
+        self.tally = files.tally()
+        self.rows = counting.rows_in(self.tally)
+        self.currents = '\n' + files.text('currents') if self.seen.texts else ''
+
+
+def faults_in(files):
+    """The fault of each refused file, by its path as a JSON string."""
+    return dict(parts for _, parts in warnings.refused_lines(files))
+
+
+def devices_in(files):
+    """The devices that say they made each accepted file."""
+    held = {files.definition: files.report['ReportGeneratingDeviceIds']}
+
+    def take(path, report):
+        held[path] = report['ReportGeneratingDeviceIds']
+
+    files.each_report(take)
+    return held

@@ -1,0 +1,117 @@
+"""What the numbers of the page are made of: the election, the program, the files; and warnings."""
+import datetime
+import hashlib
+import os
+import shlex
+import shutil
+
+from . import page_faults, page_masking, program, warnings
+from .page_tree import code, codes, element, listed, section, table
+from .reading import spelled
+
+SIZE = 1 << 20
+KINDS = {
+    'refused': 'File refused', 'definition': 'Records in DEF', 'device': 'Two texts of a device',
+    'header': 'Two headers of a record', 'snapshot': 'Two texts of a snapshot',
+    'pending': 'Pending', 'unassigned': 'Unassigned', 'votes': 'Too many votes',
+    'sum': 'Sum', 'unstated': 'Not stated', 'contest': 'Contest without a record',
+    'record': 'Record without a contest', 'batch': 'Batch', 'ballot': 'One ballot twice',
+}
+
+
+def digest_of(path):
+    """The SHA-256 of a file, and its length."""
+    held, length = hashlib.sha256(), 0
+    with open(path, 'rb') as file:
+        for part in iter(lambda: file.read(SIZE), b''):
+            held.update(part)
+            length += len(part)
+    return held.hexdigest(), length
+
+
+def moment():
+    """The moment of the page: now, or that of SOURCE_DATE_EPOCH."""
+    given = os.environ.get('SOURCE_DATE_EPOCH', '')
+    if given.isdecimal():
+        made = datetime.datetime.fromtimestamp(int(given), datetime.timezone.utc)
+    else:
+        made = datetime.datetime.now().astimezone()
+    return made.isoformat(' ', 'seconds')
+
+
+def version_of(cvr):
+    """What the program says of its version, and the SHA-256 of its file."""
+    text = program.started([cvr, '--version']).stdout.decode('utf-8', 'replace')
+    return text.split('\n')[0], digest_of(shutil.which(cvr) or cvr)[0]
+
+
+def head(facts):
+    """The election, and how to have the same numbers again."""
+    files = facts.files
+    version, digest = version_of(files.program)
+    command = 'cvr tally -- DEF FILE ...'
+    if not facts.is_public:
+        command = ' '.join(map(shlex.quote, ['cvr', 'tally', '--', files.definition] + files.files))
+    return element(
+        'header', element('p', 'UNOFFICIAL', class_='unofficial'),
+        element('h1', element('bdi', facts.names.election)),
+        listed([('Made', moment()), ('By', version, ', SHA-256 ', code(digest)),
+                ('Command', element('pre', command))]))
+
+
+def state_of(fault, is_public):
+    """What is said of a file: accepted, or why not and what to do."""
+    if fault is None:
+        return 'accepted'
+    what, advice = page_faults.in_words(fault, is_public)
+    return element('span', element('strong', 'refused, ' + fault.split(' ', 1)[0]), '. %s %s'
+                   % (what, advice))
+
+
+def records_of(facts):
+    """The number of records of each accepted file, in their order, as the page shows it."""
+    counts = [count for _, count in facts.files.accepted]
+    hidden = page_masking.withheld(counts) if facts.is_public else ()
+    return ['*' if place in hidden else count for place, count in enumerate(counts)]
+
+
+def input_rows(facts):
+    """DEF and the files, each with what it is and what became of it."""
+    files, records = facts.files, iter(records_of(facts))
+    for number, path in enumerate([files.definition] + files.files):
+        fault = facts.refused.get(spelled(path)) if number else None
+        label = 'FILE %d' % number if number else 'DEF'
+        count = '' if fault else next(records) if number else files.own_records
+        yield [label if facts.is_public else code(path), *file_cells(path), count,
+               codes(facts.devices.get(path, [])),
+               state_of(fault, facts.is_public) if number else 'definition']
+
+
+def file_cells(path):
+    digest, length = digest_of(path)
+    return code(digest), length
+
+
+def inputs(facts):
+    """The definition and the files."""
+    heads = ['File', 'SHA-256', 'Bytes', 'Records', 'Device', 'State']
+    return section('inputs', 'Inputs', table('DEF and the files', heads, input_rows(facts)),
+                   element('p', 'The records of DEF are not counted.'))
+
+
+def shown_warnings(facts):
+    """The warnings; a page for the public has their kinds alone."""
+    if not facts.is_public:
+        for kind, parts in facts.warnings:
+            yield KINDS[kind], ' '.join(parts), warnings.ADVICE[kind]
+        return
+    for kind in dict.fromkeys(kind for kind, _ in facts.warnings):
+        yield KINDS[kind], None, warnings.ADVICE[kind]
+
+
+def warned(facts):
+    """The warnings, before any number."""
+    items = [element('li', element('strong', kind), ' ' if what else None, what and code(what),
+                     ': ' + advice) for kind, what, advice in shown_warnings(facts)]
+    said = element('ul', *items, class_='warnings') if items else element('p', 'None.')
+    return section('warnings', 'Warnings', said)

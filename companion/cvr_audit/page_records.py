@@ -1,0 +1,171 @@
+"""What the page says of records: batches beside a manifest, conflicts, and adjudications."""
+from . import counting, page_names, reading
+from .page_tree import code, codes, element, folded, section, table
+
+MANY = 40           # the rows of a table that a page folds
+ADJUDICATED = 'modified'
+TAKEN = {
+    'device': 'Both are kept, and no number depends on them.',
+    'header': 'Text 1 counts: of the texts of a header it is the greater one by its bytes.',
+    'snapshot': 'Text 1 counts: it comes first {}.',
+    'other': 'None of them counts, as another snapshot of the record is current. Of them text 1 '
+             'comes first {}.',
+}
+
+
+# ---- batches
+
+def batches(facts):
+    """The records of each batch by device, and of the manifest the ballots of the batch."""
+    expected = facts.manifest
+    if facts.is_public:
+        return element('p', 'The batches stand on the whole page alone.')
+    if expected is None:
+        return element('p', 'No manifest was given.')
+    rows = []
+    for batch in sorted({*expected, *facts.seen.sizes}, key=counting.nothing_first):
+        sizes = facts.seen.sizes.get(batch, {})
+        found = sum(sizes.values())
+        ballots = expected.get(batch)
+        beside = ['', found, ''] if ballots is None else [ballots, found, found - ballots]
+        rows.append([page_names.batch(batch), codes(sizes)] + beside)
+    heads = ['Batch', 'Device', 'Manifest', 'Records', 'Difference']
+    sums = ['Sum', '', sum(expected.values()), sum(row[3] for row in rows), '']
+    return table('Batches of the manifest and of the records', heads, rows, sums)
+
+
+def reconciliation(facts):
+    return section('batches', 'Batches and the manifest', batches(facts))
+
+
+# ---- conflicts
+
+def leaves(value, path=''):
+    """Each text, number or empty part of a value, by its place (a JSON Pointer)."""
+    if isinstance(value, dict) and value:
+        steps = sorted(value.items())
+    elif isinstance(value, list) and value:
+        steps = list(enumerate(value))
+    else:
+        return {path: reading.spelled(value)}
+    held = {}
+    for step, part in steps:
+        held.update(leaves(part, path + reading.pointer(step)))
+    return held
+
+
+def text_rows(texts):
+    """The members of the texts side by side; what differs is marked."""
+    held = [leaves(value) for value in texts]
+    for path in dict.fromkeys(path for it in held for path in it):
+        parts = [it.get(path) for it in held]
+        is_same = len({*parts}) == 1
+        yield [code(path)] + ['' if part is None else code(part) if is_same else
+                              element('mark', code(part)) for part in parts]
+
+
+def is_current(facts, names):
+    """Whether a snapshot is current, by what `cvr currents` prints."""
+    return '\n%s ' % ' '.join(map(reading.spelled, names)) in facts.currents
+
+
+def rule_of(kind, texts):
+    """Which text is taken, and by which rule."""
+    types = {it.get('Type') for it in texts}
+    stamps = {tuple(note.get('TimeStamp') for note in it.get('Annotation', [])) for it in texts}
+    rule = 'by its bytes' if len(stamps) == 1 else \
+        'by its latest TimeStamp, or, where these are one moment, by its bytes'
+    return TAKEN[kind].format('by its Type' if len(types) > 1 else rule)
+
+
+def conflict(facts, key, texts):
+    """A conflict: the names, the rule, the files, and the texts side by side."""
+    kind, *names = key
+    paths = [paths for _, paths in texts]
+    values = [value for value, _ in texts]
+    heads = ['Member'] + ['Text %d' % number for number in range(1, len(texts) + 1)]
+    rows = [['Files'] + list(map(codes, paths))] + list(text_rows(values))
+    rule = 'other' if kind == 'snapshot' and not is_current(facts, names) else kind
+    title = element('h3', {'device': 'Device', 'header': 'Header', 'snapshot': 'Snapshot'}[kind],
+                    ' ', codes(names))
+    return element('div', title, element('p', rule_of(rule, values)),
+                   folded(len(rows) > MANY, '{:,} members'.format(len(rows) - 1),
+                          table('Texts side by side', heads, rows)))
+
+
+def conflicts(facts):
+    parts = [conflict(facts, key, texts) for key, texts in facts.seen.texts.items()]
+    return section('conflicts', 'Conflicts', *(parts or [element('p', 'None.')]))
+
+
+# ---- adjudications
+
+def marks_of(facts, contest):
+    """What a contest of a snapshot adds to the tally, in words."""
+    key = contest['ContestId']
+    chosen = facts.selections[key]
+    _, *numbers = counting.sums(contest, chosen)
+    names = ['overvoted', 'undervoted', None, 'pending', 'unassigned']
+    names += [facts.names.plain_selection(key, it) for it in chosen]
+    said = [name if number == 1 or place < 5 else '%s ×%d' % (name, number)
+            for place, (name, number) in enumerate(zip(names, numbers)) if name and number]
+    return ', '.join(said) or 'nothing'
+
+
+def marks(facts, snapshot):
+    return {it['ContestId']: marks_of(facts, it) for it in snapshot.get('CVRContest', [])}
+
+
+def changed(facts, before, after):
+    """The contests in which two snapshots differ, each with the marks of both."""
+    sides = [marks(facts, it) if it else {} for it in (before, after)]
+    absent = 'not there' if before else 'no scan, or several'
+    return [(key, sides[0].get(key, absent), sides[1].get(key, 'not there'))
+            for key in facts.selections if sides[0].get(key) != sides[1].get(key)]
+
+
+def is_adjudication(snapshot):
+    notes = snapshot.get('Annotation', [])
+    return snapshot['Type'] == ADJUDICATED or any(it.get('AdjudicatorName') for it in notes)
+
+
+def scan_of(snapshots):
+    """The snapshot before the adjudications; None where there is none, or several."""
+    for kind in ('interpreted', 'original'):
+        found = [it for it in snapshots if it['Type'] == kind and not is_adjudication(it)]
+        if found:
+            return found[0] if len(found) == 1 else None
+    return None
+
+
+def adjudicated_in(facts, record):
+    """Each adjudicated snapshot of a record: names, who, when, what changed, whether it counts."""
+    before = scan_of(record['CVRSnapshot'])
+    for snapshot in filter(is_adjudication, record['CVRSnapshot']):
+        notes = snapshot.get('Annotation', [])
+        who = [one for it in notes for one in it.get('AdjudicatorName', [])]
+        when = [it['TimeStamp'] for it in notes if 'TimeStamp' in it]
+        yield (reading.name_of(record), snapshot['@id'], who, when,
+               changed(facts, before, snapshot), snapshot['@id'] == record['CurrentSnapshotId'])
+
+
+def adjudication_rows(facts):
+    for names, snapshot, who, when, changes, is_current in facts.seen.adjudicated:
+        yield [codes(names), code(snapshot), element('bdi', ', '.join(who)) if who else '',
+               codes(when), *(marks_cell(facts, changes, side) for side in (1, 2)),
+               'yes' if is_current else 'no']
+
+
+def marks_cell(facts, changes, side):
+    """The marks before (1) or after (2) an adjudication, where it changed them."""
+    lines = [element('li', page_names.named(facts.names.contests[change[0]], change[0]), ': ',
+                     element('bdi', change[side])) for change in changes]
+    return element('ul', *lines) if lines else 'no change'
+
+
+def adjudications(facts):
+    heads = ['Record', 'Snapshot', 'Who', 'When', 'Before', 'After', 'In the tally']
+    rows = list(adjudication_rows(facts))
+    said = table('Adjudicated snapshots', heads, rows) if rows else element('p', 'None.')
+    return section('adjudications', 'Adjudications',
+                   folded(len(rows) > MANY, '{:,} snapshots'.format(len(rows)), said))

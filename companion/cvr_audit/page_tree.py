@@ -1,0 +1,97 @@
+"""Elements of HTML, as a tree: so no text of a file can become markup."""
+import re
+import xml.etree.ElementTree as ET
+
+# signs that an HTML text can't have: controls, halves of pairs, and what is no character
+LAST = ''.join(chr(plane << 16 | last) for plane in range(17) for last in (0xfffe, 0xffff))
+UNSHOWN = re.compile('[\x00-\x08\x0b-\x1f\x7f-\x9f\ud800-\udfff\ufdd0-\ufdef%s]' % LAST)
+
+NUMBER = re.compile(r'\*?|–|[0-9]+\.[0-9]')        # spelled already, or in the place of a number
+
+
+def shown(text):
+    """A text in which each sign that HTML can't have is spelled as an escape of JSON."""
+    return UNSHOWN.sub(lambda found: '\\u%04x' % ord(found.group()), text)
+
+
+def element(tag, *parts, **attributes):
+    """An element of these parts: elements, texts and numbers. What is None is left out."""
+    held = {name.rstrip('_').replace('_', '-'): shown(str(value))
+            for name, value in attributes.items() if value is not None}
+    made = ET.Element(tag, held)
+    for part in parts:
+        append(made, part)
+    return made
+
+
+def append(parent, part):
+    if part is None:
+        return
+    if ET.iselement(part):
+        parent.append(part)
+        return
+    text = shown(part) if isinstance(part, str) else '{:,}'.format(part)
+    if len(parent):
+        parent[-1].tail = (parent[-1].tail or '') + text
+    else:
+        parent.text = (parent.text or '') + text
+
+
+def name(text):
+    """A name. Its direction of writing changes nothing around it."""
+    return element('bdi', text)
+
+
+def code(text):
+    """An id or another text of a file, as it stands there."""
+    return element('code', element('bdi', text or '""'))
+
+
+def codes(texts):
+    """Texts of a file, with a space after each."""
+    parts = [part for text in texts for part in (code(text), ' ')]
+    return element('span', *parts) if parts else ''
+
+
+def section(key, title, *parts):
+    return element('section', element('h2', title, id=key), *parts)
+
+
+def listed(pairs):
+    """Terms, each with what is said of it."""
+    parts = [(element('dt', term), element('dd', *said)) for term, *said in pairs]
+    return element('dl', *(part for pair in parts for part in pair))
+
+
+def cell(part):
+    """A cell of a table: numbers stand to the right."""
+    is_number = isinstance(part, int) or isinstance(part, str) and NUMBER.fullmatch(part)
+    return element('td', part, class_='number' if is_number else None)
+
+
+def row_of(cells, tag='tr'):
+    """A row. Its first cell is its head."""
+    return element(tag, element('th', cells[0], scope='row'), *map(cell, cells[1:]))
+
+
+def table(caption, heads, rows, foot=None):
+    """A table with the heads of its columns and its rows; a narrow window scrolls it sideways."""
+    head = element('tr', *(element('th', it, scope='col') for it in heads))
+    parts = [element('caption', caption), element('thead', head)]
+    parts.append(element('tbody', *map(row_of, rows)))
+    if foot:
+        parts.append(element('tfoot', row_of(foot)))
+    return element('div', element('table', *parts), class_='wide', role='region', tabindex='0',
+                   aria_label=caption)
+
+
+def folded(is_many, summary, *parts):
+    """The parts, behind a line that opens them where they are many."""
+    if not is_many:
+        return element('div', *parts)
+    return element('details', element('summary', summary), *parts)
+
+
+def text_of(root):
+    """The document."""
+    return '<!DOCTYPE html>\n%s\n' % ET.tostring(root, encoding='unicode', method='html')
