@@ -1,0 +1,248 @@
+#!/usr/bin/env python3
+"""page.py --cvr PATH [--sets N] [--seed N] [--companion FOLDER] [--picture PNG]
+
+Tries `cvr-audit page`. First the county of examples/, whose two pages are held line by line
+against page/county.txt and page/public.txt, which were written by hand. Then sets of files
+(page_sets.py): odd names, 60 units and 2,000, 300 contests, no record, nothing but refused files,
+and contests and units of any size by chance. Of each, for offices and for the public, it tries
+
+- every number, held against what `cvr` prints (page_numbers.py);
+- what a reader can find of the numbers that are withheld (page_masks.py);
+- the tree of heads, the heads of tables, that nothing is fetched or run, and that `tidy` reads the
+  page as HTML5 (page_form.py);
+- how Chromium shows it in a wide and a narrow window, and prints it (page_views.py).
+
+Last the slips of page_ways.py: each is made in a copy, and the county or the sets have to find it.
+With --companion the copy in that folder is tried, without a browser and without the largest sets.
+Where a tool isn't there a line `skipped` says so. --picture writes the picture that README shows.
+The last line is `page: N right, M wrong`; the status is 0 only where M is 0 and N is not."""
+import argparse
+import hashlib
+import importlib
+import json
+import os
+import random
+import re
+import shutil
+import subprocess
+import sys
+import tempfile
+from concurrent.futures import ThreadPoolExecutor
+
+sys.dont_write_bytecode = True
+HERE = os.path.dirname(os.path.abspath(__file__))
+TOP = os.path.dirname(os.path.dirname(HERE))
+sys.path.insert(0, HERE)
+import page_form     # noqa: E402
+import page_masks    # noqa: E402
+import page_numbers  # noqa: E402
+import page_sets     # noqa: E402
+import page_text     # noqa: E402
+import page_views    # noqa: E402
+import page_ways     # noqa: E402 (all of them stand beside this file)
+import wrong_ways    # noqa: E402
+
+COUNTY = os.path.join(TOP, 'examples', 'county')
+FILES = ['scan.json', 'adjudicated.json', 'corrected.json', 'damaged.json']
+REFUSED = 'damaged.json: E3 /CVR/0/UniqueId 2\n'
+MADE = '1730930400'         # 2024-11-06T22:00:00Z
+SECONDS = 600
+SIDE_BY_SIDE = 4
+FEW = 8             # the sets that try a slip
+
+
+class Trial:
+    """A companion and a program that are tried."""
+
+    def __init__(self, cvr, companion, is_seen=True):
+        self.cvr, self.companion, self.is_seen = cvr, companion, is_seen
+        self.right = self.wrong = 0
+        sys.path.insert(0, companion)
+        self.package = importlib.import_module('cvr_audit.line') and sys.modules['cvr_audit']
+
+    def see(self, what, wrong):
+        """Counts a thing that was tried, and prints what is wrong with it."""
+        self.right, self.wrong = self.right + (not wrong), self.wrong + bool(wrong)
+        for line in wrong[:9]:
+            print('WRONG %s: %s' % (what, line))
+
+    def page(self, folder, definition, files, *words):
+        """(page, log, status) of the words."""
+        companion = os.path.join(self.companion, 'cvr-audit')
+        return run(folder, sys.executable, companion, 'page', definition, *files, *words,
+                   CVR=self.cvr, SOURCE_DATE_EPOCH=MADE)
+
+    def printed(self, folder, *words):
+        """What a command of `cvr` prints, and its status."""
+        out, _, status = run(folder, self.cvr, *words)
+        return out, status
+
+
+def run(folder, *words, **variables):
+    """(output, log, status) of a run in a folder."""
+    done = subprocess.run(words, cwd=folder, env=dict(os.environ, **variables),
+                          stdin=subprocess.DEVNULL, stdout=subprocess.PIPE, stderr=subprocess.PIPE,
+                          timeout=SECONDS)
+    return done.stdout.decode('utf-8'), done.stderr.decode('utf-8', 'replace'), done.returncode
+
+
+# ---- the county
+
+def digest_of(name, trial, folder):
+    """The SHA-256 of a file, of the program, or of the tally."""
+    if name == 'tally':
+        data = trial.printed(folder, 'tally', 'definition.json', *FILES)[0].encode('utf-8')
+    else:
+        with open(trial.cvr if name == 'cvr' else os.path.join(folder, name), 'rb') as file:
+            data = file.read()
+    return hashlib.sha256(data).hexdigest()
+
+
+def filled(text, trial, folder):
+    """A text by hand, with what no hand works out in it: digests, the version, and advice."""
+    advice = trial.package.warnings.ADVICE
+    text = text.replace('{version}', trial.printed(folder, '--version')[0].split('\n')[0])
+    text = re.sub(r'\{digest of (.*?)\}', lambda it: digest_of(it.group(1), trial, folder), text)
+    return re.sub(r'\{(\w+)\}', lambda it: advice[it.group(1)], text)
+
+
+def see_county(trial, folder):
+    for name in os.listdir(COUNTY):
+        shutil.copy(os.path.join(COUNTY, name), folder)
+    for name, more in (('county', []), ('public', ['--public'])):
+        with open(os.path.join(HERE, 'page', name + '.txt'), encoding='utf-8') as file:
+            wanted = filled(file.read(), trial, folder).splitlines()
+        words = FILES + ['--manifest', 'manifest.csv'] + more
+        text, log, status = trial.page(folder, 'definition.json', words)
+        wrong = list(differences(list(page_text.lines(page_text.read(text))), wanted))
+        wrong += ['status %d, log %r' % (status, log)] * ((status, log) != (1, REFUSED))
+        wrong += list(page_form.wrong_of(page_text.read(text), text))
+        trial.see('county, %s' % name, wrong)
+        with open(os.path.join(folder, name + '.html'), 'w', encoding='utf-8') as file:
+            file.write(text)
+
+
+def picture(trial, folder, to):
+    """Writes the picture of the county's page without what is wrong there."""
+    words = FILES[:2] + ['--manifest', 'manifest.csv', '-o', 'picture.html']
+    trial.page(folder, 'definition.json', words)
+    page_views.picture(os.path.join(folder, 'picture.html'), to)
+
+
+def differences(got, wanted):
+    for place, (a, b) in enumerate(zip(got, wanted), 1):
+        if a != b:
+            yield 'line %d\n    got      %r\n    expected %r' % (place, a, b)
+    if len(got) != len(wanted):
+        yield '%d lines, not %d' % (len(got), len(wanted))
+
+
+# ---- sets
+
+def sets(trial, words):
+    """The sets, by name: the bytes of their files by name."""
+    yield 'odd names', page_sets.texts_of(page_sets.odd())
+    yield '60 units', page_sets.texts_of(page_sets.many_units(60))
+    if not words.companion:
+        yield '300 contests', page_sets.texts_of(page_sets.many_contests())
+        yield '2,000 units', page_sets.texts_of(page_sets.many_units())
+    definition = page_sets.many_contests(2)[0]
+    yield 'no record', page_sets.texts_of((definition, {}))
+    refused = page_sets.texts_of((definition, {'a.json': dict(definition, Version='2.0.0')}))
+    yield 'refused files', dict(refused, **{'b.json': b'{', 'c.json': b'\xff'})
+    for seed in range(words.seed, words.seed + words.sets):
+        yield 'set %d' % seed, page_sets.texts_of(page_sets.uneven(random.Random(seed)))
+
+
+def counts_of(trial, folder, files):
+    """The records of DEF and of each file, by `cvr check`; None of a refused one."""
+    text, _ = trial.printed(folder, 'check', '--', 'def.json', 'def.json', *files)
+    held = dict(line.rsplit(' ', 1) for line in text.splitlines())
+    return [held.get(name) for name in ['def.json'] + files]
+
+
+def see_set(trial, folder, name, held):
+    """Tries the pages of a set, and how it is seen where it has a name of its own."""
+    for path, data in held.items():
+        with open(os.path.join(folder, path), 'wb') as file:
+            file.write(data)
+    files, definition = [it for it in held if it != 'def.json'], json.loads(held['def.json'])
+    text, status = trial.printed(folder, 'tally', '--', 'def.json', *files)
+    tally, counts = page_numbers.Tally(text, definition), counts_of(trial, folder, files)
+    for is_public in (False, True):
+        what, path = name + ' for the public' * is_public, os.path.join(folder, 'page.html')
+        text, log, got = trial.page(folder, 'def.json', files, *['--public'] * is_public)
+        wrong = ['status %d: %s' % (got, log)] * (got != status)
+        trial.see(what, wrong + list(set_wrong(text, tally, counts, is_public)))
+        with open(path, 'w', encoding='utf-8') as file:
+            file.write(text)
+        if trial.is_seen and not name.startswith('set '):
+            page_views.see(trial, path, what)
+
+
+def set_wrong(text, tally, counts, is_public):
+    """What is wrong with a page of a set, as lines."""
+    yield from page_form.wrong_of(page_text.read(text), text)
+    try:
+        wrong, equations, votes = page_numbers.wrong_of(text, tally, counts, is_public)
+    except (IndexError, KeyError, StopIteration, ValueError) as fault:
+        yield 'the numbers can\'t be read: %s' % fault
+        return
+    yield from wrong
+    yield from page_masks.wrong_of(equations, votes)
+    if votes and not is_public:
+        yield 'a number is withheld'
+
+
+# ---- slips
+
+def see_way(trial, way):
+    """Tries a copy with a slip, which has to be found."""
+    with tempfile.TemporaryDirectory() as folder:
+        copy = wrong_ways.made(os.path.join(TOP, 'companion'), folder, way)
+        words = [sys.executable, os.path.abspath(__file__), '--cvr', trial.cvr, '--sets', str(FEW),
+                 '--companion', copy]
+        out, log, status = run(folder, *words)
+    lines = [line for line in out.splitlines() if line.startswith('WRONG ')]
+    is_broken = any(it in out + log for it in ('Error', 'Traceback'))
+    return [] if status == 1 and lines and not is_broken else ['nothing finds it: %s' % log]
+
+
+def see_all(trial, words):
+    """Tries all but the slips."""
+    trial.see('masks', list(page_masks.judged()))
+    trial.see('style', list(page_form.style_wrong(trial.package.page_style.STYLE)))
+    trial.see('faults', list(page_form.faults_wrong(trial.package.page_faults)))
+    with tempfile.TemporaryDirectory() as folder:
+        see_county(trial, folder)
+        for name in ('county', 'public') if trial.is_seen else ():
+            page_views.see(trial, os.path.join(folder, name + '.html'), name)
+        if words.picture:
+            picture(trial, folder, words.picture)
+    for name, held in sets(trial, words):
+        with tempfile.TemporaryDirectory() as folder:
+            see_set(trial, folder, name, held)
+
+
+def main():
+    words = argparse.ArgumentParser()
+    words.add_argument('--cvr', required=True, help='the program to try it with')
+    words.add_argument('--sets', type=int, default=40)
+    words.add_argument('--seed', type=int, default=1)
+    words.add_argument('--companion', help='a folder with a copy of the companion')
+    words.add_argument('--picture', help='write the picture of the county that README shows')
+    words = words.parse_args()
+    companion = os.path.abspath(words.companion or os.path.join(TOP, 'companion'))
+    trial = Trial(os.path.abspath(words.cvr), companion, not words.companion)
+    see_all(trial, words)
+    if not words.companion:
+        with ThreadPoolExecutor(min(SIDE_BY_SIDE, len(os.sched_getaffinity(0)))) as pool:
+            tries = pool.map(lambda way: see_way(trial, way), page_ways.WAYS)
+            for way, wrong in zip(page_ways.WAYS, tries):
+                trial.see('way %s' % way.name, wrong)
+    print('page: %d right, %d wrong' % (trial.right, trial.wrong))
+    sys.exit(0 if trial.right and not trial.wrong else 1)
+
+
+if __name__ == '__main__':
+    main()

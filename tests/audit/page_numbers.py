@@ -1,0 +1,258 @@
+"""page_numbers.py: every number of a page, held against what `cvr` prints.
+
+The page is read back by its tables. A number that none of them accounts for is wrong, too."""
+import json
+import re
+
+import page_text
+
+WORD = re.compile(r'"(?:[^"\\]|\\.)*"|[^ ]+')
+COLUMNS = 'Ballots', 'Overvotes', 'Undervotes', 'Write-ins', 'Pending', 'Unassigned'
+HIDDEN = '*'
+MEMBERS = {'Overvotes': 1, 'Undervotes': 2}
+ODD = '\x00\x07\x85\ufffe'      # of the signs that HTML has not those of page_sets.py
+
+
+class Tally:
+    """The rows of a printed tally by contest: (unit, batch) and the numbers of each."""
+
+    def __init__(self, text, definition):
+        contests = definition['Election'][0]['Contest']
+        self.contests = {it['@id']: it.get('ContestSelection', []) for it in contests}
+        self.allowed = {it['@id']: it.get('VotesAllowed') for it in contests}
+        self.rows = {key: [] for key in self.contests}
+        for line in text.split('\n')[:-1]:
+            words = WORD.findall(line)
+            contest, unit, batch = map(json.loads, words[:3])
+            self.rows[contest].append(((unit, batch), list(map(int, words[3:9] + words[10::2]))))
+
+    def sums(self, contest, place=None):
+        """The sums of the numbers of a contest, by unit (0), by batch (1) or all of them, in the
+        order in which they stand."""
+        held = {}
+        for names, numbers in self.rows[contest]:
+            held.setdefault(None if place is None else names[place], []).append(numbers)
+        order = sorted(held, key=lambda it: (it is not None, it or ''))
+        return {key: list(map(sum, zip(*held[key]))) for key in order}
+
+    def total(self, contest):
+        return self.sums(contest).get(None, [0] * (6 + len(self.contests[contest])))
+
+
+class Held:
+    """A page whose numbers are read one by one."""
+
+    def __init__(self, text, tally, is_public):
+        self.page, self.tally, self.is_public = page_text.read(text), tally, is_public
+        self.sections, self.wrong, self.seen = page_text.sections(self.page), [], set()
+        self.equations, self.votes = [], {}     # of what is withheld, for page_masks.py
+
+    def see(self, what, cell, number, may_hide=False):
+        """Holds a cell against a number; whether the number is shown."""
+        text = cell.text().replace(',', '')
+        self.seen.add(id(cell))
+        if text == HIDDEN and may_hide and self.is_public:
+            return False
+        if text != str(number):
+            self.wrong.append('%s: %r in place of %s' % (what, text, number))
+        return True
+
+    # ---- by contest
+
+    def see_contests(self):
+        parts = [it for it in self.sections['contests'].all('div')
+                 if it.attributes.get('class') == 'contest']
+        if len(parts) != len(self.tally.contests):
+            self.wrong.append('%d contests' % len(parts))
+        for part, key in zip(parts, self.tally.contests):
+            self.see_contest(part, key)
+
+    def see_contest(self, part, key):
+        numbers = self.tally.total(key)
+        tables = list(part.all('table'))
+        if self.is_public and numbers[0] < 10:
+            if tables or list(part.all('dl')):
+                self.wrong.append('%s: numbers of fewer than ten ballots' % key)
+            return
+        terms = dict(zip((it.text() for it in part.all('dt')), part.all('dd')))
+        for place, column in enumerate(COLUMNS if not self.is_public else COLUMNS[:1]):
+            is_stated = terms[column].text() != 'not stated'
+            if is_stated or column not in MEMBERS or numbers[place]:
+                self.see('%s %s' % (key, column), terms[column], numbers[place])
+        self.see_votes(tables[0], key, numbers[0], numbers[6:])
+        if not self.is_public:
+            self.see_sums(list(part.all('p'))[-1].text(), key, numbers)
+
+    def see_votes(self, table, key, ballots, votes):
+        head, *rows = page_text.rows(table)
+        shown, most = 0, max(votes, default=0)
+        hidden = [place for place, row in enumerate(rows[:len(votes)]) if row[2].text() == HIDDEN]
+        for place, (row, number) in enumerate(zip(rows, votes)):
+            name = (key, place)
+            if self.see('%s votes' % (name,), row[2], number, True):
+                shown += number
+                self.see_bar(name, row[1], number, most)
+            elif list(row[1].all('span')):
+                self.wrong.append('%s: a bar of votes that are withheld' % (name,))
+            if len(head) > 3:
+                self.see_share(name, row[3], number, sum(votes), hidden)
+        if not hidden:
+            self.see('%s counted' % key, rows[len(votes)][2], sum(votes))
+        self.spare(key, hidden, votes, ballots * (self.tally.allowed[key] or 1) - shown)
+
+    def see_sums(self, text, key, numbers):
+        """The sentence on whether the numbers come to the ballots."""
+        ballots, overvotes, undervotes, _, pending, unassigned, *votes = numbers
+        allowed, counted = self.tally.allowed[key], sum(votes) + unassigned
+        found = [int(it.replace(',', '')) for it in re.findall(r'[0-9][0-9,]*', text)]
+        if not allowed:
+            wanted, is_well = [], 'does not say' in text
+        elif allowed > 1:
+            wanted, is_well = [counted, ballots * allowed], counted <= ballots * allowed
+            is_well = is_well == text.endswith(': not too many.')
+        else:
+            wanted = [counted + overvotes + undervotes + pending, ballots]
+            is_well = (wanted[0] == ballots) == text.endswith(': the same.')
+        if found != wanted or not is_well:
+            self.wrong.append('%s: %s' % (key, text))
+
+    def see_bar(self, name, cell, number, most):
+        style = next(cell.all('span')).attributes['style']
+        if style != ('width: %.1f%%' % (100 * number / most) if most else 'width: 0'):
+            self.wrong.append('%s: a bar with %s' % (name, style))
+
+    def see_share(self, name, cell, number, counted, hidden):
+        text = cell.text()
+        self.seen.add(id(cell))
+        if hidden:
+            self.wrong.append('%s: per cent beside votes that are withheld' % (name,))
+        elif counted and not -counted < 2 * counted * tenths(text) - 2000 * number <= counted:
+            self.wrong.append('%s: %s per cent of %d' % (name, text, counted))
+        elif not counted and text != '–':
+            self.wrong.append('%s: %s per cent of nothing' % (name, text))
+
+    def spare(self, key, hidden, votes, left):
+        """Notes the equation of the withheld votes of a contest and what its ballots leave open."""
+        if hidden:
+            names = [(key, place) for place in hidden]
+            self.see_needed(key, [votes[place] for place in hidden],
+                            [it for place, it in enumerate(votes) if place not in hidden],
+                            max(left - sum(votes[place] for place in hidden), 0))
+            self.votes.update((name, votes[name[1]]) for name in names)
+            self.equations.append((dict.fromkeys(names + [(key, 'open')], 1), max(left, 0)))
+
+    def see_needed(self, what, hidden, shown, spare=0):
+        """Holds what is withheld against the rule: the smallest numbers, and none without need."""
+        *others, last = sorted(hidden)
+        if shown and last > min(shown):
+            self.wrong.append('%s: %d is withheld, and %d shown' % (what, last, min(shown)))
+        if last >= 10 and sum(others) + spare >= 10:
+            self.wrong.append('%s: %d is withheld without need' % (what, last))
+
+    # ---- by unit and by batch
+
+    def see_units(self):
+        parts = [it for it in self.sections['units'].parts if getattr(it, 'tag', '') == 'div']
+        for part, key in zip(parts, self.tally.contests):
+            for what, place in (('unit', 0), ('batch', 1)):
+                found = [it for it in part.all('table')
+                         if next(it.all('caption')).text() == 'By ' + what]
+                columns = [column for table in found for column in self.columns_of(table, key)]
+                self.see_columns(key, columns, place)
+                for table in found:
+                    self.see_table(table, key, self.tally.sums(key, place))
+
+    def columns_of(self, table, key):
+        """The places of the numbers of a table, by the heads of its columns."""
+        ids = [clean(it['@id'] if len(it['@id']) <= 40 else it['@id'][:39] + '…')
+               for it in self.tally.contests[key]]
+        for head in page_text.rows(table)[0][1:]:
+            code = next(head.all('code'), None)
+            yield 6 + ids.index(code.text()) if code else COLUMNS.index(head.text())
+
+    def see_columns(self, key, columns, place):
+        """Every column has to be there once: on a page for the public the votes that are shown."""
+        numbers = self.tally.total(key)
+        if self.is_public:
+            hidden = {name[1] for name in self.votes if name[0] == key}
+            wanted = [] if numbers[0] < 10 or place else \
+                [6 + it for it in range(len(numbers) - 6) if it not in hidden]
+        else:
+            wanted = [it for it in range(len(numbers) if self.tally.rows[key] else 0)
+                      if it not in MEMBERS.values() or it in columns or numbers[it]]
+        if columns != wanted:
+            self.wrong.append('%s: columns %s, not %s' % (key, columns, wanted))
+
+    def see_table(self, table, key, sums):
+        head, *rows = page_text.rows(table)
+        columns = list(self.columns_of(table, key))
+        if len(rows) != len(sums) + 1:
+            self.wrong.append('%s: %d rows of %d' % (key, len(rows) - 1, len(sums)))
+        for place, column in enumerate(columns, 1):
+            hidden = {}
+            for row, (name, numbers) in zip(rows, sums.items()):
+                what = (key, name, column)
+                if not self.see(what, row[place], numbers[column], True):
+                    hidden[what] = numbers[column]
+                elif self.is_public and numbers[column] < 10:
+                    self.wrong.append('%s: %d votes are shown' % (what, numbers[column]))
+            total = self.tally.total(key)[column]
+            self.see('%s sum' % key, rows[-1][place], total)
+            if hidden:
+                self.votes.update(hidden)
+                self.see_needed(key, list(hidden.values()),
+                                [it[column] for name, it in sums.items()
+                                 if (key, name, column) not in hidden])
+                shown = total - sum(hidden.values())
+                self.equations.append((dict.fromkeys(hidden, 1), total - shown))
+
+    # ---- files and batches
+
+    def see_inputs(self, records):
+        """The records of DEF and of each file in order; None of a refused one."""
+        table = next(self.sections['inputs'].all('table'))
+        rows = page_text.rows(table)[1:]
+        if len(rows) != len(records):
+            self.wrong.append('%d inputs' % len(rows))
+        for row, number in zip(rows, records):
+            self.seen.add(id(row[2]))
+            self.see('records', row[3], '' if number is None else number, True)
+
+    def see_batches(self, sizes):
+        """The records of each batch, where there is a manifest."""
+        for table in self.sections['batches'].all('table'):
+            rows = page_text.rows(table)[1:]
+            for row in rows[:-1]:
+                key = row[0].text()
+                self.see('batch ' + key, row[3], sizes.get(key, 0))
+            self.see('batches', rows[-1][3], sum(sizes.values()))
+            self.seen |= {id(row[place]) for row in rows for place in (1, 2, 4)}
+
+    def left(self):
+        """The numbers that nothing was held against."""
+        cells = [it for it in self.page.all('td') if it.attributes.get('class') == 'number']
+        return [it.text() for it in cells if id(it) not in self.seen and it.text()]
+
+
+def tenths(text):
+    """A number with one decimal, in tenths."""
+    if not re.fullmatch(r'[0-9]+\.[0-9]', text):
+        raise ValueError('%r has not one decimal' % text)
+    return int(text.replace('.', ''))
+
+
+def clean(text):
+    """A text as a page shows it: signs that HTML has not are spelled as in JSON."""
+    shown = ''.join('\\u%04x' % ord(it) if it in ODD else it for it in text)
+    return re.sub(r'\s+', ' ', shown).strip()
+
+
+def wrong_of(text, tally, records, is_public=False, sizes=None):
+    """What is wrong with the numbers of a page, as lines; and what it withholds."""
+    held = Held(text, tally, is_public)
+    held.see_inputs(records)
+    held.see_contests()
+    held.see_units()
+    held.see_batches(sizes or {})
+    held.wrong += ['%s stands in no text of cvr' % it for it in held.left()]
+    return held.wrong, held.equations, held.votes

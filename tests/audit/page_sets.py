@@ -1,0 +1,118 @@
+"""page_sets.py: definitions and reports of records of which pages are made: odd names, many
+contests, many units, none."""
+import json
+
+MOMENT = '2024-11-05T20:00:00Z'
+LONG = 'Long name ' * 30                                # 300 signs
+WIDE = 'Breit' * 60                                     # 300 signs without a space
+MARKUP = '<script>alert("1")</script> & <b class=\'x\'>'
+ARABIC = 'مجلس المدينة ١٢'
+TURNED = '\u202eabc\u0000\u0007\u0085\ufffe'            # another direction, and signs HTML has not
+ODD = [MARKUP, ARABIC, LONG, WIDE, TURNED, '']
+
+
+def report(contests, units, records=(), name='Invented election'):
+    """A report. A contest is its id, name, VotesAllowed or None, and selections (id, name)."""
+    made = {'@type': 'CVR.CastVoteRecordReport', 'Version': '1.0.0', 'GeneratedDate': MOMENT,
+            'ReportGeneratingDeviceIds': ['scanner'],
+            'ReportingDevice': [{'@type': 'CVR.ReportingDevice', '@id': 'scanner'}],
+            'GpUnit': [{'@type': 'CVR.GpUnit', '@id': key, 'Type': 'precinct', 'Name': title}
+                       for key, title in units],
+            'Election': [{'@type': 'CVR.Election', '@id': 'election', 'Name': name,
+                          'ElectionScopeId': units[0][0], 'Contest': list(map(contest, contests))}]}
+    return dict(made, CVR=list(records)) if records else made
+
+
+def contest(parts):
+    key, title, allowed, selections = parts
+    chosen = [{'@type': 'CVR.BallotMeasureSelection', '@id': one, 'Selection': text}
+              for one, text in selections]
+    return {'@type': 'CVR.BallotMeasureContest', '@id': key, 'Name': title,
+            'ContestSelection': chosen, **({'VotesAllowed': allowed} if allowed else {})}
+
+
+def record(number, unit, batch, votes):
+    """A record with a vote for one selection in each contest: its id, None for no vote, or its id
+    and an IsAllocable with which it doesn't count."""
+    contests = [{'@type': 'CVR.CVRContest', 'ContestId': key, **marks(one)}
+                for key, one in votes.items()]
+    snapshot = {'@type': 'CVR.CVRSnapshot', '@id': 'a', 'Type': 'original', 'CVRContest': contests}
+    return {'@type': 'CVR.CVR', 'CreatingDeviceId': 'scanner', 'UniqueId': '%06d' % number,
+            'ElectionId': 'election', 'BallotStyleUnitId': unit, 'BatchId': batch,
+            'CurrentSnapshotId': 'a', 'CVRSnapshot': [snapshot]}
+
+
+def marks(selection):
+    if selection is None:
+        return {'Undervotes': 1}
+    position = {'@type': 'CVR.SelectionPosition', 'HasIndication': 'yes', 'NumberVotes': 1}
+    if isinstance(selection, tuple):
+        selection, position['IsAllocable'] = selection
+    chosen = {'@type': 'CVR.CVRContestSelection', 'ContestSelectionId': selection,
+              'SelectionPosition': [position]}
+    return {'CVRContestSelection': [chosen]}
+
+
+def odd():
+    """Contests, selections, units and batches with odd names, and ids like them."""
+    ids = [it for it in ODD if it]
+    selections = [(key, text) for key, text in zip(ids + ['none'], ODD)]
+    contests = [(key, text, 1, selections) for key, text in zip(ids + ['none'], ODD)]
+    units = list(zip(ids + ['none'], ODD))
+    records = [record(number, units[number % 6][0], ODD[number % 6],
+                      {contests[number % 5][0]: selections[number % 4][0]}) for number in range(60)]
+    files = {'<b>.json': report(contests, units, records, MARKUP)}
+    return report(contests, units, name=MARKUP), files
+
+
+def many_contests(count=300):
+    contests = [('contest-%d' % place, 'Contest %d' % place, 1,
+                 [('yes', 'Yes'), ('no', 'No'), ('other', 'Other')]) for place in range(count)]
+    units = [('unit-%d' % place, 'Unit %d' % place) for place in range(4)]
+    records = [record(number, 'unit-%d' % (number % 4), 'batch-%d' % (number % 3),
+                      {'contest-%d' % place: ('yes', 'no', 'other', None)[(number + place) % 4]
+                       for place in range(number % 7, count, 7)}) for number in range(400)]
+    return report(contests, units), {'records.json': report(contests, units, records)}
+
+
+def many_units(count=2000):
+    contests = [('mayor', 'Mayor', 1, [('a', 'Ada Hill'), ('b', 'Bo Lake'), ('w', 'Write-in')]),
+                ('bond', 'School bond', 1, [('yes', 'Yes'), ('no', 'No')])]
+    units = [('unit-%04d' % place, 'Precinct %d' % place) for place in range(count)]
+    places = [unit for place, (unit, _) in enumerate(units) for _ in range(2 if place % 20 else 40)]
+    records = [record(number, unit, 'batch-%03d' % (number // 200),
+                      {'mayor': 'aabbab'[number % 6] if number % 41 else 'w',
+                       'bond': ('yes', 'no')[number % 3 == 0]})
+               for number, unit in enumerate(places)]
+    return report(contests, units), {'records.json': report(contests, units, records)}
+
+
+def vote(chance, selections, can_be_less):
+    """A vote by chance; one in twenty is none, is pending or was rejected, where that can be."""
+    chosen = chance.choice(selections)
+    if not can_be_less or chance.random() < 0.95:
+        return chosen
+    return chance.choice([None, (chosen, 'unknown'), (chosen, 'no')])
+
+
+def uneven(chance, units=7):
+    """Some contests with units of any size, and votes by chance."""
+    contests = [('c%d' % place, 'Contest %d' % place, chance.choice([None, 1, 1, 2]),
+                 [('s%d' % one, 'Selection %d' % one) for one in range(chance.randint(1, 9))])
+                for place in range(chance.randint(1, 3))]
+    places = [('u%d' % place, 'Unit %d' % place) for place in range(units)]
+    records, can_be_less = [], chance.random() < 0.7
+    for unit, _ in places:
+        few = chance.choice([1, 2, 9])
+        for _ in range(chance.randint(0, 2 * chance.choice([0, 1, 5, 20, 60]))):
+            votes = {key: vote(chance, [one for one, _ in chosen][:few], can_be_less)
+                     for key, _, _, chosen in contests if chance.random() < 0.9}
+            records.append(record(len(records), unit, 'batch', votes))
+    return report(contests, places), {'records.json': report(contests, places, records)}
+
+
+def texts_of(made):
+    """The files of a set: their bytes by name."""
+    definition, files = made
+    held = {'def.json': definition, **files}
+    return {name: json.dumps(value).encode('utf-8') for name, value in held.items()}

@@ -1,0 +1,116 @@
+"""page_views.py: a page as it is seen: in Chromium, in a wide and a narrow window, and printed."""
+import atexit
+import collections
+import functools
+import os
+import re
+import shutil
+import subprocess
+import tempfile
+
+import page_browser
+import page_picture
+import page_text
+
+WIDTHS = 1280, 390
+SHEET = 680         # pixels between the margins of A4, the narrower paper
+SHORT = 8           # signs that may stand in other rows, too
+PRINTED = 300000    # bytes of a page; Chromium takes minutes to print the pages of many contests
+# how much wider the page is than the window, and elements that stand out of it
+OVER = '''[document.documentElement.scrollWidth - innerWidth,
+  [...document.querySelectorAll('body *')]
+    .filter(it => it.getBoundingClientRect().right > innerWidth + 1 &&
+      (matchMedia('print').matches || !it.closest('.wide')))
+    .map(it => it.tagName + ' ' + it.textContent.slice(0, 40)).slice(0, 3)]'''
+LACKING = set()     # the tools that a line `skipped` has named
+
+
+def lacks(what, is_there):
+    """Whether a tool is not there; the first time a line says so."""
+    if not is_there and what not in LACKING:
+        LACKING.add(what)
+        print('skipped %s: it is not there' % what)
+    return not is_there
+
+
+@functools.lru_cache(None)
+def shown():
+    """The one browser of a run, which ends with it."""
+    folder = tempfile.mkdtemp()
+    browser = page_browser.Browser(folder)
+    atexit.register(lambda: (browser.end(), shutil.rmtree(folder, ignore_errors=True)))
+    return browser
+
+
+def see(trial, path, what):
+    """Tries a page in windows and in print."""
+    lacks('tidy', shutil.which('tidy'))
+    if lacks('chromium', page_browser.program()) or 'an answer of chromium' in LACKING:
+        return
+    try:
+        look(trial, path, what, shown())
+    except OSError as fault:
+        # a browser that can't run here says nothing of the page
+        LACKING.add('an answer of chromium')
+        print('skipped chromium from %s on: %s' % (what, fault))
+
+
+def look(trial, path, what, browser):
+    """Looks at a page by a browser."""
+    for width in WIDTHS:
+        browser.open(path, width)
+        trial.see('%s at %d pixels' % (what, width), over_wrong(browser))
+    if os.path.getsize(path) > PRINTED:
+        return
+    browser.open(path, SHEET, media='print')
+    trial.see('%s on paper' % what, over_wrong(browser))
+    if lacks('pdftotext', shutil.which('pdftotext')):
+        return
+    for paper in page_browser.PAPERS:
+        trial.see('%s on %s' % (what, paper), list(print_wrong(browser, path, paper)))
+
+
+def over_wrong(browser):
+    """What stands out of the window: on a screen but for tables, which scroll."""
+    over, parts = browser.value(OVER)
+    return ['%d pixels too wide: %s' % (over, parts)] * (over > 0 or bool(parts))
+
+
+def bare(text):
+    """A text without white space, and without signs that a printed text spells otherwise."""
+    return re.sub(r'[^!-~]', '', text)
+
+
+def print_wrong(browser, path, paper):
+    """Rows of tables that no one sheet has whole."""
+    with tempfile.TemporaryDirectory() as folder:
+        pdf = os.path.join(folder, 'page.pdf')
+        browser.printed(pdf, paper)
+        done = subprocess.run(['pdftotext', '-raw', pdf, '-'], stdout=subprocess.PIPE, check=True)
+    sheets = [bare(it) for it in done.stdout.decode('utf-8', 'replace').split('\f')]
+    with open(path, encoding='utf-8') as file:
+        rows = list(map(words_of, page_text.read(file.read()).all('tr')))
+    for row in rows:
+        if not any(all(it in sheet for it in row) for sheet in sheets):
+            yield 'no sheet has the row %r whole' % ' '.join(row)[:80]
+    for text, count in collections.Counter(max(row, key=len, default='') for row in rows).items():
+        found = sum(sheet.count(text) for sheet in sheets) if len(text) > SHORT else count
+        if found < count:
+            yield '%d of %d rows with %r are whole' % (found, count, text[:80])
+    if len(sheets) < 2 or not any(rows):
+        yield 'no row is printed'
+
+
+def words_of(row):
+    """The texts of the cells of a row, without those of signs that a sheet may have in another
+    order."""
+    texts = (re.sub('[–…]', '', it.text()) for it in row.all('th', 'td'))
+    return [bare(it) for it in texts if it.isascii()]
+
+
+def picture(path, to):
+    """Writes the picture of a page."""
+    browser = shown()
+    browser.open(path, 860, 1330, scale=0.6)
+    with open(to, 'wb') as file:
+        file.write(page_picture.smaller(browser.picture()))
