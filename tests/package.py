@@ -65,7 +65,7 @@ def first_runs(prefix):
     """Yields each command of README and AUDITING and whether the programs installed below a prefix
     print what it shows, over the examples there."""
     folder, status = os.path.join(prefix, 'share/doc/cvr'), 0
-    for document in 'README.md', 'docs/AUDITING.md':
+    for document in 'README.md', 'docs/AUDITING.md', 'docs/PAGE.md':
         text = held(os.path.join(folder, document)).decode('utf-8')
         for command, expected, _ in commands.commands(text, lambda *_: None):
             audit = shlex.quote(os.path.join(prefix, 'bin/cvr-audit'))
