@@ -56,6 +56,7 @@ def tasks(definition, files, cvr):
         'records': [companion, 'records', definition] + files,
         'compare': [companion, 'compare', definition] + sides,
         'trace': [companion, 'trace', definition, '--contest', contest] + files,
+        'page': [companion, 'page', definition] + files,
         'warnings': [companion, 'warnings', definition] + files,
     }
 
