@@ -2,12 +2,15 @@
 """run.py --cvr PATH [--only NAME] [-v]
 
 Runs the program on every row of the *.json files beside this one, each in a temporary folder of its own, and compares
-standard output, standard error and status byte for byte. README.md says how a row is written. The last line is
-`rows: N right, M wrong`; the status is 0 only where M is 0 and N is not."""
+standard output, standard error and status byte for byte. The folder has to be as it was: the program writes no file, and
+changes and removes none. README.md says how a row is written. The last line is `rows: N right, M wrong`; the status is 0
+only where M is 0 and N is not."""
 import argparse
 import glob
+import hashlib
 import json
 import os
+import stat
 import subprocess
 import sys
 import tempfile
@@ -180,12 +183,43 @@ def differences(row, short, answer):
     return found
 
 
+def look(path):
+    """What an entry of a folder is: its kind and rights, and a checksum of the bytes of a file."""
+    try:
+        mode = os.lstat(path).st_mode
+        if not stat.S_ISREG(mode):
+            return mode, ''
+        with open(path, 'rb') as file:
+            return mode, hashlib.sha256(file.read()).hexdigest()
+    except OSError as fault:
+        return fault.errno, ''
+
+
+def entries(folder):
+    """What a folder holds, as {path within it: what it is}; the folder itself is '.'."""
+    held = {'.': look(folder)}
+    for base, folders, files in os.walk(folder):
+        for path in (os.path.join(base, name) for name in folders + files):
+            held[os.path.relpath(path, folder)] = look(path)
+    return held
+
+
+def touched(before, after):
+    """What a run did to its folder, as lines: the program only reads."""
+    return (['%r is gone' % name for name in sorted(set(before) - set(after))]
+            + ['%r is new' % name for name in sorted(set(after) - set(before))]
+            + ['%r has changed' % name for name in sorted(set(before) & set(after))
+               if before[name] != after[name]])
+
+
 def tried(cvr, row, short):
     """What differs in one row, as lines."""
     with tempfile.TemporaryDirectory() as folder:
         try:
             lay(folder, row, short)
-            return differences(row, short, run(cvr, row, folder))
+            before = entries(folder)
+            found = differences(row, short, run(cvr, row, folder))
+            return found + touched(before, entries(folder))
         except BadRow as fault:
             return ['the row is not well written: %s' % fault]
         except subprocess.TimeoutExpired:
