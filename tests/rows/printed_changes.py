@@ -53,7 +53,8 @@ RULES = format_rules.Rules()
 def asked():
     every = rows.all_rows()
     held = ((changes.Row(*it), it) for it in every if changes.is_asked(*it[1:]))
-    steps = [Row(None, row, short) for _, row, short in every if row['words'][:1] == ['drill'] and row['err'].endswith(': L3\n')]
+    steps = [Row(None, row, short) for _, row, short in every
+             if row['words'][:1] == ['drill'] and rows.spelled(row['err'], short).endswith(': L3\n')]
     return [Row(files, *it[1:]) for files, it in held if files.size <= changes.LONG] + steps
 
 

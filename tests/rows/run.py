@@ -129,7 +129,7 @@ def rows_of(path):
         else:
             made = [row]
         for one in made:
-            yield one, short
+            yield dict(one, words=[spelled(word, {}) for word in one['words']]), short
 
 
 def lay(folder, row, short):
