@@ -17,6 +17,8 @@ pub mod MemoryFiles
 pub mod Worked
 pub mod Answered
 pub mod OwnWords
+pub mod ListedPaths
+pub mod Listed
 pub mod HeldBytes
 pub mod Laws
 pub mod Rows
