@@ -96,7 +96,8 @@ def fault_in(rules, value, definition):
 def is_asked(row, short):
     """Whether the words of a row ask for a task, and its files can be read to their end."""
     lines = rows.spelled(row['err'], short).splitlines()
-    return (row['words'][:1] != [] and row['words'][0] in printed.TASKS and row['status'] != 2 and not {'--help', '-h', '/dev/zero'} & set(row['words'])
+    return (row['words'][:1] != [] and row['words'][0] in printed.TASKS and row['status'] != 2
+            and not {'--help', '-h', '/dev/zero', '--files-from'} & set(row['words'])
             and not any(': K' in line for line in lines))
 
 

@@ -132,10 +132,23 @@ def rows_of(path):
             yield dict(one, words=[spelled(word, {}) for word in one['words']]), short
 
 
+def by_paths(row, short):
+    """The row with the paths of its list as words, and `list`, where its words name one that can be read."""
+    words = row['words']
+    null = words[-1:] == ['--null']
+    before, flag = words[:-2 - null], words[-2 - null:-1 - null]
+    named = words[-1 - null] if flag else None
+    if flag != ['--files-from'] or row['status'] == 2 or named not in row.get('files', {}):
+        return row
+    *paths, rest = content(row['files'][named], short).decode('utf-8').split('\0' if null else '\n')
+    return dict(row, words=before + ['--'] + paths + [rest] * bool(rest), list=named)
+
+
 def lay(folder, row, short):
-    """Lays the vectors that a word names and the row's own files into the folder."""
+    """Lays the vectors that a word or a list names and the row's own files into the folder."""
+    words = row['words'] + by_paths(row, short)['words']
     for name, data in VECTORS.items():
-        if any(name in word for word in row['words']):
+        if any(name in word for word in words):
             with open(os.path.join(folder, name), 'wb') as file:
                 file.write(data)
     for name in row.get('folders', []):
