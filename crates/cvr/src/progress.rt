@@ -25,8 +25,8 @@ impl<'a, R: Eprint> Progress<'a, R> {
         }
     }
 
-    // Counts a file, and shows how many there are beside the definition, which is the first. One alone
-    // is not shown. What the terminal answers is left.
+    // Counts a file, and shows how many there are beside the first, which is the definition or a list of
+    // files. One alone is not shown. What the terminal answers is left.
     fn count(&self) {
         let files = self.closed.get();
         self.closed.set(files.saturating_add(1));

@@ -8,7 +8,7 @@ use crate::records::{Kind, Records, try_new_records};
 use crate::running::{Asked, try_running};
 use crate::tellings::{Telling, try_telling};
 use crate::trying::{Ended, Reading, try_reading};
-use crate::words::{try_words, try_work};
+use crate::words::{LIST, try_words, try_work};
 use crate::writing::try_writing;
 use cvr_collect::{CachedOffice, PlainOffice};
 
@@ -126,7 +126,7 @@ static LINES: [(&str, &[&str]); 4] = [
     ("read_line, a bad step", &["drill", "d", "2", "1=a", "x"]),
 ];
 
-static WORKS: [(&str, &[&str]); 6] = [
+static WORKS: [(&str, &[&str]); 7] = [
     ("work currents", &["currents", DEFINITION, SCAN, BATCHED]),
     (
         "work drill",
@@ -145,6 +145,10 @@ static WORKS: [(&str, &[&str]); 6] = [
     ("work, a wrong word", &["taly", DEFINITION]),
     ("work, a bad step", &["drill", DEFINITION, "2", "x"]),
     ("respond, the version", &["--version"]),
+    (
+        "respond, a list",
+        &["currents", DEFINITION, "--files-from", LIST],
+    ),
 ];
 
 // A file, and the new facts that it brings.

@@ -150,7 +150,12 @@ fn file_of<'a>(path: &'a str, bytes: &'a [u8]) -> MemoryFile<'a> {
     }
 }
 
-// Works on words over an opener of their files, if they are three.
+// A list of the two files, and its path.
+pub const LIST: &str = "list.txt";
+
+const LISTED: &str = "scan_for_ann.json\nbatched_with_image.json\n";
+
+// Works on words over an opener of their files, if they are three, and of a list.
 fn work_over(alloc: Global, working: &Working) -> Option<Ran> {
     let [definition, scan, batched] = working.files.as_slice() else {
         return None;
@@ -159,6 +164,7 @@ fn work_over(alloc: Global, working: &Working) -> Option<Ran> {
         file_of(DEFINITION, definition.as_slice()),
         file_of(SCAN, scan.as_slice()),
         file_of(BATCHED, batched.as_slice()),
+        file_of(LIST, LISTED.as_bytes()),
     ];
     let mut out = MemorySink::new(alloc, PIECE, 0);
     let mut log = MemorySink::new(alloc, PIECE, 0);

@@ -1,9 +1,10 @@
-ghost use Rattle.std.specs.Prelude.{◌≡◌, ◌≢◌, ◌⊎◌, ◌++◌, ℕ, length, true, false, string_bytes, List, map};
+ghost use Rattle.std.specs.Prelude.{◌≡◌, ◌≢◌, ◌⊎◌, ◌++◌, ℕ, length, Bool, true, false, string_bytes, List, map};
 ghost use Rattle.cdf_types.specs.Device.{appended, AppendsPrefix};
 ghost use Rattle.cvr_words.specs.Line.{named};
 ghost use Rattle.cvr_words.specs.Request.{IsRequest};
 ghost use Rattle.cvr_words.specs.declared.request.Request.{Request};
 ghost use Rattle.cvr_run.specs.Answered.{Answers, IsGiven};
+ghost use Rattle.cvr_run.specs.Listed.{AnswersListed, AsksListed, IsGivenEither};
 ghost use Rattle.cvr_run.specs.Log.{Logs};
 ghost use Rattle.cvr_run.specs.Merge.{merge_lines};
 ghost use Rattle.cvr_run.specs.Outcome.{run_text, run_fault, any_refused, bytes_of, IsWhole};
@@ -84,8 +85,9 @@ pub fn work<O: Open, W: Sink, L: Sink>(
 }
 
 /// Does what the words after the program's name ask for. Where they ask for the version it is printed,
-/// and no file is opened; all other words go to `work`. What `work` says of words that ask for a request
-/// holds as it stands.
+/// and no file is opened. Where a list stands in the place of the files, it is read, and the request is
+/// done over the files of its paths. All other words go to `work`. What `work` says of words that ask
+/// for a request holds as it stands.
 pub fn respond<O: Open, W: Sink, L: Sink>(
     alloc: Global,
     opener: &O,
@@ -98,26 +100,34 @@ pub fn respond<O: Open, W: Sink, L: Sink>(
     ensures version { AsksVersion (map string_bytes words.now) → PrintsOwn version_text result
         (W.taken out.old) (W.taken out.new) (W.has_failed out.new)
         (L.taken log.old) (L.has_failed log.old) (L.taken log.new) (L.has_failed log.new) }
+    ensures listed { (request : Request) (list : List ℕ) (by_null : Bool)
+        → AsksListed (map string_bytes words.now) request list by_null
+        → AnswersListed (O.file_at opener.now) (O.may_fail opener.now) (out.new ≡ out.old)
+        request list by_null result
+        (W.taken out.old) (W.taken out.new) (W.has_failed out.new)
+        (L.taken log.old) (L.has_failed log.old) (L.taken log.new) (L.has_failed log.new) }
     ensures works { ¬ AsksVersion (map string_bytes words.now)
+        → ((request : Request) (list : List ℕ) (by_null : Bool)
+        → ¬ AsksListed (map string_bytes words.now) request list by_null)
         → Answers (O.file_at opener.now) (O.may_fail opener.now) (out.new ≡ out.old)
         (map string_bytes words.now) result
         (W.taken out.old) (W.taken out.new) (W.has_failed out.new)
         (L.taken log.old) (L.has_failed log.old) (L.taken log.new) (L.has_failed log.new) }
     ensures text { (request : Request) (def : List ℕ) (files : List (List ℕ))
-        → IsGiven (O.file_at opener.now) (map string_bytes words.now) request def files
+        → IsGivenEither (O.file_at opener.now) (map string_bytes words.now) request def files
         → IsWhole result
         → W.taken out.new ≡ appended (W.taken out.old) (run_text request.task def request.paths files) }
     ensures log { (request : Request) (def : List ℕ) (files : List (List ℕ))
-        → IsGiven (O.file_at opener.now) (map string_bytes words.now) request def files
+        → IsGivenEither (O.file_at opener.now) (map string_bytes words.now) request def files
         → IsWhole result
         → Logs (L.taken log.old) (L.has_failed log.old) (L.taken log.new) (L.has_failed log.new)
         (run_lines request.task request.def def request.paths files
         ++ merge_lines (run_fault request.task def files)) }
     ensures done { (request : Request) (def : List ℕ) (files : List (List ℕ))
-        → IsGiven (O.file_at opener.now) (map string_bytes words.now) request def files
+        → IsGivenEither (O.file_at opener.now) (map string_bytes words.now) request def files
         → result ≡ Done → any_refused request.task def files ≡ false }
     ensures refused { (request : Request) (def : List ℕ) (files : List (List ℕ))
-        → IsGiven (O.file_at opener.now) (map string_bytes words.now) request def files
+        → IsGivenEither (O.file_at opener.now) (map string_bytes words.now) request def files
         → result ≡ Refused → any_refused request.task def files ≡ true }
     ensures asked { (request : Request) → IsRequest (named (map string_bytes words.now)) request
         → result ≢ CommandLine }

@@ -20,6 +20,8 @@ pub mod HeldFiles
 pub mod HeldSteps
 pub mod HeldBytes
 pub mod Opened
+pub mod ListedPaths
+pub mod ListWords
 pub mod Known
 pub mod Unasked
 pub mod VersionWords

@@ -3,6 +3,7 @@ ghost use Rattle.std.specs.Prelude.{codes};
 ghost use Rattle.cvr_run.specs.declared.memory_files.MemoryFile.{MemoryFile};
 ghost use Rattle.cvr_run.specs.MemoryFiles.{IsTold, FailAsTold};
 ghost use Rattle.cvr_run.specs.CutShort.{AtOnce, AfterOne, AfterAll, AfterLacking};
+ghost use Rattle.cvr_run.specs.Listed.{TallyListed};
 ghost use Rattle.cvr_run.specs.Examples.{CurrentsOfFive, TallyOfFive, ConflictsOfTwo, NoConflict, LinesOfTen, DateAlone, DateFirst, DeviceAlone, DeviceBeforeNumber, NumberAlone, LastVolume};
 
 /// The current snapshots and the tally of five records in three contests, the conflicts among facts
@@ -39,4 +40,9 @@ pub fn memory_ends_a_log_as_told()
     ensures after_one { AfterOne }
     ensures after_all { AfterAll }
     ensures after_lacking { AfterLacking }
+{}
+
+/// Worked example of words that ask for the tally of the files of a list.
+pub fn words_ask_for_a_list()
+    ensures { TallyListed }
 {}

@@ -3,6 +3,7 @@ ghost use Rattle.cdf_form.specs.Reading.{max_file};
 ghost use Rattle.cvr_run.specs.File.{held_bytes};
 ghost use Rattle.cvr_run.specs.HeldBytes.{HeldTextLaw, HeldLinesLaw, HeldFaultLaw, HeldRefusedLaw};
 ghost use Rattle.cvr_run.specs.Laws.{HeldLaw, ByBytesLaw, SameFactsLaw, SameCurrentsLaw, SameConflictsLaw, SameTallyLaw, SameMergeFaultLaw, SameVolumeLaw, NoFaultLaw, NoTextLaw, ToldNumberLaw, LastNumberLaw, DueLaw, LeastSameLaw, StartLaw, ImportLaw, ExchangeLaw, FilesReachedLaw, ReachedLaw, SameReachedLaw, AllImportedLaw, ByPlacesLaw, BothWaysLaw, EachImportsBothLaw, OneLineLaw, TwoLinesLaw, AloneOrEachLaw};
+ghost use Rattle.cvr_run.specs.ListedPaths.{NoEndLaw, ReadBackLaw, ThreePaths, WholeListLaw};
 ghost use Rattle.cvr_run.specs.OwnWords.{UnknownVersionLaw};
 
 /// What a run holds, the devices of the definition and the facts of the accepted files, is the content
@@ -90,4 +91,13 @@ pub fn want_of_memory_is_told_alone_or_after_each_file()
 /// The commands of the line leave the words for the version free: without `respond` both are refused.
 pub fn words_for_the_version_are_unknown()
     ensures { UnknownVersionLaw }
+{}
+
+/// The paths of a list with their ends are its text, or that with one more end. No path has an end in it,
+/// and paths without ends in them are read back. As an example, a list of three paths.
+pub fn paths_of_a_list_are_its_text()
+    ensures whole { WholeListLaw }
+    ensures no_end { NoEndLaw }
+    ensures read_back { ReadBackLaw }
+    ensures three { ThreePaths }
 {}

@@ -1,0 +1,87 @@
+use Rattle.std.proofs.Common.{◌≡◌, ◌∷◌, ◌++◌, ℕ, List, true, false, inl, inr, refl, subst, sym}
+use Rattle.cdf_types.specs.Device.{appended}
+use Rattle.cvr_run.specs.Answered.{Does}
+use Rattle.cvr_run.specs.Listed.{DoesListed, list_place, with_paths}
+use Rattle.cvr_run.specs.Log.{Logs}
+use Rattle.cvr_run.specs.Merge.{merge_lines}
+use Rattle.cvr_run.specs.Opening.{AreAt}
+use Rattle.cvr_run.specs.Outcome.{run_text, run_fault}
+use Rattle.cvr_run.specs.Told.{run_lines}
+use Rattle.cvr_run.proofs.ListWords.{paths_known, unlisted, unlisted_ends}
+use Rattle.cvr_run.proofs.listed.run_listed.Goals as goal
+
+pub returns-in-Ok : goal.returns-in-Ok
+returns-in-Ok g c =
+    let file_at = g.O.Open.file_at c.args.opener.now in
+    let may_fail = g.O.Open.may_fail c.args.opener.now in
+    let unchanged = c.run_request.new.out ≡ c.args.out.now in
+    let answer = c.run_request.result in
+    let before = g.W.Sink.taken c.args.out.now in
+    let after = g.W.Sink.taken c.run_request.new.out in
+    let failed = g.W.Sink.has_failed c.run_request.new.out in
+    let b = g.L.Sink.taken c.args.log.now in
+    let f = g.L.Sink.has_failed c.args.log.now in
+    let a = g.L.Sink.taken c.run_request.new.log in
+    let h = g.L.Sink.has_failed c.run_request.new.log in
+    let request = c.args.request in
+    let list = c.args.list.now in
+    let by_null = c.args.by_null in
+    let place = c.place_of.result.now in
+    let found = c.in-Ok.paths in
+    let read = c.in-Ok.ensures.paths in
+    let quiet = c.in-Ok.ensures.quiet in
+    let told = c.run_request.ensures in
+    let does : Does file_at may_fail unchanged (with_paths request found) answer before after failed (g.L.Sink.taken c.paths_at.new.log) (g.L.Sink.has_failed c.paths_at.new.log) a h = told.ends in
+    let listed : DoesListed file_at may_fail unchanged request place by_null answer before after failed b f a h =
+    inr (
+      read.0,
+      read.1,
+      inr (
+        read.2,
+        subst (λ (paths : List (List ℕ)). Does file_at may_fail unchanged (with_paths request paths) answer before after failed b f a h) read.3
+            (subst (λ l. Does file_at may_fail unchanged (with_paths request found) answer before after failed (g.L.Sink.taken l) (g.L.Sink.has_failed l) a h) quiet does),
+      ),
+    ) in
+    record {
+      does = subst (λ (p : List ℕ). DoesListed file_at may_fail unchanged request p by_null answer before after failed b f a h) c.place_of.ensures listed;
+      text = λ paths def files lists whole.
+          let same = paths_known file_at request list by_null place found paths def files c.place_of.ensures read lists in
+          subst (λ (ps : List (List ℕ)). after ≡ appended before (run_text request.task def ps files)) same
+          (told.text def files (subst (λ (ps : List (List ℕ)). AreAt file_at (request.def ∷ ps) (def ∷ files)) (sym same) lists.there) whole);
+      log = λ paths def files lists whole.
+          let same = paths_known file_at request list by_null place found paths def files c.place_of.ensures read lists in
+          subst (λ (ps : List (List ℕ)). Logs b f a h (run_lines request.task request.def def ps files ++ merge_lines (run_fault request.task def files))) same
+          (subst (λ l. Logs (g.L.Sink.taken l) (g.L.Sink.has_failed l) a h (run_lines request.task request.def def found files ++ merge_lines (run_fault request.task def files))) quiet
+          (told.log def files (subst (λ (ps : List (List ℕ)). AreAt file_at (request.def ∷ ps) (def ∷ files)) (sym same) lists.there) whole));
+      done = λ paths def files lists done.
+          let same = paths_known file_at request list by_null place found paths def files c.place_of.ensures read lists in
+          told.done def files (subst (λ (ps : List (List ℕ)). AreAt file_at (request.def ∷ ps) (def ∷ files)) (sym same) lists.there) done;
+      refused = λ paths def files lists refused.
+          let same = paths_known file_at request list by_null place found paths def files c.place_of.ensures read lists in
+          told.refused def files (subst (λ (ps : List (List ℕ)). AreAt file_at (request.def ∷ ps) (def ∷ files)) (sym same) lists.there) refused;
+    }
+
+pub returns : goal.returns
+returns g c =
+    let file_at = g.O.Open.file_at c.args.opener.now in
+    let may_fail = g.O.Open.may_fail c.args.opener.now in
+    let unchanged = c.args.out.now ≡ c.args.out.now in
+    let request = c.args.request in
+    let by_null = c.args.by_null in
+    let place = c.place_of.result.now in
+    let answer = c.in-Err.status in
+    let stops = c.in-Err.ensures.stops in
+    let before = g.W.Sink.taken c.args.out.now in
+    let failed = g.W.Sink.has_failed c.args.out.now in
+    let b = g.L.Sink.taken c.args.log.now in
+    let f = g.L.Sink.has_failed c.args.log.now in
+    let a = g.L.Sink.taken c.paths_at.new.log in
+    let h = g.L.Sink.has_failed c.paths_at.new.log in
+    record {
+      does = subst (λ (p : List ℕ). DoesListed file_at may_fail unchanged request p by_null answer before before failed b f a h) c.place_of.ensures
+          (unlisted file_at may_fail unchanged refl request place by_null answer before before failed b f a h stops);
+      text = λ paths def files lists whole. absurd (unlisted_ends file_at may_fail place answer b f a h stops whole);
+      log = λ paths def files lists whole. absurd (unlisted_ends file_at may_fail place answer b f a h stops whole);
+      done = λ paths def files lists done. absurd (unlisted_ends file_at may_fail place answer b f a h stops (inl done));
+      refused = λ paths def files lists refused. absurd (unlisted_ends file_at may_fail place answer b f a h stops (inr refused));
+    }

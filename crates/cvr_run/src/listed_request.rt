@@ -1,0 +1,89 @@
+ghost use Rattle.std.specs.Prelude.{◌≡◌, ◌≢◌, [], ℕ, List, Bool, map, true, false, string_bytes, IfOk, IfSome, IfNone};
+ghost use Rattle.cvr_words.specs.declared.fault.LineFault.TheVariants.{Memory as NoMemory};
+ghost use Rattle.cvr_words.specs.declared.request.Request.{Request};
+ghost use Rattle.cvr_words.specs.Line.{named};
+ghost use Rattle.cvr_words.specs.Request.{IsRequest};
+ghost use Rattle.cvr_run.specs.Listed.{AsksListed, IsBefore, list_words, takes_files};
+
+use crate::listing::Listing;
+use cdf_types::Memory;
+use cvr_words::{LineFault, Request, Task, read_line};
+use std::alloc::Global;
+
+// Whether the files of a request can stand in a list.
+fn takes_list(request: &Request) -> bool
+    ensures task { result ≡ true → takes_files request.now.task ≡ true }
+    ensures none { result ≡ true → request.now.paths ≡ [] }
+    ensures no { result ≡ false → takes_files request.now.task ≡ true → request.now.paths ≢ [] }
+{
+    match request.task {
+        Task::Drill { .. } => false,
+        _ => request.paths.as_slice().is_empty(),
+    }
+}
+
+// Whether memory was refused for words.
+fn is_memory(fault: &LineFault) -> bool
+    ensures yes { result ≡ true → fault.now ≡ NoMemory }
+    ensures no { result ≡ false → fault.now ≢ NoMemory }
+{
+    match fault {
+        LineFault::Memory => true,
+        _ => false,
+    }
+}
+
+// The request that words ask for, if they ask for one.
+fn request_of(alloc: Global, words: &[String]) -> Result<Option<Request>, Memory>
+    ensures some { IfOk result (λ found. IfSome found
+        (λ request. IsRequest (named (map string_bytes words.now)) request)) }
+    ensures none { IfOk result (λ found. IfNone found
+        ((request : Request) → ¬ IsRequest (named (map string_bytes words.now)) request)) }
+{
+    match read_line(alloc, words) {
+        Ok(request) => Ok(Some(request)),
+        Err(fault) => {
+            if is_memory(&fault) {
+                Err(Memory)
+            } else {
+                Ok(None)
+            }
+        }
+    }
+}
+
+/// The request that words ask for with a list, if they ask for one: as they stand they ask for none,
+/// and those before the list ask for it, without files.
+///
+/// # Errors
+/// `Memory` where a growth was refused.
+pub fn listed_request(
+    alloc: Global,
+    words: &[String],
+    listing: &Listing<'_>,
+) -> Result<Option<Request>, Memory>
+    requires short { IsBefore (map string_bytes listing.now.before.now) }
+    requires words { map string_bytes words.now
+        ≡ list_words (map string_bytes listing.now.before.now) listing.now.list.now listing.now.by_null }
+    ensures some { IfOk result (λ found. IfSome found (λ request.
+        AsksListed (map string_bytes words.now) request listing.now.list.now listing.now.by_null)) }
+    ensures none { IfOk result (λ found. IfNone found
+        ((request : Request) (list : List ℕ) (by_null : Bool)
+        → ¬ AsksListed (map string_bytes words.now) request list by_null)) }
+{
+    let asked = request_of(alloc, words)?;
+    if asked.is_some() {
+        return Ok(None);
+    }
+    let found = request_of(alloc, listing.before)?;
+    match found {
+        Some(request) => {
+            if takes_list(&request) {
+                Ok(Some(request))
+            } else {
+                Ok(None)
+            }
+        }
+        None => Ok(None),
+    }
+}
