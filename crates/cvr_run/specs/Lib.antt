@@ -19,6 +19,8 @@ pub mod Answered
 pub mod OwnWords
 pub mod ListedPaths
 pub mod Listed
+pub mod Code
+pub mod Explained
 pub mod HeldBytes
 pub mod Laws
 pub mod Rows
