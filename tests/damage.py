@@ -212,11 +212,11 @@ def failing_drills():
 
 
 def failing_words():
-    """Help and the version on an output that fails, and what is told of words on a log that does."""
+    """Help, the version and a code on an output that fails, and what is told of words on a log that does."""
     for how in ('fails', 'nothing'):
-        for name in 'help-drill', 'version':
+        for name in 'help-drill', 'version', 'explain-E1':
             yield from cut_short(stated(name), 1, how, b'out: X1\n', 3)
-        for name in ('no-command-taly-alone', 'no-step-x'):
+        for name in ('no-command-taly-alone', 'no-step-x', 'explain-e1'):
             yield from cut_short(stated(name), 2, how)
 
 

@@ -133,14 +133,18 @@ def rows_of(path):
 
 
 def by_paths(row, short):
-    """The row with the paths of its list as words, and `list`, where its words name one that can be read."""
+    """The row with `list` where its words name a list that is there, and with the paths of that as words if it is UTF-8."""
     words = row['words']
     null = words[-1:] == ['--null']
     before, flag = words[:-2 - null], words[-2 - null:-1 - null]
     named = words[-1 - null] if flag else None
-    if flag != ['--files-from'] or row['status'] == 2 or named not in row.get('files', {}):
+    if flag != ['--files-from'] or named not in row.get('files', {}):
         return row
-    *paths, rest = content(row['files'][named], short).decode('utf-8').split('\0' if null else '\n')
+    try:
+        text = content(row['files'][named], short).decode('utf-8')
+    except UnicodeDecodeError:
+        return dict(row, list=named)
+    *paths, rest = text.split('\0' if null else '\n')
     return dict(row, words=before + ['--'] + paths + [rest] * bool(rest), list=named)
 
 

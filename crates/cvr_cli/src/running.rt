@@ -4,6 +4,7 @@ ghost use Rattle.cvr_words.specs.Line.{named};
 ghost use Rattle.cvr_words.specs.Request.{IsRequest};
 ghost use Rattle.cvr_words.specs.declared.request.Request.{Request};
 ghost use Rattle.cvr_run.specs.Answered.{Answers, IsGiven};
+ghost use Rattle.cvr_run.specs.Explained.{AsksCode, Explains};
 ghost use Rattle.cvr_run.specs.Listed.{AnswersListed, AsksListed, IsGivenEither};
 ghost use Rattle.cvr_run.specs.Log.{Logs};
 ghost use Rattle.cvr_run.specs.Merge.{merge_lines};
@@ -84,10 +85,10 @@ pub fn work<O: Open, W: Sink, L: Sink>(
     cvr_run::work::<CachedOffice, O, W, L>(alloc, opener, words, out, log)
 }
 
-/// Does what the words after the program's name ask for. Where they ask for the version it is printed,
-/// and no file is opened. Where a list stands in the place of the files, it is read, and the request is
-/// done over the files of its paths. All other words go to `work`. What `work` says of words that ask
-/// for a request holds as it stands.
+/// Does what the words after the program's name ask for. Where they ask for the version, or what a
+/// code means, that is printed, and no file is opened. Where a list stands in the place of the files,
+/// it is read, and the request is done over the files of its paths. All other words go to `work`. What
+/// `work` says of words that ask for a request holds as it stands.
 pub fn respond<O: Open, W: Sink, L: Sink>(
     alloc: Global,
     opener: &O,
@@ -100,6 +101,10 @@ pub fn respond<O: Open, W: Sink, L: Sink>(
     ensures version { AsksVersion (map string_bytes words.now) → PrintsOwn version_text result
         (W.taken out.old) (W.taken out.new) (W.has_failed out.new)
         (L.taken log.old) (L.has_failed log.old) (L.taken log.new) (L.has_failed log.new) }
+    ensures explains { (name : List ℕ) → AsksCode (map string_bytes words.now) name
+        → Explains (out.new ≡ out.old) name result
+        (W.taken out.old) (W.taken out.new) (W.has_failed out.new)
+        (L.taken log.old) (L.has_failed log.old) (L.taken log.new) (L.has_failed log.new) }
     ensures listed { (request : Request) (list : List ℕ) (by_null : Bool)
         → AsksListed (map string_bytes words.now) request list by_null
         → AnswersListed (O.file_at opener.now) (O.may_fail opener.now) (out.new ≡ out.old)
@@ -107,6 +112,7 @@ pub fn respond<O: Open, W: Sink, L: Sink>(
         (W.taken out.old) (W.taken out.new) (W.has_failed out.new)
         (L.taken log.old) (L.has_failed log.old) (L.taken log.new) (L.has_failed log.new) }
     ensures works { ¬ AsksVersion (map string_bytes words.now)
+        → ((name : List ℕ) → ¬ AsksCode (map string_bytes words.now) name)
         → ((request : Request) (list : List ℕ) (by_null : Bool)
         → ¬ AsksListed (map string_bytes words.now) request list by_null)
         → Answers (O.file_at opener.now) (O.may_fail opener.now) (out.new ≡ out.old)

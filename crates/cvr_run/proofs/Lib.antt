@@ -25,6 +25,7 @@ pub mod ListWords
 pub mod Known
 pub mod Unasked
 pub mod VersionWords
+pub mod CodeWords
 pub mod GivenTexts
 pub mod GivenOffices
 pub mod Drilled

@@ -13,6 +13,7 @@ use Rattle.cvr_run.specs.declared.file.FileFault.TheVariants as fault
 use Rattle.cvr_run.specs.declared.status.Status.{Status}
 use Rattle.cvr_run.specs.declared.status.Status.TheVariants as status
 use Rattle.cvr_run.specs.declared.status.Status.TheVariants.{Device}
+use Rattle.cvr_run.specs.Explained.{AsksCode}
 use Rattle.cvr_run.specs.File.{held_bytes}
 use Rattle.cvr_run.specs.Listed.{AnswersListed, AsksListed, DoesListed, IsBefore, IsGivenEither, IsGivenListed, IsList, IsNoList, ListsFiles, list_place, list_tail, list_words, with_paths}
 use Rattle.cvr_run.specs.ListedPaths.{end_of, listed_paths}
@@ -21,7 +22,6 @@ use Rattle.cvr_run.specs.Outcome.{IsWhole}
 use Rattle.cvr_run.specs.OwnWords.{AsksVersion}
 use Rattle.cvr_run.specs.Worked.{Stop, Unread, NoRoom, Stops, stop_status}
 use Rattle.cvr_run.proofs.Known.{not_whole}
-use Rattle.cvr_run.proofs.VersionWords.{version_asks_none}
 
 -- ---- words are cut in one way
 
@@ -210,22 +210,26 @@ answers_same file_at may_fail unchanged r request l list n by_null answer c d g 
     (subst (λ (q : List ℕ). AnswersListed file_at may_fail unchanged r q by_null answer c d g b f a h) same.1.0
     (subst (λ (q : Bool). AnswersListed file_at may_fail unchanged r l q answer c d g b f a h) same.1.1 (inr does)))
 
--- ---- the version asks for no list
+-- ---- a few words ask for no list
 
-one_word : (words : List (List ℕ)) → AsksVersion words → length words ≡ 1
-one_word words (inl is) = ap (λ (w : List (List ℕ)). length w) is
-one_word words (inr is) = ap (λ (w : List (List ℕ)). length w) is
+too_few : (before : List (List ℕ)) (n : ℕ) → IsBefore before → n ≤ 3 → length before + 2 ≤ n → ⊥
+too_few before n (inl is) few low = omega (arith, is, few, low)
+too_few before n (inr is) few low = omega (arith, is, few, low)
 
-too_few : (before : List (List ℕ)) (n : ℕ) → IsBefore before → n ≡ 1 → length before + 2 ≤ n → ⊥
-too_few before n (inl is) one low = omega (arith, is, one, low)
-too_few before n (inr is) one low = omega (arith, is, one, low)
-
-pub version_alone : (words : List (List ℕ)) → AsksVersion words → (request : Request) (list : List ℕ) (by_null : Bool) → AsksListed words request list by_null → ⊥
-version_alone words version request list by_null asks =
+pub few_alone : (words : List (List ℕ)) → length words ≤ 3 → (request : Request) (list : List ℕ) (by_null : Bool) → AsksListed words request list by_null → ⊥
+few_alone words few request list by_null asks =
     let all : length words ≡ length (list_words asks.before list by_null) = ap (λ (w : List (List ℕ)). length w) asks.split in
-    too_few asks.before (length words) asks.short (one_word words version) (subst (λ (c : ℕ). length asks.before + 2 ≤ c) (sym all) (count_low asks.before list by_null))
+    too_few asks.before (length words) asks.short few (subst (λ (c : ℕ). length asks.before + 2 ≤ c) (sym all) (count_low asks.before list by_null))
 
--- words that ask for the version give no request either way
-pub version_gives_none : (file_at : List ℕ → At) (words : List (List ℕ)) (request : Request) (def : List ℕ) (files : List (List ℕ)) → AsksVersion words → IsGivenEither file_at words request def files → ⊥
-version_gives_none file_at words request def files version (inl given) = version_asks_none words version request given.asked
-version_gives_none file_at words request def files version (inr given) = version_alone words version given.before given.list given.by_null given.asked
+-- and where they ask for no request as they stand, they give none either way
+pub few_give_none : (file_at : List ℕ → At) (words : List (List ℕ)) (request : Request) (def : List ℕ) (files : List (List ℕ))
+    → length words ≤ 3 → (IsRequest (named words) request → ⊥) → IsGivenEither file_at words request def files → ⊥
+few_give_none file_at words request def files few none (inl given) = none given.asked
+few_give_none file_at words request def files few none (inr given) = few_alone words few given.before given.list given.by_null given.asked
+
+pub version_few : (words : List (List ℕ)) → AsksVersion words → length words ≤ 3
+version_few words (inl is) = let one : length words ≡ 1 = ap (λ (w : List (List ℕ)). length w) is in omega (arith, one)
+version_few words (inr is) = let one : length words ≡ 1 = ap (λ (w : List (List ℕ)). length w) is in omega (arith, one)
+
+pub code_few : (words : List (List ℕ)) (name : List ℕ) → AsksCode words name → length words ≤ 3
+code_few words name is = let two : length words ≡ 2 = ap (λ (w : List (List ℕ)). length w) is in omega (arith, two)

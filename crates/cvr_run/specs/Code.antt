@@ -2,7 +2,7 @@
 -- Made by tools/codes from docs/FAULTS.md. Change that.
 use Rattle.std.specs.Prelude.{ℕ, List, codes, ◌++◌}
 use Rattle.cvr_run.specs.declared.code.Code.{Code}
-use Rattle.cvr_run.specs.declared.code.Code.TheVariants.{E1, E2, E3, E4, E5, E6, J2, N1, K1, K2, X1, H1, H2, V1, L1, L2, L3, L4, MemoryLine, WordsLine}
+use Rattle.cvr_run.specs.declared.code.Code.TheVariants.{E1, E2, E3, E4, E5, E6, J2, N1, K1, K2, X1, H1, H2, V1, L1, L2, L3, L4, MemoryLine, L5, WordsLine}
 
 -- the word that names it
 abbrev pub code_name : Code → List ℕ
@@ -25,6 +25,7 @@ code_name L2 = codes "L2"
 code_name L3 = codes "L3"
 code_name L4 = codes "L4"
 code_name MemoryLine = codes "memory"
+code_name L5 = codes "L5"
 code_name WordsLine = codes "words"
 
 -- what is printed of it
@@ -141,7 +142,9 @@ code_text K1 =
     ++ codes "  none.json: K1\n"
     ++ codes "\n"
     ++ codes "What to do:\n"
-    ++ codes "  Look at the path and its rights. An empty path can't be opened.\n"
+    ++ codes "  Look at the path and its rights. An empty path can't be opened: an empty\n"
+    ++ codes "  line of a list of files is one. A list with line ends as on Windows has a\n"
+    ++ codes "  carriage return at the end of each path: cat -A shows it.\n"
 code_text K2 =
     codes "K2  Memory was refused while the file was opened or read. The program stops\n"
     ++ codes "    there (status 4).\n"
@@ -241,6 +244,16 @@ code_text MemoryLine =
     ++ codes "\n"
     ++ codes "What to do:\n"
     ++ codes "  Free memory, or hand in fewer files.\n"
+code_text L5 =
+    codes "L5  The list of files is not UTF-8, or has more than 67,108,864 bytes. Nothing\n"
+    ++ codes "    but it was opened (status 2).\n"
+    ++ codes "\n"
+    ++ codes "Example:\n"
+    ++ codes "  list.txt: L5\n"
+    ++ codes "\n"
+    ++ codes "What to do:\n"
+    ++ codes "  Rename the file whose path is not UTF-8; split a longer list, and add up the\n"
+    ++ codes "  tallies of parts that have no record in common.\n"
 code_text WordsLine =
     codes "words  A word is not UTF-8. No file was opened (status 2).\n"
     ++ codes "\n"
@@ -254,6 +267,6 @@ code_text WordsLine =
 abbrev pub no_code_text : List ℕ
 no_code_text =
     codes "error: invalid value for '<CODE>'\n"
-    ++ codes "  [possible values: E1, E2, E3, E4, E5, E6, J2, N1, K1, K2, X1, H1, H2, V1, L1, L2, L3, L4, memory, words]\n"
+    ++ codes "  [possible values: E1, E2, E3, E4, E5, E6, J2, N1, K1, K2, X1, H1, H2, V1, L1, L2, L3, L4, memory, L5, words]\n"
     ++ codes "\n"
     ++ codes "For more information, try '--help'.\n"

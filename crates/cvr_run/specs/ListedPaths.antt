@@ -1,5 +1,5 @@
 -- The paths of a list, as lines of a text. (This project's own.)
-use Rattle.std.specs.Prelude.{◌≡◌, ◌≢◌, ◌⊎◌, ℕ, List, [], ◌∷◌, ◌++◌, ◌==◌, Bool, true, false, if◌then◌else◌}
+use Rattle.std.specs.Prelude.{◌≡◌, ◌≢◌, ◌⊎◌, ℕ, List, [], ◌∷◌, ◌++◌, ◌==◌, Bool, if◌then◌else◌}
 use Rattle.std.specs.List.{AllByRecursion, flat_map}
 
 -- what ends a path: a line feed or, where the list has NUL bytes, one of these

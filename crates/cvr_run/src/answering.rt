@@ -22,8 +22,8 @@ use cvr_office::Office;
 use cvr_words::{LineFault, read_line};
 use std::alloc::Global;
 
-// Tells what is wrong with words.
-fn tell_refused<L: Sink>(log: &mut L, text: &str)
+/// Tells what is wrong with words. Takes no memory.
+pub fn tell_refused<L: Sink>(log: &mut L, text: &str)
     ensures { Logs (L.taken log.old) (L.has_failed log.old) (L.taken log.new) (L.has_failed log.new) text.now }
 {
     say(log, &[text.as_bytes()]);

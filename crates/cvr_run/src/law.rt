@@ -1,5 +1,6 @@
 ghost use Rattle.std.specs.Prelude.{◌≡◌, ◌+◌};
 ghost use Rattle.cdf_form.specs.Reading.{max_file};
+ghost use Rattle.cvr_run.specs.Explained.{NoExplainLaw};
 ghost use Rattle.cvr_run.specs.File.{held_bytes};
 ghost use Rattle.cvr_run.specs.HeldBytes.{HeldTextLaw, HeldLinesLaw, HeldFaultLaw, HeldRefusedLaw};
 ghost use Rattle.cvr_run.specs.Laws.{HeldLaw, ByBytesLaw, SameFactsLaw, SameCurrentsLaw, SameConflictsLaw, SameTallyLaw, SameMergeFaultLaw, SameVolumeLaw, NoFaultLaw, NoTextLaw, ToldNumberLaw, LastNumberLaw, DueLaw, LeastSameLaw, StartLaw, ImportLaw, ExchangeLaw, FilesReachedLaw, ReachedLaw, SameReachedLaw, AllImportedLaw, ByPlacesLaw, BothWaysLaw, EachImportsBothLaw, OneLineLaw, TwoLinesLaw, AloneOrEachLaw};
@@ -91,6 +92,11 @@ pub fn want_of_memory_is_told_alone_or_after_each_file()
 /// The commands of the line leave the words for the version free: without `respond` both are refused.
 pub fn words_for_the_version_are_unknown()
     ensures { UnknownVersionLaw }
+{}
+
+/// No command of the line is called `explain`: without `respond` the words for a code are refused.
+pub fn words_for_a_code_name_no_command()
+    ensures { NoExplainLaw }
 {}
 
 /// The paths of a list with their ends are its text, or that with one more end. No path has an end in it,

@@ -3,12 +3,14 @@
 
 mod answering;
 mod check;
+mod code;
 mod collecting;
 mod conflicts;
 mod currents;
 mod drilling;
 mod ending;
 pub mod examples;
+mod explaining;
 mod file;
 mod given;
 pub mod law;

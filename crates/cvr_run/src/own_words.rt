@@ -21,8 +21,8 @@ pub fn asks_version(words: &[String]) -> bool
     }
 }
 
-// Prints a text of the program's own. Takes no memory.
-fn print_own<W: Sink, L: Sink>(text: &str, out: &mut W, log: &mut L) -> Status
+/// Prints a text of the program's own. Takes no memory.
+pub fn print_own<W: Sink, L: Sink>(text: &str, out: &mut W, log: &mut L) -> Status
     requires { W.has_failed out.old ≡ false }
     ensures { PrintsOwn text.now result (W.taken out.old) (W.taken out.new) (W.has_failed out.new)
         (L.taken log.old) (L.has_failed log.old) (L.taken log.new) (L.has_failed log.new) }

@@ -5,6 +5,7 @@ ghost use Rattle.cvr_words.specs.Request.{IsRequest};
 ghost use Rattle.cvr_words.specs.declared.request.Request.{Request};
 ghost use Rattle.cvr_run.specs.declared.status.Status.TheVariants.{Done, Refused, CommandLine};
 ghost use Rattle.cvr_run.specs.Answered.{Answers};
+ghost use Rattle.cvr_run.specs.Explained.{AsksCode, Explains};
 ghost use Rattle.cvr_run.specs.Listed.{AnswersListed, AsksListed, IsBefore, IsGivenEither, list_words};
 ghost use Rattle.cvr_run.specs.Log.{Logs};
 ghost use Rattle.cvr_run.specs.Merge.{merge_lines};
@@ -14,6 +15,7 @@ ghost use Rattle.cvr_run.specs.Told.{run_lines};
 
 use crate::answering::work;
 use crate::ending::end_in_memory;
+use crate::explaining::{asked_code, explain};
 use crate::listed::run_listed;
 use crate::listed_request::listed_request;
 use crate::listing::{Listing, listing_of};
@@ -86,10 +88,11 @@ fn respond_listed<C: Office + Drop, O: Open, W: Sink, L: Sink>(
     }
 }
 
-/// Does what the words after the program's name ask for. Where they ask for the version it is printed,
-/// and no file is opened. Where a list stands in the place of the files, it is read, and the request is
-/// done over the files of its paths. All other words go to `work`. What `work` says of words that ask
-/// for a request holds as it stands.
+/// Does what the words after the program's name ask for. Where they ask for the version, or what a
+/// code means, that is printed, and no file is opened. Where a list stands in the place of the files,
+/// it is read, and the request is done over the files of its paths. All other words go to `work`. What
+/// `work` says of words that ask for a request holds as it stands.
+#[tactic(auto, using(crate::proofs::CodeWords::version_no_code, crate::proofs::CodeWords::one_name))]
 pub fn respond<C: Office + Drop, O: Open, W: Sink, L: Sink>(
     alloc: Global,
     opener: &O,
@@ -102,6 +105,10 @@ pub fn respond<C: Office + Drop, O: Open, W: Sink, L: Sink>(
     ensures version { AsksVersion (map string_bytes words.now) → PrintsOwn version_text result
         (W.taken out.old) (W.taken out.new) (W.has_failed out.new)
         (L.taken log.old) (L.has_failed log.old) (L.taken log.new) (L.has_failed log.new) }
+    ensures explains { (name : List ℕ) → AsksCode (map string_bytes words.now) name
+        → Explains (out.new ≡ out.old) name result
+        (W.taken out.old) (W.taken out.new) (W.has_failed out.new)
+        (L.taken log.old) (L.has_failed log.old) (L.taken log.new) (L.has_failed log.new) }
     ensures listed { (request : Request) (list : List ℕ) (by_null : Bool)
         → AsksListed (map string_bytes words.now) request list by_null
         → AnswersListed (O.file_at opener.now) (O.may_fail opener.now) (out.new ≡ out.old)
@@ -109,6 +116,7 @@ pub fn respond<C: Office + Drop, O: Open, W: Sink, L: Sink>(
         (W.taken out.old) (W.taken out.new) (W.has_failed out.new)
         (L.taken log.old) (L.has_failed log.old) (L.taken log.new) (L.has_failed log.new) }
     ensures works { ¬ AsksVersion (map string_bytes words.now)
+        → ((name : List ℕ) → ¬ AsksCode (map string_bytes words.now) name)
         → ((request : Request) (list : List ℕ) (by_null : Bool)
         → ¬ AsksListed (map string_bytes words.now) request list by_null)
         → Answers (O.file_at opener.now) (O.may_fail opener.now) (out.new ≡ out.old)
@@ -137,8 +145,11 @@ pub fn respond<C: Office + Drop, O: Open, W: Sink, L: Sink>(
     if asks_version(words) {
         return print_version(out, log);
     }
-    match listing_of(words) {
-        Some(listing) => respond_listed::<C, O, W, L>(alloc, opener, words, &listing, out, log),
-        None => work::<C, O, W, L>(alloc, opener, words, out, log),
+    match asked_code(words) {
+        Some(name) => explain(name, out, log),
+        None => match listing_of(words) {
+            Some(listing) => respond_listed::<C, O, W, L>(alloc, opener, words, &listing, out, log),
+            None => work::<C, O, W, L>(alloc, opener, words, out, log),
+        },
     }
 }

@@ -209,7 +209,9 @@ fn bare_command<'a>(alloc: Global) -> Command<'a>
             "Check, collect and tally cast vote records in NIST's Common Data Format 1.0 (SP 1500-103, JSON)",
         )
         .after_help(
-            "What is refused is told on standard error, by a code: cvr(1) and docs/FAULTS.md say what each means.",
+            "Where files differ: cvr conflicts. One report of several files: cvr merge. Votes: cvr tally.\n\
+            What is refused is reported on standard error by a code: cvr explain CODE says what it means,\n\
+            as do cvr(1) and docs/FAULTS.md.",
         )
 }
 

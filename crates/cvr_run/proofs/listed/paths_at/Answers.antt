@@ -1,5 +1,4 @@
-use Rattle.std.proofs.Common.{◌≡◌, ◌⊎◌, ◌∷◌, ◌++◌, ℕ, List, [], inl, refl, subst}
-use Rattle.cvr_run.specs.declared.status.Status.TheVariants.{Memory}
+use Rattle.std.proofs.Common.{◌≡◌, ◌⊎◌, ◌∷◌, ℕ, List, [], inl, refl, subst}
 use Rattle.cvr_run.specs.Listed.{IsNoList}
 use Rattle.cvr_run.specs.Log.{Logs, memory_line}
 use Rattle.cvr_run.specs.Opening.{IsRead}

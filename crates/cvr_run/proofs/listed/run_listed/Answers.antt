@@ -1,7 +1,7 @@
-use Rattle.std.proofs.Common.{◌≡◌, ◌∷◌, ◌++◌, ℕ, List, true, false, inl, inr, refl, subst, sym}
+use Rattle.std.proofs.Common.{◌≡◌, ◌∷◌, ◌++◌, ℕ, List, inl, inr, refl, subst, sym}
 use Rattle.cdf_types.specs.Device.{appended}
 use Rattle.cvr_run.specs.Answered.{Does}
-use Rattle.cvr_run.specs.Listed.{DoesListed, list_place, with_paths}
+use Rattle.cvr_run.specs.Listed.{DoesListed, with_paths}
 use Rattle.cvr_run.specs.Log.{Logs}
 use Rattle.cvr_run.specs.Merge.{merge_lines}
 use Rattle.cvr_run.specs.Opening.{AreAt}

@@ -1,5 +1,5 @@
-use Rattle.std.proofs.Common.{rules, ◌≡◌, ◌∙◌, ◌++◌, ◌==◌, ℕ, List, [], ◌∷◌, ap, sym, append-nil, append_assoc}
-use Rattle.std.specs.List.{after_first, before_first}
+use Rattle.std.proofs.Common.{rules, ◌≡◌, ◌∙◌, ◌++◌, ◌==◌, ℕ, [], ◌∷◌, ap, sym, append-nil, append_assoc}
+use Rattle.std.specs.List.{before_first}
 use Rattle.cvr_run.specs.ListedPaths.{end_of, listed_paths}
 use Rattle.cvr_run.proofs.ListedPaths.{cut_first, last_path, no_path}
 use Rattle.cvr_run.proofs.listed_paths.read_paths.Goals as goal

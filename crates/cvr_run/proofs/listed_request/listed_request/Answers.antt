@@ -1,4 +1,4 @@
-use Rattle.std.proofs.Common.{◌≡◌, ◌∙◌, ap, map, string_bytes, sym}
+use Rattle.std.proofs.Common.{◌∙◌, ap, map, string_bytes, sym}
 use Rattle.cvr_words.specs.Line.{named}
 use Rattle.cvr_words.proofs.Laws.{one_request}
 use Rattle.cvr_run.specs.Listed.{takes_files}
