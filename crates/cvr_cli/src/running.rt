@@ -86,9 +86,9 @@ pub fn work<O: Open, W: Sink, L: Sink>(
 }
 
 /// Does what the words after the program's name ask for. Where they ask for the version, or what a
-/// code means, that is printed, and no file is opened. Where a list stands in the place of the files,
-/// it is read, and the request is done over the files of its paths. All other words go to `work`. What
-/// `work` says of words that ask for a request holds as it stands.
+/// code means, that is printed, and no file is opened. Where a list stands in the place of the
+/// files, it is read, and the request is done over the files of its paths. All other words go to
+/// `work`. What `work` says of words that ask for a request holds as it stands.
 pub fn respond<O: Open, W: Sink, L: Sink>(
     alloc: Global,
     opener: &O,
@@ -122,7 +122,8 @@ pub fn respond<O: Open, W: Sink, L: Sink>(
     ensures text { (request : Request) (def : List ℕ) (files : List (List ℕ))
         → IsGivenEither (O.file_at opener.now) (map string_bytes words.now) request def files
         → IsWhole result
-        → W.taken out.new ≡ appended (W.taken out.old) (run_text request.task def request.paths files) }
+        → W.taken out.new
+        ≡ appended (W.taken out.old) (run_text request.task def request.paths files) }
     ensures log { (request : Request) (def : List ℕ) (files : List (List ℕ))
         → IsGivenEither (O.file_at opener.now) (map string_bytes words.now) request def files
         → IsWhole result

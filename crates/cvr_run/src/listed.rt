@@ -44,7 +44,8 @@ fn text_of<'a>(bytes: &'a [u8]) -> Option<&'a str>
 
 // Reports a file that is no list.
 fn tell_bad_list<L: Sink>(log: &mut L, path: &str)
-    ensures { Logs (L.taken log.old) (L.has_failed log.old) (L.taken log.new) (L.has_failed log.new) (bad_list_line path.now) }
+    ensures { Logs (L.taken log.old) (L.has_failed log.old) (L.taken log.new) (L.has_failed log.new)
+        (bad_list_line path.now) }
 {
     let path = path.as_bytes();
     say(log, &[path, b": L5\n"]);

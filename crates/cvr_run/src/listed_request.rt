@@ -64,7 +64,8 @@ pub fn listed_request(
 ) -> Result<Option<Request>, Memory>
     requires short { IsBefore (map string_bytes listing.now.before.now) }
     requires words { map string_bytes words.now
-        ≡ list_words (map string_bytes listing.now.before.now) listing.now.list.now listing.now.by_null }
+        ≡ list_words (map string_bytes listing.now.before.now) listing.now.list.now
+        listing.now.by_null }
     ensures some { IfOk result (λ found. IfSome found (λ request.
         AsksListed (map string_bytes words.now) request listing.now.list.now listing.now.by_null)) }
     ensures none { IfOk result (λ found. IfNone found

@@ -14,7 +14,8 @@ pub struct Listing<'a> {
 
 // The list that words name, and whether its paths end with a NUL byte.
 fn list_of<'a>(tail: &'a [String]) -> Option<(&'a str, bool)>
-    ensures some { IfSome result (λ found. map string_bytes tail.now ≡ list_tail found.0.now found.1) }
+    ensures some { IfSome result (λ found.
+        map string_bytes tail.now ≡ list_tail found.0.now found.1) }
     ensures none { IfNone result ((list : List ℕ) (by_null : Bool)
         → map string_bytes tail.now ≢ list_tail list by_null) }
 {
@@ -34,8 +35,10 @@ fn list_of<'a>(tail: &'a [String]) -> Option<(&'a str, bool)>
 
 // How many words stand before a list, by the number of all.
 fn count_before(count: usize) -> Option<usize>
-    ensures some { IfSome result (λ before. ((before ≡ 2) ⊎ (before ≡ 5)) × (before + 2 ≤ count) × (count ≤ before + 3)) }
-    ensures none { IfNone result ((before : ℕ) → (before ≡ 2) ⊎ (before ≡ 5) → before + 2 ≤ count → ¬ (count ≤ before + 3)) }
+    ensures some { IfSome result (λ before. ((before ≡ 2) ⊎ (before ≡ 5))
+        × (before + 2 ≤ count) × (count ≤ before + 3)) }
+    ensures none { IfNone result ((before : ℕ) → (before ≡ 2) ⊎ (before ≡ 5)
+        → before + 2 ≤ count → ¬ (count ≤ before + 3)) }
 {
     match count {
         4 | 5 => Some(2),
@@ -49,8 +52,8 @@ pub fn listing_of<'a>(words: &'a [String]) -> Option<Listing<'a>>
     ensures before { IfSome result (λ found. IsBefore (map string_bytes found.before.now)) }
     ensures words { IfSome result (λ found. map string_bytes words.now
         ≡ list_words (map string_bytes found.before.now) found.list.now found.by_null) }
-    ensures none { IfNone result ((before : List (List ℕ)) (list : List ℕ) (by_null : Bool) → IsBefore before
-        → map string_bytes words.now ≢ list_words before list by_null) }
+    ensures none { IfNone result ((before : List (List ℕ)) (list : List ℕ) (by_null : Bool)
+        → IsBefore before → map string_bytes words.now ≢ list_words before list by_null) }
 {
     let count = count_before(words.len())?;
     let (before, tail) = words.split_at(count);

@@ -34,7 +34,8 @@ pub fn print_own<W: Sink, L: Sink>(text: &str, out: &mut W, log: &mut L) -> Stat
 /// Prints the version, and the kit that built the program. Takes no memory.
 pub fn print_version<W: Sink, L: Sink>(out: &mut W, log: &mut L) -> Status
     requires { W.has_failed out.old ≡ false }
-    ensures { PrintsOwn version_text result (W.taken out.old) (W.taken out.new) (W.has_failed out.new)
+    ensures { PrintsOwn version_text result
+        (W.taken out.old) (W.taken out.new) (W.has_failed out.new)
         (L.taken log.old) (L.has_failed log.old) (L.taken log.new) (L.has_failed log.new) }
 {
     print_own("cvr 1.0.0 (rattle-kit-13f)\n", out, log)

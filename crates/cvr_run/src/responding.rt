@@ -39,7 +39,8 @@ fn respond_listed<C: Office + Drop, O: Open, W: Sink, L: Sink>(
     requires log_working { L.has_failed log.old ≡ false }
     requires short { IsBefore (map string_bytes listing.now.before.now) }
     requires words { map string_bytes words.now
-        ≡ list_words (map string_bytes listing.now.before.now) listing.now.list.now listing.now.by_null }
+        ≡ list_words (map string_bytes listing.now.before.now) listing.now.list.now
+        listing.now.by_null }
     ensures listed { (request : Request) (list : List ℕ) (by_null : Bool)
         → AsksListed (map string_bytes words.now) request list by_null
         → AnswersListed (O.file_at opener.now) (O.may_fail opener.now) (out.new ≡ out.old)
@@ -55,7 +56,8 @@ fn respond_listed<C: Office + Drop, O: Open, W: Sink, L: Sink>(
     ensures text { (request : Request) (def : List ℕ) (files : List (List ℕ))
         → IsGivenEither (O.file_at opener.now) (map string_bytes words.now) request def files
         → IsWhole result
-        → W.taken out.new ≡ appended (W.taken out.old) (run_text request.task def request.paths files) }
+        → W.taken out.new
+        ≡ appended (W.taken out.old) (run_text request.task def request.paths files) }
     ensures log { (request : Request) (def : List ℕ) (files : List (List ℕ))
         → IsGivenEither (O.file_at opener.now) (map string_bytes words.now) request def files
         → IsWhole result
@@ -89,9 +91,9 @@ fn respond_listed<C: Office + Drop, O: Open, W: Sink, L: Sink>(
 }
 
 /// Does what the words after the program's name ask for. Where they ask for the version, or what a
-/// code means, that is printed, and no file is opened. Where a list stands in the place of the files,
-/// it is read, and the request is done over the files of its paths. All other words go to `work`. What
-/// `work` says of words that ask for a request holds as it stands.
+/// code means, that is printed, and no file is opened. Where a list stands in the place of the
+/// files, it is read, and the request is done over the files of its paths. All other words go to
+/// `work`. What `work` says of words that ask for a request holds as it stands.
 #[tactic(auto, using(crate::proofs::CodeWords::version_no_code, crate::proofs::CodeWords::one_name))]
 pub fn respond<C: Office + Drop, O: Open, W: Sink, L: Sink>(
     alloc: Global,
@@ -126,7 +128,8 @@ pub fn respond<C: Office + Drop, O: Open, W: Sink, L: Sink>(
     ensures text { (request : Request) (def : List ℕ) (files : List (List ℕ))
         → IsGivenEither (O.file_at opener.now) (map string_bytes words.now) request def files
         → IsWhole result
-        → W.taken out.new ≡ appended (W.taken out.old) (run_text request.task def request.paths files) }
+        → W.taken out.new
+        ≡ appended (W.taken out.old) (run_text request.task def request.paths files) }
     ensures log { (request : Request) (def : List ℕ) (files : List (List ℕ))
         → IsGivenEither (O.file_at opener.now) (map string_bytes words.now) request def files
         → IsWhole result
