@@ -3,19 +3,25 @@
 
 What a run shows on a terminal, beside what it prints. Where standard error is a terminal, a line `read N files` stands on it
 from the second file on, is written over by the next one, and is taken away before anything else is written and at the end. So
-the screen ends with the log alone, and with output and log where both go to it. Where standard error is none, it takes the
-log and not a byte more, also beside an output that is a terminal.
+the screen ends with the log and the notes of the run, and with output, log and notes where all go to it. Where standard error
+is no terminal, it takes the log and not a byte more, also beside an output that is a terminal.
 
 - Runs over files that are accepted, refused or missing, of each command, and of help and refused words, on a terminal
   each, on one terminal for both, and on pipes.
+- Notes: where a file is no JSON, and what it seems to be, as stated below by hand; records of the definition's own; names with
+  several texts; no files; what the system says of a file that can't be read.
 - A file that is read slowly, by a pipe of the file system: the line stands while the run waits for it.
 - The terminal fails at each call of the line, one byte a call (devices.c): output, log and status are as ever.
 
 The texts are those of tests/rows/printed.py. The judge of a screen is tried first, on right and on wrong ones. The last line
 is `terminal: N right, M wrong`; the status is 0 only where M is 0 and N is not."""
 import argparse
+import errno
+import gzip
+import json
 import os
 import pty
+import re
 import subprocess
 import sys
 import tempfile
@@ -29,6 +35,26 @@ import damage  # noqa: E402 (it stands here)
 
 SECONDS = 60
 ENDS = ('terminal', 'pipe')
+F2 = damage.rows.VECTORS['f2.json']
+DEF = damage.rows.VECTORS['def.json']
+
+# Files that are no JSON, each with the line and the byte where it stops being JSON, and what it seems to be.
+NO_JSON = {
+    'half': (F2[:100], 1, 88, '; it seems to be cut off'),
+    'word': (b'{"a": tru', 1, 7, '; it seems to be cut off'),
+    'gz': (gzip.compress(F2, mtime=0), 1, 2, '; it seems to be packed by gzip'),
+    'xml': (b'\n <CastVoteRecordReport/>', 2, 2, '; it seems to be XML'),
+    'empty': (b'', 1, 0, '; it is empty'),
+    'blank': (b' \r\n\t', 2, 1, '; it is empty'),
+    'utf16': (F2.decode('utf-8').encode('utf-16'), 1, 1, '; it seems to be UTF-16'),
+    'utf16-le': (F2.decode('utf-8').encode('utf-16-le'), 1, 2, '; it seems to be UTF-16'),
+    'utf16-be': (F2.decode('utf-8').encode('utf-16-be'), 1, 1, '; it seems to be UTF-16'),
+    'mark': (b'\xef\xbb\xbf' + F2, 1, 1, '; it begins with a byte order mark'),
+    'more': (F2 + b'\n}', 2, 1, ''),
+    'latin': (F2.replace(b'"p1"', b'"p\xe9"', 1), 1, 85, ''),
+    'twice': (F2.replace(b':', b'::', 1), 1, 10, ''),
+    'lines': (b'{\n  "\xc3\xa9": nul\n}', 2, 9, ''),
+}
 
 
 # ---- the judge
@@ -143,20 +169,45 @@ def differs(got, wanted):
     return '' if got == wanted else 'status %r, expected %r' % (got, wanted) if isinstance(wanted, int) else 'took %r, expected %r' % (got, wanted)
 
 
-def wrongs(program, asked, files):
-    """Yields what is wrong with a run that reads so many files beside the definition, or nothing: for each kind of its ends."""
+def notes(program, asked):
+    """The notes of a run, by what its log says, and by the table above."""
+    log = asked.log.decode('utf-8')
+    if asked.status == 3:
+        code = errno.EISDIR if '.: K1' in log else errno.ENOENT
+        return 'note: K1: %s (os error %d)\n' % (os.strerror(code), code)
+    if asked.words[0] not in damage.TASKS + ('check', 'drill') or asked.status > 1:
+        return ''
+    path, *given = damage.printed.paths(asked.words)
+    found = ''.join('note: %s: no JSON at line %d, byte %d%s\n' % ((one,) + NO_JSON[one][1:])
+                    for one in re.findall(r'^(.*): E2$', log, re.M) if one in NO_JSON)
+    if log.startswith(path + ': '):
+        return found
+    with open(program.path(path), 'rb') as file:
+        records = len(json.load(file)['CVR'])
+    if records and path not in given:
+        found += 'note: %s: records of its own, which are not counted: %d\n' % (path, records)
+    if asked.words[0] in ('currents', 'tally', 'merge'):
+        read = [(one, damage.reading(damage.rows.VECTORS[one])) for one in given if one in damage.rows.VECTORS]
+        several = damage.case('conflicts', read).out.count(b'\n') - 1
+        found += 'note: names with several texts, which cvr conflicts lists: %d\n' % several if several else ''
+    return found + ('' if given else 'note: no files were given\n')
+
+
+def wrongs(program, asked, files, noted):
+    """Yields what is wrong with a run that reads so many files beside its first, and has these notes, or nothing: for each kind of
+    its ends."""
     told, log = asked.out.decode('utf-8'), asked.log.decode('utf-8')
     for out_kind in ENDS:
         for log_kind in ENDS:
             left = Run(program, asked.words, End(out_kind), End(log_kind)).left()
-            is_wrong = wrong_of(left[1], files, log) if log_kind == 'terminal' else differs(left[1], log)
+            is_wrong = wrong_of(left[1], files, log + noted) if log_kind == 'terminal' else differs(left[1], log)
             yield differs(left[0], told) or is_wrong or differs(left[2], asked.status)
     both = {}
     for kind in ENDS:
         end = End(kind)
         both[kind], _, status = Run(program, asked.words, end, end).left()
         yield differs(status, asked.status)
-    yield differs(len(both['pipe']), len(told + log)) or wrong_of(both['terminal'], files, both['pipe'])
+    yield differs(len(both['pipe']), len(told + log)) or wrong_of(both['terminal'], files, both['pipe'] + noted)
 
 
 def slow(program, names):
@@ -170,13 +221,13 @@ def slow(program, names):
         file.write(damage.rows.VECTORS[names[-1]])
     out, log, status = run.left()
     return ('' if stands else 'the line does not stand while the run waits') or differs(out, asked.out.decode('utf-8')) \
-        or wrong_of(log, len(names), asked.log.decode('utf-8')) or differs(status, asked.status)
+        or wrong_of(log, len(names), asked.log.decode('utf-8') + notes(program, asked)) or differs(status, asked.status)
 
 
 def failing(program, asked):
     """Yields what is wrong with a run whose terminal fails at a call of the line or of taking it away, or nothing. The log is whole
     in each, and stands alone but where the line could not be taken away."""
-    log = asked.log.decode('utf-8')
+    log = asked.log.decode('utf-8') + notes(program, asked)
     took = Run(program, asked.words, End('pipe'), End('terminal')).left()[1]
     last = took.rfind('\r')
     yield '' if last > 0 else 'no line'
@@ -198,6 +249,14 @@ def asked_runs(program):
     missing = damage.Case(['tally', 'def.json', 'f2.json', 'f6.json', 'f8.json', 'none', 'f2.json'], None, b'', b'none: K1\n', 3)
     yield missing, 3
     yield missing._replace(words=['tally', 'none', 'f2.json']), 0
+    yield missing._replace(words=['tally', 'def.json', 'half', '.'], log=b'.: K1\n'), 2
+    for task in 'check', 'tally':
+        yield damage.case(task, held + [(name, 'E2') for name in NO_JSON]), len(held) + len(NO_JSON)
+    yield damage.Case(['tally', 'half', 'gz'], None, b'', b'half: E2\n', 1), 1
+    yield damage.Case(['tally', 'bad', 'half'], None, b'', b'bad: E3 /CVR/0/UniqueId 2\n', 1), 1
+    for files in [], held:
+        asked = damage.case('tally', files)
+        yield asked._replace(words=['tally', 'own'] + asked.words[2:]), len(files)
     for name in 'help-drill', 'no-command-taly-alone', 'no-step-x':
         yield damage.stated(name), 0
 
@@ -210,10 +269,16 @@ def main():
     if not any(one for _, one in found):
         with tempfile.TemporaryDirectory() as folder:
             program = damage.Program(cvr, folder)
-            program.put('half', damage.rows.VECTORS['f2.json'][:100])
+            for name, (data, *_) in NO_JSON.items():
+                program.put(name, data)
             program.put('bad', damage.BAD)
+            program.put('own', json.dumps(dict(json.loads(DEF), CVR=json.loads(F2)['CVR'] * 3)).encode('utf-8'))
             for asked, files in asked_runs(program):
-                found += [(' '.join(asked.words), one) for one in wrongs(program, asked, files)]
+                found += [(' '.join(asked.words), one) for one in wrongs(program, asked, files, notes(program, asked))]
+            given = damage.case('tally', damage.held('f2.json', 'f8.json') + [('half', 'E2')])
+            program.put('list', '\n'.join(given.words[2:]).encode('utf-8'))
+            listed = given._replace(words=given.words[:2] + ['--files-from', 'list'])
+            found += [('a list', one) for one in wrongs(program, listed, 4, notes(program, given))]
             found.append(('a slow file', slow(program, ['f2.json', 'f6.json', 'f8.json'])))
             refused = damage.case('currents', damage.held('f2.json', 'f6.json') + [('half', 'E2')])
             found += [('a terminal that fails', one) for one in failing(program, refused)]

@@ -1,82 +1,108 @@
 //! The program: it hands the words to the library, with the files and the devices of the system.
 #![tactic(auto)]
 
+mod choices;
+mod notes;
 mod progress;
+mod seen;
+mod watched;
 
-ghost use Rattle.std.specs.Prelude.{true};
+ghost use Rattle.std.specs.Prelude.{◌≡◌, false, true};
 ghost use Rattle.cvr_run.specs.Opening.{Unknown};
 
-use cvr_cli::{FileFault, Open, OverRead, OverWrite, Status, respond};
-use progress::{Cleared, Counted, Progress};
-use std::io::{ErrorKind, IsTerminal};
+use choices::{behind_the_name, file_fault, words_line, words_status};
+use cvr_cli::{FileFault, Open, OverRead, OverWrite, Status, listing_of, respond};
+use notes::Notes;
+use progress::{Cleared, Progress};
+use std::io::IsTerminal;
 use std::process::ExitCode;
-use std::rt::{Env, Files};
+use std::rt::{Env, Files, Stderr, Stdout};
 use std::{env, fs};
+use watched::{Log, Watched};
 
 // The files of the system, of which nothing is said.
 #[derive(Drop)]
 struct System<'a, R> {
     rt: &'a R,
     progress: &'a Progress<'a, R>,
+    notes: &'a Notes<'a, R>,
 }
 
-impl<'a, R: Files + Eprint> Open for System<'a, R> {
-    type File = OverRead<Counted<'a, R::File, R>>;
+impl<'a, R: Files + Eprint + AllocGlobal> Open for System<'a, R> {
+    type File = OverRead<Watched<'a, R::File, R>>;
 
     ghost file_at = { λ _ _. Unknown };
 
     ghost may_fail = { λ _ _. true };
 
-    fn open(&self, path: &str) -> Result<OverRead<Counted<'a, R::File, R>>, FileFault> {
+    fn open(&self, path: &str) -> Result<OverRead<Watched<'a, R::File, R>>, FileFault> {
         match fs::open(self.rt, path) {
-            Ok(file) => Ok(OverRead::new(Counted::new(file, self.progress))),
-            Err(e) if e.kind() == ErrorKind::OutOfMemory => Err(FileFault::Memory),
-            Err(_) => Err(FileFault::Device),
+            Ok(file) => {
+                let file = Watched::new(file, path, self.progress, self.notes);
+                Ok(OverRead::new(file))
+            }
+            Err(e) => {
+                self.notes.fail(&e);
+                Err(file_fault(e.kind()))
+            }
         }
     }
 }
 
-// The words after the program's name; or the status where there is no room for them, or one of them
-// isn't UTF-8.
-fn words_of<R: Env + AllocGlobal>(rt: &R) -> Result<Vec<String>, Status> {
+// All words, the program's name first; or the status where they could not be read.
+fn all_words<R: Env + AllocGlobal>(rt: &R) -> Result<Vec<String>, Status> {
     match env::args(rt) {
-        Ok(all) => all.skip(1).collect(rt.alloc()).map_err(|_| Status::Memory),
-        Err(e) if e.kind() == ErrorKind::OutOfMemory => Err(Status::Memory),
-        Err(_) => Err(Status::CommandLine),
+        Ok(all) => all.collect(rt.alloc()).map_err(|_| Status::Memory),
+        Err(e) => Err(words_status(e.kind())),
     }
 }
 
-// Tells that there are no words to work on.
-fn tell_no_words<R: Eprint>(rt: &R, status: Status) {
-    let line = match status {
-        Status::Memory => "memory",
-        _ => "words",
+// Where the text goes, and where the log.
+fn devices<'a>(
+    rt: &'a HostRuntime,
+    progress: &'a Progress<'a, HostRuntime>,
+    notes: &'a Notes<'a, HostRuntime>,
+) -> (
+    OverWrite<Cleared<'a, Stdout, HostRuntime>>,
+    Log<'a, Stderr, HostRuntime>,
+)
+    ensures working { result.0.failed ≡ false }
+    ensures log_working { result.1.inner.failed ≡ false }
+{
+    let out = Cleared::new(rt.stdout(), progress);
+    (OverWrite::new(out), Log::new(rt.stderr(), progress, notes))
+}
+
+// The status of a run over the words behind the program's name.
+fn work_on_words(rt: &HostRuntime, words: &[String]) -> Status {
+    let is_terminal = rt.stderr().is_terminal();
+    let progress = Progress::new(rt, is_terminal);
+    let notes = Notes::new(rt, is_terminal, listing_of(words).is_some() as usize);
+    let (mut out, mut log) = devices(rt, &progress, &notes);
+    let system = System {
+        rt,
+        progress: &progress,
+        notes: &notes,
     };
-    let _ = eprintln!(rt; "{line}");
+    let status = respond(rt.alloc(), &system, words, &mut out, &mut log);
+    progress.clear();
+    notes.print(&status);
+    status
 }
 
-// The status of a run over the words.
-fn work_on_words(rt: &HostRuntime) -> Status {
-    match words_of(rt) {
-        Ok(words) => {
-            let progress = Progress::new(rt, rt.stderr().is_terminal());
-            let mut out = OverWrite::new(Cleared::new(rt.stdout(), &progress));
-            let mut log = OverWrite::new(Cleared::new(rt.stderr(), &progress));
-            let system = System {
-                rt,
-                progress: &progress,
-            };
-            let status = respond(rt.alloc(), &system, words.as_slice(), &mut out, &mut log);
-            progress.clear();
-            status
-        }
-        Err(status) => {
-            tell_no_words(rt, status);
-            status
-        }
-    }
+// The status of a run without words, which standard error says.
+fn end_without_words<R: Eprint>(rt: &R, status: Status) -> Status
+    ensures { result ≡ status }
+{
+    let line = words_line(&status);
+    let _ = eprintln!(rt; "{line}");
+    status
 }
 
 fn main(rt: HostRuntime) -> ExitCode {
-    ExitCode::from(work_on_words(&rt).code())
+    let status = match all_words(&rt) {
+        Ok(words) => work_on_words(&rt, behind_the_name(words.as_slice())),
+        Err(status) => end_without_words(&rt, status),
+    };
+    ExitCode::from(status.code())
 }

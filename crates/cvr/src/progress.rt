@@ -1,6 +1,7 @@
+use crate::choices::shows;
 use std::cell::Cell;
 use std::io;
-use std::io::{Read, Write};
+use std::io::Write;
 
 // How many files were read, as a line of a terminal that is written over.
 #[derive(Drop)]
@@ -25,50 +26,23 @@ impl<'a, R: Eprint> Progress<'a, R> {
         }
     }
 
-    // Counts a file, and shows how many there are beside the first, which is the definition or a list of
-    // files. One alone is not shown. What the terminal answers is left.
-    fn count(&self) {
+    // Counts a file, and shows how many there are beside the first, which is the definition or a
+    // list of files. One alone is not shown. What the terminal answers is left.
+    pub fn count(&self) {
         let files = self.closed.get();
         self.closed.set(files.saturating_add(1));
-        if self.is_terminal && files > 1 {
+        if shows(self.is_terminal, files) {
             self.is_shown.set(true);
             let _ = eprint!(self.rt; "\rread {files} files");
         }
     }
 
-    // Takes the line away, if it stands, by as many blanks as it may be long. What the terminal answers is left.
+    // Takes the line away, if it stands, by as many blanks as it may be long. What the terminal
+    // answers is left.
     pub fn clear(&self) {
         if self.is_shown.replace(false) {
             let _ = eprint!(self.rt; "\r{:31}\r", "");
         }
-    }
-}
-
-// A file that counts as read when it is closed.
-pub struct Counted<'a, F, R: Eprint> {
-    file: F,
-    progress: &'a Progress<'a, R>,
-}
-
-impl<'a, F, R: Eprint> Counted<'a, F, R> {
-    pub fn new(file: F, progress: &'a Progress<'a, R>) -> Counted<'a, F, R> {
-        Counted { file, progress }
-    }
-}
-
-impl<F: Read, R: Eprint> Read for Counted<'_, F, R> {
-    ghost remaining = { λ s. F.remaining s.file };
-
-    fn read(&mut self, buffer: &mut [u8]) -> io::Result<usize> {
-        self.file.read(buffer)
-    }
-}
-
-impl<F: Drop, R: Eprint> Drop for Counted<'_, F, R> {
-    fn drop(self) {
-        let Counted { file, progress } = self;
-        drop(file);
-        progress.count();
     }
 }
 

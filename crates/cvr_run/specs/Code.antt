@@ -47,7 +47,7 @@ code_text E2 =
     ++ codes "\n"
     ++ codes "What to do:\n"
     ++ codes "  Look whether it was cut off or is of another kind, as XML; take away a byte\n"
-    ++ codes "  order mark.\n"
+    ++ codes "  order mark. On a terminal a note says where it stops being JSON.\n"
 code_text E3 =
     codes "E3  The file hasn't the form of a report: the value at the path breaks the\n"
     ++ codes "    rule.\n"
@@ -136,7 +136,7 @@ code_text N1 =
     ++ codes "  Name an office from 1 to OFFICES, or ask for more offices.\n"
 code_text K1 =
     codes "K1  The file could not be opened or read, or is a folder. A file of a step is\n"
-    ++ codes "    told by its path. The program stops there (status 3).\n"
+    ++ codes "    reported by its path. The program stops there (status 3).\n"
     ++ codes "\n"
     ++ codes "Example:\n"
     ++ codes "  none.json: K1\n"
@@ -211,8 +211,8 @@ code_text L2 =
     ++ codes "What to do:\n"
     ++ codes "  Nothing: this is no fault.\n"
 code_text L3 =
-    codes "L3  The step has no form. The first such step is told, and no file was opened\n"
-    ++ codes "    (status 2).\n"
+    codes "L3  The step has no form. The first such step is reported, and no file was\n"
+    ++ codes "    opened (status 2).\n"
     ++ codes "\n"
     ++ codes "Example:\n"
     ++ codes "  2:scan.json: L3\n"

@@ -76,7 +76,7 @@ Example:
 
 What to do:
   Look whether it was cut off or is of another kind, as XML; take away a byte
-  order mark.
+  order mark. On a terminal a note says where it stops being JSON.
 "
 }
 
@@ -207,7 +207,7 @@ fn k1_text() -> &'static str
     ensures { result.now ≡ code_text Code.K1 }
 {
     "K1  The file could not be opened or read, or is a folder. A file of a step is
-    told by its path. The program stops there (status 3).
+    reported by its path. The program stops there (status 3).
 
 Example:
   none.json: K1
@@ -330,8 +330,8 @@ What to do:
 fn l3_text() -> &'static str
     ensures { result.now ≡ code_text Code.L3 }
 {
-    "L3  The step has no form. The first such step is told, and no file was opened
-    (status 2).
+    "L3  The step has no form. The first such step is reported, and no file was
+    opened (status 2).
 
 Example:
   2:scan.json: L3

@@ -40,6 +40,7 @@ pub use answering::work;
 pub use conflicts::conflicts_text;
 pub use currents::currents_text;
 pub use file::{FileFault, HELD, read_file};
+pub use listing::{Listing, listing_of};
 pub use memory_files::{MemoryFile, MemoryFiles};
 pub use opening::Open;
 pub use over::{OverRead, OverWrite};

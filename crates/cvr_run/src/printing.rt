@@ -141,6 +141,16 @@ fn print_tally<O: Office, W: Sink>(alloc: Global, office: &O, out: &mut W) -> Re
     print_text(text.as_str(), out)
 }
 
+/// Shows how many names have several bodies, where somebody watches, and they aren't what is printed.
+pub fn show_several<O: Office, L: Sink>(alloc: Global, office: &O, task: &Task, log: &L) {
+    if !log.is_watched() || matches!(task, Task::Conflicts) {
+        return;
+    }
+    if let Ok(list) = office.conflicts(alloc) {
+        log.show_several(list.as_slice().len());
+    }
+}
+
 /// Prints what a task prints of an office; of `check` and `drill` that is nothing.
 ///
 /// # Errors

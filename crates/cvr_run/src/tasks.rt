@@ -16,7 +16,7 @@ use crate::collecting::collect;
 use crate::drilling::run_drill;
 use crate::ending::{end_in_memory, end_with};
 use crate::given::Files;
-use crate::printing::{print_office, print_text};
+use crate::printing::{print_office, print_text, show_several};
 use crate::reading::count_records;
 use crate::refusals::Refusals;
 use crate::status::Status;
@@ -105,6 +105,7 @@ fn run_office<O: Office + Drop, W: Sink, L: Sink>(
 {
     match collect_all::<O, L>(alloc, definition, paths, files, log) {
         Ok((office, refusals)) => {
+            show_several(alloc, &office, task, log);
             let printed = print_office(alloc, &office, task, out);
             end_with(printed, refusals, log)
         }

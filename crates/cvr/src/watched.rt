@@ -1,0 +1,129 @@
+ghost use Rattle.std.specs.Prelude.{◌≡◌, ◌<◌, ◌≤◌, length, false, None};
+ghost use Rattle.std.specs.Io.KnownBytes.{WriteAppends};
+ghost use Rattle.cdf_types.specs.Device.{count, fails_write};
+
+use crate::notes::Notes;
+use crate::progress::Progress;
+use cdf_types::{DeviceFault, Sink};
+use cvr_cli::OverWrite;
+use std::io;
+use std::io::{Read, Write};
+
+// A file that counts as read when it is closed, and whose bytes are kept for the notes.
+pub struct Watched<'a, F, R: Eprint + AllocGlobal> {
+    file: F,
+    // Its path, and its bytes; None where they aren't kept.
+    kept: Option<(String, Vec<u8>)>,
+    progress: &'a Progress<'a, R>,
+    notes: &'a Notes<'a, R>,
+}
+
+impl<'a, F, R: Eprint + AllocGlobal> Watched<'a, F, R> {
+    pub fn new(
+        file: F,
+        path: &str,
+        progress: &'a Progress<'a, R>,
+        notes: &'a Notes<'a, R>,
+    ) -> Watched<'a, F, R> {
+        Watched {
+            file,
+            kept: notes.open(path),
+            progress,
+            notes,
+        }
+    }
+
+    // Keeps bytes that were read.
+    fn keep(&mut self, read: &[u8])
+        ensures { self.new.file ≡ self.old.file }
+    {
+        if let Some((path, mut bytes)) = self.kept.take() {
+            if bytes.extend_from_slice(read).is_ok() {
+                self.kept = Some((path, bytes));
+            } else {
+                self.notes.lack();
+            }
+        }
+    }
+}
+
+impl<F: Read, R: Eprint + AllocGlobal> Read for Watched<'_, F, R> {
+    ghost remaining = { λ s. F.remaining s.file };
+
+    fn read(&mut self, buffer: &mut [u8]) -> io::Result<usize> {
+        let result = self.file.read(buffer);
+        match &result {
+            Ok(count) => self.keep(&buffer[..*count]),
+            Err(fault) => self.notes.fail(fault),
+        }
+        result
+    }
+}
+
+impl<F: Drop, R: Eprint + AllocGlobal> Drop for Watched<'_, F, R> {
+    fn drop(self) {
+        let Watched {
+            file,
+            kept,
+            progress,
+            notes,
+        } = self;
+        drop(file);
+        progress.count();
+        if let Some((path, bytes)) = kept {
+            notes.close(path, bytes.as_slice());
+        }
+    }
+}
+
+// The log, before whose bytes the line is taken away, and to which the notes listen.
+#[derive(Drop)]
+pub struct Log<'a, W, R> {
+    inner: OverWrite<W>,
+    progress: &'a Progress<'a, R>,
+    notes: &'a Notes<'a, R>,
+}
+
+impl<'a, W: Write + Drop, R: Eprint + AllocGlobal> Log<'a, W, R> {
+    pub fn new(output: W, progress: &'a Progress<'a, R>, notes: &'a Notes<'a, R>) -> Log<'a, W, R>
+        ensures { result.inner.failed ≡ false }
+    {
+        Log {
+            inner: OverWrite::new(output),
+            progress,
+            notes,
+        }
+    }
+}
+
+impl<W: Write + Drop, R: Eprint + AllocGlobal> Sink for Log<'_, W, R> {
+    ghost taken = { λ _. None };
+
+    ghost has_failed = { λ s. s.inner.failed };
+
+    // Hands the bytes on, and nothing else.
+    fn write(&mut self, bytes: &[u8]) -> Result<usize, DeviceFault>
+        requires working { self.old.inner.failed ≡ false }
+        requires some { 0 < length bytes.now }
+        ensures within { count result ≤ length bytes.now }
+        ensures failed { self.new.inner.failed ≡ fails_write result }
+        ensures inner { WriteAppends
+            (W.contents self.old.inner.inner) (W.contents self.new.inner.inner) result bytes.now }
+    {
+        self.progress.clear();
+        self.notes.hear(bytes);
+        self.inner.write(bytes)
+    }
+
+    fn failed(&self) -> bool {
+        self.inner.failed()
+    }
+
+    fn is_watched(&self) -> bool {
+        self.notes.is_terminal()
+    }
+
+    fn show_several(&self, names: usize) {
+        self.notes.hear_several(names);
+    }
+}
