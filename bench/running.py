@@ -1,9 +1,10 @@
 #!/usr/bin/env python3
-"""running.py [--cvr PATH] [--rounds 3] [--keep NAME] [small] [large] [single]
+"""running.py [--cvr PATH] [--rounds 3] [--keep NAME] [small] [large] [single] [listed]
 
 Measures what running totals cost: `cvr tally`, and `cvr check` beside it, over invented files that it lays in a folder of
 its own. `small`: many files of five records beside one file of all of them; `large`: 20,000 to 200,000 records in files
-of 4,000; `single`: one record with a snapshot in each of many files. With no word all three. Told are processor seconds,
+of 4,000; `single`: one record with a snapshot in each of many files; `listed`: files of one record each, 1,000 to
+100,000 of them, whose paths come from a list. With no word all four. Told are processor seconds,
 the least of the rounds, and the greatest resident memory. README.md says what the figures mean. With --keep they are
 appended to runs/DATE-NAME.md. The status is 1 where a command fails, or tells another number of ballots than was laid."""
 import argparse
@@ -87,11 +88,13 @@ class Measuring:
     def files(self, name, lists):
         return Files(os.path.join(self.folder, name), lists)
 
-    def once(self, command, files, ballots):
+    def once(self, command, files, ballots, is_listed=False):
         """(processor seconds, MiB) of one run; a tally has to have so many ballots."""
-        with tempfile.TemporaryFile() as out:
-            words = [self.cvr, command, DEFINITION] + files.names
-            child = subprocess.Popen(words, cwd=files.folder, stdin=subprocess.DEVNULL, stdout=out)
+        with tempfile.TemporaryFile() as out, tempfile.TemporaryFile() as paths:
+            paths.write('\n'.join(files.names).encode())
+            paths.seek(0)
+            words = [self.cvr, command, DEFINITION] + (['--files-from', '-'] if is_listed else files.names)
+            child = subprocess.Popen(words, cwd=files.folder, stdin=paths, stdout=out)
             _, status, usage = os.wait4(child.pid, 0)
             child.returncode = status
             out.seek(0)
@@ -101,8 +104,8 @@ class Measuring:
             raise Failed('%s: wait status %d, %d ballots and not %d' % (command, status, found, ballots))
         return usage.ru_utime + usage.ru_stime, usage.ru_maxrss / 1024
 
-    def least(self, command, files, ballots):
-        runs = [self.once(command, files, ballots) for _ in range(self.rounds)]
+    def least(self, command, files, ballots, is_listed=False):
+        runs = [self.once(command, files, ballots, is_listed) for _ in range(self.rounds)]
         return min(run[0] for run in runs), max(run[1] for run in runs)
 
     def small(self):
@@ -127,21 +130,29 @@ class Measuring:
             (a, memory), (b, _) = self.least('tally', files, 1), self.least('check', files, 0)
             self.report.say('%41d %8.2f %8.2f %6.0f' % (count, a, b, memory))
 
+    def listed(self):
+        self.report.say('   files  tally s  microseconds a file  check s    MiB  KiB a file')
+        for count in (1000, 10000, 100000):
+            files = self.files('listed', parts(count, 1))
+            (a, memory), (b, _) = (self.least(command, files, count, True) for command in ('tally', 'check'))
+            self.report.say('%8d %8.2f %20.1f %8.2f %6.0f %11.2f' % (count, a, 1e6 * a / count, b, memory, 1024 * memory / count))
+
 
 def main():
     words = argparse.ArgumentParser(description=__doc__, formatter_class=argparse.RawDescriptionHelpFormatter)
-    words.add_argument('what', nargs='*', metavar='small|large|single')
+    words.add_argument('what', nargs='*', metavar='small|large|single|listed')
     words.add_argument('--cvr', default=os.path.join(TOP, 'crates', 'cvr', 'out', 'cvr'))
     words.add_argument('--rounds', type=int, default=3)
     words.add_argument('--keep', metavar='NAME')
     said = words.parse_args()
-    if set(said.what) - {'small', 'large', 'single'}:
-        words.error('small, large or single')
+    kinds = ['small', 'large', 'single', 'listed']
+    if set(said.what) - set(kinds):
+        words.error('small, large, single or listed')
     told = Report()
     told.say('%s, commit %s' % (machine(), commit()))
     with tempfile.TemporaryDirectory() as folder:
         measuring = Measuring(os.path.abspath(said.cvr), said.rounds, folder, told)
-        for what in said.what or ['small', 'large', 'single']:
+        for what in said.what or kinds:
             getattr(measuring, what)()
     if said.keep:
         keep(told, said.keep)
