@@ -2,7 +2,7 @@
 use Rattle.std.specs.Prelude.{◌≡◌, ℕ, List, [], ◌∷◌, take, map, Bool, true, false, Option, Some}
 use Rattle.cvr_run.specs.File.{held_bytes}
 
--- what an opener says of a path: nothing; that no file is there; or that a file is there, with these bytes
+-- what an opener says of a path: nothing; that no file is there, which it finds out without memory; or that a file is there, with these bytes
 pub data At : Type 0 where
   Unknown : At
   Absent : At

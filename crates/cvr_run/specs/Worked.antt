@@ -8,7 +8,7 @@ use Rattle.cvr_run.specs.declared.status.Status.TheVariants as status
 use Rattle.cvr_run.specs.Ends.{Ends}
 use Rattle.cvr_run.specs.File.{is_device}
 use Rattle.cvr_run.specs.Log.{memory_line, Logs}
-use Rattle.cvr_run.specs.Opening.{At, AreRead, FailedAt}
+use Rattle.cvr_run.specs.Opening.{At, Absent, AreRead, FailedAt}
 use Rattle.cvr_run.specs.Outcome.{run_text, run_fault, any_refused}
 use Rattle.cvr_run.specs.Told.{run_lines, last_lines, IsRunCutShort, LogsSome}
 
@@ -24,7 +24,7 @@ abbrev pub unread_line : List ℕ → FileFault → List ℕ
 unread_line path Device = path ++ codes ": K1\n"
 unread_line path Memory = path ++ codes ": K2\n"
 
--- of these paths this is the first whose file was not read: for want of memory; or since a device failed
+-- of these paths this is the first whose file was not read: since a device failed; or for want of memory, unless the opener says that no file is there
 pub record IsUnread (file_at : List ℕ → At) (may_fail : List ℕ → Bool) (paths : List (List ℕ)) (path : List ℕ) (cause : FileFault) : Type 0 where
   pub before : List (List ℕ)
   pub after : List (List ℕ)
@@ -32,6 +32,7 @@ pub record IsUnread (file_at : List ℕ → At) (may_fail : List ℕ → Bool) (
   pub files : List (List ℕ)
   pub read : AreRead file_at before files
   pub device : is_device cause ≡ true → FailedAt (file_at path) (may_fail path)
+  pub absent : file_at path ≡ Absent → cause ≡ Device
 
 -- ---- a run that stops
 
