@@ -3,6 +3,7 @@ use Rattle.std.proofs.Common.{◌≡◌, ◌≢◌, ℕ, ◌<◌, ◌+◌, List,
 use Rattle.std.specs.Global.{Vec}
 use Rattle.std.proofs.lemmas.List.{take_more, drop_more, take-append-drop, map-append}
 use Rattle.cvr_run.specs.declared.file.FileFault.{FileFault}
+use Rattle.cvr_run.specs.declared.file.FileFault.TheVariants.{Device}
 use Rattle.cvr_run.specs.declared.status.Status.{Status}
 use Rattle.cvr_run.specs.declared.status.Status.TheVariants.{Memory}
 use Rattle.cvr_run.specs.File.{held_bytes, is_device}
@@ -73,10 +74,18 @@ module _ (file_at : List ℕ → At) (may_fail : List ℕ → Bool) (paths : Lis
 
   -- at the nth of its paths
   pub stops_at : (n : ℕ) (path : List ℕ) (files : List (List ℕ)) (cause : FileFault) → n < length paths → path ≡ get_or paths n [] → AreRead file_at (take n paths) files
-      → (is_device cause ≡ true → FailedAt (file_at path) (may_fail path)) → answer ≡ unread_status cause → Logs b f a h (unread_line path cause) → Stops file_at may_fail paths answer b f a h
-  stops_at n path files cause lt named read device is log = record {
+      → (is_device cause ≡ true → FailedAt (file_at path) (may_fail path)) → (file_at path ≡ Absent → cause ≡ Device) → answer ≡ unread_status cause → Logs b f a h (unread_line path cause) → Stops file_at may_fail paths answer b f a h
+  stops_at n path files cause lt named read device absent is log = record {
     stop = Unread path cause;
-    possible = record { before = take n paths; after = drop (n + 1) paths; split = among_at n path lt named; files = files; read = read; device = device };
+    possible = record {
+      before = take n paths;
+      after = drop (n + 1) paths;
+      split = among_at n path lt named;
+      files = files;
+      read = read;
+      device = device;
+      absent = absent;
+    };
     status = is;
     log = log;
   }
@@ -99,17 +108,17 @@ module _ (file_at : List ℕ → At) (may_fail : List ℕ → Bool) (paths : Lis
   }
 
   -- at a path before these
-  pub stops_first : (path : List ℕ) (cause : FileFault) → (is_device cause ≡ true → FailedAt (file_at path) (may_fail path)) → answer ≡ unread_status cause → Logs b f a h (unread_line path cause)
+  pub stops_first : (path : List ℕ) (cause : FileFault) → (is_device cause ≡ true → FailedAt (file_at path) (may_fail path)) → (file_at path ≡ Absent → cause ≡ Device) → answer ≡ unread_status cause → Logs b f a h (unread_line path cause)
       → Stops file_at may_fail (path ∷ paths) answer b f a h
-  stops_first path cause device is log = record {
+  stops_first path cause device absent is log = record {
     stop = Unread path cause;
-    possible = record { before = []; after = paths; split = refl; files = []; read = tt; device = device };
+    possible = record { before = []; after = paths; split = refl; files = []; read = tt; device = device; absent = absent };
     status = is;
     log = log;
   }
 
   can_stop_later : (path file : List ℕ) (stop : Stop) → IsRead (file_at path) file → CanStop file_at may_fail paths stop → CanStop file_at may_fail (path ∷ paths) stop
-  can_stop_later path file (Unread at cause) read u = record { before = path ∷ u.before; after = u.after; split = ap (λ ps. path ∷ ps) u.split; files = file ∷ u.files; read = (read, u.read); device = u.device }
+  can_stop_later path file (Unread at cause) read u = record { before = path ∷ u.before; after = u.after; split = ap (λ ps. path ∷ ps) u.split; files = file ∷ u.files; read = (read, u.read); device = u.device; absent = u.absent }
   can_stop_later path file NoRoom read u = record { before = path ∷ u.before; path = u.path; after = u.after; split = ap (λ ps. path ∷ ps) u.split; files = file ∷ u.files; read = (read, u.read) }
 
   -- after a path before these was read

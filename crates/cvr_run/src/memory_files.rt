@@ -60,6 +60,8 @@ impl<'a> Open for MemoryFiles<'a> {
         ensures steady { IfOk result (λ file. can_fail_at self.now.files.now path.now ≡ false → can_fail file ≡ false) }
         ensures fails { IfOk result (λ file. can_fail file ≡ can_fail_at self.now.files.now path.now) }
         ensures device { IfErr result (λ e. is_device e ≡ true → has_file (found_at self.now.files.now path.now) ≡ false) }
+        ensures absent { IfErr result
+            (λ e. found_at self.now.files.now path.now ≡ Absent → e ≡ Device) }
         ensures opened { has_file (found_at self.now.files.now path.now) ≡ true → IsOk result }
         ensures fault { has_file (found_at self.now.files.now path.now) ≡ false → result ≡ Err Device }
     {

@@ -1,7 +1,8 @@
 ghost use Rattle.std.specs.Prelude.{◌≡◌, ℕ, List, length, Bool, true, false, IfOk, IfErr, OnOk};
 ghost use Rattle.cvr_run.specs.File.{is_device};
+ghost use Rattle.cvr_run.specs.declared.file.FileFault.TheVariants.{Device};
 ghost use Rattle.cvr_run.specs.Log.{Logs};
-ghost use Rattle.cvr_run.specs.Opening.{At, has_file, IsOpened, IsRead, AreRead, FailedAt};
+ghost use Rattle.cvr_run.specs.Opening.{At, Absent, has_file, IsOpened, IsRead, AreRead, FailedAt};
 ghost use Rattle.cvr_run.specs.Outcome.{bytes_of};
 ghost use Rattle.cvr_run.specs.Worked.{unread_status, unread_line, Stops};
 
@@ -26,12 +27,14 @@ pub trait Open {
     /// The file at a path, from its first byte on.
     ///
     /// # Errors
-    /// `Device` where no file could be opened; `Memory` where a growth was refused.
+    /// `Device` where no file could be opened; `Memory` where a growth was refused, but never where
+    /// it says that no file is there.
     fn open(&self, path: &str) -> Result<Self::File, FileFault>
         ensures working { IfOk result (λ file. Self.File.has_failed file ≡ false) }
         ensures bytes { IfOk result (λ file. IsOpened (file_at self.now path.now) (Self.File.left file)) }
         ensures steady { IfOk result (λ file. may_fail self.now path.now ≡ false → Self.File.can_fail file ≡ false) }
-        ensures device { IfErr result (λ e. is_device e ≡ true → has_file (file_at self.now path.now) ≡ false) };
+        ensures device { IfErr result (λ e. is_device e ≡ true → has_file (file_at self.now path.now) ≡ false) }
+        ensures absent { IfErr result (λ e. file_at self.now path.now ≡ Absent → e ≡ Device) };
 }
 
 impl From<FileFault> for Status {
@@ -49,6 +52,7 @@ impl From<FileFault> for Status {
 fn read_at<O: Open>(alloc: Global, opener: &O, path: &str) -> Result<Vec<u8>, FileFault>
     ensures bytes { IfOk result (λ bytes. IsRead (O.file_at opener.now path.now) bytes.items) }
     ensures device { IfErr result (λ e. is_device e ≡ true → FailedAt (O.file_at opener.now path.now) (O.may_fail opener.now path.now)) }
+    ensures absent { IfErr result (λ e. O.file_at opener.now path.now ≡ Absent → e ≡ Device) }
 {
     let mut file = opener.open(path)?;
     read_file(alloc, &mut file)
@@ -79,6 +83,7 @@ pub fn read_told<O: Open, L: Sink>(
     ensures bytes { IfOk result (λ bytes. IsRead (O.file_at opener.now path.now) bytes.items) }
     ensures quiet { OnOk result (log.new ≡ log.old) }
     ensures device { IfErr result (λ e. is_device e ≡ true → FailedAt (O.file_at opener.now path.now) (O.may_fail opener.now path.now)) }
+    ensures absent { IfErr result (λ e. O.file_at opener.now path.now ≡ Absent → e ≡ Device) }
     ensures told { IfErr result (λ e. Logs (L.taken log.old) (L.has_failed log.old) (L.taken log.new) (L.has_failed log.new) (unread_line path.now e)) }
 {
     match read_at(alloc, opener, path) {

@@ -19,7 +19,7 @@ returns-in_err-bytes-clause-stops g c =
     at_err c.from_residual.result (λ s. s ≡ unread_status cause)
     (λ s. Stops file_at may_fail (path ∷ []) s b f a h ⊎ ((text : List ℕ) × IsRead (file_at path) text × IsNoList (Unit {0}) path text s b f a h))
     c.from_residual.ensures.1
-    (λ s is. inl (stops_first file_at may_fail [] s b a f h path cause c.in_err-bytes.ensures.device is c.in_err-bytes.ensures.told))
+    (λ s is. inl (stops_first file_at may_fail [] s b a f h path cause c.in_err-bytes.ensures.device c.in_err-bytes.ensures.absent is c.in_err-bytes.ensures.told))
 
 pub returns-in-Some-clause-stops : goal.returns-in-Some-clause-stops
 returns-in-Some-clause-stops g c =

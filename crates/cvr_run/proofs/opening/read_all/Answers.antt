@@ -22,7 +22,7 @@ returns-in_err-file-clause-stops g c =
     at_err c.from_residual.result (λ s. s ≡ unread_status cause)
     (λ s. Stops file_at may_fail paths s (g.L.Sink.taken c.args.log.now) (g.L.Sink.has_failed c.args.log.now) (g.L.Sink.taken c.read_told.new.log) (g.L.Sink.has_failed c.read_told.new.log))
     c.from_residual.ensures.1
-    (λ s is. stops_at file_at may_fail paths s _ _ _ _ n path (bytes_of c.loop-path.files.items) cause c.loop-path-test.true named c.loop-path.invariant.read c.in_err-file.ensures.device is told)
+    (λ s is. stops_at file_at may_fail paths s _ _ _ _ n path (bytes_of c.loop-path.files.items) cause c.loop-path-test.true named c.loop-path.invariant.read c.in_err-file.ensures.device c.in_err-file.ensures.absent is told)
 
 pub returns-then-is_err-clause-stops : goal.returns-then-is_err-clause-stops
 returns-then-is_err-clause-stops g c =

@@ -17,7 +17,7 @@ returns-in_err-def-clause-stops g c =
     let h = g.L.Sink.has_failed c.read_told.new.log in
     at_err c.from_residual.result (λ s. s ≡ unread_status cause) (λ s. Stops file_at may_fail (what ∷ paths) s b f a h) c.from_residual.ensures.1
     (λ s is. subst (λ path. Stops file_at may_fail (path ∷ paths) s b f a h) c.as_str.ensures
-    (stops_first file_at may_fail paths s b a f h c.as_str.result.now cause c.in_err-def.ensures.device is c.in_err-def.ensures.told))
+    (stops_first file_at may_fail paths s b a f h c.as_str.result.now cause c.in_err-def.ensures.device c.in_err-def.ensures.absent is c.in_err-def.ensures.told))
 
 pub returns-in_err-files-clause-stops : goal.returns-in_err-files-clause-stops
 returns-in_err-files-clause-stops g c =
