@@ -53,19 +53,19 @@ pub record TellsWords (unchanged : Type 0) (fault : LineFault) (answer : Status)
 -- ---- words that ask for one
 
 -- its run stops at a file that is not read, and the output stays unchanged; or it runs over the files
-abbrev pub Does : (List ℕ → At) → (List ℕ → Bool) → Type 0 → Request → Status → Option (List ℕ) → Option (List ℕ) → Bool → Option (List ℕ) → Bool → Option (List ℕ) → Bool → Type 0
-Does file_at may_fail unchanged request answer out_before out_after out_failed before had_failed after has_failed =
-    (unchanged × Stops file_at may_fail (request.def ∷ request.paths) answer before had_failed after has_failed)
-    ⊎ Runs file_at request.task request.def request.paths answer out_before out_after out_failed before had_failed after has_failed
+abbrev pub Does : (List ℕ → At) → (List ℕ → Bool) → (List (List ℕ) → Type 0) → Type 0 → Request → Status → Option (List ℕ) → Option (List ℕ) → Bool → Option (List ℕ) → Bool → Option (List ℕ) → Bool → Type 0
+Does file_at may_fail opens unchanged request answer out_before out_after out_failed before had_failed after has_failed =
+    (unchanged × Stops file_at may_fail opens (request.def ∷ request.paths) answer before had_failed after has_failed)
+    ⊎ Runs file_at opens request.task request.def request.paths answer out_before out_after out_failed before had_failed after has_failed
 
 -- ---- both
 
--- the words ask for a request, which is done; or they ask for none, which is told
-abbrev pub Answers : (List ℕ → At) → (List ℕ → Bool) → Type 0 → List (List ℕ) → Status → Option (List ℕ) → Option (List ℕ) → Bool → Option (List ℕ) → Bool → Option (List ℕ) → Bool → Type 0
-Answers file_at may_fail unchanged words answer out_before out_after out_failed before had_failed after has_failed =
+-- the words ask for a request, which is done; or they ask for none, which is told, and nothing is opened
+abbrev pub Answers : (List ℕ → At) → (List ℕ → Bool) → (List (List ℕ) → Type 0) → Type 0 → List (List ℕ) → Status → Option (List ℕ) → Option (List ℕ) → Bool → Option (List ℕ) → Bool → Option (List ℕ) → Bool → Type 0
+Answers file_at may_fail opens unchanged words answer out_before out_after out_failed before had_failed after has_failed =
     ((request : Request) × IsRequest (named words) request
-    × Does file_at may_fail unchanged request answer out_before out_after out_failed before had_failed after has_failed)
-    ⊎ ((fault : LineFault) × IsLineFault (named words) fault
+    × Does file_at may_fail opens unchanged request answer out_before out_after out_failed before had_failed after has_failed)
+    ⊎ ((fault : LineFault) × IsLineFault (named words) fault × opens []
     × TellsWords unchanged fault answer out_before out_after out_failed before had_failed after has_failed)
 
 -- the words ask for this request, and the opener says that these files stand at its paths

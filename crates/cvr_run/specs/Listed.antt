@@ -63,26 +63,27 @@ abbrev pub with_paths : Request → List (List ℕ) → Request
 with_paths request paths = record request { paths = paths }
 
 -- what was read is no list: that is reported, and nothing else is done
-pub record IsNoList (unchanged : Type 0) (path text : List ℕ) (answer : Status)
+pub record IsNoList (opens : List (List ℕ) → Type 0) (unchanged : Type 0) (path text : List ℕ) (answer : Status)
     (before : Option (List ℕ)) (had_failed : Bool) (after : Option (List ℕ)) (has_failed : Bool) : Type 0 where
   pub bad : ¬ IsList text
+  pub opened : opens (path ∷ [])
   pub quiet : unchanged
   pub status : answer ≡ CommandLine
   pub log : Logs before had_failed after has_failed (bad_list_line path)
 
--- the list isn't read; or it is, and is none; or the request is done with its paths
-abbrev pub DoesListed : (List ℕ → At) → (List ℕ → Bool) → Type 0 → Request → List ℕ → Bool → Status → Option (List ℕ) → Option (List ℕ) → Bool → Option (List ℕ) → Bool → Option (List ℕ) → Bool → Type 0
-DoesListed file_at may_fail unchanged request path by_null answer out_before out_after out_failed before had_failed after has_failed =
-    (unchanged × Stops file_at may_fail (path ∷ []) answer before had_failed after has_failed)
+-- the list, which is opened first, isn't read; or it is, and is none; or the request is done with its paths
+abbrev pub DoesListed : (List ℕ → At) → (List ℕ → Bool) → (List (List ℕ) → Type 0) → Type 0 → Request → List ℕ → Bool → Status → Option (List ℕ) → Option (List ℕ) → Bool → Option (List ℕ) → Bool → Option (List ℕ) → Bool → Type 0
+DoesListed file_at may_fail opens unchanged request path by_null answer out_before out_after out_failed before had_failed after has_failed =
+    (unchanged × Stops file_at may_fail opens (path ∷ []) answer before had_failed after has_failed)
     ⊎ ((text : List ℕ) × IsRead (file_at path) text
-    × (IsNoList unchanged path text answer before had_failed after has_failed
-    ⊎ (IsList text × Does file_at may_fail unchanged (with_paths request (listed_paths (end_of by_null) text)) answer out_before out_after out_failed before had_failed after has_failed)))
+    × (IsNoList opens unchanged path text answer before had_failed after has_failed
+    ⊎ (IsList text × Does file_at may_fail (λ paths. opens (path ∷ paths)) unchanged (with_paths request (listed_paths (end_of by_null) text)) answer out_before out_after out_failed before had_failed after has_failed)))
 
--- that; or memory ran out for the words
-abbrev pub AnswersListed : (List ℕ → At) → (List ℕ → Bool) → Type 0 → Request → List ℕ → Bool → Status → Option (List ℕ) → Option (List ℕ) → Bool → Option (List ℕ) → Bool → Option (List ℕ) → Bool → Type 0
-AnswersListed file_at may_fail unchanged request list by_null answer out_before out_after out_failed before had_failed after has_failed =
-    TellsWords unchanged fault.Memory answer out_before out_after out_failed before had_failed after has_failed
-    ⊎ DoesListed file_at may_fail unchanged request (list_place list) by_null answer out_before out_after out_failed before had_failed after has_failed
+-- that; or memory ran out for the words, and nothing is opened
+abbrev pub AnswersListed : (List ℕ → At) → (List ℕ → Bool) → (List (List ℕ) → Type 0) → Type 0 → Request → List ℕ → Bool → Status → Option (List ℕ) → Option (List ℕ) → Bool → Option (List ℕ) → Bool → Option (List ℕ) → Bool → Type 0
+AnswersListed file_at may_fail opens unchanged request list by_null answer out_before out_after out_failed before had_failed after has_failed =
+    (opens [] × TellsWords unchanged fault.Memory answer out_before out_after out_failed before had_failed after has_failed)
+    ⊎ DoesListed file_at may_fail opens unchanged request (list_place list) by_null answer out_before out_after out_failed before had_failed after has_failed
 
 -- ---- where the opener says what stands at each path
 

@@ -1,5 +1,5 @@
 -- What an opener says of its files, and what was read of them. (This project's own.)
-use Rattle.std.specs.Prelude.{◌≡◌, ℕ, List, [], ◌∷◌, take, map, Bool, true, false, Option, Some}
+use Rattle.std.specs.Prelude.{◌≡◌, ℕ, List, [], ◌∷◌, ◌++◌, take, map, Bool, true, false, Option, Some, option_map}
 use Rattle.cvr_run.specs.File.{held_bytes}
 
 -- what an opener says of a path: nothing; that no file is there, which it finds out without memory; or that a file is there, with these bytes
@@ -39,3 +39,7 @@ AreAt file_at paths files = map file_at paths ≡ map Has files
 abbrev pub FailedAt : At → Bool → Type 0
 FailedAt (Has bytes) may_fail = may_fail ≡ true
 FailedAt at may_fail = Unit {0}
+
+-- an opener, where it tells the paths that it was to open, was to open exactly these more, in this order
+abbrev pub Opens : Option (List (List ℕ)) → Option (List (List ℕ)) → List (List ℕ) → Type 0
+Opens before after paths = after ≡ option_map (λ opened. opened ++ paths) before
