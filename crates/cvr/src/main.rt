@@ -7,7 +7,7 @@ mod progress;
 mod seen;
 mod watched;
 
-ghost use Rattle.std.specs.Prelude.{◌≡◌, false, true};
+ghost use Rattle.std.specs.Prelude.{◌≡◌, None, false, true};
 ghost use Rattle.cvr_run.specs.Opening.{Unknown};
 
 use choices::{behind_the_name, file_fault, words_line, words_status};
@@ -35,7 +35,9 @@ impl<'a, R: Files + Eprint + AllocGlobal> Open for System<'a, R> {
 
     ghost may_fail = { λ _ _. true };
 
-    fn open(&self, path: &str) -> Result<OverRead<Watched<'a, R::File, R>>, FileFault> {
+    ghost opened = { λ _. None };
+
+    fn open(&mut self, path: &str) -> Result<OverRead<Watched<'a, R::File, R>>, FileFault> {
         match fs::open(self.rt, path) {
             Ok(file) => {
                 let file = Watched::new(file, path, self.progress, self.notes);
@@ -79,12 +81,12 @@ fn work_on_words(rt: &HostRuntime, words: &[String]) -> Status {
     let progress = Progress::new(rt, is_terminal);
     let notes = Notes::new(rt, is_terminal, listing_of(words).is_some() as usize);
     let (mut out, mut log) = devices(rt, &progress, &notes);
-    let system = System {
+    let mut system = System {
         rt,
         progress: &progress,
         notes: &notes,
     };
-    let status = respond(rt.alloc(), &system, words, &mut out, &mut log);
+    let status = respond(rt.alloc(), &mut system, words, &mut out, &mut log);
     progress.clear();
     notes.print(&status);
     status

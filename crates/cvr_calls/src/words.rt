@@ -168,8 +168,14 @@ fn work_over(alloc: Global, working: &Working) -> Option<Ran> {
     ];
     let mut out = MemorySink::new(alloc, PIECE, 0);
     let mut log = MemorySink::new(alloc, PIECE, 0);
-    let opener = MemoryFiles { files: &files };
-    let status = respond(alloc, &opener, working.words.as_slice(), &mut out, &mut log);
+    let mut opener = MemoryFiles { files: &files };
+    let status = respond(
+        alloc,
+        &mut opener,
+        working.words.as_slice(),
+        &mut out,
+        &mut log,
+    );
     Some(Ran { status, out, log })
 }
 

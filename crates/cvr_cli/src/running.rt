@@ -1,4 +1,4 @@
-ghost use Rattle.std.specs.Prelude.{◌≡◌, ◌≢◌, ◌⊎◌, ◌++◌, ℕ, length, Bool, true, false, string_bytes, List, map};
+ghost use Rattle.std.specs.Prelude.{◌≡◌, ◌≢◌, ◌⊎◌, ◌++◌, [], ℕ, length, Bool, true, false, string_bytes, List, map};
 ghost use Rattle.cdf_types.specs.Device.{appended, AppendsPrefix};
 ghost use Rattle.cvr_words.specs.Line.{named};
 ghost use Rattle.cvr_words.specs.Request.{IsRequest};
@@ -8,6 +8,7 @@ ghost use Rattle.cvr_run.specs.Explained.{AsksCode, Explains};
 ghost use Rattle.cvr_run.specs.Listed.{AnswersListed, AsksListed, IsGivenEither};
 ghost use Rattle.cvr_run.specs.Log.{Logs};
 ghost use Rattle.cvr_run.specs.Merge.{merge_lines};
+ghost use Rattle.cvr_run.specs.Opening.{Opens};
 ghost use Rattle.cvr_run.specs.Outcome.{run_text, run_fault, any_refused, bytes_of, IsWhole};
 ghost use Rattle.cvr_run.specs.OwnWords.{AsksVersion, PrintsOwn, version_text};
 ghost use Rattle.cvr_run.specs.Told.{run_lines, last_lines, IsRunCutShort, LogsSome};
@@ -57,30 +58,44 @@ pub fn run<W: Sink, L: Sink>(
 
 /// Does what the words after the program's name ask for: reads the definition and the files of their
 /// request, each at its path and in this order, and runs over them. Where one isn't read, that is told
-/// to the log, and nothing else is done. Words that ask for no request are told to the log, and the
-/// status is `CommandLine`; those that ask for help have it printed. Where the opener says what stands
-/// at each path, the text is that of these files.
+/// to the log, and nothing else is opened or done. Words that ask for no request are told to the log,
+/// and the status is `CommandLine`; those that ask for help have it printed; nothing is opened then.
+/// Where the opener says what stands at each path, the text is that of these files.
 pub fn work<O: Open, W: Sink, L: Sink>(
     alloc: Global,
-    opener: &O,
+    opener: &mut O,
     words: &[String],
     out: &mut W,
     log: &mut L,
 ) -> Status
     requires working { W.has_failed out.old ≡ false }
     requires log_working { L.has_failed log.old ≡ false }
-    ensures answers { Answers (O.file_at opener.now) (O.may_fail opener.now) (out.new ≡ out.old) (map string_bytes words.now) result
-        (W.taken out.old) (W.taken out.new) (W.has_failed out.new) (L.taken log.old) (L.has_failed log.old) (L.taken log.new) (L.has_failed log.new) }
-    ensures text { (request : Request) (def : List ℕ) (files : List (List ℕ)) → IsGiven (O.file_at opener.now) (map string_bytes words.now) request def files
-        → IsWhole result → W.taken out.new ≡ appended (W.taken out.old) (run_text request.task def request.paths files) }
-    ensures log { (request : Request) (def : List ℕ) (files : List (List ℕ)) → IsGiven (O.file_at opener.now) (map string_bytes words.now) request def files
-        → IsWhole result → Logs (L.taken log.old) (L.has_failed log.old) (L.taken log.new) (L.has_failed log.new)
-        (run_lines request.task request.def def request.paths files ++ merge_lines (run_fault request.task def files)) }
-    ensures done { (request : Request) (def : List ℕ) (files : List (List ℕ)) → IsGiven (O.file_at opener.now) (map string_bytes words.now) request def files
+    ensures answers { Answers (O.file_at opener.old) (O.may_fail opener.old)
+        (Opens (O.opened opener.old) (O.opened opener.new)) (out.new ≡ out.old)
+        (map string_bytes words.now) result
+        (W.taken out.old) (W.taken out.new) (W.has_failed out.new)
+        (L.taken log.old) (L.has_failed log.old) (L.taken log.new) (L.has_failed log.new) }
+    ensures text { (request : Request) (def : List ℕ) (files : List (List ℕ))
+        → IsGiven (O.file_at opener.old) (map string_bytes words.now) request def files
+        → IsWhole result
+        → W.taken out.new
+        ≡ appended (W.taken out.old) (run_text request.task def request.paths files) }
+    ensures log { (request : Request) (def : List ℕ) (files : List (List ℕ))
+        → IsGiven (O.file_at opener.old) (map string_bytes words.now) request def files
+        → IsWhole result
+        → Logs (L.taken log.old) (L.has_failed log.old) (L.taken log.new) (L.has_failed log.new)
+        (run_lines request.task request.def def request.paths files
+        ++ merge_lines (run_fault request.task def files)) }
+    ensures done { (request : Request) (def : List ℕ) (files : List (List ℕ))
+        → IsGiven (O.file_at opener.old) (map string_bytes words.now) request def files
         → result ≡ Done → any_refused request.task def files ≡ false }
-    ensures refused { (request : Request) (def : List ℕ) (files : List (List ℕ)) → IsGiven (O.file_at opener.now) (map string_bytes words.now) request def files
+    ensures refused { (request : Request) (def : List ℕ) (files : List (List ℕ))
+        → IsGiven (O.file_at opener.old) (map string_bytes words.now) request def files
         → result ≡ Refused → any_refused request.task def files ≡ true }
-    ensures asked { (request : Request) → IsRequest (named (map string_bytes words.now)) request → result ≢ CommandLine }
+    ensures asked { (request : Request) → IsRequest (named (map string_bytes words.now)) request
+        → result ≢ CommandLine }
+    ensures files { O.file_at opener.new ≡ O.file_at opener.old }
+    ensures faults { O.may_fail opener.new ≡ O.may_fail opener.old }
 {
     cvr_run::work::<CachedOffice, O, W, L>(alloc, opener, words, out, log)
 }
@@ -91,7 +106,7 @@ pub fn work<O: Open, W: Sink, L: Sink>(
 /// `work`. What `work` says of words that ask for a request holds as it stands.
 pub fn respond<O: Open, W: Sink, L: Sink>(
     alloc: Global,
-    opener: &O,
+    opener: &mut O,
     words: &[String],
     out: &mut W,
     log: &mut L,
@@ -107,7 +122,8 @@ pub fn respond<O: Open, W: Sink, L: Sink>(
         (L.taken log.old) (L.has_failed log.old) (L.taken log.new) (L.has_failed log.new) }
     ensures listed { (request : Request) (list : List ℕ) (by_null : Bool)
         → AsksListed (map string_bytes words.now) request list by_null
-        → AnswersListed (O.file_at opener.now) (O.may_fail opener.now) (out.new ≡ out.old)
+        → AnswersListed (O.file_at opener.old) (O.may_fail opener.old)
+        (Opens (O.opened opener.old) (O.opened opener.new)) (out.new ≡ out.old)
         request list by_null result
         (W.taken out.old) (W.taken out.new) (W.has_failed out.new)
         (L.taken log.old) (L.has_failed log.old) (L.taken log.new) (L.has_failed log.new) }
@@ -115,29 +131,35 @@ pub fn respond<O: Open, W: Sink, L: Sink>(
         → ((name : List ℕ) → ¬ AsksCode (map string_bytes words.now) name)
         → ((request : Request) (list : List ℕ) (by_null : Bool)
         → ¬ AsksListed (map string_bytes words.now) request list by_null)
-        → Answers (O.file_at opener.now) (O.may_fail opener.now) (out.new ≡ out.old)
+        → Answers (O.file_at opener.old) (O.may_fail opener.old)
+        (Opens (O.opened opener.old) (O.opened opener.new)) (out.new ≡ out.old)
         (map string_bytes words.now) result
         (W.taken out.old) (W.taken out.new) (W.has_failed out.new)
         (L.taken log.old) (L.has_failed log.old) (L.taken log.new) (L.has_failed log.new) }
     ensures text { (request : Request) (def : List ℕ) (files : List (List ℕ))
-        → IsGivenEither (O.file_at opener.now) (map string_bytes words.now) request def files
+        → IsGivenEither (O.file_at opener.old) (map string_bytes words.now) request def files
         → IsWhole result
         → W.taken out.new
         ≡ appended (W.taken out.old) (run_text request.task def request.paths files) }
     ensures log { (request : Request) (def : List ℕ) (files : List (List ℕ))
-        → IsGivenEither (O.file_at opener.now) (map string_bytes words.now) request def files
+        → IsGivenEither (O.file_at opener.old) (map string_bytes words.now) request def files
         → IsWhole result
         → Logs (L.taken log.old) (L.has_failed log.old) (L.taken log.new) (L.has_failed log.new)
         (run_lines request.task request.def def request.paths files
         ++ merge_lines (run_fault request.task def files)) }
     ensures done { (request : Request) (def : List ℕ) (files : List (List ℕ))
-        → IsGivenEither (O.file_at opener.now) (map string_bytes words.now) request def files
+        → IsGivenEither (O.file_at opener.old) (map string_bytes words.now) request def files
         → result ≡ Done → any_refused request.task def files ≡ false }
     ensures refused { (request : Request) (def : List ℕ) (files : List (List ℕ))
-        → IsGivenEither (O.file_at opener.now) (map string_bytes words.now) request def files
+        → IsGivenEither (O.file_at opener.old) (map string_bytes words.now) request def files
         → result ≡ Refused → any_refused request.task def files ≡ true }
     ensures asked { (request : Request) → IsRequest (named (map string_bytes words.now)) request
         → result ≢ CommandLine }
+    ensures unopened { AsksVersion (map string_bytes words.now)
+        ⊎ ((name : List ℕ) × AsksCode (map string_bytes words.now) name)
+        → Opens (O.opened opener.old) (O.opened opener.new) [] }
+    ensures files { O.file_at opener.new ≡ O.file_at opener.old }
+    ensures faults { O.may_fail opener.new ≡ O.may_fail opener.old }
 {
     cvr_run::respond::<CachedOffice, O, W, L>(alloc, opener, words, out, log)
 }

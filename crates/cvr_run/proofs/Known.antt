@@ -45,8 +45,8 @@ read_known file_at (path ∷ paths) (r ∷ read) (file ∷ files) are at =
 
 -- ---- a run over what was read is one over the files
 
-module _ (file_at : List ℕ → At) (task : Task) (what : List ℕ) (paths : List (List ℕ)) (answer : Status) (c d : Option (List ℕ)) (out_failed : Bool) (b a : Option (List ℕ)) (f h : Bool)
-    (run : Runs file_at task what paths answer c d out_failed b f a h) (def : List ℕ) (files : List (List ℕ)) (at : AreAt file_at (what ∷ paths) (def ∷ files)) where
+module _ (file_at : List ℕ → At) (opens : List (List ℕ) → Type 0) (task : Task) (what : List ℕ) (paths : List (List ℕ)) (answer : Status) (c d : Option (List ℕ)) (out_failed : Bool) (b a : Option (List ℕ)) (f h : Bool)
+    (run : Runs file_at opens task what paths answer c d out_failed b f a h) (def : List ℕ) (files : List (List ℕ)) (at : AreAt file_at (what ∷ paths) (def ∷ files)) where
   all_read : run.def ∷ run.files ≡ held_part def ∷ map held_part files
   all_read = read_known file_at (what ∷ paths) (run.def ∷ run.files) (def ∷ files) run.read at
 

@@ -130,12 +130,12 @@ place_other list other = go (bytes_eq list (codes "-")) refl
 -- ---- what is done
 
 -- a list that gave no paths
-pub unlisted : (file_at : List ℕ → At) (may_fail : List ℕ → Bool) (unchanged : Type 0) → unchanged → (request : Request) (path : List ℕ) (by_null : Bool) (answer : Status) (c d : Option (List ℕ)) (g : Bool) (b : Option (List ℕ)) (f : Bool) (a : Option (List ℕ)) (h : Bool)
-    → Stops file_at may_fail (path ∷ []) answer b f a h ⊎ ((text : List ℕ) × IsRead (file_at path) text × IsNoList (Unit {0}) path text answer b f a h)
-    → DoesListed file_at may_fail unchanged request path by_null answer c d g b f a h
-unlisted file_at may_fail unchanged quiet request path by_null answer c d g b f a h (inl stops) = inl (quiet, stops)
-unlisted file_at may_fail unchanged quiet request path by_null answer c d g b f a h (inr read) =
-    inr (read.0, read.1, inl (record { bad = read.2.bad; quiet = quiet; status = read.2.status; log = read.2.log }))
+pub unlisted : (file_at : List ℕ → At) (may_fail : List ℕ → Bool) (opens : List (List ℕ) → Type 0) (unchanged : Type 0) → unchanged → (request : Request) (path : List ℕ) (by_null : Bool) (answer : Status) (c d : Option (List ℕ)) (g : Bool) (b : Option (List ℕ)) (f : Bool) (a : Option (List ℕ)) (h : Bool)
+    → Stops file_at may_fail opens (path ∷ []) answer b f a h ⊎ ((text : List ℕ) × IsRead (file_at path) text × IsNoList opens (Unit {0}) path text answer b f a h)
+    → DoesListed file_at may_fail opens unchanged request path by_null answer c d g b f a h
+unlisted file_at may_fail opens unchanged quiet request path by_null answer c d g b f a h (inl stops) = inl (quiet, stops)
+unlisted file_at may_fail opens unchanged quiet request path by_null answer c d g b f a h (inr read) =
+    inr (read.0, read.1, inl (record { bad = read.2.bad; opened = read.2.opened; quiet = quiet; status = read.2.status; log = read.2.log }))
 
 stop_answer : (stop : Stop) → (stop_status stop ≡ Device) ⊎ (stop_status stop ≡ status.Memory)
 stop_answer (Unread path fault.Device) = inl refl
@@ -143,13 +143,13 @@ stop_answer (Unread path fault.Memory) = inr refl
 stop_answer NoRoom = inr refl
 
 -- then not all was said
-pub unlisted_ends : (file_at : List ℕ → At) (may_fail : List ℕ → Bool) (path : List ℕ) (answer : Status) (b : Option (List ℕ)) (f : Bool) (a : Option (List ℕ)) (h : Bool)
-    → Stops file_at may_fail (path ∷ []) answer b f a h ⊎ ((text : List ℕ) × IsRead (file_at path) text × IsNoList (Unit {0}) path text answer b f a h)
+pub unlisted_ends : (file_at : List ℕ → At) (may_fail : List ℕ → Bool) (opens : List (List ℕ) → Type 0) (path : List ℕ) (answer : Status) (b : Option (List ℕ)) (f : Bool) (a : Option (List ℕ)) (h : Bool)
+    → Stops file_at may_fail opens (path ∷ []) answer b f a h ⊎ ((text : List ℕ) × IsRead (file_at path) text × IsNoList opens (Unit {0}) path text answer b f a h)
     → IsWhole answer → ⊥
-unlisted_ends file_at may_fail path answer b f a h (inl stops) whole =
+unlisted_ends file_at may_fail opens path answer b f a h (inl stops) whole =
     not_whole answer (subst (λ s. (s ≡ Device) ⊎ (s ≡ status.Memory)) (sym stops.status) (stop_answer stops.stop)) whole
-unlisted_ends file_at may_fail path answer b f a h (inr read) (inl done) = let is = read.2.status in cc
-unlisted_ends file_at may_fail path answer b f a h (inr read) (inr refused) = let is = read.2.status in cc
+unlisted_ends file_at may_fail opens path answer b f a h (inr read) (inl done) = let is = read.2.status in cc
+unlisted_ends file_at may_fail opens path answer b f a h (inr read) (inr refused) = let is = read.2.status in cc
 
 -- ---- where the opener says what stands at each path
 
@@ -201,14 +201,14 @@ none_listed words none request list by_null asks = none asks.before list by_null
 -- ---- how words with a list are answered
 
 -- what is done for words is done for the same request, list and end
-pub answers_same : (file_at : List ℕ → At) (may_fail : List ℕ → Bool) (unchanged : Type 0) (r request : Request) (l list : List ℕ) (n by_null : Bool) (answer : Status) (c d : Option (List ℕ)) (g : Bool) (b : Option (List ℕ)) (f : Bool) (a : Option (List ℕ)) (h : Bool)
+pub answers_same : (file_at : List ℕ → At) (may_fail : List ℕ → Bool) (opens : List (List ℕ) → Type 0) (unchanged : Type 0) (r request : Request) (l list : List ℕ) (n by_null : Bool) (answer : Status) (c d : Option (List ℕ)) (g : Bool) (b : Option (List ℕ)) (f : Bool) (a : Option (List ℕ)) (h : Bool)
     → (r ≡ request) × ((l ≡ list) × (n ≡ by_null))
-    → DoesListed file_at may_fail unchanged r (list_place l) n answer c d g b f a h
-    → AnswersListed file_at may_fail unchanged request list by_null answer c d g b f a h
-answers_same file_at may_fail unchanged r request l list n by_null answer c d g b f a h same does =
-    subst (λ (q : Request). AnswersListed file_at may_fail unchanged q list by_null answer c d g b f a h) same.0
-    (subst (λ (q : List ℕ). AnswersListed file_at may_fail unchanged r q by_null answer c d g b f a h) same.1.0
-    (subst (λ (q : Bool). AnswersListed file_at may_fail unchanged r l q answer c d g b f a h) same.1.1 (inr does)))
+    → DoesListed file_at may_fail opens unchanged r (list_place l) n answer c d g b f a h
+    → AnswersListed file_at may_fail opens unchanged request list by_null answer c d g b f a h
+answers_same file_at may_fail opens unchanged r request l list n by_null answer c d g b f a h same does =
+    subst (λ (q : Request). AnswersListed file_at may_fail opens unchanged q list by_null answer c d g b f a h) same.0
+    (subst (λ (q : List ℕ). AnswersListed file_at may_fail opens unchanged r q by_null answer c d g b f a h) same.1.0
+    (subst (λ (q : Bool). AnswersListed file_at may_fail opens unchanged r l q answer c d g b f a h) same.1.1 (inr does)))
 
 -- ---- a few words ask for no list
 

@@ -5,7 +5,7 @@ ghost use Rattle.cvr_run.specs.Listed.{bad_list_line, list_place, DoesListed, Is
 ghost use Rattle.cvr_run.specs.ListedPaths.{end_of, listed_paths};
 ghost use Rattle.cvr_run.specs.Log.{Logs};
 ghost use Rattle.cvr_run.specs.Merge.{merge_lines};
-ghost use Rattle.cvr_run.specs.Opening.{IsRead};
+ghost use Rattle.cvr_run.specs.Opening.{IsRead, Opens};
 ghost use Rattle.cvr_run.specs.Outcome.{run_text, run_fault, any_refused, IsWhole};
 ghost use Rattle.cvr_run.specs.Told.{run_lines};
 ghost use Rattle.cvr_run.specs.Worked.{Stops};
@@ -54,19 +54,26 @@ fn tell_bad_list<L: Sink>(log: &mut L, path: &str)
 // The paths of the list at a path. Where there are none, the log says why.
 fn paths_at<O: Open, L: Sink>(
     alloc: Global,
-    opener: &O,
+    opener: &mut O,
     path: &str,
     by_null: bool,
     log: &mut L,
 ) -> Result<Seq<Body>, Status>
-    ensures paths { IfOk result (λ paths. (text : List ℕ) × IsRead (O.file_at opener.now path.now) text
+    ensures paths { IfOk result
+        (λ paths. (text : List ℕ) × IsRead (O.file_at opener.old path.now) text
         × IsList text × (paths ≡ listed_paths (end_of by_null) text)) }
     ensures quiet { OnOk result (log.new ≡ log.old) }
+    ensures opens { OnOk result
+        (Opens (O.opened opener.old) (O.opened opener.new) (path.now ∷ [])) }
+    ensures files { O.file_at opener.new ≡ O.file_at opener.old }
+    ensures faults { O.may_fail opener.new ≡ O.may_fail opener.old }
     ensures stops { IfErr result (λ status.
-        Stops (O.file_at opener.now) (O.may_fail opener.now) (path.now ∷ []) status
+        Stops (O.file_at opener.old) (O.may_fail opener.old)
+        (Opens (O.opened opener.old) (O.opened opener.new)) (path.now ∷ []) status
         (L.taken log.old) (L.has_failed log.old) (L.taken log.new) (L.has_failed log.new)
-        ⊎ ((text : List ℕ) × IsRead (O.file_at opener.now path.now) text
-        × IsNoList (Unit {0}) path.now text status
+        ⊎ ((text : List ℕ) × IsRead (O.file_at opener.old path.now) text
+        × IsNoList (Opens (O.opened opener.old) (O.opened opener.new))
+        (Unit {0}) path.now text status
         (L.taken log.old) (L.has_failed log.old) (L.taken log.new) (L.has_failed log.new))) }
 {
     let bytes = read_told(alloc, opener, path, log)?;
@@ -90,7 +97,7 @@ fn paths_at<O: Open, L: Sink>(
 /// opener says what stands at each path, the text is that of these files.
 pub fn run_listed<C: Office + Drop, O: Open, W: Sink, L: Sink>(
     alloc: Global,
-    opener: &O,
+    opener: &mut O,
     request: Request,
     list: &str,
     by_null: bool,
@@ -99,26 +106,29 @@ pub fn run_listed<C: Office + Drop, O: Open, W: Sink, L: Sink>(
 ) -> Status
     requires working { W.has_failed out.old ≡ false }
     requires log_working { L.has_failed log.old ≡ false }
-    ensures does { DoesListed (O.file_at opener.now) (O.may_fail opener.now) (out.new ≡ out.old)
+    ensures does { DoesListed (O.file_at opener.old) (O.may_fail opener.old)
+        (Opens (O.opened opener.old) (O.opened opener.new)) (out.new ≡ out.old)
         request (list_place list.now) by_null result
         (W.taken out.old) (W.taken out.new) (W.has_failed out.new)
         (L.taken log.old) (L.has_failed log.old) (L.taken log.new) (L.has_failed log.new) }
     ensures text { (paths : List (List ℕ)) (def : List ℕ) (files : List (List ℕ))
-        → ListsFiles (O.file_at opener.now) request list.now by_null paths def files
+        → ListsFiles (O.file_at opener.old) request list.now by_null paths def files
         → IsWhole result
         → W.taken out.new ≡ appended (W.taken out.old) (run_text request.task def paths files) }
     ensures log { (paths : List (List ℕ)) (def : List ℕ) (files : List (List ℕ))
-        → ListsFiles (O.file_at opener.now) request list.now by_null paths def files
+        → ListsFiles (O.file_at opener.old) request list.now by_null paths def files
         → IsWhole result
         → Logs (L.taken log.old) (L.has_failed log.old) (L.taken log.new) (L.has_failed log.new)
         (run_lines request.task request.def def paths files
         ++ merge_lines (run_fault request.task def files)) }
     ensures done { (paths : List (List ℕ)) (def : List ℕ) (files : List (List ℕ))
-        → ListsFiles (O.file_at opener.now) request list.now by_null paths def files
+        → ListsFiles (O.file_at opener.old) request list.now by_null paths def files
         → result ≡ Done → any_refused request.task def files ≡ false }
     ensures refused { (paths : List (List ℕ)) (def : List ℕ) (files : List (List ℕ))
-        → ListsFiles (O.file_at opener.now) request list.now by_null paths def files
+        → ListsFiles (O.file_at opener.old) request list.now by_null paths def files
         → result ≡ Refused → any_refused request.task def files ≡ true }
+    ensures files { O.file_at opener.new ≡ O.file_at opener.old }
+    ensures faults { O.may_fail opener.new ≡ O.may_fail opener.old }
 {
     let Request { task, def, .. } = request;
     match paths_at(alloc, opener, place_of(list), by_null, log) {

@@ -1,4 +1,4 @@
-ghost use Rattle.std.specs.Prelude.{◌≡◌, ◌==◌, not, true, false, Some, Err, IsOk, IfOk, IfErr, MatchOption};
+ghost use Rattle.std.specs.Prelude.{◌≡◌, ◌==◌, not, true, false, Some, None, Err, IsOk, IfOk, IfErr, MatchOption};
 ghost use Rattle.cdf_types.specs.MemorySource.{can_fail};
 ghost use Rattle.cvr_run.specs.declared.file.FileFault.TheVariants.{Device};
 ghost use Rattle.cvr_run.specs.File.{is_device};
@@ -32,8 +32,10 @@ pub struct MemoryFiles<'a> {
 
 // The first file of a path.
 fn find<'a>(files: &'a [MemoryFile<'a>], path: &str) -> Option<&'a MemoryFile<'a>>
-    ensures found { MatchOption result (found_at files.now path.now ≡ Absent) (λ file. found_at files.now path.now ≡ Has file.now.bytes.now) }
-    ensures fails { MatchOption result (can_fail_at files.now path.now ≡ false) (λ file. can_fail_at files.now path.now ≡ not (file.now.fail_at == 0)) }
+    ensures found { MatchOption result (found_at files.now path.now ≡ Absent)
+        (λ file. found_at files.now path.now ≡ Has file.now.bytes.now) }
+    ensures fails { MatchOption result (can_fail_at files.now path.now ≡ false)
+        (λ file. can_fail_at files.now path.now ≡ not (file.now.fail_at == 0)) }
 {
     for file in files {
         if file.path == path {
@@ -50,20 +52,28 @@ impl<'a> Open for MemoryFiles<'a> {
 
     ghost may_fail = { λ files path. can_fail_at files.files.now path };
 
+    ghost opened = { λ _. None };
+
     /// The file at a path, which gives at most 100 bytes a call. Takes no memory.
     ///
     /// # Errors
     /// `Device` exactly where there is none.
-    fn open(&self, path: &str) -> Result<MemorySource<'a>, FileFault>
+    fn open(&mut self, path: &str) -> Result<MemorySource<'a>, FileFault>
         ensures working { IfOk result (λ file. file.has_failed ≡ false) }
-        ensures bytes { IfOk result (λ file. IsOpened (found_at self.now.files.now path.now) (Some file.rest)) }
-        ensures steady { IfOk result (λ file. can_fail_at self.now.files.now path.now ≡ false → can_fail file ≡ false) }
-        ensures fails { IfOk result (λ file. can_fail file ≡ can_fail_at self.now.files.now path.now) }
-        ensures device { IfErr result (λ e. is_device e ≡ true → has_file (found_at self.now.files.now path.now) ≡ false) }
+        ensures bytes { IfOk result
+            (λ file. IsOpened (found_at self.old.files.now path.now) (Some file.rest)) }
+        ensures steady { IfOk result (λ file. can_fail_at self.old.files.now path.now ≡ false
+            → can_fail file ≡ false) }
+        ensures fails { IfOk result
+            (λ file. can_fail file ≡ can_fail_at self.old.files.now path.now) }
+        ensures device { IfErr result (λ e. is_device e ≡ true
+            → has_file (found_at self.old.files.now path.now) ≡ false) }
         ensures absent { IfErr result
-            (λ e. found_at self.now.files.now path.now ≡ Absent → e ≡ Device) }
-        ensures opened { has_file (found_at self.now.files.now path.now) ≡ true → IsOk result }
-        ensures fault { has_file (found_at self.now.files.now path.now) ≡ false → result ≡ Err Device }
+            (λ e. found_at self.old.files.now path.now ≡ Absent → e ≡ Device) }
+        ensures opened { has_file (found_at self.old.files.now path.now) ≡ true → IsOk result }
+        ensures fault { has_file (found_at self.old.files.now path.now) ≡ false
+            → result ≡ Err Device }
+        ensures unchanged { self.new ≡ self.old }
     {
         match find(self.files, path) {
             Some(file) => Ok(MemorySource::new(file.bytes, PIECE, file.fail_at)),

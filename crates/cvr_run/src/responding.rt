@@ -1,4 +1,4 @@
-ghost use Rattle.std.specs.Prelude.{◌≡◌, ◌≢◌, ◌++◌, ℕ, List, Bool, map, true, false, string_bytes};
+ghost use Rattle.std.specs.Prelude.{◌≡◌, ◌≢◌, ◌⊎◌, ◌++◌, [], ℕ, List, Bool, map, true, false, string_bytes};
 ghost use Rattle.cdf_types.specs.Device.{appended};
 ghost use Rattle.cvr_words.specs.Line.{named};
 ghost use Rattle.cvr_words.specs.Request.{IsRequest};
@@ -9,6 +9,7 @@ ghost use Rattle.cvr_run.specs.Explained.{AsksCode, Explains};
 ghost use Rattle.cvr_run.specs.Listed.{AnswersListed, AsksListed, IsBefore, IsGivenEither, list_words};
 ghost use Rattle.cvr_run.specs.Log.{Logs};
 ghost use Rattle.cvr_run.specs.Merge.{merge_lines};
+ghost use Rattle.cvr_run.specs.Opening.{Opens};
 ghost use Rattle.cvr_run.specs.Outcome.{run_text, run_fault, any_refused, IsWhole};
 ghost use Rattle.cvr_run.specs.OwnWords.{AsksVersion, PrintsOwn, version_text};
 ghost use Rattle.cvr_run.specs.Told.{run_lines};
@@ -29,7 +30,7 @@ use std::alloc::Global;
 // Does what words with a list ask for; where they don't ask for one, as `work`.
 fn respond_listed<C: Office + Drop, O: Open, W: Sink, L: Sink>(
     alloc: Global,
-    opener: &O,
+    opener: &mut O,
     words: &[String],
     listing: &Listing<'_>,
     out: &mut W,
@@ -43,35 +44,39 @@ fn respond_listed<C: Office + Drop, O: Open, W: Sink, L: Sink>(
         listing.now.by_null }
     ensures listed { (request : Request) (list : List ℕ) (by_null : Bool)
         → AsksListed (map string_bytes words.now) request list by_null
-        → AnswersListed (O.file_at opener.now) (O.may_fail opener.now) (out.new ≡ out.old)
+        → AnswersListed (O.file_at opener.old) (O.may_fail opener.old)
+        (Opens (O.opened opener.old) (O.opened opener.new)) (out.new ≡ out.old)
         request list by_null result
         (W.taken out.old) (W.taken out.new) (W.has_failed out.new)
         (L.taken log.old) (L.has_failed log.old) (L.taken log.new) (L.has_failed log.new) }
     ensures works { ((request : Request) (list : List ℕ) (by_null : Bool)
         → ¬ AsksListed (map string_bytes words.now) request list by_null)
-        → Answers (O.file_at opener.now) (O.may_fail opener.now) (out.new ≡ out.old)
+        → Answers (O.file_at opener.old) (O.may_fail opener.old)
+        (Opens (O.opened opener.old) (O.opened opener.new)) (out.new ≡ out.old)
         (map string_bytes words.now) result
         (W.taken out.old) (W.taken out.new) (W.has_failed out.new)
         (L.taken log.old) (L.has_failed log.old) (L.taken log.new) (L.has_failed log.new) }
     ensures text { (request : Request) (def : List ℕ) (files : List (List ℕ))
-        → IsGivenEither (O.file_at opener.now) (map string_bytes words.now) request def files
+        → IsGivenEither (O.file_at opener.old) (map string_bytes words.now) request def files
         → IsWhole result
         → W.taken out.new
         ≡ appended (W.taken out.old) (run_text request.task def request.paths files) }
     ensures log { (request : Request) (def : List ℕ) (files : List (List ℕ))
-        → IsGivenEither (O.file_at opener.now) (map string_bytes words.now) request def files
+        → IsGivenEither (O.file_at opener.old) (map string_bytes words.now) request def files
         → IsWhole result
         → Logs (L.taken log.old) (L.has_failed log.old) (L.taken log.new) (L.has_failed log.new)
         (run_lines request.task request.def def request.paths files
         ++ merge_lines (run_fault request.task def files)) }
     ensures done { (request : Request) (def : List ℕ) (files : List (List ℕ))
-        → IsGivenEither (O.file_at opener.now) (map string_bytes words.now) request def files
+        → IsGivenEither (O.file_at opener.old) (map string_bytes words.now) request def files
         → result ≡ Done → any_refused request.task def files ≡ false }
     ensures refused { (request : Request) (def : List ℕ) (files : List (List ℕ))
-        → IsGivenEither (O.file_at opener.now) (map string_bytes words.now) request def files
+        → IsGivenEither (O.file_at opener.old) (map string_bytes words.now) request def files
         → result ≡ Refused → any_refused request.task def files ≡ true }
     ensures asked { (request : Request) → IsRequest (named (map string_bytes words.now)) request
         → result ≢ CommandLine }
+    ensures files { O.file_at opener.new ≡ O.file_at opener.old }
+    ensures faults { O.may_fail opener.new ≡ O.may_fail opener.old }
 {
     match listed_request(alloc, words, listing) {
         Ok(Some(request)) => {
@@ -97,7 +102,7 @@ fn respond_listed<C: Office + Drop, O: Open, W: Sink, L: Sink>(
 #[tactic(auto, using(crate::proofs::CodeWords::version_no_code, crate::proofs::CodeWords::one_name))]
 pub fn respond<C: Office + Drop, O: Open, W: Sink, L: Sink>(
     alloc: Global,
-    opener: &O,
+    opener: &mut O,
     words: &[String],
     out: &mut W,
     log: &mut L,
@@ -113,7 +118,8 @@ pub fn respond<C: Office + Drop, O: Open, W: Sink, L: Sink>(
         (L.taken log.old) (L.has_failed log.old) (L.taken log.new) (L.has_failed log.new) }
     ensures listed { (request : Request) (list : List ℕ) (by_null : Bool)
         → AsksListed (map string_bytes words.now) request list by_null
-        → AnswersListed (O.file_at opener.now) (O.may_fail opener.now) (out.new ≡ out.old)
+        → AnswersListed (O.file_at opener.old) (O.may_fail opener.old)
+        (Opens (O.opened opener.old) (O.opened opener.new)) (out.new ≡ out.old)
         request list by_null result
         (W.taken out.old) (W.taken out.new) (W.has_failed out.new)
         (L.taken log.old) (L.has_failed log.old) (L.taken log.new) (L.has_failed log.new) }
@@ -121,29 +127,35 @@ pub fn respond<C: Office + Drop, O: Open, W: Sink, L: Sink>(
         → ((name : List ℕ) → ¬ AsksCode (map string_bytes words.now) name)
         → ((request : Request) (list : List ℕ) (by_null : Bool)
         → ¬ AsksListed (map string_bytes words.now) request list by_null)
-        → Answers (O.file_at opener.now) (O.may_fail opener.now) (out.new ≡ out.old)
+        → Answers (O.file_at opener.old) (O.may_fail opener.old)
+        (Opens (O.opened opener.old) (O.opened opener.new)) (out.new ≡ out.old)
         (map string_bytes words.now) result
         (W.taken out.old) (W.taken out.new) (W.has_failed out.new)
         (L.taken log.old) (L.has_failed log.old) (L.taken log.new) (L.has_failed log.new) }
     ensures text { (request : Request) (def : List ℕ) (files : List (List ℕ))
-        → IsGivenEither (O.file_at opener.now) (map string_bytes words.now) request def files
+        → IsGivenEither (O.file_at opener.old) (map string_bytes words.now) request def files
         → IsWhole result
         → W.taken out.new
         ≡ appended (W.taken out.old) (run_text request.task def request.paths files) }
     ensures log { (request : Request) (def : List ℕ) (files : List (List ℕ))
-        → IsGivenEither (O.file_at opener.now) (map string_bytes words.now) request def files
+        → IsGivenEither (O.file_at opener.old) (map string_bytes words.now) request def files
         → IsWhole result
         → Logs (L.taken log.old) (L.has_failed log.old) (L.taken log.new) (L.has_failed log.new)
         (run_lines request.task request.def def request.paths files
         ++ merge_lines (run_fault request.task def files)) }
     ensures done { (request : Request) (def : List ℕ) (files : List (List ℕ))
-        → IsGivenEither (O.file_at opener.now) (map string_bytes words.now) request def files
+        → IsGivenEither (O.file_at opener.old) (map string_bytes words.now) request def files
         → result ≡ Done → any_refused request.task def files ≡ false }
     ensures refused { (request : Request) (def : List ℕ) (files : List (List ℕ))
-        → IsGivenEither (O.file_at opener.now) (map string_bytes words.now) request def files
+        → IsGivenEither (O.file_at opener.old) (map string_bytes words.now) request def files
         → result ≡ Refused → any_refused request.task def files ≡ true }
     ensures asked { (request : Request) → IsRequest (named (map string_bytes words.now)) request
         → result ≢ CommandLine }
+    ensures unopened { AsksVersion (map string_bytes words.now)
+        ⊎ ((name : List ℕ) × AsksCode (map string_bytes words.now) name)
+        → Opens (O.opened opener.old) (O.opened opener.new) [] }
+    ensures files { O.file_at opener.new ≡ O.file_at opener.old }
+    ensures faults { O.may_fail opener.new ≡ O.may_fail opener.old }
 {
     if asks_version(words) {
         return print_version(out, log);

@@ -1,4 +1,4 @@
-use Rattle.std.proofs.Common.{◌≡◌, ◌∷◌, ◌++◌, true, false, inl, inr, map, string_bytes, sym, subst}
+use Rattle.std.proofs.Common.{◌≡◌, ◌∷◌, ◌++◌, true, false, inl, inr, map, string_bytes, refl, sym, subst}
 use Rattle.cdf_types.specs.Device.{appended}
 use Rattle.cvr_words.specs.Line.{named}
 use Rattle.cvr_words.specs.declared.request.Request.{Request}
@@ -10,6 +10,7 @@ use Rattle.cvr_run.specs.Outcome.{run_text, run_fault, any_refused}
 use Rattle.cvr_run.specs.Told.{run_lines}
 use Rattle.cvr_run.proofs.Unasked.{told_memory, not_asked, not_command_line}
 use Rattle.cvr_run.proofs.Known.{not_done, not_refused}
+use Rattle.cvr_run.proofs.Opened.{opens_none}
 use Rattle.cvr_run.proofs.answering.work.Goals as goal
 
 pub returns-in-Ok : goal.returns-in-Ok
@@ -44,6 +45,8 @@ returns-in-Ok g c =
           subst (λ (q : Request). any_refused q.task def files ≡ true) same
           (told.refused def files (subst (λ (q : Request). AreAt file_at (q.def ∷ q.paths) (def ∷ files)) (sym same) given.there) refused);
       asked = λ r is. told.no_words;
+      files = told.files;
+      faults = told.faults;
     }
 
 pub returns-in-Err : goal.returns-in-Err
@@ -55,10 +58,12 @@ returns-in-Err g c =
     let answer = c.tell_fault.result in
     let out_failed = g.W.Sink.has_failed c.tell_fault.new.out in
     record {
-      answers = inr (fault, is, told);
+      answers = inr (fault, is, opens_none (g.O.Open.opened c.args.opener.now), told);
       text = λ r def files given whole. absurd (not_asked words r fault answer out_failed given.asked is told.status whole);
       log = λ r def files given whole. absurd (not_asked words r fault answer out_failed given.asked is told.status whole);
       done = λ r def files given done. absurd (not_done answer (inr (told_memory words r fault answer out_failed given.asked is told.status)) done);
       refused = λ r def files given refused. absurd (not_refused answer (inr (told_memory words r fault answer out_failed given.asked is told.status)) refused);
       asked = λ r is2. not_command_line answer (told_memory words r fault answer out_failed is2 is told.status);
+      files = refl;
+      faults = refl;
     }
