@@ -1,0 +1,166 @@
+#!/usr/bin/env python3
+"""run.py --cvr PATH [--cases N] [--seed N]
+
+Holds examples/many-machines/tally.py against one run of `cvr` over all files: output, log and
+status have to be the same. First sets of files by chance (sets.py), each by all commands; then
+slips that the script could have, each of which such a set has to find (ways.py). Then the script
+itself is run: on the county of the examples, also with a definition that is refused, files that
+aren't there, names that begin with a hyphen, words that it refuses; with workers and programs that
+die (workers.py); and on three hosts, which are network namespaces of this machine (hosts.py): where
+these can't be made, or `distributed` isn't there, a line `skipped` says so.
+
+The last line is `many machines: N right, M wrong`; the status is 0 only where M is 0 and N is
+not."""
+import argparse
+import os
+import shutil
+import sys
+import tempfile
+from concurrent.futures import ThreadPoolExecutor
+
+sys.dont_write_bytecode = True
+sys.path.insert(0, os.path.dirname(os.path.abspath(__file__)))
+import hosts    # noqa: E402
+import sets     # noqa: E402
+import ways     # noqa: E402
+import workers  # noqa: E402 (they stand beside this file)
+
+DEFINITION = 'examples/county/definition.json'
+COUNTY = ['examples/county/%s.json' % name
+          for name in ('scan', 'damaged', 'adjudicated', 'corrected')]
+
+
+def by_script(cvr, definition, files, folder=ways.TOP, more=()):
+    """What is wrong of the script's answer to each command, as it is started."""
+    return ''.join(one(cvr, it, definition, files, folder, more) for it in sets.COMMANDS)
+
+
+def one(cvr, command, definition, files, folder, more):
+    words = [sys.executable, ways.SCRIPT, '--cvr', cvr, '--command', command, '--hold', *more]
+    parts = workers.run(words + ['--', definition] + files, folder)
+    whole = workers.run([cvr, command, '--', definition] + files, folder)
+    return '' if parts == whole else '%s: in parts %r, else %r; ' % (command, parts, whole)
+
+
+def hyphens(cvr):
+    """The same of files whose names begin with a hyphen, one of which is refused, and one not
+    there."""
+    with tempfile.TemporaryDirectory() as folder:
+        names = ['-%s' % os.path.basename(path) for path in [DEFINITION] + COUNTY]
+        for name, path in zip(names, [DEFINITION] + COUNTY):
+            shutil.copy(path, os.path.join(folder, name))
+        return ''.join(by_script(cvr, names[0], names[1:] + more, folder)
+                       for more in ([], ['--none'], ['-']))
+
+
+def odd_names(cvr):
+    """The same of names that hold a line end, what a log line holds, or no UTF-8."""
+    with tempfile.TemporaryDirectory() as folder:
+        names = ['a', 'a: E2', 'b\n', 'a: E3 /CVR 2\nb', '\u20ac \U0001f600', os.fsdecode(b'\xff')]
+        os.mkdir(os.path.join(folder, 'a: E3 '))
+        for name in names:
+            shutil.copy(COUNTY[1], os.path.join(folder, name))
+        definition = os.path.abspath(DEFINITION)
+        return ''.join(by_script(cvr, definition, it, folder, ['--parts', '2'])
+                       for it in (names[:-1], names))
+
+
+def refused(*more):
+    """The words are refused with the usage, and nothing is printed."""
+    def work(_):
+        told = workers.run([sys.executable, ways.SCRIPT, *more, DEFINITION] + COUNTY)
+        is_right = told[:2] == (2, b'') and told[2].startswith(b'usage: tally.py')
+        return '' if is_right else repr(told)
+    return work
+
+
+def by_file(cvr):
+    """The tallies of the files, added up, are not the tally of the files."""
+    module, files = ways.script(), [COUNTY[0], COUNTY[2]]
+    texts = [module.run([cvr, 'tally', DEFINITION, path])[1] for path in files]
+    added = module.added(texts, module.places_in(DEFINITION))
+    whole = module.run([cvr, 'tally', DEFINITION] + files)[1]
+    return 'a split by file is not noticed' if added == whole else ''
+
+
+def no_room(cvr):
+    """A full device at the output."""
+    with open('/dev/full', 'wb') as full:
+        done = workers.subprocess.run([sys.executable, ways.SCRIPT, '--cvr', cvr, DEFINITION,
+                                       COUNTY[0]], stdout=full, stderr=workers.subprocess.PIPE)
+    told = done.returncode, done.stderr
+    return '' if told == (3, b'out: X1\n') else repr(told)
+
+
+def no_file(cvr):
+    """A device in the place of a file, and in that of the definition."""
+    words = [sys.executable, ways.SCRIPT, '--cvr', cvr]
+    told = [workers.run(words + it)[::2] for it in ([DEFINITION, '/dev/null'], ['/dev/null'])]
+    log = b'tally.py: /dev/null: no regular file; it has to be read more than once\n'
+    return '' if told == [(3, log)] * 2 else repr(told)
+
+
+def in_county(definition, *more):
+    return lambda cvr: by_script(cvr, definition, COUNTY + list(more))
+
+
+ROWS = [
+    ('the county', in_county(DEFINITION)), ('no file', lambda cvr: by_script(cvr, DEFINITION, [])),
+    ('a refused definition', in_county(COUNTY[1])),
+    ('and a file that is not there', in_county(COUNTY[1], 'none.json')),
+    ('a file that is not there', in_county(DEFINITION, 'none.json', 'nor.json')),
+    ('a definition that is not there', in_county('none.json', 'nor.json')),
+    ('a folder', in_county(DEFINITION, 'examples')),
+    ('a file that comes again', in_county(DEFINITION, COUNTY[0], COUNTY[1])),
+    ('names that begin with a hyphen', hyphens), ('odd names', odd_names),
+    ('no part', refused('--parts', '0')), ('no worker', refused('--workers', '0')),
+    ('parts that are no number', refused('--parts', 'x')),
+    ('no such engine', refused('--engine', 'plian')),
+    ('a split by file', by_file), ('no room', no_room), ('no file twice', no_file),
+]
+
+
+def tries(cvr, cases, seed):
+    """(name, what gives what is wrong of it) of all."""
+    module = ways.script()
+
+    def passes(changed, number):
+        return not sets.tried(changed, cvr, '%d %d' % (seed, number))
+    for number in range(cases):
+        yield ('set %d of seed %d' % (number, seed),
+               lambda number=number: sets.tried(module, cvr, '%d %d' % (seed, number)))
+    for way in ways.WAYS:
+        yield 'slip %s' % way.name, lambda way=way: ways.unfound(way, passes)
+    for name, work in ROWS + workers.TRIES:
+        yield name, lambda work=work: work(cvr)
+
+
+def told_of(work):
+    try:
+        return work()
+    except Exception as fault:
+        return '%s: %s' % (type(fault).__name__, fault)
+
+
+def main():
+    words = argparse.ArgumentParser()
+    words.add_argument('--cvr', required=True, help='the program to try')
+    words.add_argument('--cases', type=int, default=200)
+    words.add_argument('--seed', type=int, default=1)
+    words = words.parse_args()
+    cvr, right, wrong = os.path.abspath(words.cvr), 0, 0
+    os.chdir(ways.TOP)
+    with ThreadPoolExecutor(os.cpu_count()) as lanes:
+        named = list(tries(cvr, words.cases, words.seed))
+        answers = list(zip((name for name, _ in named),
+                           lanes.map(told_of, (work for _, work in named))))
+    for name, told in answers + list(hosts.tries(cvr)):
+        right, wrong = right + (not told), wrong + bool(told)
+        if told:
+            print('WRONG: %s: %s' % (name, told))
+    print('many machines: %d right, %d wrong' % (right, wrong))
+    sys.exit(0 if right and not wrong else 1)
+
+
+if __name__ == '__main__':
+    main()

@@ -1,0 +1,258 @@
+"""workers.py: what examples/many-machines/tally.py does where a worker or a program dies, where
+memory is refused or a file changes, and what it keeps of parts for a later run. A program in the
+place of `cvr` does as the files of a folder say, and then as `cvr`."""
+import glob
+import os
+import shutil
+import subprocess
+import sys
+import tempfile
+import time
+
+import ways
+
+COUNTY = ['examples/county/%s.json' % name for name in ('scan', 'adjudicated', 'damaged')]
+DEFINITION = 'examples/county/definition.json'
+# Tells each part in a file `log`. Where a file `kill` is there, it ends by a signal at the first
+# part; at `worker` its worker does; at `piece` it tells that a piece was refused; and so on.
+PROGRAM = '''#!/bin/sh
+here=$(dirname "$0")
+if [ "$3" = --files-from ]; then
+    echo part >>"$here/log"
+    if rm "$here/kill" 2>/dev/null; then kill -9 $$; fi
+    if rm "$here/worker" 2>/dev/null; then kill -9 $PPID; fi
+    if rm "$here/memory" 2>/dev/null; then echo memory >&2; exit 4; fi
+    if rm "$here/change" 2>/dev/null; then for it in "$here"/scan-*; do echo >>"$it"; done; fi
+    if rm "$here/piece" 2>/dev/null; then "%(cvr)s" "$@"; echo piece: E2 >&2; exit 1; fi
+    if [ -e "$here/slow" ]; then sleep 1; fi
+    if [ -e "$here/less" ]; then "%(cvr)s" "$@" | sed 1d; exit; fi
+fi
+exec "%(cvr)s" "$@"
+'''
+
+
+class Folder:
+    """A folder with that program, with scans whose records have names of their own, but for some
+    of them that a desk has adjudicated, and with the file of that desk."""
+
+    def __init__(self, cvr, folder):
+        self.cvr, self.folder = cvr, folder
+        self.program = self.put('program', PROGRAM % {'cvr': cvr})
+        os.chmod(self.program, 0o755)
+        self.files = [self.scan(n) for n in range(6)]
+        self.files.append(self.put('desk.json', text_of(COUNTY[1])))
+
+    def put(self, name, text=''):
+        path = os.path.join(self.folder, name)
+        with open(path, 'w', encoding='utf-8') as file:
+            file.write(text)
+        return path
+
+    def scan(self, number):
+        """The scan of the county, where only the records `1-000N` and `2-000N` keep their names."""
+        text = text_of(COUNTY[0])
+        for n in range(1, 5):
+            if n != number:
+                text = text.replace('-000%d"' % n, '-%d-000%d"' % (number, n))
+        return self.put('scan-%d.json' % number, text)
+
+    def run(self, *more):
+        """(status, output, log) of the script, and how many parts it has worked out."""
+        log = os.path.join(self.folder, 'log')
+        if os.path.exists(log):
+            os.remove(log)
+        words = [sys.executable, ways.SCRIPT, '--cvr', self.program, '--parts', '6']
+        told = run(words + list(more) + ['--', DEFINITION] + self.files)
+        return told, len(text_of(log).split()) if os.path.exists(log) else 0
+
+    def whole(self):
+        return run([self.cvr, 'tally', '--', DEFINITION] + self.files)
+
+
+def text_of(path):
+    with open(path, encoding='utf-8') as file:
+        return file.read()
+
+
+def run(words, folder=ways.TOP):
+    done = subprocess.run(words, cwd=folder, stdin=subprocess.DEVNULL, stdout=subprocess.PIPE,
+                          stderr=subprocess.PIPE)
+    return done.returncode, done.stdout, done.stderr
+
+
+def in_folder(work):
+    """A try that has such a folder of its own."""
+    def done(cvr):
+        with tempfile.TemporaryDirectory() as folder:
+            return work(Folder(cvr, folder))
+    return done
+
+
+def ends(name, status, log, *more):
+    """The run ends with this status and log, and prints nothing, where the program does that."""
+    def work(at):
+        at.put(name)
+        told = at.run(*more)[0]
+        return '' if told[:2] == (status, b'') and log in told[2] else repr(told)
+    return in_folder(work)
+
+
+@in_folder
+def nothing_amiss(at):
+    """The program in the place of `cvr` answers as `cvr` where no file says otherwise."""
+    told, parts = at.run('--hold')
+    return '' if told == at.whole() and not told[0] and parts == 6 else repr((told, parts))
+
+
+@in_folder
+def kept(at):
+    """After a run that died the parts that were done aren't worked out again, nor any after it."""
+    keep = os.path.join(at.folder, 'keep')
+    os.mkdir(keep)
+    at.put('kill')
+    first = at.run('--keep', keep, '--workers', '1')
+    held = len(glob.glob(keep + '/*.part'))
+    second, third = at.run('--keep', keep), at.run('--keep', keep)
+    if first[0][:2] != (69, b''):
+        return 'a run that died: %r' % (first,)
+    return seen(at, held, second, third)
+
+
+def seen(at, held, second, third):
+    if [second[0], third[0]] != [at.whole()] * 2:
+        return 'kept parts: %r, %r' % (second, third)
+    parts = second[1] + held, third[1]
+    return '' if 0 < held < 6 and parts == (6, 0) else '%d kept, %r worked out' % (held, parts)
+
+
+@in_folder
+def kept_of_other_bytes(at):
+    """A part is worked out again where a file of it, what was kept of it, or the program has other
+    bytes, and where the command is another."""
+    keep, told = os.path.join(at.folder, 'keep'), []
+    os.mkdir(keep)
+    at.run('--keep', keep)
+    at.put('scan-5.json', text_of(at.files[5]) + ' ')
+    told.append(at.run('--keep', keep))
+    with open(sorted(glob.glob(keep + '/*.part'))[0], 'r+b') as file:
+        file.truncate(100)
+    for name in glob.glob(keep + '/*.part')[1:3]:
+        os.truncate(name, 0)
+    told.append(at.run('--keep', keep))
+    told.append(at.run('--keep', keep, '--command', 'currents'))
+    at.put('program', text_of(at.program) + '#\n')
+    told.append(at.run('--keep', keep))
+    texts, parts = {it[0] for it in told[:2] + told[3:]}, [it[1] for it in told]
+    is_right = texts == {at.whole()} and parts[0] == 1 and 0 < parts[1] < 4 and parts[2:] == [6, 6]
+    return '' if is_right else repr((texts, parts))
+
+
+@in_folder
+def one_file_is_split(at):
+    """Of two scans that share a record each with the desk's file, and of that file, that one alone
+    is split."""
+    module, split = ways.script(), []
+    words = module.read_words(['--cvr', at.cvr, '--parts', '6', DEFINITION] + at.files)
+
+    def each(work, jobs):
+        split.extend(job[1] for job in jobs if work.__name__ == 'split')
+        return [work(job) for job in jobs]
+    told = module.tried(words, each)
+    return '' if told == at.whole() and split == at.files[-1:] else repr((told, split))
+
+
+def under_way(at):
+    """A run that works out its first part, and the folder of its pieces."""
+    place = os.path.join(at.folder, 'pieces')
+    os.mkdir(place)
+    at.put('slow')
+    words = [sys.executable, ways.SCRIPT, '--cvr', at.program, '--', DEFINITION] + at.files
+    process = subprocess.Popen(words, cwd=ways.TOP, env=dict(os.environ, TMPDIR=place),
+                               stdout=subprocess.PIPE, stderr=subprocess.PIPE)
+    while not os.path.exists(os.path.join(at.folder, 'log')):
+        time.sleep(0.01)
+    return process, place
+
+
+def processes_of(parent):
+    """The processes that have this parent."""
+    held = []
+    for path in glob.glob('/proc/[0-9]*/stat'):
+        try:
+            fields = text_of(path).rpartition(')')[2].split()
+        except OSError:         # it has ended meanwhile
+            continue
+        held += [int(path.split('/')[2])] if int(fields[1]) == parent else []
+    return held
+
+
+@in_folder
+def stopped(at):
+    """SIGTERM ends the run, and leaves no piece."""
+    process, place = under_way(at)
+    before = glob.glob(place + '/*/*')
+    process.terminate()
+    told = process.communicate(timeout=60)[0], process.returncode, os.listdir(place)
+    return '' if before and told == (b'', 143, []) else repr((before, told))
+
+
+@in_folder
+def killed(at):
+    """The workers of a run that is killed end, too."""
+    process, _ = under_way(at)
+    held = processes_of(process.pid)
+    process.kill()
+    process.communicate()
+    end = time.monotonic() + 60
+    while held and time.monotonic() < end:
+        left = [it for it in held if os.path.exists('/proc/%d' % it)]
+        if not left:
+            return ''
+        time.sleep(0.1)
+    return 'of %r are left %r' % (held, left if held else [])
+
+
+def fewest_bytes(_):
+    """A desk's file that bridges many is split, though it is the longest; not one that is longer
+    than all the others; of copies one stays whole, and so does a file that shares nothing."""
+    module = ways.script()
+    cases = [([60] + [16] * 10, [[0, n] for n in range(1, 11)], set(range(1, 11))),
+             ([60] + [1] * 10, [[0, n] for n in range(1, 11)], {0}),
+             ([9, 9, 9, 1], [[0, 1, 2]], {0, 3}),
+             ([5, 16, 16, 5], [[0, 1], [0, 2], [1, 3], [0, 3]], {1, 2})]
+    for sizes, shared, whole in cases:
+        told = module.staying(sizes, module.beside(len(sizes), dict(enumerate(shared))))
+        if told != whole:
+            return 'of %r %r stay' % (sizes, told)
+    return ''
+
+
+def corrections(_):
+    """A file that shares records with one file alone goes with it, as long as both are no more than
+    a worker's share; one that bridges several never does."""
+    module, sizes = ways.script(), [16, 16, 16, 15, 9]
+    shared = dict(enumerate([[0, 3], [0, 4], [1, 4], [2, 4], [3, 4]]))
+    for workers, whole in (2, {0, 1, 2, 3}), (3, {0, 1, 2}):
+        home, parts = module.homes(sizes, shared, 8, workers)
+        if set(home) != whole or parts != 3 or home.get(3, home[0]) != home[0]:
+            return 'with %d workers: %r' % (workers, home)
+    return ''
+
+
+TRIES = [
+    ('a correction goes with what it corrects', corrections),
+    ('the fewest bytes are split', fewest_bytes),
+    ('a program in the place of cvr', nothing_amiss),
+    ('a worker that dies', ends('worker', 69, b'a worker has died')),
+    ('a program that dies', ends('kill', 69, b'was ended by signal 9')),
+    ('a part without memory', ends('memory', 4, b'memory\n')),
+    ('a piece that is refused', ends('piece', 70, b'are not those of its files')),
+    ('a file that is changed', ends('change', 70, b'was changed while it was read')),
+    ('a part that lacks a row', ends('less', 70, b'answers otherwise', '--hold')),
+    ('a folder for parts that is not there',
+     ends('none', 3, b'No such file', '--keep', '/nonexistent')),
+    ('a run that is stopped', stopped), ('a run that is killed', killed),
+    ('parts that were kept', kept),
+    ('parts of other bytes', kept_of_other_bytes),
+    ('one file is split', one_file_is_split),
+]
