@@ -150,11 +150,12 @@ def main():
     words = words.parse_args()
     cvr, right, wrong = os.path.abspath(words.cvr), 0, 0
     os.chdir(ways.TOP)
-    with ThreadPoolExecutor(os.cpu_count()) as lanes:
+    with ThreadPoolExecutor(1 + os.cpu_count()) as lanes:
+        several = lanes.submit(hosts.tries, cvr)        # which wait for the most part
         named = list(tries(cvr, words.cases, words.seed))
         answers = list(zip((name for name, _ in named),
                            lanes.map(told_of, (work for _, work in named))))
-    for name, told in answers + list(hosts.tries(cvr)):
+    for name, told in answers + several.result():
         right, wrong = right + (not told), wrong + bool(told)
         if told:
             print('WRONG: %s: %s' % (name, told))
