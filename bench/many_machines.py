@@ -4,7 +4,7 @@
 Measures examples/many-machines/tally.py with 1, 2 and 4 workers beside `cvr tally` of the same
 files, in turns. It makes the files in the folder where they aren't there: `small` has 20,000
 records in 13 files, 170 MB; with --large also `large`, 200,000 records in 33 files, 1.7 GB. One
-record in twenty comes again from one of three desks. Told are seconds by the clock and of
+record in twenty comes again from one of three desks. It prints seconds by the clock and of
 processors, and the peak memory of the largest process; each answer has to have the bytes of `cvr
 tally`. `alone` is the share of a processor that a process is given which only counts: an idle
 machine gives 1, and a load below 1 before the first run."""

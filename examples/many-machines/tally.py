@@ -94,7 +94,7 @@ def digest(device, unique):
 
 def quick_names(data):
     """Digests of at least the names of an accepted file's records, without reading it as JSON;
-    None where this can't be told so. Where no letter is spelled by its code, each member UniqueId
+    None where that takes more. Where no letter is spelled by its code, each member UniqueId
     is spelled with these letters between two quotes, and with one device a name is its value."""
     if data.find(b'\\') >= 0 and CODED.search(data):
         return None
@@ -457,7 +457,7 @@ def answer(task, words, each):
     see_regular(task.definition)
     head, mark = checked([task.cvr, 'check', '--', task.definition]), os.stat(task.definition)
     files, scans = words.files, scans_of(task, words.files, each)
-    if head[0]:         # the definition is refused: told once all files could be read
+    if head[0]:         # the definition is refused: reported once all files could be read
         return head
     home, parts, logs = parted(task, files, scans, words, each)
     answers = each(done, [(task, part) for part in parts])
@@ -494,7 +494,7 @@ def tried(words, each):
 
 
 def begin():
-    """Has a worker end with the process that started it: nothing else tells it."""
+    """Has a worker end with the process that started it: nothing else ends it."""
     signal.signal(signal.SIGTERM, signal.SIG_DFL)
     threading.Thread(target=watch, args=[os.getppid()], daemon=True).start()
 

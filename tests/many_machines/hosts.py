@@ -15,7 +15,7 @@ import workers
 PORT, SECONDS = 8786, 60        # how long a host may take to be ready
 ADDRESSES = ['10.213.77.%d' % (1 + host) for host in range(3)]
 SCHEDULER = 'tcp://%s:%d' % (ADDRESSES[0], PORT)
-# Tells each part and its host, and takes so long for one that others begin meanwhile.
+# Notes each part and its host, and takes so long for one that others begin meanwhile.
 PROGRAM = '''#!/bin/sh
 if [ "$3" = --files-from ]; then echo "$HOST" >>"%(log)s"; sleep 0.5; fi
 exec "%(cvr)s" "$@"
@@ -105,7 +105,7 @@ class Hosts:
 
 
 class Run:
-    """A run of the script on the second host, which tells its parts in a file."""
+    """A run of the script on the second host, which notes its parts in a file."""
 
     def __init__(self, hosts, folder, *more, wait=SECONDS):
         self.log = os.path.join(folder.folder, 'log')

@@ -13,8 +13,8 @@ import ways
 
 COUNTY = ['examples/county/%s.json' % name for name in ('scan', 'adjudicated', 'damaged')]
 DEFINITION = 'examples/county/definition.json'
-# Tells each part in a file `log`. Where a file `kill` is there, it ends by a signal at the first
-# part; at `worker` its worker does; at `piece` it tells that a piece was refused; and so on.
+# Notes each part in a file `log`. Where a file `kill` is there, it ends by a signal at the first
+# part; at `worker` its worker does; at `piece` it reports a piece as refused; and so on.
 PROGRAM = '''#!/bin/sh
 here=$(dirname "$0")
 if [ "$3" = --files-from ]; then
