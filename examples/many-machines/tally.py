@@ -11,8 +11,8 @@ that are done stay in the folder, and a later run takes them from there. With --
 `cvr` over all files is held against the answer. The workers are processes of this Python, or those
 of `distributed`, started here or at ADDRESS."""
 import argparse
-import asyncio
 import concurrent.futures
+import gc
 import hashlib
 import heapq
 import importlib
@@ -213,28 +213,36 @@ def skip(text, place):
     return BLANK.match(text, place).end()
 
 
+def name_of(record):
+    """The digest of the name of a record; None of what is no record."""
+    try:
+        return digest(*(record[it].encode('utf-8') for it in ('CreatingDeviceId', 'UniqueId')))
+    except (AttributeError, KeyError, TypeError):
+        return None
+
+
 def items_of(text, place, decode):
-    """Of the array that begins at this place: where its first item may begin, where its bracket
-    closes, and each item with its begin and end."""
+    """Of the array of records that begins at this place: where the first one may begin, where the
+    bracket closes, and of each the digest of its name, its begin and its end."""
     items, first = [], place + 1
     place = skip(text, first)
     while text[place] != ']':
         value, end = decode(text, place)
-        items.append((value, place, end))
+        items.append((name_of(value), place, end))
         place = skip(text, end)
         place = skip(text, place + 1) if text[place] == ',' else place
     return first, place, items
 
 
 def records_of(text):
-    """The same of the records of an accepted report. As everywhere in JSON read by `cvr`, of two
-    members of one name the last counts."""
+    """The same of an accepted report. As everywhere in JSON that `cvr` reads, of two members of one
+    name the last counts, and in the other one anything may stand."""
     decode = json.JSONDecoder().raw_decode
     found, place = None, skip(text, skip(text, 0) + 1)
     while text[place] != '}':
         name, place = decode(text, place)
         place = skip(text, skip(text, place) + 1)
-        if name == 'CVR':
+        if name == 'CVR' and text[place] == '[':
             found = items_of(text, place, decode)
             place = found[1] + 1
         else:
@@ -256,12 +264,6 @@ def text_at(path, mark):
     return data.decode('utf-8')
 
 
-def part_of(record, home, parts):
-    """The part of a record: that of the file which stays whole and has it, else by its name."""
-    name = digest(*(record[it].encode('utf-8') for it in ('CreatingDeviceId', 'UniqueId')))
-    return home.get(name, name % parts)
-
-
 def put(folder, name, data):
     """Writes a file, which stands there whole or not at all: a job may be done twice."""
     path = os.path.join(folder, name)
@@ -280,8 +282,9 @@ def split(job):
         return log, {}
     text, cut = text_at(path, mark), {}
     first, end, records = records_of(text)
-    for record, start, stop in records:
-        cut.setdefault(part_of(record, home, parts), []).append(text[start:stop])
+    for name, start, stop in records:
+        # the part of a file that stays whole and has the record, else one by its name
+        cut.setdefault(home.get(name, name % parts), []).append(text[start:stop])
     return log, {part: put(task.folder, '%d-%d.json' % (place, part),
                            (text[:first] + ','.join(cut[part]) + text[end:]).encode('utf-8'))
                  for part in cut}
@@ -494,8 +497,9 @@ def tried(words, each):
 
 
 def begin():
-    """Has a worker end with the process that started it: nothing else ends it."""
+    """Has a worker end with the process that started it, as nothing else ends it."""
     signal.signal(signal.SIGTERM, signal.SIG_DFL)
+    gc.disable()        # no value here refers to itself, and those of JSON are many
     threading.Thread(target=watch, args=[os.getppid()], daemon=True).start()
 
 
@@ -527,6 +531,9 @@ class Distributed:
     def __init__(self, words):
         try:
             self.module, self.wait = importlib.import_module('distributed'), words.wait
+            asyncio = importlib.import_module('asyncio')        # slow, and for this engine alone
+            self.lost = concurrent.futures.CancelledError, asyncio.CancelledError
+            self.late = TimeoutError, asyncio.TimeoutError, concurrent.futures.TimeoutError
             logging.disable(logging.CRITICAL)       # its own lines say less than the last one here
             where = [words.scheduler] if words.scheduler else []
             own = {} if where else {'n_workers': words.workers, 'threads_per_worker': 1}
@@ -542,7 +549,7 @@ class Distributed:
             return self.client.gather(futures)
         except Ended:
             raise
-        except (concurrent.futures.CancelledError, asyncio.CancelledError):
+        except self.lost:
             raise ended(LOST, 'the scheduler is lost') from None
         except Exception as fault:
             told = type(fault).__name__, str(fault)[:200]
@@ -550,13 +557,12 @@ class Distributed:
 
     def see_workers(self, futures):
         """Waits for the answers, but not long while there is no worker."""
-        late = TimeoutError, asyncio.TimeoutError, concurrent.futures.TimeoutError
         seen, waiting = time.monotonic(), bool(futures)
         while waiting:
             try:
                 self.module.wait(futures, timeout=1)
                 waiting = False
-            except late:
+            except self.late:
                 seen = time.monotonic() if self.client.scheduler_info()['workers'] else seen
             if waiting and time.monotonic() - seen > self.wait:
                 raise ended(LOST, 'no worker is there')

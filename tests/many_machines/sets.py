@@ -63,7 +63,7 @@ def spelled(chance, report):
         lambda: json.dumps(json.loads(report), indent=1).encode('utf-8'),
         lambda: UNIQUE.sub(rb'"Uniq\\u0075eId"', report),
         lambda: UNIQUE.sub(b'"UniqueId" : "1", "UniqueId"', report),
-        lambda: report.replace(b'{', b'{"CVR":[{"UniqueId":7}],', 1),
+        lambda: report.replace(b'{', b'{"CVR":[{"UniqueId":7}],"CVR":7,', 1),
     ]
     return chance.choice(ways)() if chance.random() < 0.6 else report
 

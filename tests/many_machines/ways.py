@@ -31,16 +31,17 @@ WAYS = [
     # ---- splitting
     Way('splits_before_it_checks', 'if status:\n        return log, {}', ''),
     Way('takes_the_first_of_two_members',
-        "found = items_of(text, place, decode)\n            place = found[1] + 1",
-        "found = found or items_of(text, place, decode)\n"
-        "            place = items_of(text, place, decode)[1] + 1"),
-    Way('leaves_a_record_out', 'for record, start, stop in records:',
-        'for record, start, stop in records[1:] or records:'),
-    Way('puts_records_anywhere', 'return home.get(name, name % parts)', 'return 0'),
+        'found = items_of(text, place, decode)\n            place = found[1] + 1',
+        'found = found or items_of(text, place, decode)\n'
+        '            place = decode(text, place)[1]'),
+    Way('leaves_a_record_out', 'for name, start, stop in records:',
+        'for name, start, stop in records[1:] or records:'),
+    Way('puts_records_anywhere', 'home.get(name, name % parts)', '0'),
     Way('puts_records_of_no_whole_file_by_file', 'home.get(name, name % parts)',
-        "home.get(name, len(home) % parts)"),
+        'home.get(name, len(home) % parts)'),
+    Way('takes_any_member_for_records', "name == 'CVR' and text[place] == '['", "name == 'CVR'"),
     Way('prints_a_piece_anew', "append(text[start:stop])",
-        "append(json.dumps(record, indent=4))"),
+        "append(json.dumps(json.loads(text[start:stop]), indent=4))"),
     # ---- parts
     Way('forgets_pieces', 'over(task, part.files + part.pieces)', 'over(task, part.files)'),
     Way('forgets_a_part', 'for it in answers], accepted',
