@@ -3,7 +3,6 @@ memory is refused or a file changes, and what it keeps of parts for a later run.
 place of `cvr` does as the files of a folder say, and then as `cvr`."""
 import glob
 import os
-import shutil
 import subprocess
 import sys
 import tempfile
