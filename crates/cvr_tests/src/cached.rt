@@ -1,25 +1,34 @@
-//! An office that remembers what it answers: its running totals, and how it stands beside a plain one.
+//! Rows after each file, and how an office that remembers its answers stands beside a plain one.
 use crate::files::*;
 use crate::playing::{new_offices, tell_outcome};
+use cdf_types::Memory;
 use cvr_cli::{conflicts_text, currents_text};
 use cvr_collect::{CachedOffice, Event, Office, PlainOffice, play};
-use cvr_tally::{Totals, tally_text};
+use cvr_tally::tally_text;
+use std::alloc::Global;
 use std::process::Abort;
 
-// What has running totals. Tests of what has them, whatever it is, are proved in a fraction of the time.
+// What has rows after each file: running totals, or what a plain office adds up anew. Tests of what
+// has them, whatever it is, are proved in a fraction of the time.
 trait Keeping {
-    fn kept_totals(&self) -> &Totals;
+    fn rows(&self, alloc: Global) -> Result<String, Memory>;
 }
 
 impl Keeping for CachedOffice {
-    fn kept_totals(&self) -> &Totals {
-        self.kept()
+    fn rows(&self, alloc: Global) -> Result<String, Memory> {
+        tally_text(alloc, self.kept())
     }
 }
 
-// The text of the running totals.
+impl Keeping for PlainOffice {
+    fn rows(&self, alloc: Global) -> Result<String, Memory> {
+        self.tally_text(alloc)
+    }
+}
+
+// The text of the rows.
 fn kept_text<O: Keeping>(rt: &(impl Abort + AllocGlobal), office: &O) -> String {
-    tally_text(rt.alloc(), office.kept_totals()).expect(rt, "no memory")
+    office.rows(rt.alloc()).expect(rt, "no memory")
 }
 
 // Ends the test where the texts differ.
@@ -102,6 +111,7 @@ fn follow_all<O: Office + Keeping + Drop>(rt: &(impl Abort + AllocGlobal)) {
 #[test]
 fn totals_follow_each_file(rt: HostRuntime) {
     follow_all::<CachedOffice>(&rt);
+    follow_all::<PlainOffice>(&rt);
 }
 
 // Ends the test where an office that took files holds other facts or rows.
@@ -121,6 +131,7 @@ const FOR_BOB: &str = "\"mayor\" \"p1\" null 1 0 0 0 0 0 \"ann\" 0 \"bob\" 1 \"w
 #[test]
 fn a_row_that_its_last_record_leaves_goes_away(rt: HostRuntime) {
     check_files::<CachedOffice>(&rt, &[EVERY_KIND, ADJUDICATED], 6, FOR_BOB);
+    check_files::<PlainOffice>(&rt, &[EVERY_KIND, ADJUDICATED], 6, FOR_BOB);
 }
 
 // That row, and that of the other record.
@@ -143,6 +154,7 @@ fn check_join<O: Office + Keeping + Drop>(rt: &(impl Abort + AllocGlobal)) {
 #[test]
 fn totals_follow_a_join(rt: HostRuntime) {
     check_join::<CachedOffice>(&rt);
+    check_join::<PlainOffice>(&rt);
 }
 
 // ---- beside a plain office

@@ -74,6 +74,29 @@ fn every_kind_of_vote_has_its_sum(rt: HostRuntime) {
     assert!(rt; is_of_every_kind(&rt, snapshot) && is_copied);
 }
 
+// Tells the devices of a list, and how many headers and snapshots it has.
+fn told_devices(rt: &(impl Abort + AllocGlobal), list: &FactList) -> String {
+    let mut text = String::new(rt.alloc());
+    for device in list.devices.as_slice() {
+        write!(text, "{} {}\n", device.id, device.body).expect(rt, "no memory");
+    }
+    let (headers, snapshots) = (
+        list.headers.as_slice().len(),
+        list.snapshots.as_slice().len(),
+    );
+    write!(text, "{headers} {snapshots}").expect(rt, "no memory");
+    text
+}
+
+const DEVICES: &str =
+    "desk {\"@id\":\"desk\",\"@type\":\"CVR.ReportingDevice\"}\ns1 {\"@id\":\"s1\",\"@type\":\"CVR.ReportingDevice\"}\ns2 {\"@id\":\"s2\",\"@type\":\"CVR.ReportingDevice\"}\n1 1";
+
+#[test]
+fn each_reporting_device_is_a_fact(rt: HostRuntime) {
+    let list = facts_in(&rt, file(&rt, EVERY_KIND).as_str());
+    assert!(rt; told_devices(&rt, &list).as_str() == DEVICES);
+}
+
 const HEADER: &str =
     r#"{"@type":"CVR.CVR","BallotStyleUnitId":"p1","BatchId":"b1","CreatingDeviceId":"s1","ElectionId":"e","UniqueId":"u2"}"#;
 
@@ -140,6 +163,17 @@ const IN_STAGES: Changes = &[
     (r#"SnapshotId":"a""#, r#"SnapshotId":"i""#),
 ];
 
+// Whether each of these facts and its copy are equal in the order of choosing.
+fn are_equal_to_copies(rt: &(impl Abort + AllocGlobal), snapshots: &[SnapshotFact]) -> bool {
+    for snapshot in snapshots {
+        let copy = snapshot.copy(rt.alloc()).expect(rt, "no memory");
+        if choice_cmp(snapshot, &copy) != Ordering::Equal {
+            return false;
+        }
+    }
+    true
+}
+
 // Whether a reading is below what was adjudicated, and that stands in order of time.
 fn stand_in_order_of_choosing(snapshots: &[SnapshotFact]) -> bool {
     match snapshots {
@@ -156,4 +190,5 @@ fn stand_in_order_of_choosing(snapshots: &[SnapshotFact]) -> bool {
 fn snapshots_are_chosen_by_stage_and_then_by_time(rt: HostRuntime) {
     let list = facts_in(&rt, file(&rt, IN_STAGES).as_str());
     assert!(rt; stand_in_order_of_choosing(list.snapshots.as_slice()));
+    assert!(rt; are_equal_to_copies(&rt, list.snapshots.as_slice()));
 }

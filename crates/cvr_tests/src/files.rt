@@ -36,6 +36,9 @@ pub const FOR_WRITE_IN: Changes = &[
     (r#"Id":"ann""#, r#"Id":"wi""#),
 ];
 
+/// A third body under `m`, for Ann.
+pub const FOR_ANN: Changes = &[(r#""a""#, r#""m""#), ("original", "modified")];
+
 /// Snapshot `i`, interpreted, for Ann.
 pub const READING: Changes = &[(r#""a""#, r#""i""#), ("original", "interpreted")];
 
@@ -160,6 +163,16 @@ pub fn take<O: Office>(rt: &(impl Abort + AllocGlobal), office: &mut O, changes:
     let _ = office
         .import(text.as_bytes())
         .expect(rt, "a file is refused");
+}
+
+/// Words as texts of their own.
+pub fn texts(rt: &(impl Abort + AllocGlobal), words: &[&str]) -> Vec<String> {
+    let mut texts = Vec::new(rt.alloc());
+    for word in words {
+        let text = word.to_string(rt.alloc()).expect(rt, "no memory");
+        texts.push(text).expect(rt, "no memory");
+    }
+    texts
 }
 
 /// The bytes of files.

@@ -19,12 +19,20 @@ mod playing;
 #[cfg(test)]
 mod pulling;
 #[cfg(test)]
+mod reading_back;
+#[cfg(test)]
 mod rows;
 #[cfg(test)]
 mod runs;
 #[cfg(test)]
 mod sets;
 #[cfg(test)]
+mod sinks;
+#[cfg(test)]
+mod sources;
+#[cfg(test)]
 mod texts;
 #[cfg(test)]
 mod volumes;
+#[cfg(test)]
+mod words;

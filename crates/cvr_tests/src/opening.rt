@@ -7,16 +7,6 @@ use cdf_types::{MemorySink, MemorySource};
 use cvr_cli::{FileFault, MemoryFile, MemoryFiles, Open, Status, respond, work};
 use std::process::Abort;
 
-// Words as texts of their own.
-fn texts(rt: &(impl Abort + AllocGlobal), words: &[&str]) -> Vec<String> {
-    let mut texts = Vec::new(rt.alloc());
-    for word in words {
-        let text = word.to_string(rt.alloc()).expect(rt, "no memory");
-        texts.push(text).expect(rt, "no memory");
-    }
-    texts
-}
-
 // Whether the work on these words over the definition, a scan and its adjudication, whose reading fails
 // at a call or never (0), ends so, prints this and tells this.
 fn leaves(

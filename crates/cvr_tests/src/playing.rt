@@ -183,7 +183,11 @@ fn first_same<O: Office>(offices: &[O], office: &O) -> usize {
 }
 
 // What is told of offices after these outcomes.
-fn told<O: Office>(rt: &(impl Abort + AllocGlobal), offices: &[O], outcomes: &[Outcome]) -> String {
+pub(crate) fn told<O: Office>(
+    rt: &(impl Abort + AllocGlobal),
+    offices: &[O],
+    outcomes: &[Outcome],
+) -> String {
     let mut text = String::new(rt.alloc());
     for outcome in outcomes {
         tell_outcome(rt, &mut text, outcome);
@@ -206,7 +210,7 @@ fn played<O: Office + Drop>(rt: &(impl Abort + AllocGlobal), drill: &Drill) -> S
 }
 
 // Plays events. A function of its own, so that no other proof has to carry all that is said of `play`.
-fn outcomes_of<O: Office>(
+pub(crate) fn outcomes_of<O: Office>(
     rt: &(impl Abort + AllocGlobal),
     offices: &mut [O],
     files: &[Vec<u8>],

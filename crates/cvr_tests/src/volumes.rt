@@ -1,6 +1,6 @@
 //! Volumes of a few files, and headings.
 use crate::files::*;
-use cdf_types::MemorySink;
+use cdf_types::{MemorySink, Sink};
 use cvr_collect::{Office, PlainOffice};
 use cvr_report::{HeadFault, Heading, WriteFault, volumes, write_volume};
 use std::process::Abort;
@@ -30,6 +30,22 @@ pub fn text_of(rt: &(impl Abort + AllocGlobal), records: &str) -> String {
     text.expect(rt, "no memory")
 }
 
+/// Writes volume `i` of an office to a sink.
+pub fn write_to<O: Office, W: Sink>(
+    rt: &(impl Abort + AllocGlobal),
+    office: &O,
+    i: usize,
+    out: &mut W,
+) -> Result<(), WriteFault> {
+    assert!(rt; 0 < i && i <= volumes(office) && !out.failed());
+    let heading = Heading::new(rt.alloc(), office.definition(), DATE, "desk").expect(
+        rt,
+        "no heading",
+    );
+    assert!(rt; office.definition().device(heading.device()));
+    write_volume(rt.alloc(), office, &heading, i, out)
+}
+
 // What the writing of a volume left.
 #[derive(Drop)]
 struct Writing {
@@ -45,15 +61,28 @@ fn write<O: Office>(
     per_call: usize,
     fails: usize,
 ) -> Writing {
-    assert!(rt; 0 < i && i <= volumes(office) && per_call > 0);
-    let heading = Heading::new(rt.alloc(), office.definition(), DATE, "desk").expect(
-        rt,
-        "no heading",
-    );
-    assert!(rt; office.definition().device(heading.device()));
+    assert!(rt; per_call > 0);
     let mut out = MemorySink::new(rt.alloc(), per_call, fails);
-    let answer = write_volume(rt.alloc(), office, &heading, i, &mut out);
+    let answer = write_to(rt, office, i, &mut out);
     Writing { answer, out }
+}
+
+// The bytes of volume `i` of an office.
+fn bytes_of_volume<O: Office>(rt: &(impl Abort + AllocGlobal), office: &O, i: usize) -> Vec<u8> {
+    let ending = write(rt, office, i, 4096, 0);
+    assert!(rt; ending.answer == Ok(()));
+    Vec::from_slice(rt.alloc(), ending.out.taken()).expect(rt, "no memory")
+}
+
+/// The bytes of each volume of an office, in order.
+pub fn volumes_of<O: Office>(rt: &(impl Abort + AllocGlobal), office: &O) -> Vec<Vec<u8>> {
+    let mut written = Vec::new(rt.alloc());
+    for i in 1..=volumes(office) {
+        written
+            .push(bytes_of_volume(rt, office, i))
+            .expect(rt, "no memory");
+    }
+    written
 }
 
 // Whether volume `i` of an office is that of these records.
