@@ -194,8 +194,8 @@ fn tell_office<O: Office>(rt: &(impl Abort + AllocGlobal), text: &mut String, of
     text.push_str(rows.as_str()).expect(rt, "no memory");
 }
 
-// What offices answer, and which of them are the same as the first.
-fn answers<O: Office>(rt: &(impl Abort + AllocGlobal), offices: &[O]) -> String {
+/// What offices answer, and which of them are the same as the first.
+pub fn answers<O: Office>(rt: &(impl Abort + AllocGlobal), offices: &[O]) -> String {
     let mut text = String::new(rt.alloc());
     for office in offices {
         tell_office(rt, &mut text, office);

@@ -11,6 +11,8 @@ mod facts;
 #[cfg(test)]
 mod files;
 #[cfg(test)]
+mod histories;
+#[cfg(test)]
 mod offices;
 #[cfg(test)]
 mod opening;
@@ -32,6 +34,8 @@ mod sinks;
 mod sources;
 #[cfg(test)]
 mod texts;
+#[cfg(test)]
+mod told_histories;
 #[cfg(test)]
 mod volumes;
 #[cfg(test)]
