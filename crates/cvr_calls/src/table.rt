@@ -86,9 +86,11 @@ static TELLINGS: [(&str, Kind, Telling); 12] = [
     ("CachedOffice::tally_text", Kind::Cached, Telling::Tally),
 ];
 
-static VOLUMES: [(&str, usize); 2] = [
-    ("write_volume, the first", 1),
-    ("write_volume, the second", 2),
+static VOLUMES: [(&str, Kind, usize); 4] = [
+    ("write_volume, the first", Kind::Plain, 1),
+    ("write_volume, the second", Kind::Plain, 2),
+    ("write_volume, the first, CachedOffice", Kind::Cached, 1),
+    ("write_volume, the second, CachedOffice", Kind::Cached, 2),
 ];
 
 static RUNS: [(&str, Asked); 7] = [
@@ -296,8 +298,8 @@ fn try_tellings(rt: &HostRuntime, records: &Records<'_>) -> Result<(), Ended> {
 }
 
 fn try_volumes(rt: &HostRuntime, records: &Records<'_>) -> Result<(), Ended> {
-    for (name, i) in &VOLUMES {
-        try_writing(rt, name, records, *i)?;
+    for (name, kind, i) in &VOLUMES {
+        try_writing(rt, name, records, *kind, *i)?;
     }
     Ok(())
 }

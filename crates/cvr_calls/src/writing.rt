@@ -1,7 +1,7 @@
-use crate::records::Records;
+use crate::records::{Kind, Records};
 use crate::trying::{Ended, Reading, try_reading};
 use cdf_types::{MemorySink, ReadFault, Sink};
-use cvr_collect::{Office, PlainOffice};
+use cvr_collect::Office;
 use cvr_report::{Heading, WriteFault, volumes, write_volume};
 use std::alloc::Global;
 
@@ -29,7 +29,12 @@ impl Written {
 }
 
 // Writes volume `i` of an office, if it has it and the device of the heading.
-fn write_over(alloc: Global, office: &PlainOffice, heading: &Heading, i: usize) -> Option<Written> {
+fn write_over<O: Office>(
+    alloc: Global,
+    office: &O,
+    heading: &Heading,
+    i: usize,
+) -> Option<Written> {
     if i == 0 || i > volumes(office) || !office.definition().device(heading.device()) {
         return None;
     }
@@ -38,9 +43,24 @@ fn write_over(alloc: Global, office: &PlainOffice, heading: &Heading, i: usize) 
     Some(Written { answer, out })
 }
 
-// A volume beside the one that was written before.
+// Writes volume `i` of the office of a kind.
+fn write_by(
+    alloc: Global,
+    kind: Kind,
+    records: &Records<'_>,
+    heading: &Heading,
+    i: usize,
+) -> Option<Written> {
+    match kind {
+        Kind::Plain => write_over(alloc, records.office, heading, i),
+        Kind::Cached => write_over(alloc, records.cached, heading, i),
+    }
+}
+
+// A volume of the office of a kind beside the one that was written before.
 #[derive(Drop)]
 struct Rewriting<'a> {
+    kind: Kind,
     heading: &'a Heading,
     i: usize,
     before: MemorySink,
@@ -48,7 +68,7 @@ struct Rewriting<'a> {
 
 impl Reading for Rewriting<'_> {
     fn is_right(&self, alloc: Global, records: &Records<'_>) -> Result<bool, ReadFault> {
-        let Some(written) = write_over(alloc, records.office, self.heading, self.i) else {
+        let Some(written) = write_by(alloc, self.kind, records, self.heading, self.i) else {
             return Ok(false);
         };
         match written.answer {
@@ -61,18 +81,19 @@ impl Reading for Rewriting<'_> {
     }
 }
 
-/// Tries the writing of a volume.
+/// Tries the writing of a volume of an office of a kind, which a plain one writes too.
 pub fn try_writing(
     rt: &HostRuntime,
     name: &str,
     records: &Records<'_>,
+    kind: Kind,
     i: usize,
 ) -> Result<(), Ended> {
     let definition = records.definition;
     let Ok(heading) = Heading::new(rt.alloc(), definition, DATE, DEVICE) else {
         return Err(Ended::NotBuilt);
     };
-    try_volume(rt, name, records, &heading, i)
+    try_volume(rt, name, records, kind, &heading, i)
 }
 
 // Tries it under a heading.
@@ -80,15 +101,22 @@ fn try_volume(
     rt: &HostRuntime,
     name: &str,
     records: &Records<'_>,
+    kind: Kind,
     heading: &Heading,
     i: usize,
 ) -> Result<(), Ended> {
-    let Some(written) = write_over(rt.alloc(), records.office, heading, i) else {
+    let Some(written) = write_by(rt.alloc(), Kind::Plain, records, heading, i) else {
         return Err(Ended::NotBuilt);
     };
     let Ok(()) = written.answer else {
         return Err(Ended::NotBuilt);
     };
     let before = written.out;
-    try_reading(rt, name, records, &Rewriting { heading, i, before })
+    let rewriting = Rewriting {
+        kind,
+        heading,
+        i,
+        before,
+    };
+    try_reading(rt, name, records, &rewriting)
 }
