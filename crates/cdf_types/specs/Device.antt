@@ -17,22 +17,38 @@ abbrev pub fails_read : {E : Type 0} → Result ℕ E → Bool
 fails_read (Ok n) = false
 fails_read (Err e) = true
 
--- what a sink that tells has taken, and bytes more
+-- what contracts see of a sink: the bytes that it has taken, if it shows them, and whether a write
+-- has failed
+pub record Taken : Type 0 where
+  pub bytes : Option (List ℕ)
+  pub failed : Bool
+
+-- and of a source: the bytes that are left, if it shows them, whether a read has failed, and whether
+-- one to come can
+pub record Left : Type 0 where
+  pub bytes : Option (List ℕ)
+  pub failed : Bool
+  pub can_fail : Bool
+
+-- these bytes more
 abbrev pub appended : Option (List ℕ) → List ℕ → Option (List ℕ)
 appended before bytes = option_map (λ taken. taken ++ bytes) before
 
--- some prefix of the bytes was appended
-abbrev pub AppendsPrefix : Option (List ℕ) → Option (List ℕ) → List ℕ → Type 0
-AppendsPrefix before after bytes =
-    (front rest : List ℕ) × (bytes ≡ front ++ rest) × (after ≡ appended before front)
+-- a sink has taken these bytes more
+abbrev pub Appends : Taken → Taken → List ℕ → Type 0
+Appends old new bytes = new.bytes ≡ appended old.bytes bytes
 
--- some prefix of the bytes was appended, and not all of them
-abbrev pub AppendsProperPrefix : Option (List ℕ) → Option (List ℕ) → List ℕ → Type 0
-AppendsProperPrefix before after bytes =
-    (front rest : List ℕ) × (bytes ≡ front ++ rest) × (rest ≢ []) × (after ≡ appended before front)
+-- or some prefix of them
+abbrev pub AppendsPrefix : Taken → Taken → List ℕ → Type 0
+AppendsPrefix old new bytes = (prefix rest : List ℕ) × (bytes ≡ prefix ++ rest) × Appends old new prefix
 
--- a source that tells gave n of what was left, and 0 only at its end; the rest of the buffer is as
--- it was
+-- or some prefix that is not all of them
+abbrev pub AppendsProperPrefix : Taken → Taken → List ℕ → Type 0
+AppendsProperPrefix old new bytes =
+    (prefix rest : List ℕ) × (bytes ≡ prefix ++ rest) × (rest ≢ []) × Appends old new prefix
+
+-- a source that shows its bytes gave n of what was left, and 0 only at its end; the rest of the
+-- buffer is as it was
 abbrev pub Gives : Option (List ℕ) → Option (List ℕ) → List ℕ → List ℕ → ℕ → Type 0
 Gives before after old new n =
     MatchOption before (after ≡ None)

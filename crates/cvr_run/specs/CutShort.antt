@@ -1,4 +1,5 @@
--- Worked examples: what the log of a run that ended for want of memory may be. (This project's own.)
+-- Worked examples: what the log of a run that ended for want of memory may be. (This project's
+-- own.)
 use Rattle.std.specs.Prelude.{List, [], ◌∷◌, ℕ, codes, Bool, true, false, Some, None}
 use Rattle.cdf_types.specs.declared.fault.ReadFault.TheVariants.{TooLong, NotJson}
 use Rattle.cvr_run.specs.Refusals.{Due, file_due}
@@ -13,7 +14,8 @@ three_dues = file_due (Some NotJson) ∷ file_due None ∷ file_due (Some TooLon
 
 -- a run over them, of `check` or not, whose output works may end so
 abbrev pub MayTell : Bool → List ℕ → Type 0
-MayTell check text = IsCutShort check three_texts three_dues None false text
+MayTell check text =
+    IsCutShort (record { by_file = check; texts = three_texts; dues = three_dues }) None false text
 
 -- by `memory` before any file: not `check`, which has no line to make for the first
 abbrev pub AtOnce : Type 0

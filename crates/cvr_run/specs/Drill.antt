@@ -1,5 +1,8 @@
--- A drill: several new offices of one definition, and steps by which they take in files and what others hold. (This project's own.)
-use Rattle.std.specs.Prelude.{◌≡◌, ◌<◌, ◌+◌, ◌==◌, ◌&&◌, ◌||◌, ℕ, zero, suc, List, [], ◌∷◌, ◌++◌, length, map, replicate, reverse, get_or, codes, decimal, nat_le, Bool, if◌then◌else◌, Option, Some, None, is_some}
+-- A drill: several new offices of one definition, and steps by which they take in files and what
+-- others hold. (This project's own.)
+use Rattle.std.specs.Prelude.{◌≡◌, ◌<◌, ◌+◌, ◌==◌, ◌&&◌, ◌||◌, ℕ, zero, suc, List, [], ◌∷◌, ◌++◌}
+use Rattle.std.specs.Prelude.{length, map, replicate, reverse, get_or, codes, decimal, nat_le, Bool}
+use Rattle.std.specs.Prelude.{if◌then◌else◌, Option, Some, None, is_some}
 use Rattle.std.specs.List.{list_any, flat_map, range_with_len, position_or_len}
 use Rattle.std.specs.FinSet.{empty, len, is_subset}
 use Rattle.cdf_definition.specs.Frame.{Frame}
@@ -25,7 +28,8 @@ use Rattle.cvr_run.specs.Refusals.{Due, no_due, file_due}
 
 -- ---- steps as events
 
--- the place of the office with this number among n offices: numbers count from 1, places from 0. There is no office 0: its place is one above the last
+-- the place of the office with this number among n offices: numbers count from 1, places from 0.
+-- There is no office 0: its place is one above the last
 abbrev pub place_of : ℕ → ℕ → ℕ
 place_of n zero = n
 place_of n (suc k) = k
@@ -53,7 +57,9 @@ certain cause = record { cause = Some cause; want = None }
 abbrev pub exchange_due : Due
 exchange_due = record { cause = None; want = Some (Join join.Memory) }
 
--- among n offices of one definition, of an import: there is no such office; no such file; else what is due to the file. Of an exchange: there is no such office; nothing between an office and itself; else it is accepted
+-- among n offices of one definition, of an import: there is no such office; no such file; else what
+-- is due to the file. Of an exchange: there is no such office; nothing between an office and
+-- itself; else it is accepted
 abbrev pub event_due : Frame → ℕ → List (List ℕ) → Event → Due
 event_due definition n files (event.Import o f) =
     if nat_le n o then certain NoOffice else (if nat_le (length files) f then certain NoFile else file_due (first_refusal definition (get_or files f [])))
@@ -110,7 +116,8 @@ are_same s t = is_subset s t && is_subset t s
 abbrev pub least_same : List Facts → Facts → ℕ
 least_same all s = position_or_len (are_same s) all + 1
 
--- the number of the office at a place; how many records and facts it holds; the least number of one that holds the same
+-- the number of the office at a place; how many records and facts it holds; the least number of one
+-- that holds the same
 abbrev pub office_line : List Facts → ℕ → List ℕ
 office_line all o =
     let s = get_or all o empty in

@@ -1,4 +1,5 @@
--- Worked examples: the whole text of each task over the facts of a few records. (This project's own.)
+-- Worked examples: the whole text of each task over the facts of a few records. (This project's
+-- own.)
 use Rattle.std.specs.Prelude.{◌≡◌, ℕ, List, [], ◌∷◌, ◌++◌, map, codes, Option, Some, None}
 use Rattle.std.specs.FinSet.{from_list}
 use Rattle.cdf_definition.specs.Frame.{Frame}
@@ -12,7 +13,8 @@ use Rattle.cvr_run.specs.Drill.{office_lines}
 use Rattle.cvr_run.specs.Merge.{merge_fault, merge_lines}
 use Rattle.cvr_run.specs.Outcome.{facts_text}
 
--- a definition of three contests: for mayor Ann and Bob, the second with the dot, the third with no selection
+-- a definition of three contests: for mayor Ann and Bob, the second with the dot, the third with no
+-- selection
 abbrev pub election : Frame
 election = record { elections = []; units = []; parties = []; devices = []; contests = contests }
 
@@ -46,7 +48,8 @@ at_time time = codes "\"Annotation\":[{\"@type\":\"CVR.Annotation\",\"TimeStamp\
 
 -- ---- five records
 
--- adjudicated under one id with two bodies, of which the greater text has 50 votes for Ann; and a scan, which stands below them
+-- adjudicated under one id with two bodies, of which the greater text has 50 votes for Ann; and a
+-- scan, which stands below them
 abbrev pub adjudicated : List ℕ → List ℕ
 adjudicated ann =
     snapshot (codes "m") (codes "")
@@ -170,7 +173,8 @@ NoConflict = facts_text election Conflicts (from_list one_body_each) ≡ codes "
 abbrev pub with_devices : Frame
 with_devices = record { elections = []; units = []; parties = []; devices = (codes "desk", codes "1") ∷ (codes "s1", codes "2") ∷ []; contests = contests }
 
--- under a date and a device, the volume of a number has this fault, or none, and these lines are told
+-- under a date and a device, the volume of a number has this fault, or none, and these lines are
+-- told
 abbrev pub MergeTells : List ℕ → List ℕ → ℕ → Option MergeFault → List ℕ → Type 0
 MergeTells date device i fault lines = (merge_fault with_devices date device i (from_list several_bodies) ≡ fault) × (merge_lines fault ≡ lines)
 
@@ -214,7 +218,9 @@ second_device = Device (codes "s2") (codes "1")
 abbrev pub without_header : Fact
 without_header = Snapshot (codes "s2") (codes "a") (codes "m") (codes "1")
 
--- the facts of ten offices, the same ones in any order and some twice: of the first, the third and the eighth; of the second and the seventh, with another body; of the sixth and the ninth, which hold none. The fourth lacks a header of the first, the fifth has two facts more than the second
+-- the facts of ten offices, the same ones in any order and some twice: of the first, the third and
+-- the eighth; of the second and the seventh, with another body; of the sixth and the ninth, which
+-- hold none. The fourth lacks a header of the first, the fifth has two facts more than the second
 abbrev pub ten_offices : List (List Fact)
 ten_offices =
     heads_and_bodies (codes "lkjihgfedcba") (codes "987654321") ∷

@@ -1,5 +1,9 @@
--- What is held of files is what an office holds after their imports, in a drill too; the values of the accepted ones alone count, and neither their order nor a value that comes again. (This project's own.)
-use Rattle.std.specs.Prelude.{◌≡◌, ◌≢◌, ◌↔◌, ◌⊎◌, ◌<◌, ◌≤◌, ◌+◌, ◌-◌, ℕ, zero, suc, length, get_or, map, reverse, List, [], ◌∷◌, ◌++◌, replicate, codes, decimal, Bool, true, false, Option, Some, None}
+-- What is held of files is what an office holds after their imports, in a drill too; the values of
+-- the accepted ones alone count, and neither their order nor a value that comes again. (This
+-- project's own.)
+use Rattle.std.specs.Prelude.{◌≡◌, ◌≢◌, ◌↔◌, ◌⊎◌, ◌<◌, ◌≤◌, ◌+◌, ◌-◌, ℕ, zero, suc, length, get_or}
+use Rattle.std.specs.Prelude.{map, reverse, List, [], ◌∷◌, ◌++◌, replicate, codes, decimal, Bool}
+use Rattle.std.specs.Prelude.{true, false, Option, Some, None}
 use Rattle.std.specs.List.{Contains, filter, flat_map, range_with_len}
 use Rattle.std.specs.FinSet.{contains, empty, union, len}
 use Rattle.serde_json.specs.Data.{Data}
@@ -31,7 +35,8 @@ use Rattle.cvr_run.specs.Outcome.{accepted_facts, held}
 use Rattle.cvr_run.specs.Refusals.{Due}
 use Rattle.cvr_run.specs.Told.{Telling, told_lines, can_all, IsCutShort}
 
--- the imports of the first n files into one new office, each with the outcome that is due, the newest first
+-- the imports of the first n files into one new office, each with the outcome that is due, the
+-- newest first
 abbrev pub imports : Frame → List (List ℕ) → ℕ → History
 imports definition files zero = []
 imports definition files (suc n) =
@@ -39,7 +44,8 @@ imports definition files (suc n) =
     let file = get_or files n [] in
     (Import 0 n, due (first_refusal definition file) (growth (content (starting definition ∷ []) files past 0) (facts file))) ∷ past
 
--- what that office holds after all of them is the devices of the definition, and the facts of the accepted files
+-- what that office holds after all of them is the devices of the definition, and the facts of the
+-- accepted files
 abbrev pub HeldLaw : Type 0
 HeldLaw = (definition : Frame) (files : List (List ℕ)) → content (starting definition ∷ []) files (imports definition files (length files)) 0 ≡ held definition files
 
@@ -116,7 +122,8 @@ LastNumberLaw = (facts : Facts) → conflict_text (conflicts facts) ≡ flat_map
 abbrev pub DueLaw : Type 0
 DueLaw = (definition : Frame) (n : ℕ) (files : List (List ℕ)) (events : List Event) → AreOutcomes (new_offices definition n) (replicate n definition) files (past_of definition n files events)
 
--- the number that is told of the office at place o: no higher than its own, of an office with the same facts, and of no earlier one
+-- the number that is told of the office at place o: no higher than its own, of an office with the
+-- same facts, and of no earlier one
 pub record IsLeast (all : List Facts) (o : ℕ) : Type 0 where
   pub at_most : least_same all (get_or all o empty) ≤ o + 1
   pub same : get_or all (least_same all (get_or all o empty) - 1) empty ≡ get_or all o empty
@@ -139,14 +146,16 @@ held_by definition n files steps o = get_or (drilled definition n files steps) o
 abbrev pub StartLaw : Type 0
 StartLaw = (definition : Frame) (n : ℕ) (files : List (List ℕ)) (steps : List Step) (o : ℕ) → o < n → acts steps ≡ [] → held_by definition n files steps o ≡ held definition []
 
--- after one import more, the office o holds the facts of the file besides, if that is accepted, and each other what it held
+-- after one import more, the office o holds the facts of the file besides, if that is accepted, and
+-- each other what it held
 abbrev pub ImportLaw : Type 0
 ImportLaw = (definition : Frame) (n : ℕ) (files : List (List ℕ)) (steps more : List Step) (o f : ℕ) → o < n → f < length files
     → acts more ≡ acts steps ++ act.Import (suc o) f ∷ []
     → (held_by definition n files more o ≡ union (held_by definition n files steps o) (accepted_facts definition (get_or files f [])))
     × ((k : ℕ) → k < n → k ≢ o → held_by definition n files more k ≡ held_by definition n files steps k)
 
--- after one exchange more, from p to o, the office o holds what both held, and each other what it held
+-- after one exchange more, from p to o, the office o holds what both held, and each other what it
+-- held
 abbrev pub ExchangeLaw : Type 0
 ExchangeLaw = (definition : Frame) (n : ℕ) (files : List (List ℕ)) (steps more : List Step) (p o : ℕ) → p < n → o < n
     → acts more ≡ acts steps ++ act.Exchange (suc p) (suc o) ∷ []
@@ -161,7 +170,8 @@ past_after definition n files steps = past_of definition n files (reverse (event
 abbrev pub files_reached : List (List ℕ) → History → ℕ → List (List ℕ)
 files_reached files past o = map (λ f. get_or files f []) (filter (λ f. contains (reached past o) (File f)) (range_with_len 0 (length files)))
 
--- an office holds what the other commands hold of the files that have reached it, by imports or exchanges
+-- an office holds what the other commands hold of the files that have reached it, by imports or
+-- exchanges
 abbrev pub FilesReachedLaw : Type 0
 FilesReachedLaw = (definition : Frame) (n : ℕ) (files : List (List ℕ)) (steps : List Step) (o : ℕ) → o < n
     → held_by definition n files steps o ≡ held definition (files_reached files (past_after definition n files steps) o)
@@ -183,7 +193,8 @@ abbrev pub ImportsAccepted : Frame → List (List ℕ) → List Act → ℕ → 
 ImportsAccepted definition files done o v =
     (f : ℕ) × (f < length files) × Contains done (act.Import (suc o) f) × Valid definition (get_or files f []) × (value_in (get_or files f []) ≡ v)
 
--- an office that imports each accepted value, in any order and among any other steps, holds what the other commands hold of the files
+-- an office that imports each accepted value, in any order and among any other steps, holds what
+-- the other commands hold of the files
 abbrev pub AllImportedLaw : Type 0
 AllImportedLaw = (definition : Frame) (n : ℕ) (files : List (List ℕ)) (steps : List Step) (o : ℕ) → o < n
     → ((v : Data) → HasAccepted definition files v → ImportsAccepted definition files (acts steps) o v)
@@ -199,13 +210,15 @@ abbrev pub ByPlacesLaw : Type 0
 ByPlacesLaw = (definition : Frame) (files : List (List ℕ)) (first : List Act) (p o : ℕ)
     → ((f : ℕ) → f < length files → Contains first (act.Import (suc p) f) ⊎ Contains first (act.Import (suc o) f)) → ImportEach definition files first p o
 
--- two offices that between them import each accepted value, and at last exchange both ways, hold what the other commands hold of the files
+-- two offices that between them import each accepted value, and at last exchange both ways, hold
+-- what the other commands hold of the files
 abbrev pub BothWaysLaw : Type 0
 BothWaysLaw = (definition : Frame) (n : ℕ) (files : List (List ℕ)) (steps : List Step) (first : List Act) (p o : ℕ) → p < n → o < n
     → acts steps ≡ first ++ act.Exchange (suc p) (suc o) ∷ act.Exchange (suc o) (suc p) ∷ [] → ImportEach definition files first p o
     → (held_by definition n files steps p ≡ held definition files) × (held_by definition n files steps o ≡ held definition files)
 
--- two offices that each import the same two files, each time from a place of its own, hold what the other commands hold of the two
+-- two offices that each import the same two files, each time from a place of its own, hold what the
+-- other commands hold of the two
 abbrev pub EachImportsBothLaw : Type 0
 EachImportsBothLaw = (definition : Frame) (one other : List ℕ) (steps : List Step) (o : ℕ) → o < 2
     → acts steps ≡ act.Import 1 0 ∷ act.Import 1 1 ∷ act.Import 2 2 ∷ act.Import 2 3 ∷ []
@@ -216,7 +229,8 @@ abbrev pub same_line : ℕ → Facts → List ℕ
 same_line number facts =
     codes "office " ++ (decimal number ++ (codes " records " ++ (decimal (length (records facts)) ++ (codes " facts " ++ (decimal (len facts) ++ codes " same 1\n")))))
 
--- so a drill of one office that imports each accepted value prints how many records and facts the other commands hold
+-- so a drill of one office that imports each accepted value prints how many records and facts the
+-- other commands hold
 abbrev pub OneLineLaw : Type 0
 OneLineLaw = (definition : Frame) (files : List (List ℕ)) (steps : List Step)
     → ((v : Data) → HasAccepted definition files v → ImportsAccepted definition files (acts steps) 0 v)
@@ -230,9 +244,11 @@ TwoLinesLaw = (definition : Frame) (files : List (List ℕ)) (steps : List Step)
 
 -- ---- want of memory
 
--- but for `check`, a run that ends for want of memory tells `memory` alone, or each of its files or steps
+-- but for `check`, a run that ends for want of memory tells `memory` alone, or each of its files or
+-- steps
 abbrev pub AloneOrEachLaw : Type 0
 AloneOrEachLaw =
-    (texts : List (List ℕ)) (dues : List Due) (fault : Option MergeFault) (out_failed : Bool) (text : List ℕ) → IsCutShort false texts dues fault out_failed text
+    (texts : List (List ℕ)) (dues : List Due) (fault : Option MergeFault) (out_failed : Bool) (text : List ℕ)
+    → IsCutShort (record { by_file = false; texts = texts; dues = dues }) fault out_failed text
     → (text ≡ memory_line)
     ⊎ ((tellings : List Telling) × (rest : List ℕ) × (length tellings ≡ length dues) × (can_all tellings dues ≡ true) × (text ≡ told_lines tellings texts dues ++ rest))

@@ -7,12 +7,14 @@ pub mod Outcome
 pub mod Log
 pub mod Merge
 pub mod Status
+pub mod Job
 pub mod Told
 pub mod CutShort
 pub mod Imported
 pub mod Printing
-pub mod Ends
 pub mod Opening
+pub mod Devices
+pub mod Ends
 pub mod MemoryFiles
 pub mod Worked
 pub mod Answered

@@ -1,5 +1,7 @@
--- Requests whose files stand in a list: which words ask for one, and what is done. (This project's own.)
-use Rattle.std.specs.Prelude.{◌≡◌, ◌<◌, ◌⊎◌, ℕ, List, [], ◌∷◌, ◌++◌, length, codes, Bool, true, false, if◌then◌else◌, Option, IsUtf8}
+-- Requests whose files stand in a list: which words ask for one, and what is done. (This project's
+-- own.)
+use Rattle.std.specs.Prelude.{◌≡◌, ◌<◌, ◌⊎◌, ℕ, List, [], ◌∷◌, ◌++◌, length, codes, Bool, true}
+use Rattle.std.specs.Prelude.{false, if◌then◌else◌, IsUtf8}
 use Rattle.std.specs.Str.{bytes_eq}
 use Rattle.cvr_words.specs.Line.{named}
 use Rattle.cvr_words.specs.Request.{IsRequest}
@@ -10,10 +12,12 @@ use Rattle.cvr_words.specs.declared.request.Task.TheVariants.{Tally, Drill}
 use Rattle.cvr_run.specs.declared.status.Status.{Status}
 use Rattle.cvr_run.specs.declared.status.Status.TheVariants.{CommandLine}
 use Rattle.cvr_run.specs.Answered.{Does, IsGiven, TellsWords}
+use Rattle.cvr_run.specs.Devices.{Devices, outputs}
 use Rattle.cvr_run.specs.File.{held_bytes}
+use Rattle.cvr_run.specs.Job.{Job}
 use Rattle.cvr_run.specs.ListedPaths.{end_of, listed_paths}
-use Rattle.cvr_run.specs.Log.{Logs}
-use Rattle.cvr_run.specs.Opening.{At, AreAt, Has, IsRead}
+use Rattle.cvr_run.specs.Opening.{At, Has, Opener, AreAt, IsRead, Opens, opened_more}
+use Rattle.cvr_run.specs.Told.{LogsSome}
 use Rattle.cvr_run.specs.Worked.{Stops}
 
 -- ---- words
@@ -35,15 +39,23 @@ abbrev pub takes_files : Task → Bool
 takes_files (Drill offices steps) = false
 takes_files task = true
 
--- as they stand the words ask for no request; those before the list ask for this one, which names no file
-pub record AsksListed (words : List (List ℕ)) (request : Request) (list : List ℕ) (by_null : Bool) : Type 0 where
+-- a request whose files stand in a list: the request without files, the word that names the list,
+-- and whether each path of the list ends with a NUL byte
+pub record ListedRequest : Type 0 where
+  pub request : Request
+  pub list : List ℕ
+  pub by_null : Bool
+
+-- as they stand the words ask for no request; those before the list ask for this one, which names
+-- no file
+pub record AsksListed (words : List (List ℕ)) (asked : ListedRequest) : Type 0 where
   pub before : List (List ℕ)
   pub short : IsBefore before
-  pub split : words ≡ list_words before list by_null
+  pub split : words ≡ list_words before asked.list asked.by_null
   pub free : (other : Request) → ¬ IsRequest (named words) other
-  pub asked : IsRequest (named before) request
-  pub files : takes_files request.task ≡ true
-  pub none : request.paths ≡ []
+  pub request : IsRequest (named before) asked.request
+  pub files : takes_files asked.request.task ≡ true
+  pub none : asked.request.paths ≡ []
 
 -- ---- what is done
 
@@ -58,54 +70,57 @@ IsList text = IsUtf8 text × (length text < held_bytes)
 abbrev pub bad_list_line : List ℕ → List ℕ
 bad_list_line path = path ++ codes ": L5\n"
 
--- the request with other files
-abbrev pub with_paths : Request → List (List ℕ) → Request
-with_paths request paths = record request { paths = paths }
+-- the request over the paths of a list of this text
+abbrev pub over_list : ListedRequest → List ℕ → Request
+over_list asked text =
+    record { task = asked.request.task; def = asked.request.def; paths = listed_paths (end_of asked.by_null) text }
 
--- what was read is no list: that is reported, and nothing else is done
-pub record IsNoList (opens : List (List ℕ) → Type 0) (unchanged : Type 0) (path text : List ℕ) (answer : Status)
-    (before : Option (List ℕ)) (had_failed : Bool) (after : Option (List ℕ)) (has_failed : Bool) : Type 0 where
+-- what was read at a path is no list: that is logged, and nothing else is opened
+pub record IsNoList (old new : Opener) (path : List ℕ) (answer : Status) (line : List ℕ) : Type 0 where
+  pub text : List ℕ
+  pub read : IsRead (old.at path) text
   pub bad : ¬ IsList text
-  pub opened : opens (path ∷ [])
-  pub quiet : unchanged
+  pub opened : Opens old new (path ∷ [])
   pub status : answer ≡ CommandLine
-  pub log : Logs before had_failed after has_failed (bad_list_line path)
+  pub said : line ≡ bad_list_line path
 
--- the list, which is opened first, isn't read; or it is, and is none; or the request is done with its paths
-abbrev pub DoesListed : (List ℕ → At) → (List ℕ → Bool) → (List (List ℕ) → Type 0) → Type 0 → Request → List ℕ → Bool → Status → Option (List ℕ) → Option (List ℕ) → Bool → Option (List ℕ) → Bool → Option (List ℕ) → Bool → Type 0
-DoesListed file_at may_fail opens unchanged request path by_null answer out_before out_after out_failed before had_failed after has_failed =
-    (unchanged × Stops file_at may_fail opens (path ∷ []) answer before had_failed after has_failed)
-    ⊎ ((text : List ℕ) × IsRead (file_at path) text
-    × (IsNoList opens unchanged path text answer before had_failed after has_failed
-    ⊎ (IsList text × Does file_at may_fail (λ paths. opens (path ∷ paths)) unchanged (with_paths request (listed_paths (end_of by_null) text)) answer out_before out_after out_failed before had_failed after has_failed)))
+-- the list isn't read, or is none
+abbrev pub HasNoList : Opener → Opener → List ℕ → Status → List ℕ → Type 0
+HasNoList old new path answer line =
+    Stops old new (path ∷ []) answer line ⊎ IsNoList old new path answer line
+
+-- so, and the output stays unchanged; or, once the list is opened and read, its request is done
+abbrev pub DoesListed : ListedRequest → Status → Devices → Devices → Type 0 → Type 0
+DoesListed asked answer old new unchanged =
+    let path = list_place asked.list in
+    (unchanged × LogsSome (HasNoList old.opener new.opener path answer) old.log new.log)
+    ⊎ ((text : List ℕ) × IsRead (old.opener.at path) text × IsList text
+    × Does (over_list asked text) answer (record old { opener = opened_more old.opener (path ∷ []) }) new unchanged)
 
 -- that; or memory ran out for the words, and nothing is opened
-abbrev pub AnswersListed : (List ℕ → At) → (List ℕ → Bool) → (List (List ℕ) → Type 0) → Type 0 → Request → List ℕ → Bool → Status → Option (List ℕ) → Option (List ℕ) → Bool → Option (List ℕ) → Bool → Option (List ℕ) → Bool → Type 0
-AnswersListed file_at may_fail opens unchanged request list by_null answer out_before out_after out_failed before had_failed after has_failed =
-    (opens [] × TellsWords unchanged fault.Memory answer out_before out_after out_failed before had_failed after has_failed)
-    ⊎ DoesListed file_at may_fail opens unchanged request (list_place list) by_null answer out_before out_after out_failed before had_failed after has_failed
+abbrev pub AnswersListed : ListedRequest → Status → Devices → Devices → Type 0 → Type 0
+AnswersListed asked answer old new unchanged =
+    (Opens old.opener new.opener [] × TellsWords fault.Memory answer (outputs old) (outputs new) unchanged)
+    ⊎ DoesListed asked answer old new unchanged
 
 -- ---- where the opener says what stands at each path
 
--- the list has these paths, and at them there are these files
-pub record ListsFiles (file_at : List ℕ → At) (request : Request) (list : List ℕ) (by_null : Bool) (paths : List (List ℕ)) (def : List ℕ) (files : List (List ℕ)) : Type 0 where
+-- a job's request is this one over the paths of the list, and its files stand there
+pub record ListsFiles (at : List ℕ → At) (asked : ListedRequest) (job : Job) : Type 0 where
   pub text : List ℕ
-  pub at_place : file_at (list_place list) ≡ Has text
-  pub listed : paths ≡ listed_paths (end_of by_null) text
-  pub there : AreAt file_at (request.def ∷ paths) (def ∷ files)
+  pub at_place : at (list_place asked.list) ≡ Has text
+  pub listed : job.request ≡ over_list asked text
+  pub there : AreAt at (job.request.def ∷ job.request.paths) (job.def ∷ job.files)
 
--- the words ask for this request by a list of its paths
-pub record IsGivenListed (file_at : List ℕ → At) (words : List (List ℕ)) (request : Request) (def : List ℕ) (files : List (List ℕ)) : Type 0 where
-  pub before : Request
-  pub list : List ℕ
-  pub by_null : Bool
-  pub asked : AsksListed words before list by_null
-  pub lists : ListsFiles file_at before list by_null request.paths def files
-  pub same : request ≡ with_paths before request.paths
+-- the words ask for the request of a job by a list of its paths, and its files stand there
+pub record IsGivenListed (at : List ℕ → At) (words : List (List ℕ)) (job : Job) : Type 0 where
+  pub by : ListedRequest
+  pub asked : AsksListed words by
+  pub lists : ListsFiles at by job
 
 -- by its paths, or by a list of them
-abbrev pub IsGivenEither : (List ℕ → At) → List (List ℕ) → Request → List ℕ → List (List ℕ) → Type 0
-IsGivenEither file_at words request def files = IsGiven file_at words request def files ⊎ IsGivenListed file_at words request def files
+abbrev pub IsGivenEither : (List ℕ → At) → List (List ℕ) → Job → Type 0
+IsGivenEither at words job = IsGiven at words job ⊎ IsGivenListed at words job
 
 -- ---- an example
 
@@ -113,4 +128,4 @@ IsGivenEither file_at words request def files = IsGiven file_at words request de
 abbrev pub TallyListed : Type 0
 TallyListed =
     AsksListed (codes "tally" ∷ codes "d" ∷ codes "--files-from" ∷ codes "l" ∷ [])
-    (record { task = Tally; def = codes "d"; paths = [] }) (codes "l") false
+    (record { request = record { task = Tally; def = codes "d"; paths = [] }; list = codes "l"; by_null = false })

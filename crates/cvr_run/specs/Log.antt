@@ -1,9 +1,10 @@
 -- The lines of the log. (This project's own.)
-use Rattle.std.specs.Prelude.{◌≡◌, ℕ, List, [], ◌∷◌, ◌++◌, codes, decimal, Bool, true, false, Option}
+use Rattle.std.specs.Prelude.{◌≡◌, ℕ, List, [], ◌∷◌, ◌++◌, codes, decimal, Bool, true, false}
 use Rattle.json.specs.Print.{escape}
-use Rattle.cdf_types.specs.Device.{appended, AppendsPrefix}
+use Rattle.cdf_types.specs.Device.{Taken, Appends, AppendsPrefix}
 use Rattle.cdf_types.specs.declared.fault.ReadFault.{ReadFault}
-use Rattle.cdf_types.specs.declared.fault.ReadFault.TheVariants.{TooLong, NotJson, Schema, Reference, Disagrees, Memory}
+use Rattle.cdf_types.specs.declared.fault.ReadFault.TheVariants.{TooLong, NotJson, Schema}
+use Rattle.cdf_types.specs.declared.fault.ReadFault.TheVariants.{Reference, Disagrees, Memory}
 use Rattle.cdf_types.specs.Rule.{number_of}
 use Rattle.cvr_office.specs.declared.event.Cause.{Cause}
 use Rattle.cvr_office.specs.declared.event.Cause.TheVariants.{Read, Join, NoOffice, NoFile}
@@ -44,12 +45,13 @@ abbrev pub has_path_in : Cause → Bool
 has_path_in (Read fault) = has_path fault
 has_path_in cause = false
 
--- want of memory that no file is told for; it stands in the place of a line whose path could not be spelled
+-- want of memory that no file is told for; it stands in the place of a line whose path could not be
+-- spelled
 abbrev pub memory_line : List ℕ
 memory_line = codes "memory\n"
 
--- a log that had taken `before` has taken `after`: the text, or a front of it where the log has failed; one that had failed takes no more
-pub record Logs (before : Option (List ℕ)) (had_failed : Bool) (after : Option (List ℕ)) (has_failed : Bool) (text : List ℕ) : Type 0 where
-  pub whole : has_failed ≡ false → after ≡ appended before text
-  pub front : AppendsPrefix before after text
-  pub silent : had_failed ≡ true → (after ≡ before) × (has_failed ≡ true)
+-- a log took the text, or a prefix of it where it has failed; one that had failed takes no more
+pub record Logs (old new : Taken) (text : List ℕ) : Type 0 where
+  pub whole : new.failed ≡ false → Appends old new text
+  pub front : AppendsPrefix old new text
+  pub silent : old.failed ≡ true → (new.bytes ≡ old.bytes) × (new.failed ≡ true)

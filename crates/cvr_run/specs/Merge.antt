@@ -1,5 +1,6 @@
 -- What `merge` prints, and why it prints nothing. (This project's own.)
-use Rattle.std.specs.Prelude.{ℕ, List, [], ◌∷◌, ◌++◌, codes, decimal, not, nat_lt, if◌then◌else◌, Option, Some, None, is_some}
+use Rattle.std.specs.Prelude.{ℕ, List, [], ◌∷◌, ◌++◌, codes, decimal, not, nat_lt, if◌then◌else◌}
+use Rattle.std.specs.Prelude.{Option, Some, None, is_some}
 use Rattle.cdf_form.specs.Form.{is_moment}
 use Rattle.cdf_definition.specs.Frame.{Frame}
 use Rattle.cvr_fact_types.specs.Facts.{Facts}
@@ -9,7 +10,8 @@ use Rattle.cvr_report.specs.Volume.{volume}
 use Rattle.cvr_run.specs.declared.merge.MergeFault.{MergeFault}
 use Rattle.cvr_run.specs.declared.merge.MergeFault.TheVariants.{NotMoment, NoDevice, NoVolume}
 
--- why there is no volume i of these facts under a date and a device: the date is no moment; else the definition has no such device; else there are fewer volumes
+-- why there is no volume i of these facts under a date and a device: the date is no moment; else
+-- the definition has no such device; else there are fewer volumes
 abbrev pub merge_fault : Frame → List ℕ → List ℕ → ℕ → Facts → Option MergeFault
 merge_fault definition date device i facts =
     if not (is_moment date) then Some NotMoment

@@ -1,8 +1,10 @@
 -- What an opener says of its files, and what was read of them. (This project's own.)
-use Rattle.std.specs.Prelude.{◌≡◌, ℕ, List, [], ◌∷◌, ◌++◌, take, map, Bool, true, false, Option, Some, option_map}
+use Rattle.std.specs.Prelude.{◌≡◌, ℕ, List, [], ◌∷◌, ◌++◌, take, map, Bool, true, false, Option}
+use Rattle.std.specs.Prelude.{Some, option_map, codes}
 use Rattle.cvr_run.specs.File.{held_bytes}
 
--- what an opener says of a path: nothing; that no file is there, which it finds out without memory; or that a file is there, with these bytes
+-- what an opener says of a path: nothing; that no file is there, which it finds out without memory;
+-- or that a file is there, with these bytes
 pub data At : Type 0 where
   Unknown : At
   Absent : At
@@ -40,6 +42,34 @@ abbrev pub FailedAt : At → Bool → Type 0
 FailedAt (Has bytes) may_fail = may_fail ≡ true
 FailedAt at may_fail = Unit {0}
 
--- an opener, where it tells the paths that it was to open, was to open exactly these more, in this order
-abbrev pub Opens : Option (List (List ℕ)) → Option (List (List ℕ)) → List (List ℕ) → Type 0
-Opens before after paths = after ≡ option_map (λ opened. opened ++ paths) before
+-- ---- openers
+
+-- what contracts see of an opener: what it says of each path, whether the reading of a file may
+-- fail, and the paths that it was to open, in order, where it shows them
+pub record Opener : Type 0 where
+  pub at : List ℕ → At
+  pub may_fail : List ℕ → Bool
+  pub opened : Option (List (List ℕ))
+
+-- the opener after it was to open these more
+abbrev pub opened_more : Opener → List (List ℕ) → Opener
+opened_more opener paths =
+    record opener { opened = option_map (λ opened. opened ++ paths) opener.opened }
+
+-- an opener was to open exactly these, in this order; what it says of paths stays
+abbrev pub Opens : Opener → Opener → List (List ℕ) → Type 0
+Opens old new paths = new ≡ opened_more old paths
+
+-- ---- an example
+
+-- an opener that showed `a` and `b`, and was to open `c` and `a` more, shows the four in this order, and
+-- says of paths what it said
+pub record ShowsFour (old new : Opener) : Type 0 where
+  pub opened : new.opened ≡ Some (codes "a" ∷ codes "b" ∷ codes "c" ∷ codes "a" ∷ [])
+  pub at : new.at ≡ old.at
+  pub may_fail : new.may_fail ≡ old.may_fail
+
+abbrev pub FourAreShown : Type 0
+FourAreShown =
+    (old new : Opener) → old.opened ≡ Some (codes "a" ∷ codes "b" ∷ [])
+    → Opens old new (codes "c" ∷ codes "a" ∷ []) → ShowsFour old new

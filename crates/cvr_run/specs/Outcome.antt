@@ -1,5 +1,6 @@
 -- What a run has to print, over the bytes of its files. (This project's own.)
-use Rattle.std.specs.Prelude.{◌≡◌, ℕ, List, [], ◌∷◌, ◌++◌, Bool, ◌||◌, if◌then◌else◌, map, decimal, ◌⊎◌, Option, None, is_some}
+use Rattle.std.specs.Prelude.{◌≡◌, ℕ, List, [], ◌∷◌, ◌++◌, Bool, ◌||◌, if◌then◌else◌, map, decimal}
+use Rattle.std.specs.Prelude.{◌⊎◌, Option, None, is_some}
 use Rattle.std.specs.Int.NonZero.{non_zero_u32_get}
 use Rattle.std.specs.Global.{Vec}
 use Rattle.std.specs.List.{list_any}
@@ -12,7 +13,8 @@ use Rattle.cvr_fact_types.specs.Facts.{Facts}
 use Rattle.cvr_facts.specs.Reports.{facts}
 use Rattle.cvr_run.specs.declared.merge.MergeFault.{MergeFault}
 use Rattle.cvr_words.specs.declared.request.Task.{Task}
-use Rattle.cvr_words.specs.declared.request.Task.TheVariants.{Currents, Check, Conflicts, Tally, Merge, Drill}
+use Rattle.cvr_words.specs.declared.request.Task.TheVariants.{Currents, Check, Conflicts, Tally}
+use Rattle.cvr_words.specs.declared.request.Task.TheVariants.{Merge, Drill}
 use Rattle.cvr_run.specs.declared.status.Status.{Status}
 use Rattle.cvr_run.specs.declared.status.Status.TheVariants.{Done, Refused}
 use Rattle.cvr_run.specs.Accepted.{is_unsound, is_refused, accepted}

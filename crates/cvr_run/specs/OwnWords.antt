@@ -1,11 +1,13 @@
--- Words that ask for a text of the program's own: it is printed, and no file is opened. (This project's own.)
-use Rattle.std.specs.Prelude.{◌≡◌, ◌⊎◌, ℕ, List, [], ◌∷◌, codes, Bool, false, if◌then◌else◌, Option}
+-- Words that ask for a text of the program's own: it is printed, and no file is opened. (This
+-- project's own.)
+use Rattle.std.specs.Prelude.{◌≡◌, ◌⊎◌, ℕ, List, [], ◌∷◌, codes, false, if◌then◌else◌}
 use Rattle.clap.specs.Words.{fault_of}
 use Rattle.clap.specs.declared.error.ErrorKind.TheVariants.{UnknownArgument}
-use Rattle.cdf_types.specs.Device.{appended, AppendsPrefix}
+use Rattle.cdf_types.specs.Device.{Appends, AppendsPrefix}
 use Rattle.cvr_words.specs.Line.{cvr_line, named}
 use Rattle.cvr_run.specs.declared.status.Status.{Status}
 use Rattle.cvr_run.specs.declared.status.Status.TheVariants.{Done, Device}
+use Rattle.cvr_run.specs.Devices.{Outputs}
 use Rattle.cvr_run.specs.Log.{Logs}
 use Rattle.cvr_run.specs.Told.{out_line}
 
@@ -22,9 +24,8 @@ abbrev pub UnknownVersionLaw : Type 0
 UnknownVersionLaw = (words : List (List ℕ)) → AsksVersion words → fault_of cvr_line (named words) ≡ UnknownArgument ∷ []
 
 -- the text is printed whole; or the output has failed, which is reported
-pub record PrintsOwn (text : List ℕ) (answer : Status) (out_before out_after : Option (List ℕ)) (out_failed : Bool)
-    (before : Option (List ℕ)) (had_failed : Bool) (after : Option (List ℕ)) (has_failed : Bool) : Type 0 where
-  pub status : answer ≡ (if out_failed then Device else Done)
-  pub whole : out_failed ≡ false → out_after ≡ appended out_before text
-  pub prefix : AppendsPrefix out_before out_after text
-  pub log : Logs before had_failed after has_failed (out_line out_failed)
+pub record PrintsOwn (text : List ℕ) (answer : Status) (old new : Outputs) : Type 0 where
+  pub status : answer ≡ (if new.out.failed then Device else Done)
+  pub whole : new.out.failed ≡ false → Appends old.out new.out text
+  pub prefix : AppendsPrefix old.out new.out text
+  pub log : Logs old.log new.log (out_line new.out.failed)

@@ -1,6 +1,7 @@
 -- What was printed of a text, and how a run ends after it. (This project's own.)
-use Rattle.std.specs.Prelude.{◌≡◌, ◌≢◌, ℕ, List, [], Bool, true, false, if◌then◌else◌, Option, Some, None, Result, Ok, Err, MatchResult}
-use Rattle.cdf_types.specs.Device.{appended, AppendsPrefix}
+use Rattle.std.specs.Prelude.{◌≡◌, ◌≢◌, ℕ, List, [], Bool, true, false, if◌then◌else◌, Option, Some}
+use Rattle.std.specs.Prelude.{None, Result, Ok, Err, MatchResult}
+use Rattle.cdf_types.specs.Device.{Taken, Appends, AppendsPrefix}
 use Rattle.cvr_report.specs.declared.fault.WriteFault.{WriteFault}
 use Rattle.cvr_report.specs.declared.fault.WriteFault.TheVariants as write
 use Rattle.cvr_report.specs.declared.heading.HeadFault.{HeadFault}
@@ -27,12 +28,13 @@ abbrev pub merge_part : PrintFault → Option MergeFault
 merge_part (Merge fault) = Some fault
 merge_part fault = None
 
--- all of the text where the call succeeded, else a front of it; the output has failed exactly where that is the fault; want of memory aside, the merge has the fault that is told, or none
-abbrev pub Prints : {T : Type 0} → Option (List ℕ) → Option (List ℕ) → Bool → Result T PrintFault → Option MergeFault → List ℕ → Type 0
-Prints before after out_failed result fault text =
+-- all of the text where the call succeeded, else a front of it; the output has failed exactly where
+-- that is the fault; want of memory aside, the merge has the fault that is told, or none
+abbrev pub Prints : {T : Type 0} → Taken → Taken → Result T PrintFault → Option MergeFault → List ℕ → Type 0
+Prints old new result fault text =
     MatchResult result
-    (λ _. (after ≡ appended before text) × (out_failed ≡ false) × (fault ≡ None))
-    (λ e. AppendsPrefix before after text × (out_failed ≡ is_output e) × (e ≢ Memory → fault ≡ merge_part e))
+    (λ _. Appends old new text × (new.failed ≡ false) × (fault ≡ None))
+    (λ e. AppendsPrefix old new text × (new.failed ≡ is_output e) × (e ≢ Memory → fault ≡ merge_part e))
 
 -- ---- from what faults
 

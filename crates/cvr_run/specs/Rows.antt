@@ -1,4 +1,5 @@
--- Worked examples: what a run tells of refused files, and what a drill prints. (This project's own.)
+-- Worked examples: what a run tells of refused files, and what a drill prints. (This project's
+-- own.)
 use Rattle.std.specs.Prelude.{◌≡◌, ℕ, List, [], ◌∷◌, ◌++◌, codes}
 use Rattle.cdf_definition.specs.Acceptance.{frame_in}
 use Rattle.cdf_check.specs.Rows as file
@@ -9,7 +10,8 @@ use Rattle.cvr_run.specs.Laws.{HaveSameValues}
 use Rattle.cvr_run.specs.Outcome.{run_text}
 use Rattle.cvr_run.specs.Told.{run_lines}
 
--- a cast vote record without UniqueId, one that is accepted, and one with a selection of another contest
+-- a cast vote record without UniqueId, one that is accepted, and one with a selection of another
+-- contest
 abbrev pub three_paths : List (List ℕ)
 three_paths = codes "a.json" ∷ codes "b.json" ∷ codes "c.json" ∷ []
 
@@ -39,7 +41,8 @@ scan_of unique = file.cvr (file.snapshot (codes "original") (codes "")) (codes "
 abbrev pub three_records_file : List ℕ
 three_records_file = file.report (scan_of (codes "u7") ++ codes "," ++ scan_of (codes "u8") ++ codes "," ++ scan_of (codes "u9")) (codes "")
 
--- of one record, of two that are refused, and of three: a line for each of the two that are accepted
+-- of one record, of two that are refused, and of three: a line for each of the two that are
+-- accepted
 abbrev pub CheckOfThree : Type 0
 CheckOfThree =
     run_text Check file.definition_file three_paths (file.one_file ∷ file.two_faults_file ∷ three_records_file ∷ [])
@@ -64,7 +67,8 @@ seven_steps =
     record { text = codes "1>3"; act = Exchange 1 3 } ∷ record { text = codes "0=b.json"; act = Import 0 1 } ∷ record { text = codes "3=c.json"; act = Import 3 2 } ∷
     record { text = codes "2>2"; act = Exchange 2 2 } ∷ record { text = codes "3>0"; act = Exchange 3 0 } ∷ []
 
--- a line for each of the five that are refused: two for their files, and three since there is no office 4 and no office 0
+-- a line for each of the five that are refused: two for their files, and three since there is no
+-- office 4 and no office 0
 abbrev pub FiveStepsRefused : Type 0
 FiveStepsRefused =
     run_lines (Drill 3 seven_steps) (codes "def.json") file.definition_file three_paths three_files

@@ -1,7 +1,8 @@
 -- The exit status of the program. (This project's own.)
 use Rattle.std.specs.Prelude.{ℕ}
 use Rattle.cvr_run.specs.declared.status.Status.{Status}
-use Rattle.cvr_run.specs.declared.status.Status.TheVariants.{Done, Refused, CommandLine, Device, Memory}
+use Rattle.cvr_run.specs.declared.status.Status.TheVariants.{Done, Refused, CommandLine, Device}
+use Rattle.cvr_run.specs.declared.status.Status.TheVariants.{Memory}
 
 abbrev pub code_of : Status → ℕ
 code_of Done = 0

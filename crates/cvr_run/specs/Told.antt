@@ -1,18 +1,28 @@
--- What a run tells to its log: a line for each refused file or step, and what stands in its place where memory was wanting. (This project's own.)
-use Rattle.std.specs.Prelude.{◌≡◌, ◌⊎◌, ◌&&◌, ◌||◌, ◌<◌, ℕ, List, [], ◌∷◌, ◌++◌, length, map, get_or, codes, Bool, true, false, if◌then◌else◌, Option, Some, None, is_some}
+-- What a run tells to its log: a line for each refused file or step, and what stands in its place
+-- where memory was wanting. (This project's own.)
+use Rattle.std.specs.Prelude.{◌≡◌, ◌≢◌, ◌⊎◌, ◌&&◌, ◌||◌, ◌<◌, ℕ, List, [], ◌∷◌, ◌++◌, length, map}
+use Rattle.std.specs.Prelude.{get_or, codes, Bool, true, false, if◌then◌else◌, Option, Some, None}
+use Rattle.std.specs.Prelude.{is_some}
 use Rattle.std.specs.List.{list_any}
 use Rattle.std.specs.Option.{option_map_or}
+use Rattle.cdf_types.specs.Device.{Taken}
 use Rattle.cdf_definition.specs.Frame.{Frame}
 use Rattle.cdf_definition.specs.Acceptance.{frame_in, first_refusal, first_unsound}
 use Rattle.cvr_office.specs.declared.event.Cause.{Cause}
 use Rattle.cvr_run.specs.declared.refusals.Refusals.{Refusals}
+use Rattle.cvr_run.specs.declared.status.Status.{Status}
+use Rattle.cvr_run.specs.declared.status.Status.TheVariants.{Memory}
+use Rattle.cvr_words.specs.declared.request.Step.{Step}
 use Rattle.cvr_words.specs.declared.request.Task.{Task}
 use Rattle.cvr_words.specs.declared.request.Task.TheVariants.{Check, Drill}
 use Rattle.cvr_run.specs.Accepted.{is_unsound}
 use Rattle.cvr_run.specs.declared.merge.MergeFault.{MergeFault}
+use Rattle.cvr_run.specs.Devices.{Outputs}
 use Rattle.cvr_run.specs.Drill.{step_texts, step_dues}
+use Rattle.cvr_run.specs.Job.{Job}
 use Rattle.cvr_run.specs.Log.{cause_line, memory_line, has_path_in, Logs}
 use Rattle.cvr_run.specs.Merge.{merge_lines}
+use Rattle.cvr_run.specs.Outcome.{run_fault}
 use Rattle.cvr_run.specs.Refusals.{Due, no_due, file_due}
 
 -- ---- where memory was not wanting
@@ -62,7 +72,8 @@ last_lines fault out_failed = merge_lines fault ++ out_line out_failed
 
 -- ---- where memory was wanting
 
--- how a file or a step was told: as it is due; or by `E6` or `J2`, since memory was refused for it; or by `memory`, since it was refused for the spelling of a path
+-- how a file or a step was told: as it is due; or by `E6` or `J2`, since memory was refused for it;
+-- or by `memory`, since it was refused for the spelling of a path
 pub data Telling : Type 0 where
   AsDue : Telling
   Lacking : Telling
@@ -102,41 +113,73 @@ can_all [] dues = true
 can_all (telling ∷ tellings) [] = false
 can_all (telling ∷ tellings) (due ∷ dues) = can_be telling due && can_all tellings dues
 
--- a log that was told of the first n files or steps, and what a run then keeps of its refusals
-pub record Tells (texts : List (List ℕ)) (dues : List Due) (n : ℕ) (refusals : Refusals)
-    (before : Option (List ℕ)) (had_failed : Bool) (after : Option (List ℕ)) (has_failed : Bool) : Type 0 where
+-- the files or steps of a run by the texts of their lines, and what is due to each; and whether it
+-- goes file by file, as `check` does
+pub record Dues : Type 0 where
+  pub by_file : Bool
+  pub texts : List (List ℕ)
+  pub dues : List Due
+
+-- the files of an import, in order
+abbrev pub import_dues : Frame → List (List ℕ) → List (List ℕ) → Dues
+import_dues definition paths files =
+    record { by_file = false; texts = paths; dues = file_dues definition files }
+
+-- the steps of a drill among so many offices
+abbrev pub drill_dues : Frame → ℕ → List (List ℕ) → List Step → Dues
+drill_dues definition n files steps =
+    record { by_file = false; texts = step_texts steps; dues = step_dues definition n files steps }
+
+-- the files or steps of a task
+abbrev pub task_dues : Frame → Task → List (List ℕ) → List (List ℕ) → Dues
+task_dues definition task paths files =
+    record { by_file = is_check task; texts = texts_of task paths; dues = dues_of definition task files }
+
+-- a log that took the lines of the first n of them, and what a run then keeps of its refusals
+pub record Tells (of : Dues) (n : ℕ) (refusals : Refusals) (old new : Taken) : Type 0 where
   pub tellings : List Telling
   pub count : length tellings ≡ n
-  pub possible : can_all tellings dues ≡ true
+  pub possible : can_all tellings of.dues ≡ true
   pub file_lacking : refusals.file_lacking ≡ list_any is_lacking tellings
   pub path_unspelled : refusals.path_unspelled ≡ list_any is_unspelled tellings
-  pub logs : Logs before had_failed after has_failed (told_lines tellings texts dues)
+  pub logs : Logs old new (told_lines tellings of.texts of.dues)
 
--- where a run may end by `memory`, once this many files or steps were told: `check` before a file that is accepted, since its line had no room; any other task before all of them, or after all
+-- where a run may end by `memory`, once the lines of so many are in the log: `check` before a file
+-- that is accepted, since its line had no room; any other task before all of them, or after all
 abbrev pub CanEndAfter : Bool → ℕ → List Due → Type 0
 CanEndAfter true n dues = (n < length dues) × ((get_or dues n no_due).cause ≡ None)
 CanEndAfter false n dues = (n ≡ 0) ⊎ (n ≡ length dues)
 
--- what is told of files or steps in a run that ends for want of memory: of all, one of them lacking; of all, none lacking but one unspelled, and then the last lines; or of as many as `memory` may end it after, none lacking, and then `memory`, where the output has not failed
-pub record IsCutShort (check : Bool) (texts : List (List ℕ)) (dues : List Due) (fault : Option MergeFault) (out_failed : Bool) (text : List ℕ) : Type 0 where
+-- what stands in the log of a run that ends since memory ran out: all lines, one of them lacking;
+-- all, none lacking but one unspelled, and then the last lines; or as many as `memory` may end it
+-- after, none lacking, and then `memory`, where the output has not failed
+pub record IsCutShort (of : Dues) (fault : Option MergeFault) (out_failed : Bool) (text : List ℕ) : Type 0 where
   pub tellings : List Telling
-  pub possible : can_all tellings dues ≡ true
-  pub ends : ((length tellings ≡ length dues) × (list_any is_lacking tellings ≡ true) × (text ≡ told_lines tellings texts dues))
-      ⊎ ((length tellings ≡ length dues) × (list_any is_lacking tellings ≡ false) × (list_any is_unspelled tellings ≡ true) × (text ≡ told_lines tellings texts dues ++ last_lines fault out_failed))
-      ⊎ (CanEndAfter check (length tellings) dues × (list_any is_lacking tellings ≡ false) × (out_failed ≡ false) × (text ≡ told_lines tellings texts dues ++ memory_line))
+  pub possible : can_all tellings of.dues ≡ true
+  pub ends : ((length tellings ≡ length of.dues) × (list_any is_lacking tellings ≡ true) × (text ≡ told_lines tellings of.texts of.dues))
+      ⊎ ((length tellings ≡ length of.dues) × (list_any is_lacking tellings ≡ false) × (list_any is_unspelled tellings ≡ true)
+      × (text ≡ told_lines tellings of.texts of.dues ++ last_lines fault out_failed))
+      ⊎ (CanEndAfter of.by_file (length tellings) of.dues × (list_any is_lacking tellings ≡ false) × (out_failed ≡ false)
+      × (text ≡ told_lines tellings of.texts of.dues ++ memory_line))
 
 -- the same of a whole run, that of the definition included
-abbrev pub IsRunCutShort : Task → List ℕ → List ℕ → List (List ℕ) → List (List ℕ) → Option MergeFault → Bool → List ℕ → Type 0
-IsRunCutShort task what def paths files fault out_failed text =
-    ((telling : Telling) × (can_be telling (file_due (first_unsound def)) ≡ true) × (is_short telling ≡ true) × (text ≡ told_line telling what (file_due (first_unsound def))))
-    ⊎ ((is_unsound def ≡ false) × IsCutShort (is_check task) (texts_of task paths) (dues_of (frame_in def) task files) fault out_failed text)
+abbrev pub IsRunCutShort : Job → Bool → List ℕ → Type 0
+IsRunCutShort job out_failed text =
+    let task = job.request.task in
+    let due = file_due (first_unsound job.def) in
+    ((telling : Telling) × (can_be telling due ≡ true) × (is_short telling ≡ true)
+    × (text ≡ told_line telling job.request.def due))
+    ⊎ ((is_unsound job.def ≡ false)
+    × IsCutShort (task_dues (frame_in job.def) task job.request.paths job.files)
+    (run_fault task job.def job.files) out_failed text)
 
--- the log took the text that one of these is
-abbrev pub LogsSome : (List ℕ → Type 0) → Option (List ℕ) → Bool → Option (List ℕ) → Bool → Type 0
-LogsSome P before had_failed after has_failed = (text : List ℕ) × P text × Logs before had_failed after has_failed text
+-- the log took a text of which this holds
+abbrev pub LogsSome : (List ℕ → Type 0) → Taken → Taken → Type 0
+LogsSome P old new = (text : List ℕ) × P text × Logs old new text
 
--- of the files or steps of a run: whether memory was wanting for it, and what the log then took; the fault of a merge and a failed output come last
-pub record TellsRun (check : Bool) (texts : List (List ℕ)) (dues : List Due) (wanting : Type 0) (fault : Option MergeFault) (out_failed : Bool)
-    (before : Option (List ℕ)) (had_failed : Bool) (after : Option (List ℕ)) (has_failed : Bool) : Type 0 where
-  pub log : ¬ wanting → Logs before had_failed after has_failed (refusal_lines texts dues ++ last_lines fault out_failed)
-  pub cut_short : wanting → LogsSome (IsCutShort check texts dues fault out_failed) before had_failed after has_failed
+-- of the files or steps of a run that ended so, what the log took; the fault of a merge and a
+-- failed output come last
+pub record TellsRun (of : Dues) (fault : Option MergeFault) (answer : Status) (old new : Outputs) : Type 0 where
+  pub log : answer ≢ Memory
+      → Logs old.log new.log (refusal_lines of.texts of.dues ++ last_lines fault new.out.failed)
+  pub cut_short : answer ≡ Memory → LogsSome (IsCutShort of fault new.out.failed) old.log new.log
