@@ -1,5 +1,5 @@
-ghost use Rattle.std.specs.Prelude.{◌≡◌, ◌<◌, ◌≤◌, [], Some, true, false, length, take, IfOk, OnErr, IsErr};
-ghost use Rattle.cdf_types.specs.Device.{count, fails_write, appended};
+ghost use Rattle.std.specs.Prelude.{◌≡◌, ◌<◌, ◌≤◌, ◌++◌, [], Some, true, false, length, take, IfOk, OnErr, IsErr};
+ghost use Rattle.cdf_types.specs.Device.{count, fails_write};
 ghost use Rattle.cdf_types.specs.MemorySink.{IsTaken};
 
 use crate::device::{DeviceFault, Sink};
@@ -60,9 +60,7 @@ impl MemorySink {
 }
 
 impl Sink for MemorySink {
-    ghost taken = { λ s. Some s.taken };
-
-    ghost has_failed = { λ s. s.has_failed };
+    ghost taken = { λ s. record { bytes = Some s.taken; failed = s.has_failed } };
 
     /// Takes as many bytes as there are and one call allows, except at the call that `new` was told,
     /// which fails. Grows by them.
@@ -75,8 +73,7 @@ impl Sink for MemorySink {
         requires some { 0 < length bytes.now }
         ensures within { count result ≤ length bytes.now }
         ensures failed { self.new.has_failed ≡ fails_write result }
-        ensures taken { Some self.new.taken ≡
-            appended (Some self.old.taken) (take (count result) bytes.now) }
+        ensures taken { self.new.taken ≡ self.old.taken ++ take (count result) bytes.now }
         ensures refused { self.old.fails_in ≡ 1 → IsErr result }
         ensures ok { IfOk result (IsTaken self.old self.new bytes.now) }
         ensures err { OnErr result (self.new ≡ record self.old { has_failed = true }) }

@@ -52,11 +52,11 @@ impl<'a> MemorySource<'a> {
 }
 
 impl Source for MemorySource<'_> {
-    ghost left = { λ s. Some s.rest };
-
-    ghost has_failed = { λ s. s.has_failed };
-
-    ghost can_fail = { λ s. can_fail s };
+    ghost left = { λ s. record {
+      bytes = Some s.rest;
+      failed = s.has_failed;
+      can_fail = can_fail s;
+    } };
 
     /// Gives as many bytes as the buffer, one call and the rest allow, except at the call that `new`
     /// was told, which fails. Takes no memory.

@@ -31,11 +31,7 @@ struct System<'a, R> {
 impl<'a, R: Files + Eprint + AllocGlobal> Open for System<'a, R> {
     type File = OverRead<Watched<'a, R::File, R>>;
 
-    ghost file_at = { λ _ _. Unknown };
-
-    ghost may_fail = { λ _ _. true };
-
-    ghost opened = { λ _. None };
+    ghost state = { λ _. record { at = λ _. Unknown; may_fail = λ _. true; opened = None } };
 
     fn open(&mut self, path: &str) -> Result<OverRead<Watched<'a, R::File, R>>, FileFault> {
         match fs::open(self.rt, path) {

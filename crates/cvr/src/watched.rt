@@ -97,9 +97,7 @@ impl<'a, W: Write + Drop, R: Eprint + AllocGlobal> Log<'a, W, R> {
 }
 
 impl<W: Write + Drop, R: Eprint + AllocGlobal> Sink for Log<'_, W, R> {
-    ghost taken = { λ _. None };
-
-    ghost has_failed = { λ s. s.inner.failed };
+    ghost taken = { λ s. record { bytes = None; failed = s.inner.failed } };
 
     // Hands the bytes on, and nothing else.
     fn write(&mut self, bytes: &[u8]) -> Result<usize, DeviceFault>

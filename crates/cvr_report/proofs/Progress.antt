@@ -3,7 +3,7 @@ use Rattle.std.proofs.Common.{◌≡◌, ℕ, ◌<◌, ◌||◌, Bool, true, fal
 use Rattle.std.specs.Result.{IsErrAnd}
 use Rattle.std.specs.Cmp.Lexicographic.{nat_list_cmp_total}
 use Rattle.serde_json.specs.Written.{comma_if}
-use Rattle.cdf_types.specs.Device.{appended, AppendsPrefix}
+use Rattle.cdf_types.specs.Device.{Taken, Appends, appended, AppendsPrefix}
 use Rattle.cdf_types.proofs.Lemmas.{appended_twice}
 use Rattle.cvr_fact_types.specs.declared.name.RecordName.{RecordName}
 use Rattle.cvr_fact_types.specs.Facts.{Facts, name_cmp, text_cmp}
@@ -20,38 +20,38 @@ use Rattle.cvr_report.specs.declared.fault.WriteFault.{WriteFault}
 use Rattle.cvr_report.proofs.Pieces.{cut_short, goes_on}
 
 -- what was written of the whole, and what is left
-pub record Progress (before after : Option (List ℕ)) (failed : Bool) (whole rest : List ℕ) : Type 0 where
-  pub working : failed ≡ false
+pub record Progress (before after : Taken) (whole rest : List ℕ) : Type 0 where
+  pub working : after.failed ≡ false
   pub done : List ℕ
-  pub taken : after ≡ appended before done
+  pub taken : Appends before after done
   pub whole_is : whole ≡ done ++ rest
 
 pub appended_none : (o : Option (List ℕ)) → o ≡ appended o []
 appended_none None = refl
 appended_none (Some t) = ap Some (sym (append-nil t))
 
-pub starts : (before : Option (List ℕ)) (failed : Bool) (whole rest : List ℕ) → failed ≡ false → whole ≡ rest → Progress before before failed whole rest
-starts before failed whole rest works is = record { working = works; done = []; taken = appended_none before; whole_is = is }
+pub starts : (before : Taken) (whole rest : List ℕ) → before.failed ≡ false → whole ≡ rest → Progress before before whole rest
+starts before whole rest works is = record { working = works; done = []; taken = appended_none before.bytes; whole_is = is }
 
-module _ (before mid after : Option (List ℕ)) (was failed : Bool) (whole rest : List ℕ) (p : Progress before mid was whole rest) where
-  pub writes_on : (piece more : List ℕ) → rest ≡ piece ++ more → after ≡ appended mid piece → failed ≡ false → Progress before after failed whole more
+module _ (before mid after : Taken) (whole rest : List ℕ) (p : Progress before mid whole rest) where
+  pub writes_on : (piece more : List ℕ) → rest ≡ piece ++ more → Appends mid after piece → after.failed ≡ false → Progress before after whole more
   writes_on piece more is took works = record {
     working = works;
     done = p.done ++ piece;
-    taken = took ∙ (ap (λ o. appended o piece) p.taken ∙ appended_twice before p.done piece);
+    taken = took ∙ (ap (λ o. appended o piece) p.taken ∙ appended_twice before.bytes p.done piece);
     whole_is = p.whole_is ∙ (ap (λ r. p.done ++ r) is ∙ sym (append_assoc p.done piece more));
   }
 
-  pub ends : {T : Type 0} (r : Result T WriteFault) → Writes mid after failed r rest → Writes before after failed r whole
-  ends r w = subst (Writes before after failed r) (sym p.whole_is) (goes_on before mid after failed r p.done rest p.taken w)
+  pub ends : {T : Type 0} (r : Result T WriteFault) → Writes mid after r rest → Writes before after r whole
+  ends r w = subst (Writes before after r) (sym p.whole_is) (goes_on before mid after r p.done rest p.taken w)
 
   pub stops : {T : Type 0} (r : Result T WriteFault) (e : WriteFault) (piece more : List ℕ) → rest ≡ piece ++ more → IsErrAnd r (λ x. x ≡ e)
-      → AppendsPrefix mid after piece × (failed ≡ is_device e) → Writes before after failed r whole
-  stops r e piece more is err w = ends r (subst (Writes mid after failed r) (sym is) (cut_short mid after failed r e piece more err w))
+      → AppendsPrefix mid after piece × (after.failed ≡ is_device e) → Writes before after r whole
+  stops r e piece more is err w = ends r (subst (Writes mid after r) (sym is) (cut_short mid after r e piece more err w))
 
-pub all_written : {T : Type 0} (before after : Option (List ℕ)) (failed : Bool) (whole rest : List ℕ) (x : T) → Progress before after failed whole rest → rest ≡ [] → Writes before after failed (Ok x) whole
-all_written before after failed whole rest x p is =
-    (p.taken ∙ ap (appended before) (sym (p.whole_is ∙ (ap (λ r. p.done ++ r) is ∙ append-nil p.done))), p.working)
+pub all_written : {T : Type 0} (before after : Taken) (whole rest : List ℕ) (x : T) → Progress before after whole rest → rest ≡ [] → Writes before after (Ok x) whole
+all_written before after whole rest x p is =
+    (p.taken ∙ ap (appended before.bytes) (sym (p.whole_is ∙ (ap (λ r. p.done ++ r) is ∙ append-nil p.done))), p.working)
 
 -- ---- records
 

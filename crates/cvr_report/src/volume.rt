@@ -2,7 +2,7 @@
 ghost use Rattle.std.specs.Prelude.{◌≡◌, ◌<◌, ◌≤◌, ◌++◌, OnOk, OnErr, IfOk, IfErr, false, true, is_some};
 ghost use Rattle.std.specs.List.{Contains};
 ghost use Rattle.serde_json.specs.Written.{comma_if};
-ghost use Rattle.cdf_types.specs.Device.{appended, AppendsProperPrefix};
+ghost use Rattle.cdf_types.specs.Device.{Appends, AppendsProperPrefix};
 ghost use Rattle.cvr_office.specs.Names.{records, devices};
 ghost use Rattle.cvr_office.specs.Readers.{device_list};
 ghost use Rattle.cvr_office.specs.Keeps.{Keeps};
@@ -34,8 +34,8 @@ pub fn volumes<O: Office>(office: &O) -> usize
 
 // Writes a piece.
 fn write_piece<W: Sink>(out: &mut W, piece: &[u8]) -> Result<(), WriteFault>
-    requires { W.has_failed out.old ≡ false }
-    ensures { WritesOrLess (W.taken out.old) (W.taken out.new) (W.has_failed out.new) result
+    requires { (W.taken out.old).failed ≡ false }
+    ensures { WritesOrLess (W.taken out.old) (W.taken out.new) result
         piece.now }
 {
     write_all(out, piece)?;
@@ -52,12 +52,12 @@ fn write_record<O: Office, W: Sink>(
     buffer: &mut Vec<u8>,
     out: &mut W,
 ) -> Result<bool, WriteFault>
-    requires working { W.has_failed out.old ≡ false }
+    requires working { (W.taken out.old).failed ≡ false }
     requires number { 0 < i }
     requires listed { Contains (records (O.held office.now)) key.now }
     requires keeps { Keeps (O.defined office.now) (O.held office.now) }
     ensures stands { IfOk result (λ b. b ≡ is_some (record_text (O.held office.now) i key.now)) }
-    ensures written { Writes (W.taken out.old) (W.taken out.new) (W.has_failed out.new) result (record_piece later (record_text (O.held office.now) i key.now)) }
+    ensures written { Writes (W.taken out.old) (W.taken out.new) result (record_piece later (record_text (O.held office.now) i key.now)) }
 {
     let Some(found) = office.record_facts(alloc, key)? else {
         return Ok(false);
@@ -81,10 +81,10 @@ fn write_records<O: Office, W: Sink>(
     buffer: &mut Vec<u8>,
     out: &mut W,
 ) -> Result<(), WriteFault>
-    requires working { W.has_failed out.old ≡ false }
+    requires working { (W.taken out.old).failed ≡ false }
     requires number { 0 < i }
     requires keeps { Keeps (O.defined office.now) (O.held office.now) }
-    ensures { Writes (W.taken out.old) (W.taken out.new) (W.has_failed out.new) result (list_text false (record_texts (O.held office.now) i (records (O.held office.now)))) }
+    ensures { Writes (W.taken out.old) (W.taken out.new) result (list_text false (record_texts (O.held office.now) i (records (O.held office.now)))) }
 {
     let mut later = false;
     let mut next = office.next_record(None);
@@ -105,8 +105,8 @@ fn write_device<O: Office, W: Sink>(
     later: bool,
     out: &mut W,
 ) -> Result<(), WriteFault>
-    requires working { W.has_failed out.old ≡ false }
-    ensures { Writes (W.taken out.old) (W.taken out.new) (W.has_failed out.new) result (comma_if later ++ shown i (device_list (O.held office.now) id.now)) }
+    requires working { (W.taken out.old).failed ≡ false }
+    ensures { Writes (W.taken out.old) (W.taken out.new) result (comma_if later ++ shown i (device_list (O.held office.now) id.now)) }
 {
     let lead = if later { "," } else { "" };
     write_piece(out, lead.as_bytes())?;
@@ -118,8 +118,8 @@ fn write_device<O: Office, W: Sink>(
 
 // Writes the bodies of devices that volume `i` shows.
 fn write_devices<O: Office, W: Sink>(office: &O, i: usize, out: &mut W) -> Result<(), WriteFault>
-    requires working { W.has_failed out.old ≡ false }
-    ensures { Writes (W.taken out.old) (W.taken out.new) (W.has_failed out.new) result (joined false (device_texts (O.held office.now) i (devices (O.held office.now)))) }
+    requires working { (W.taken out.old).failed ≡ false }
+    ensures { Writes (W.taken out.old) (W.taken out.new) result (joined false (device_texts (O.held office.now) i (devices (O.held office.now)))) }
 {
     let mut later = false;
     let mut next = office.next_device(None);
@@ -180,13 +180,14 @@ pub fn write_volume<O: Office, W: Sink>(
     i: usize,
     out: &mut W,
 ) -> Result<(), WriteFault>
-    requires working { W.has_failed out.old ≡ false }
+    requires working { (W.taken out.old).failed ≡ false }
     requires number { 0 < i }
     requires within { i ≤ volumes (O.held office.now) }
     requires device { is_device_of (O.defined office.now) heading.now.device ≡ true }
-    ensures volume { OnOk result (W.taken out.new ≡ appended (W.taken out.old) (volume (O.defined office.now) heading.now (O.held office.now) i)) }
-    ensures working { OnOk result (W.has_failed out.new ≡ false) }
-    ensures fault { IfErr result (λ e. W.has_failed out.new ≡ is_device e) }
+    ensures volume { OnOk result (Appends (W.taken out.old) (W.taken out.new)
+        (volume (O.defined office.now) heading.now (O.held office.now) i)) }
+    ensures working { OnOk result ((W.taken out.new).failed ≡ false) }
+    ensures fault { IfErr result (λ e. (W.taken out.new).failed ≡ is_device e) }
     ensures front { OnErr result (AppendsProperPrefix (W.taken out.old) (W.taken out.new)
         (volume (O.defined office.now) heading.now (O.held office.now) i)) }
 {
@@ -201,9 +202,9 @@ fn write_report<O: Office, W: Sink>(
     i: usize,
     out: &mut W,
 ) -> Result<(), WriteFault>
-    requires working { W.has_failed out.old ≡ false }
+    requires working { (W.taken out.old).failed ≡ false }
     requires number { 0 < i }
-    ensures { WritesOrLess (W.taken out.old) (W.taken out.new) (W.has_failed out.new) result
+    ensures { WritesOrLess (W.taken out.old) (W.taken out.new) result
         (volume (O.defined office.now) heading.now (O.held office.now) i) }
 {
     let definition = office.definition();

@@ -20,6 +20,7 @@ pub mod HeldFiles
 pub mod HeldSteps
 pub mod HeldBytes
 pub mod Opened
+pub mod OpenerExamples
 pub mod ListedPaths
 pub mod ListWords
 pub mod Known

@@ -4,23 +4,27 @@ use Rattle.std.proofs.lemmas.List.{length-append, length-take, length-take-le, t
 use Rattle.std.proofs.lemmas.Slice.Eq.{bytes_eq-Decides}
 use Rattle.std.specs.Prelude.{◌⊎◌, if◌then◌else◌}
 use Rattle.std.specs.Str.{bytes_eq}
+use Rattle.cdf_types.specs.Device.{Taken}
 use Rattle.cvr_words.specs.Line.{named}
 use Rattle.cvr_words.specs.Request.{IsRequest}
 use Rattle.cvr_words.specs.declared.request.Request.{Request}
 use Rattle.cvr_words.proofs.Laws.{one_request}
-use Rattle.cvr_run.specs.Answered.{IsGiven}
+use Rattle.cvr_run.specs.Answered.{Does, IsGiven}
+use Rattle.cvr_run.specs.Devices.{Devices}
 use Rattle.cvr_run.specs.declared.file.FileFault.TheVariants as fault
 use Rattle.cvr_run.specs.declared.status.Status.{Status}
 use Rattle.cvr_run.specs.declared.status.Status.TheVariants as status
 use Rattle.cvr_run.specs.declared.status.Status.TheVariants.{Device}
 use Rattle.cvr_run.specs.Explained.{AsksCode}
 use Rattle.cvr_run.specs.File.{held_bytes}
-use Rattle.cvr_run.specs.Listed.{AnswersListed, AsksListed, DoesListed, IsBefore, IsGivenEither, IsGivenListed, IsList, IsNoList, ListsFiles, list_place, list_tail, list_words, with_paths}
+use Rattle.cvr_run.specs.Job.{Job}
+use Rattle.cvr_run.specs.Listed.{AsksListed, DoesListed, HasNoList, IsBefore, IsGivenEither, IsList, ListedRequest, ListsFiles, list_place, list_tail, list_words, over_list}
 use Rattle.cvr_run.specs.ListedPaths.{end_of, listed_paths}
-use Rattle.cvr_run.specs.Opening.{At, Has, IsRead}
+use Rattle.cvr_run.specs.Opening.{At, Has, Opener, IsRead, Opens}
 use Rattle.cvr_run.specs.Outcome.{IsWhole}
 use Rattle.cvr_run.specs.OwnWords.{AsksVersion}
-use Rattle.cvr_run.specs.Worked.{Stop, Unread, NoRoom, Stops, stop_status}
+use Rattle.cvr_run.specs.Told.{LogsSome}
+use Rattle.cvr_run.specs.Worked.{Stop, Unread, NoRoom, stop_status}
 use Rattle.cvr_run.proofs.Known.{not_whole}
 
 -- ---- words are cut in one way
@@ -93,18 +97,20 @@ holds_none (Some x) P p = tt
 -- ---- what they ask for
 
 -- words ask for one request with a list
-pub one_listed : (words : List (List ℕ)) (r q : Request) (l m : List ℕ) (n k : Bool) → AsksListed words r l n → AsksListed words q m k → (r ≡ q) × ((l ≡ m) × (n ≡ k))
-one_listed words r q l m n k one other =
-    let same = same_words one.before other.before l m n k one.short other.short (sym one.split ∙ other.split) in
-    (one_request (named one.before) r q one.asked (subst (λ (w : List (List ℕ)). IsRequest (named w) q) (sym same.0) other.asked), same.1)
+pub one_listed : (words : List (List ℕ)) (one other : ListedRequest) → AsksListed words one → AsksListed words other → one ≡ other
+one_listed words one other asks also =
+    let same = same_words asks.before also.before one.list other.list one.by_null other.by_null asks.short also.short (sym asks.split ∙ also.split) in
+    let request : one.request ≡ other.request =
+    one_request (named asks.before) one.request other.request asks.request (subst (λ (w : List (List ℕ)). IsRequest (named w) other.request) (sym same.0) also.request) in
+    λ i. record { request = request i; list = same.1.0 i; by_null = same.1.1 i }
 
 -- those that are cut so ask for what the words before the list ask for
-pub asked_before : (words before : List (List ℕ)) (list : List ℕ) (by_null : Bool) (request : Request) (other : List ℕ) (null : Bool)
-    → IsBefore before → words ≡ list_words before list by_null → AsksListed words request other null
-    → IsRequest (named before) request
-asked_before words before list by_null request other null short is asks =
-    let same = same_words before asks.before list other by_null null short asks.short (sym is ∙ asks.split) in
-    subst (λ (w : List (List ℕ)). IsRequest (named w) request) (sym same.0) asks.asked
+pub asked_before : (words before : List (List ℕ)) (list : List ℕ) (by_null : Bool) (other : ListedRequest)
+    → IsBefore before → words ≡ list_words before list by_null → AsksListed words other
+    → IsRequest (named before) other.request
+asked_before words before list by_null other short is asks =
+    let same = same_words before asks.before list other.list by_null other.by_null short asks.short (sym is ∙ asks.split) in
+    subst (λ (w : List (List ℕ)). IsRequest (named w) other.request) (sym same.0) asks.request
 
 -- what holds of a request that was found, and where none was
 pub some_found : (o : Option Request) (P : Request → Type 0) → is_some o ≡ true → IfSome o P → ((request : Request) → ¬ P request) → ⊥
@@ -129,27 +135,33 @@ place_other list other = go (bytes_eq list (codes "-")) refl
 
 -- ---- what is done
 
--- a list that gave no paths
-pub unlisted : (file_at : List ℕ → At) (may_fail : List ℕ → Bool) (opens : List (List ℕ) → Type 0) (unchanged : Type 0) → unchanged → (request : Request) (path : List ℕ) (by_null : Bool) (answer : Status) (c d : Option (List ℕ)) (g : Bool) (b : Option (List ℕ)) (f : Bool) (a : Option (List ℕ)) (h : Bool)
-    → Stops file_at may_fail opens (path ∷ []) answer b f a h ⊎ ((text : List ℕ) × IsRead (file_at path) text × IsNoList opens (Unit {0}) path text answer b f a h)
-    → DoesListed file_at may_fail opens unchanged request path by_null answer c d g b f a h
-unlisted file_at may_fail opens unchanged quiet request path by_null answer c d g b f a h (inl stops) = inl (quiet, stops)
-unlisted file_at may_fail opens unchanged quiet request path by_null answer c d g b f a h (inr read) =
-    inr (read.0, read.1, inl (record { bad = read.2.bad; opened = read.2.opened; quiet = quiet; status = read.2.status; log = read.2.log }))
-
 stop_answer : (stop : Stop) → (stop_status stop ≡ Device) ⊎ (stop_status stop ≡ status.Memory)
 stop_answer (Unread path fault.Device) = inl refl
 stop_answer (Unread path fault.Memory) = inr refl
 stop_answer NoRoom = inr refl
 
--- then not all was said
-pub unlisted_ends : (file_at : List ℕ → At) (may_fail : List ℕ → Bool) (opens : List (List ℕ) → Type 0) (path : List ℕ) (answer : Status) (b : Option (List ℕ)) (f : Bool) (a : Option (List ℕ)) (h : Bool)
-    → Stops file_at may_fail opens (path ∷ []) answer b f a h ⊎ ((text : List ℕ) × IsRead (file_at path) text × IsNoList opens (Unit {0}) path text answer b f a h)
-    → IsWhole answer → ⊥
-unlisted_ends file_at may_fail opens path answer b f a h (inl stops) whole =
+-- where there is no list, not all was said
+pub no_list_ends : (old new : Opener) (path : List ℕ) (answer : Status) (b a : Taken) → LogsSome (HasNoList old new path answer) b a → IsWhole answer → ⊥
+no_list_ends old new path answer b a (line, inl stops, logs) whole =
     not_whole answer (subst (λ s. (s ≡ Device) ⊎ (s ≡ status.Memory)) (sym stops.status) (stop_answer stops.stop)) whole
-unlisted_ends file_at may_fail opens path answer b f a h (inr read) (inl done) = let is = read.2.status in cc
-unlisted_ends file_at may_fail opens path answer b f a h (inr read) (inr refused) = let is = read.2.status in cc
+no_list_ends old new path answer b a (line, inr none, logs) (inl done) = let is = none.status in cc
+no_list_ends old new path answer b a (line, inr none, logs) (inr refused) = let is = none.status in cc
+
+-- a list that was read, over whose paths the request was done
+pub listed_done : (asked : ListedRequest) (answer : Status) (old new : Devices) (unchanged : Type 0) (path : List ℕ) (found : List (List ℕ)) (between : Opener)
+    → path ≡ list_place asked.list → ((text : List ℕ) × IsRead (old.opener.at path) text × IsList text × (found ≡ listed_paths (end_of asked.by_null) text))
+    → Opens old.opener between (path ∷ [])
+    → Does (record { task = asked.request.task; def = asked.request.def; paths = found }) answer (record old { opener = between }) new unchanged
+    → DoesListed asked answer old new unchanged
+listed_done asked answer old new unchanged path found between is read opened does =
+    let there : Opens old.opener between (list_place asked.list ∷ []) = subst (λ (p : List ℕ). Opens old.opener between (p ∷ [])) is opened in
+    inr (
+      read.0,
+      subst (λ (p : List ℕ). IsRead (old.opener.at p) read.0) is read.1,
+      read.2,
+      subst (λ (o : Opener). Does (over_list asked read.0) answer (record old { opener = o }) new unchanged) there
+          (subst (λ (ps : List (List ℕ)). Does (record { task = asked.request.task; def = asked.request.def; paths = ps }) answer (record old { opener = between }) new unchanged) read.3 does),
+    )
 
 -- ---- where the opener says what stands at each path
 
@@ -160,55 +172,29 @@ read_whole at text all read is short =
     let count : length text ≡ min held_bytes (length all) = ap (λ (t : List ℕ). length t) held ∙ length-take held_bytes all in
     held ∙ take_all held_bytes all (omega (arith, count, short))
 
--- so that its paths are those of the list
-pub paths_known : (file_at : List ℕ → At) (request : Request) (list : List ℕ) (by_null : Bool) (place : List ℕ) (found paths : List (List ℕ)) (def : List ℕ) (files : List (List ℕ))
-    → place ≡ list_place list → ((text : List ℕ) × IsRead (file_at place) text × IsList text × (found ≡ listed_paths (end_of by_null) text))
-    → ListsFiles file_at request list by_null paths def files → found ≡ paths
-paths_known file_at request list by_null place found paths def files is read lists =
-    let there : file_at place ≡ Has lists.text = ap file_at is ∙ lists.at_place in
-    read.3 ∙ (ap (listed_paths (end_of by_null)) (read_whole (file_at place) read.0 lists.text read.1 there read.2.1) ∙ sym lists.listed)
+-- so that its request is the job's
+pub request_known : (at : List ℕ → At) (asked : ListedRequest) (job : Job) (path : List ℕ) (found : List (List ℕ))
+    → path ≡ list_place asked.list → ((text : List ℕ) × IsRead (at path) text × IsList text × (found ≡ listed_paths (end_of asked.by_null) text))
+    → ListsFiles at asked job → job.request ≡ record { task = asked.request.task; def = asked.request.def; paths = found }
+request_known at asked job path found is read lists =
+    let there : at path ≡ Has lists.text = ap at is ∙ lists.at_place in
+    let same : read.0 ≡ lists.text = read_whole (at path) read.0 lists.text read.1 there read.2.1 in
+    let paths : found ≡ listed_paths (end_of asked.by_null) lists.text = read.3 ∙ ap (listed_paths (end_of asked.by_null)) same in
+    lists.listed ∙ (λ i. record { task = asked.request.task; def = asked.request.def; paths = sym paths i })
 
--- the request that is given by a list is that which the words ask for, with the paths of the list
-pub given_lists : (file_at : List ℕ → At) (words : List (List ℕ)) (request given : Request) (list : List ℕ) (by_null : Bool) (def : List ℕ) (files : List (List ℕ))
-    → AsksListed words request list by_null → IsGivenListed file_at words given def files
-    → ListsFiles file_at request list by_null given.paths def files × (given ≡ with_paths request given.paths)
-given_lists file_at words request given list by_null def files asks is =
-    let same = one_listed words is.before request is.list list is.by_null by_null is.asked asks in (
-      subst (λ (q : Request). ListsFiles file_at q list by_null given.paths def files) same.0
-          (subst (λ (l : List ℕ). ListsFiles file_at is.before l by_null given.paths def files) same.1.0
-          (subst (λ (n : Bool). ListsFiles file_at is.before is.list n given.paths def files) same.1.1 is.lists)),
-      is.same ∙ ap (λ (q : Request). with_paths q given.paths) same.0,
-    )
+-- words that ask for this request with a list give a job by it
+pub given_lists : (at : List ℕ → At) (words : List (List ℕ)) (asked : ListedRequest) (job : Job) → AsksListed words asked → IsGivenEither at words job → ListsFiles at asked job
+given_lists at words asked job asks (inl is) = absurd (asks.free job.request is.asked)
+given_lists at words asked job asks (inr is) = subst (λ (l : ListedRequest). ListsFiles at l job) (one_listed words is.by asked is.asked asks) is.lists
 
--- so, where the request may be given by its paths too
-pub given_either : (file_at : List ℕ → At) (words : List (List ℕ)) (request given : Request) (list : List ℕ) (by_null : Bool) (def : List ℕ) (files : List (List ℕ))
-    → AsksListed words request list by_null → IsGivenEither file_at words given def files
-    → ListsFiles file_at request list by_null given.paths def files × (given ≡ with_paths request given.paths)
-given_either file_at words request given list by_null def files asks (inl is) = absurd (asks.free given is.asked)
-given_either file_at words request given list by_null def files asks (inr is) = given_lists file_at words request given list by_null def files asks is
-
--- words that name no list give a request by its paths
-pub only_paths : (file_at : List ℕ → At) (words : List (List ℕ)) (given : Request) (def : List ℕ) (files : List (List ℕ))
-    → ((request : Request) (list : List ℕ) (by_null : Bool) → ¬ AsksListed words request list by_null)
-    → IsGivenEither file_at words given def files → IsGiven file_at words given def files
-only_paths file_at words given def files none (inl is) = is
-only_paths file_at words given def files none (inr is) = absurd (none is.before is.list is.by_null is.asked)
+-- words that name no list give a job by its paths
+pub only_paths : (at : List ℕ → At) (words : List (List ℕ)) (job : Job) → ((asked : ListedRequest) → ¬ AsksListed words asked) → IsGivenEither at words job → IsGiven at words job
+only_paths at words job none (inl is) = is
+only_paths at words job none (inr is) = absurd (none is.by is.asked)
 
 pub none_listed : (words : List (List ℕ)) → ((before : List (List ℕ)) (list : List ℕ) (by_null : Bool) → IsBefore before → words ≢ list_words before list by_null)
-    → (request : Request) (list : List ℕ) (by_null : Bool) → ¬ AsksListed words request list by_null
-none_listed words none request list by_null asks = none asks.before list by_null asks.short asks.split
-
--- ---- how words with a list are answered
-
--- what is done for words is done for the same request, list and end
-pub answers_same : (file_at : List ℕ → At) (may_fail : List ℕ → Bool) (opens : List (List ℕ) → Type 0) (unchanged : Type 0) (r request : Request) (l list : List ℕ) (n by_null : Bool) (answer : Status) (c d : Option (List ℕ)) (g : Bool) (b : Option (List ℕ)) (f : Bool) (a : Option (List ℕ)) (h : Bool)
-    → (r ≡ request) × ((l ≡ list) × (n ≡ by_null))
-    → DoesListed file_at may_fail opens unchanged r (list_place l) n answer c d g b f a h
-    → AnswersListed file_at may_fail opens unchanged request list by_null answer c d g b f a h
-answers_same file_at may_fail opens unchanged r request l list n by_null answer c d g b f a h same does =
-    subst (λ (q : Request). AnswersListed file_at may_fail opens unchanged q list by_null answer c d g b f a h) same.0
-    (subst (λ (q : List ℕ). AnswersListed file_at may_fail opens unchanged r q by_null answer c d g b f a h) same.1.0
-    (subst (λ (q : Bool). AnswersListed file_at may_fail opens unchanged r l q answer c d g b f a h) same.1.1 (inr does)))
+    → (asked : ListedRequest) → ¬ AsksListed words asked
+none_listed words none asked asks = none asks.before asked.list asked.by_null asks.short asks.split
 
 -- ---- a few words ask for no list
 
@@ -216,16 +202,16 @@ too_few : (before : List (List ℕ)) (n : ℕ) → IsBefore before → n ≤ 3 �
 too_few before n (inl is) few low = omega (arith, is, few, low)
 too_few before n (inr is) few low = omega (arith, is, few, low)
 
-pub few_alone : (words : List (List ℕ)) → length words ≤ 3 → (request : Request) (list : List ℕ) (by_null : Bool) → AsksListed words request list by_null → ⊥
-few_alone words few request list by_null asks =
-    let all : length words ≡ length (list_words asks.before list by_null) = ap (λ (w : List (List ℕ)). length w) asks.split in
-    too_few asks.before (length words) asks.short few (subst (λ (c : ℕ). length asks.before + 2 ≤ c) (sym all) (count_low asks.before list by_null))
+pub few_alone : (words : List (List ℕ)) → length words ≤ 3 → (asked : ListedRequest) → AsksListed words asked → ⊥
+few_alone words few asked asks =
+    let all : length words ≡ length (list_words asks.before asked.list asked.by_null) = ap (λ (w : List (List ℕ)). length w) asks.split in
+    too_few asks.before (length words) asks.short few (subst (λ (c : ℕ). length asks.before + 2 ≤ c) (sym all) (count_low asks.before asked.list asked.by_null))
 
 -- and where they ask for no request as they stand, they give none either way
-pub few_give_none : (file_at : List ℕ → At) (words : List (List ℕ)) (request : Request) (def : List ℕ) (files : List (List ℕ))
-    → length words ≤ 3 → (IsRequest (named words) request → ⊥) → IsGivenEither file_at words request def files → ⊥
-few_give_none file_at words request def files few none (inl given) = none given.asked
-few_give_none file_at words request def files few none (inr given) = few_alone words few given.before given.list given.by_null given.asked
+pub few_give_none : (at : List ℕ → At) (words : List (List ℕ)) (job : Job)
+    → length words ≤ 3 → ((request : Request) → IsRequest (named words) request → ⊥) → IsGivenEither at words job → ⊥
+few_give_none at words job few none (inl given) = none job.request given.asked
+few_give_none at words job few none (inr given) = few_alone words few given.by given.asked
 
 pub version_few : (words : List (List ℕ)) → AsksVersion words → length words ≤ 3
 version_few words (inl is) = let one : length words ≡ 1 = ap (λ (w : List (List ℕ)). length w) is in omega (arith, one)

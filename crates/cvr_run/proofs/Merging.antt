@@ -4,7 +4,7 @@ use Rattle.std.specs.Prelude.{is_some, if◌then◌else◌, nat_lt}
 use Rattle.std.specs.Result.{IsErrAnd}
 use Rattle.std.specs.Int.NonZero.{non_zero_u32_get}
 use Rattle.std.proofs.lemmas.Bool.Decides.{nat_tests}
-use Rattle.cdf_types.specs.Device.{appended}
+use Rattle.cdf_types.specs.Device.{Taken, Appends, appended}
 use Rattle.cdf_form.specs.Form.{is_moment}
 use Rattle.cdf_definition.specs.Frame.{Frame}
 use Rattle.cvr_fact_types.specs.Facts.{Facts}
@@ -60,11 +60,11 @@ module _ (definition : Frame) (date device : List ℕ) (i : ℕ) (facts : Facts)
   no_output head.NoDevice = refl
   no_output head.Memory = refl
 
-  pub no_heading : {T : Type 0} (before : Option (List ℕ)) (failed : Bool) (r : Result T PrintFault) (e : HeadFault) → IsErrAnd r (λ x. x ≡ of_head e) → IsFault definition date device e → failed ≡ false
-      → Prints before before failed r fault text
-  no_heading before failed (Ok x) e h is works = absurd h
-  no_heading before failed (Err x) e h is works = (
-    ([], text, refl, appended_none before),
+  pub no_heading : {T : Type 0} (before : Taken) (r : Result T PrintFault) (e : HeadFault) → IsErrAnd r (λ x. x ≡ of_head e) → IsFault definition date device e → before.failed ≡ false
+      → Prints before before r fault text
+  no_heading before (Ok x) e h is works = absurd h
+  no_heading before (Err x) e h is works = (
+    ([], text, refl, appended_none before.bytes),
     works ∙ (sym (no_output e) ∙ sym (ap is_output h)),
     λ other. head_fault e is (λ want. other (h ∙ want)) ∙ sym (ap merge_part h),
   )
@@ -75,14 +75,14 @@ module _ (definition : Frame) (date device : List ℕ) (i : ℕ) (facts : Facts)
     within_is : (n : ℕ) → n ≡ volumes facts → i ≤ n → nat_lt (volumes facts) i ≡ false
     within_is n is within = grind (arith, nat_tests)
 
-    pub volume_printed : (n : ℕ) → n ≡ volumes facts → i ≤ n → (before after : Option (List ℕ)) (failed : Bool) → after ≡ appended before (volume definition h facts i) → failed ≡ false
-        → (after ≡ appended before text) × (failed ≡ false) × (fault ≡ None)
-    volume_printed n is within before after failed taken works =
+    pub volume_printed : (n : ℕ) → n ≡ volumes facts → i ≤ n → (before after : Taken) → Appends before after (volume definition h facts i) → after.failed ≡ false
+        → Appends before after text × (after.failed ≡ false) × (fault ≡ None)
+    volume_printed n is within before after taken works =
         let none : fault ≡ None = by are.moment are.listed false (within_is n is within) in
         let text_is : volume definition h facts i ≡ text =
         (λ k. compact_text (volume_data definition (are.date_is k) (are.device_is k) (page facts i)))
         ∙ sym (ap (λ o. if is_some o then [] else volume definition (record { date = date; device = device }) facts i) none) in
-        (taken ∙ ap (appended before) text_is, works, none)
+        (taken ∙ ap (appended before.bytes) text_is, works, none)
 
   -- ---- a fault or a volume
 

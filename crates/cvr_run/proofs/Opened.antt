@@ -1,16 +1,14 @@
 -- What was read over an opener, and a run that stops at a file that was not read.
-use Rattle.std.proofs.Common.{◌≡◌, ◌≢◌, ℕ, ◌<◌, ◌+◌, List, [], ◌∷◌, ◌++◌, length, get_or, take, drop, Bool, true, false, Option, Some, None, Result, Ok, Err, inl, inr, IfSome, IfOk, IfErr, IsErrAnd, refl, sym, ap, ◌∙◌, subst, append-nil, option_map, true≢false}
+use Rattle.std.proofs.Common.{◌≡◌, ◌≢◌, ℕ, ◌<◌, ◌+◌, List, [], ◌∷◌, ◌++◌, length, get_or, take, drop, Bool, true, false, Option, Some, None, Result, Ok, Err, IfSome, IfOk, IfErr, IsErrAnd, refl, sym, ap, ◌∙◌, subst, append-nil, option_map, true≢false}
 use Rattle.std.specs.Global.{Vec}
 use Rattle.std.proofs.lemmas.List.{take_more, drop_more, take-append-drop, map-append, append_assoc}
 use Rattle.cvr_run.specs.declared.file.FileFault.{FileFault}
 use Rattle.cvr_run.specs.declared.file.FileFault.TheVariants.{Device}
 use Rattle.cvr_run.specs.declared.status.Status.{Status}
 use Rattle.cvr_run.specs.declared.status.Status.TheVariants.{Memory}
-use Rattle.cvr_words.specs.declared.request.Request.{Request}
-use Rattle.cvr_run.specs.Answered.{Does}
 use Rattle.cvr_run.specs.File.{held_bytes, is_device}
-use Rattle.cvr_run.specs.Log.{memory_line, Logs}
-use Rattle.cvr_run.specs.Opening.{At, Unknown, Absent, Has, has_file, IsOpened, IsRead, AreRead, FailedAt, Opens}
+use Rattle.cvr_run.specs.Log.{memory_line}
+use Rattle.cvr_run.specs.Opening.{At, Unknown, Absent, Has, Opener, has_file, opened_more, IsOpened, IsRead, AreRead, FailedAt, Opens}
 use Rattle.cvr_run.specs.Outcome.{bytes_of}
 use Rattle.cvr_run.specs.Worked.{unread_status, unread_line, Stop, Unread, NoRoom, CanStop, Stops}
 
@@ -68,35 +66,58 @@ read_one_more file_at paths n path files file lt named before last =
 
 -- ---- what was opened
 
-pub opens_none : (before : Option (List (List ℕ))) → Opens before before []
-opens_none None = refl
-opens_none (Some told) = ap (λ (o : List (List ℕ)). Some o) (sym (append-nil told))
+none_more : (opened : Option (List (List ℕ))) → opened ≡ option_map (λ told. told ++ []) opened
+none_more None = refl
+none_more (Some told) = ap (λ (o : List (List ℕ)). Some o) (sym (append-nil told))
+
+twice_more : (opened : Option (List (List ℕ))) (paths more : List (List ℕ))
+    → option_map (λ told. told ++ more) (option_map (λ told. told ++ paths) opened) ≡ option_map (λ told. told ++ (paths ++ more)) opened
+twice_more None paths more = refl
+twice_more (Some told) paths more = ap (λ (o : List (List ℕ)). Some o) (append_assoc told paths more)
+
+pub opens_none : (old : Opener) → Opens old old []
+opens_none old = ap (λ (o : Option (List (List ℕ))). opening old o) (none_more old.opened)
+  where
+    opening : Opener → Option (List (List ℕ)) → Opener
+    opening old o = record old { opened = o }
 
 -- these, and then those
-pub opens_both : (before between after : Option (List (List ℕ))) (paths more : List (List ℕ)) → Opens before between paths → Opens between after more → Opens before after (paths ++ more)
-opens_both None between after paths more first then = then ∙ ap (λ o. option_map (λ told. told ++ more) o) first
-opens_both (Some told) between after paths more first then =
-    then ∙ (ap (λ o. option_map (λ told. told ++ more) o) first ∙ ap (λ (o : List (List ℕ)). Some o) (append_assoc told paths more))
+pub more_more : (old : Opener) (paths more : List (List ℕ)) → opened_more (opened_more old paths) more ≡ opened_more old (paths ++ more)
+more_more old paths more = ap (λ (o : Option (List (List ℕ))). opening o) (twice_more old.opened paths more)
+  where
+    opening : Option (List (List ℕ)) → Opener
+    opening o = record old { opened = o }
+
+pub opens_both : (old between new : Opener) (paths more : List (List ℕ)) → Opens old between paths → Opens between new more → Opens old new (paths ++ more)
+opens_both old between new paths more first then = then ∙ (ap (λ o. opened_more o more) first ∙ more_more old paths more)
 
 -- the first n of these, and the next one
-pub opens_one_more : (before between after : Option (List (List ℕ))) (paths : List (List ℕ)) (n : ℕ) (path : List ℕ) → n < length paths → path ≡ get_or paths n []
-    → Opens before between (take n paths) → Opens between after (path ∷ []) → Opens before after (take (n + 1) paths)
-opens_one_more before between after paths n path lt named first then =
+pub opens_one_more : (old between new : Opener) (paths : List (List ℕ)) (n : ℕ) (path : List ℕ) → n < length paths → path ≡ get_or paths n []
+    → Opens old between (take n paths) → Opens between new (path ∷ []) → Opens old new (take (n + 1) paths)
+opens_one_more old between new paths n path lt named first then =
     let more : take (n + 1) paths ≡ take n paths ++ path ∷ [] = take_more paths n [] lt ∙ ap (λ p. take n paths ++ p ∷ []) (sym named) in
-    subst (Opens before after) (sym more) (opens_both before between after (take n paths) (path ∷ []) first then)
+    subst (Opens old new) (sym more) (opens_both old between new (take n paths) (path ∷ []) first then)
+
+-- what it says of paths stays
+pub same_at : (old new : Opener) (paths : List (List ℕ)) → Opens old new paths → new.at ≡ old.at
+same_at old new paths opens = ap (λ (o : Opener). o.at) opens
+
+pub same_faults : (old new : Opener) (paths : List (List ℕ)) → Opens old new paths → new.may_fail ≡ old.may_fail
+same_faults old new paths opens = ap (λ (o : Opener). o.may_fail) opens
 
 -- ---- a run that stops
 
-module _ (file_at : List ℕ → At) (may_fail : List ℕ → Bool) (opens : List (List ℕ) → Type 0) (paths : List (List ℕ)) (answer : Status) (b a : Option (List ℕ)) (f h : Bool) where
+module _ (old new : Opener) (paths : List (List ℕ)) (answer : Status) where
   among_at : (n : ℕ) (path : List ℕ) → n < length paths → path ≡ get_or paths n [] → paths ≡ take n paths ++ path ∷ drop (n + 1) paths
   among_at n path lt named =
       sym (take-append-drop n paths)
       ∙ ap (λ rest. take n paths ++ rest) (drop_more paths n [] lt ∙ ap (λ p. p ∷ drop (n + 1) paths) (sym named))
 
   -- at the nth of its paths
-  pub stops_at : (n : ℕ) (path : List ℕ) (files : List (List ℕ)) (cause : FileFault) → n < length paths → path ≡ get_or paths n [] → AreRead file_at (take n paths) files
-      → (is_device cause ≡ true → FailedAt (file_at path) (may_fail path)) → (file_at path ≡ Absent → cause ≡ Device) → opens (take n paths ++ path ∷ []) → answer ≡ unread_status cause → Logs b f a h (unread_line path cause) → Stops file_at may_fail opens paths answer b f a h
-  stops_at n path files cause lt named read device absent opened is log = record {
+  pub stops_at : (n : ℕ) (path : List ℕ) (files : List (List ℕ)) (cause : FileFault) → n < length paths → path ≡ get_or paths n [] → AreRead old.at (take n paths) files
+      → (is_device cause ≡ true → FailedAt (old.at path) (old.may_fail path)) → (old.at path ≡ Absent → cause ≡ Device) → Opens old new (take n paths ++ path ∷ []) → answer ≡ unread_status cause
+      → Stops old new paths answer (unread_line path cause)
+  stops_at n path files cause lt named read device absent opened is = record {
     stop = Unread path cause;
     possible = record {
       before = take n paths;
@@ -109,13 +130,13 @@ module _ (file_at : List ℕ → At) (may_fail : List ℕ → Bool) (opens : Lis
       opened = opened;
     };
     status = is;
-    log = log;
+    said = refl;
   }
 
   -- where the list has no room for the file at the nth
-  pub stops_full : (n : ℕ) (path : List ℕ) (files : List (List ℕ)) (file : List ℕ) → n < length paths → path ≡ get_or paths n [] → AreRead file_at (take n paths) files → IsRead (file_at path) file
-      → opens (take n paths ++ path ∷ []) → answer ≡ Memory → Logs b f a h memory_line → Stops file_at may_fail opens paths answer b f a h
-  stops_full n path files file lt named before here opened is log = record {
+  pub stops_full : (n : ℕ) (path : List ℕ) (files : List (List ℕ)) (file : List ℕ) → n < length paths → path ≡ get_or paths n [] → AreRead old.at (take n paths) files → IsRead (old.at path) file
+      → Opens old new (take n paths ++ path ∷ []) → answer ≡ Memory → Stops old new paths answer memory_line
+  stops_full n path files file lt named before here opened is = record {
     stop = NoRoom;
     possible = record {
       before = take n paths;
@@ -123,27 +144,26 @@ module _ (file_at : List ℕ → At) (may_fail : List ℕ → Bool) (opens : Lis
       after = drop (n + 1) paths;
       split = among_at n path lt named;
       files = files ++ file ∷ [];
-      read = read_last file_at (take n paths) files path file before here;
+      read = read_last old.at (take n paths) files path file before here;
       opened = opened;
     };
     status = is;
-    log = log;
+    said = refl;
   }
 
   -- at a path before these
-  pub stops_first : (path : List ℕ) (cause : FileFault) → (is_device cause ≡ true → FailedAt (file_at path) (may_fail path)) → (file_at path ≡ Absent → cause ≡ Device) → opens (path ∷ []) → answer ≡ unread_status cause → Logs b f a h (unread_line path cause)
-      → Stops file_at may_fail opens (path ∷ paths) answer b f a h
-  stops_first path cause device absent opened is log = record {
+  pub stops_first : (path : List ℕ) (cause : FileFault) → (is_device cause ≡ true → FailedAt (old.at path) (old.may_fail path)) → (old.at path ≡ Absent → cause ≡ Device) → Opens old new (path ∷ []) → answer ≡ unread_status cause
+      → Stops old new (path ∷ paths) answer (unread_line path cause)
+  stops_first path cause device absent opened is = record {
     stop = Unread path cause;
     possible = record { before = []; after = paths; split = refl; files = []; read = tt; device = device; absent = absent; opened = opened };
     status = is;
-    log = log;
+    said = refl;
   }
 
 -- after a path before these was read
-module _ (file_at : List ℕ → At) (may_fail : List ℕ → Bool) (opens then : List (List ℕ) → Type 0) (path file : List ℕ) (read : IsRead (file_at path) file)
-    (opened : (more : List (List ℕ)) → then more → opens (path ∷ more)) (paths : List (List ℕ)) where
-  can_stop_later : (stop : Stop) → CanStop file_at may_fail then paths stop → CanStop file_at may_fail opens (path ∷ paths) stop
+module _ (old new : Opener) (path file : List ℕ) (read : IsRead (old.at path) file) (paths : List (List ℕ)) where
+  can_stop_later : (stop : Stop) → CanStop (opened_more old (path ∷ [])) new paths stop → CanStop old new (path ∷ paths) stop
   can_stop_later (Unread at cause) u = record {
     before = path ∷ u.before;
     after = u.after;
@@ -152,7 +172,7 @@ module _ (file_at : List ℕ → At) (may_fail : List ℕ → Bool) (opens then 
     read = (read, u.read);
     device = u.device;
     absent = u.absent;
-    opened = opened (u.before ++ at ∷ []) u.opened;
+    opened = u.opened ∙ more_more old (path ∷ []) (u.before ++ at ∷ []);
   }
   can_stop_later NoRoom u = record {
     before = path ∷ u.before;
@@ -161,45 +181,10 @@ module _ (file_at : List ℕ → At) (may_fail : List ℕ → Bool) (opens then 
     split = ap (λ ps. path ∷ ps) u.split;
     files = file ∷ u.files;
     read = (read, u.read);
-    opened = opened (u.before ++ u.path ∷ []) u.opened;
+    opened = u.opened ∙ more_more old (path ∷ []) (u.before ++ u.path ∷ []);
   }
 
-  pub stops_later : (answer : Status) (b a : Option (List ℕ)) (f h : Bool) → Stops file_at may_fail then paths answer b f a h → Stops file_at may_fail opens (path ∷ paths) answer b f a h
-  stops_later answer b a f h s = record { stop = s.stop; possible = can_stop_later s.stop s.possible; status = s.status; log = s.log }
-
--- where what was opened is known by more
-module _ (file_at : List ℕ → At) (may_fail : List ℕ → Bool) (then opens : List (List ℕ) → Type 0) (more : (paths : List (List ℕ)) → then paths → opens paths) where
-  can_stop_known : (paths : List (List ℕ)) (stop : Stop) → CanStop file_at may_fail then paths stop → CanStop file_at may_fail opens paths stop
-  can_stop_known paths (Unread at cause) u = record {
-    before = u.before;
-    after = u.after;
-    split = u.split;
-    files = u.files;
-    read = u.read;
-    device = u.device;
-    absent = u.absent;
-    opened = more (u.before ++ at ∷ []) u.opened;
-  }
-  can_stop_known paths NoRoom u = record {
-    before = u.before;
-    path = u.path;
-    after = u.after;
-    split = u.split;
-    files = u.files;
-    read = u.read;
-    opened = more (u.before ++ u.path ∷ []) u.opened;
-  }
-
-  pub does_known : (unchanged : Type 0) (request : Request) (answer : Status) (c d : Option (List ℕ)) (g : Bool) (b : Option (List ℕ)) (f : Bool) (a : Option (List ℕ)) (h : Bool)
-      → Does file_at may_fail then unchanged request answer c d g b f a h → Does file_at may_fail opens unchanged request answer c d g b f a h
-  does_known unchanged request answer c d g b f a h (inl s) =
-      inl (s.0, record { stop = s.1.stop; possible = can_stop_known (request.def ∷ request.paths) s.1.stop s.1.possible; status = s.1.status; log = s.1.log })
-  does_known unchanged request answer c d g b f a h (inr r) = inr (record {
-    def = r.def;
-    files = r.files;
-    read = r.read;
-    opened = more (request.def ∷ request.paths) r.opened;
-    ends = r.ends;
-    log = r.log;
-    cut_short = r.cut_short;
-  })
+  pub stops_later : (between : Opener) (answer : Status) (line : List ℕ) → Opens old between (path ∷ []) → Stops between new paths answer line → Stops old new (path ∷ paths) answer line
+  stops_later between answer line opened stops =
+      let s = subst (λ (o : Opener). Stops o new paths answer line) opened stops in
+      record { stop = s.stop; possible = can_stop_later s.stop s.possible; status = s.status; said = s.said }

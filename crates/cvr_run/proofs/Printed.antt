@@ -2,7 +2,7 @@
 use Rattle.std.proofs.Common.{◌≡◌, ◌≢◌, ℕ, List, [], ◌∷◌, ◌++◌, length, Bool, true, false, ◌||◌, Option, Some, None, Result, Ok, Err, IfErr, inl, inr, refl, sym, ap, ◌∙◌, subst, append-nil}
 use Rattle.std.specs.Prelude.{is_some, if◌then◌else◌}
 use Rattle.std.specs.Result.{IsErrAnd}
-use Rattle.cdf_types.specs.Device.{appended, AppendsPrefix}
+use Rattle.cdf_types.specs.Device.{Taken, Appends, appended, AppendsPrefix}
 use Rattle.cvr_run.specs.declared.merge.MergeFault.{MergeFault}
 use Rattle.cvr_run.specs.declared.printing.PrintFault.{PrintFault}
 use Rattle.cvr_run.specs.declared.printing.PrintFault.TheVariants.{Merge, Device, Memory}
@@ -13,20 +13,19 @@ use Rattle.cvr_run.specs.Ends.{Ends}
 use Rattle.cvr_run.specs.Log.{Logs}
 use Rattle.cvr_run.specs.Merge.{merge_line}
 use Rattle.cvr_run.specs.Printing.{Prints, is_output, merge_part, end_line, print_status, status_after}
-use Rattle.cvr_run.specs.Refusals.{Due}
-use Rattle.cvr_run.specs.Told.{last_lines, Tells, TellsRun}
+use Rattle.cvr_run.specs.Told.{last_lines, CanEndAfter, Dues, Tells, TellsRun}
 use Rattle.cvr_run.proofs.Telling.{appended_none, told_whole, wanted, cut_by_memory}
 
 -- want of memory before anything was printed
-pub not_printed : {T : Type 0} (before : Option (List ℕ)) (failed : Bool) (r : Result T PrintFault) (fault : Option MergeFault) (text : List ℕ) → IsErrAnd r (λ x. x ≡ Memory) → failed ≡ false
-    → Prints before before failed r fault text
-not_printed before failed (Ok x) fault text h works = absurd h
-not_printed before failed (Err x) fault text h works = (([], text, refl, appended_none before), works ∙ sym (ap is_output h), λ other. absurd (other h))
+pub not_printed : {T : Type 0} (before : Taken) (r : Result T PrintFault) (fault : Option MergeFault) (text : List ℕ) → IsErrAnd r (λ x. x ≡ Memory) → before.failed ≡ false
+    → Prints before before r fault text
+not_printed before (Ok x) fault text h works = absurd h
+not_printed before (Err x) fault text h works = (([], text, refl, appended_none before.bytes), works ∙ sym (ap is_output h), λ other. absurd (other h))
 
 -- ---- its status
 
-module _ (before after : Option (List ℕ)) (failed : Bool) (text : List ℕ) (refused : Bool) (s : Status) where
-  ends_done : s ≡ status.Done → refused ≡ false → after ≡ appended before text → failed ≡ false → Ends before after failed text refused s
+module _ (before after : Taken) (text : List ℕ) (refused : Bool) (s : Status) where
+  ends_done : s ≡ status.Done → refused ≡ false → Appends before after text → after.failed ≡ false → Ends before after text refused s
   ends_done is none taken works = record {
     done = λ _. none;
     refused = λ other. absurd (cc);
@@ -37,7 +36,7 @@ module _ (before after : Option (List ℕ)) (failed : Bool) (text : List ℕ) (r
     no_words = λ other. cc;
   }
 
-  ends_refused : s ≡ status.Refused → refused ≡ true → after ≡ appended before text → failed ≡ false → Ends before after failed text refused s
+  ends_refused : s ≡ status.Refused → refused ≡ true → Appends before after text → after.failed ≡ false → Ends before after text refused s
   ends_refused is some taken works = record {
     done = λ other. absurd (cc);
     refused = λ _. some;
@@ -48,7 +47,7 @@ module _ (before after : Option (List ℕ)) (failed : Bool) (text : List ℕ) (r
     no_words = λ other. cc;
   }
 
-  ends_device : s ≡ status.Device → AppendsPrefix before after text → failed ≡ true → Ends before after failed text refused s
+  ends_device : s ≡ status.Device → AppendsPrefix before after text → after.failed ≡ true → Ends before after text refused s
   ends_device is front fails = record {
     done = λ other. absurd (cc);
     refused = λ other. absurd (cc);
@@ -62,7 +61,7 @@ module _ (before after : Option (List ℕ)) (failed : Bool) (text : List ℕ) (r
     no_words = λ other. cc;
   }
 
-  ends_memory : s ≡ status.Memory → AppendsPrefix before after text → Ends before after failed text refused s
+  ends_memory : s ≡ status.Memory → AppendsPrefix before after text → Ends before after text refused s
   ends_memory is front = record {
     done = λ other. absurd (cc);
     refused = λ other. absurd (cc);
@@ -76,12 +75,12 @@ module _ (before after : Option (List ℕ)) (failed : Bool) (text : List ℕ) (r
     no_words = λ other. cc;
   }
 
-pub whole_front : (before after : Option (List ℕ)) (text : List ℕ) → after ≡ appended before text → AppendsPrefix before after text
+pub whole_front : (before after : Taken) (text : List ℕ) → Appends before after text → AppendsPrefix before after text
 whole_front before after text taken = (text, [], sym (append-nil text), taken)
 
 -- a front of nothing is all of it
-all_of_none : (before after : Option (List ℕ)) (text : List ℕ) → text ≡ [] → AppendsPrefix before after text → after ≡ appended before text
-all_of_none before after text none ([], rest, cut, taken) = taken ∙ ap (appended before) (sym none)
+all_of_none : (before after : Taken) (text : List ℕ) → text ≡ [] → AppendsPrefix before after text → Appends before after text
+all_of_none before after text none ([], rest, cut, taken) = taken ∙ ap (appended before.bytes) (sym none)
 all_of_none before after text none (x ∷ front, rest, cut, taken) = absurd (let same : x ∷ (front ++ rest) ≡ [] = sym cut ∙ none in Prim.cc same)
 
 or_some : (fault : Option MergeFault) (some : Bool) (m : MergeFault) → fault ≡ Some m → (is_some fault || some) ≡ true
@@ -91,46 +90,46 @@ or_none : (fault : Option MergeFault) (some : Bool) → fault ≡ None → (is_s
 or_none fault some is = ap (λ o. is_some o || some) is
 
 -- after all was printed: by what a run keeps of its refusals
-ends_printed : (before after : Option (List ℕ)) (failed : Bool) (text : List ℕ) (fault : Option MergeFault) (lacking unspelled any some : Bool) (s : Status)
-    → after ≡ appended before text → failed ≡ false → fault ≡ None → lacking ≡ false → any ≡ some
-    → s ≡ (if lacking || unspelled then status.Memory else (if any then status.Refused else status.Done)) → Ends before after failed text (is_some fault || some) s
-ends_printed before after failed text fault true unspelled any some s taken works none working same is = absurd (cc)
-ends_printed before after failed text fault false true any some s taken works none working same is =
-    ends_memory before after failed text _ s is (whole_front before after text taken)
-ends_printed before after failed text fault false false true some s taken works none working same is =
-    ends_refused before after failed text _ s is (or_none fault some none ∙ sym same) taken works
-ends_printed before after failed text fault false false false some s taken works none working same is =
-    ends_done before after failed text _ s is (or_none fault some none ∙ sym same) taken works
+ends_printed : (before after : Taken) (text : List ℕ) (fault : Option MergeFault) (lacking unspelled any some : Bool) (s : Status)
+    → Appends before after text → after.failed ≡ false → fault ≡ None → lacking ≡ false → any ≡ some
+    → s ≡ (if lacking || unspelled then status.Memory else (if any then status.Refused else status.Done)) → Ends before after text (is_some fault || some) s
+ends_printed before after text fault true unspelled any some s taken works none working same is = absurd (cc)
+ends_printed before after text fault false true any some s taken works none working same is =
+    ends_memory before after text _ s is (whole_front before after text taken)
+ends_printed before after text fault false false true some s taken works none working same is =
+    ends_refused before after text _ s is (or_none fault some none ∙ sym same) taken works
+ends_printed before after text fault false false false some s taken works none working same is =
+    ends_done before after text _ s is (or_none fault some none ∙ sym same) taken works
 
 -- after a fault: by whether a path was not spelled
-ends_faulty : (before after : Option (List ℕ)) (failed : Bool) (text : List ℕ) (fault : Option MergeFault) (e : PrintFault) (unspelled some : Bool) (s : Status)
-    → AppendsPrefix before after text → failed ≡ is_output e → (e ≢ Memory → fault ≡ merge_part e) → ((m : MergeFault) → fault ≡ Some m → text ≡ [])
-    → s ≡ (if unspelled then status.Memory else print_status e) → Ends before after failed text (is_some fault || some) s
-ends_faulty before after failed text fault e true some s front fails part empty is = ends_memory before after failed text _ s is front
-ends_faulty before after failed text fault (Merge m) false some s front fails part empty is =
+ends_faulty : (before after : Taken) (text : List ℕ) (fault : Option MergeFault) (e : PrintFault) (unspelled some : Bool) (s : Status)
+    → AppendsPrefix before after text → after.failed ≡ is_output e → (e ≢ Memory → fault ≡ merge_part e) → ((m : MergeFault) → fault ≡ Some m → text ≡ [])
+    → s ≡ (if unspelled then status.Memory else print_status e) → Ends before after text (is_some fault || some) s
+ends_faulty before after text fault e true some s front fails part empty is = ends_memory before after text _ s is front
+ends_faulty before after text fault (Merge m) false some s front fails part empty is =
     let told = part (λ other. cc) in
-    ends_refused before after failed text _ s is (or_some fault some m told) (all_of_none before after text (empty m told) front) fails
-ends_faulty before after failed text fault Device false some s front fails part empty is = ends_device before after failed text _ s is front fails
-ends_faulty before after failed text fault Memory false some s front fails part empty is = ends_memory before after failed text _ s is front
+    ends_refused before after text _ s is (or_some fault some m told) (all_of_none before after text (empty m told) front) fails
+ends_faulty before after text fault Device false some s front fails part empty is = ends_device before after text _ s is front fails
+ends_faulty before after text fault Memory false some s front fails part empty is = ends_memory before after text _ s is front
 
-pub ends_after : {T : Type 0} (before after : Option (List ℕ)) (failed : Bool) (result : Result T PrintFault) (fault : Option MergeFault) (text : List ℕ) (r : Refusals) (some : Bool) (s : Status)
-    → Prints before after failed result fault text → ((m : MergeFault) → fault ≡ Some m → text ≡ []) → r.file_lacking ≡ false → r.any_refusal ≡ some → s ≡ status_after result r
-    → Ends before after failed text (is_some fault || some) s
-ends_after before after failed (Ok x) fault text r some s (taken, works, none) empty working same is =
-    ends_printed before after failed text fault r.file_lacking r.path_unspelled r.any_refusal some s taken works none working same is
-ends_after before after failed (Err e) fault text r some s (front, fails, part) empty working same is =
-    ends_faulty before after failed text fault e r.path_unspelled some s front fails part empty is
+pub ends_after : {T : Type 0} (before after : Taken) (result : Result T PrintFault) (fault : Option MergeFault) (text : List ℕ) (r : Refusals) (some : Bool) (s : Status)
+    → Prints before after result fault text → ((m : MergeFault) → fault ≡ Some m → text ≡ []) → r.file_lacking ≡ false → r.any_refusal ≡ some → s ≡ status_after result r
+    → Ends before after text (is_some fault || some) s
+ends_after before after (Ok x) fault text r some s (taken, works, none) empty working same is =
+    ends_printed before after text fault r.file_lacking r.path_unspelled r.any_refusal some s taken works none working same is
+ends_after before after (Err e) fault text r some s (front, fails, part) empty working same is =
+    ends_faulty before after text fault e r.path_unspelled some s front fails part empty is
 
 -- ---- its log
 
 -- the line of the end is the rest, want of memory aside
-rest_is : {T : Type 0} (before after : Option (List ℕ)) (failed : Bool) (result : Result T PrintFault) (fault : Option MergeFault) (text : List ℕ) → Prints before after failed result fault text
-    → (IsErrAnd result (λ e. e ≡ Memory) → ⊥) → end_line result ≡ last_lines fault failed
-rest_is before after failed (Ok x) fault text (taken, works, none) other = λ i. last_lines (sym none i) (sym works i)
-rest_is before after failed (Err (Merge m)) fault text (front, works, part) other =
+rest_is : {T : Type 0} (before after : Taken) (result : Result T PrintFault) (fault : Option MergeFault) (text : List ℕ) → Prints before after result fault text
+    → (IsErrAnd result (λ e. e ≡ Memory) → ⊥) → end_line result ≡ last_lines fault after.failed
+rest_is before after (Ok x) fault text (taken, works, none) other = λ i. last_lines (sym none i) (sym works i)
+rest_is before after (Err (Merge m)) fault text (front, works, part) other =
     sym (append-nil (merge_line m)) ∙ (λ i. last_lines (sym (part (λ e. cc)) i) (sym works i))
-rest_is before after failed (Err Device) fault text (front, fails, part) other = λ i. last_lines (sym (part (λ e. cc)) i) (sym fails i)
-rest_is before after failed (Err Memory) fault text (front, works, part) other = absurd (other refl)
+rest_is before after (Err Device) fault text (front, fails, part) other = λ i. last_lines (sym (part (λ e. cc)) i) (sym fails i)
+rest_is before after (Err Memory) fault text (front, works, part) other = absurd (other refl)
 
 unspelled_of : (lacking unspelled any : Bool) → lacking ≡ false → (if lacking || unspelled then status.Memory else (if any then status.Refused else status.Done)) ≡ status.Memory → unspelled ≡ true
 unspelled_of true unspelled any working is = absurd (cc)
@@ -173,24 +172,24 @@ pub by_device : {T : Type 0} (result : Result T PrintFault) → IfErr result (λ
 by_device (Ok x) only is = is
 by_device (Err e) only is = device_is_not (sym only ∙ is)
 
-module _ (texts : List (List ℕ)) (dues : List Due) (n : ℕ) (r : Refusals) (b m a : Option (List ℕ)) (f g h : Bool) (so_far : Tells texts dues n r b f m g)
-    (all : n ≡ length dues) (working : r.file_lacking ≡ false) where
+module _ (of : Dues) (n : ℕ) (r : Refusals) (b m a : Taken) (so_far : Tells of n r b m)
+    (all : n ≡ length of.dues) (working : r.file_lacking ≡ false) where
   -- where memory was not refused for the text
-  pub tells_whole : {T : Type 0} (check : Bool) (before after : Option (List ℕ)) (failed : Bool) (result : Result T PrintFault) (fault : Option MergeFault) (text : List ℕ) (s : Status)
-      → Prints before after failed result fault text → (IsErrAnd result (λ e. e ≡ Memory) → ⊥) → s ≡ status_after result r → Logs m g a h (end_line result)
-      → TellsRun check texts dues (s ≡ status.Memory) fault failed b f a h
-  tells_whole check before after failed result fault text s prints other is logs =
-      told_whole check texts dues n r b m a f g h so_far fault failed (s ≡ status.Memory) all working
+  pub tells_whole : {T : Type 0} (before after : Taken) (result : Result T PrintFault) (fault : Option MergeFault) (text : List ℕ) (s : Status)
+      → Prints before after result fault text → (IsErrAnd result (λ e. e ≡ Memory) → ⊥) → s ≡ status_after result r → Logs m a (end_line result)
+      → TellsRun of fault s (record { out = before; log = b }) (record { out = after; log = a })
+  tells_whole before after result fault text s prints other is logs =
+      told_whole of n r b m a so_far fault after s before all working
       (λ want. wanting_is result r working other (sym is ∙ want))
       (λ unspelled. is ∙ wanting_where result r unspelled)
-      (subst (Logs m g a h) (rest_is before after failed result fault text prints other) logs)
+      (subst (Logs m a) (rest_is before after result fault text prints other) logs)
 
-  pub tells_after : {T : Type 0} (before after : Option (List ℕ)) (failed : Bool) (result : Result T PrintFault) (fault : Option MergeFault) (text : List ℕ) (s : Status)
-      → Prints before after failed result fault text → s ≡ status_after result r → Logs m g a h (end_line result)
-      → TellsRun false texts dues (s ≡ status.Memory) fault failed b f a h
-  tells_after {T} before after failed (Ok x) fault text s prints is logs = tells_whole {T = T} false before after failed (Ok x) fault text s prints (λ e. e) is logs
-  tells_after {T} before after failed (Err (Merge u)) fault text s prints is logs = tells_whole {T = T} false before after failed (Err (Merge u)) fault text s prints (merge_is_not u) is logs
-  tells_after {T} before after failed (Err Device) fault text s prints is logs = tells_whole {T = T} false before after failed (Err Device) fault text s prints device_is_not is logs
-  tells_after {T} before after failed (Err Memory) fault text s (front, works, part) is logs =
-      wanted false texts dues (s ≡ status.Memory) fault failed b a f h (is ∙ status_in_memory r.path_unspelled)
-      (cut_by_memory false texts dues n r b m a f g h so_far fault failed (inr all) working works logs)
+  pub tells_after : {T : Type 0} (before after : Taken) (result : Result T PrintFault) (fault : Option MergeFault) (text : List ℕ) (s : Status) → of.by_file ≡ false
+      → Prints before after result fault text → s ≡ status_after result r → Logs m a (end_line result)
+      → TellsRun of fault s (record { out = before; log = b }) (record { out = after; log = a })
+  tells_after {T} before after (Ok x) fault text s whole prints is logs = tells_whole {T = T} before after (Ok x) fault text s prints (λ e. e) is logs
+  tells_after {T} before after (Err (Merge u)) fault text s whole prints is logs = tells_whole {T = T} before after (Err (Merge u)) fault text s prints (merge_is_not u) is logs
+  tells_after {T} before after (Err Device) fault text s whole prints is logs = tells_whole {T = T} before after (Err Device) fault text s prints device_is_not is logs
+  tells_after {T} before after (Err Memory) fault text s whole (front, works, part) is logs =
+      wanted of fault s before after b a (is ∙ status_in_memory r.path_unspelled)
+      (cut_by_memory of n r b m a so_far fault after (subst (λ by. CanEndAfter by n of.dues) (sym whole) (inr all)) working works logs)

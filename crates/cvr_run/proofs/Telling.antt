@@ -7,7 +7,7 @@ use Rattle.std.specs.List.{list_any}
 use Rattle.std.proofs.lemmas.List.{length_push, length-map, get_or-map}
 use Rattle.std.proofs.lemmas.List.Folds.{list_any-append}
 use Rattle.std.proofs.Math.Bool.{or-false}
-use Rattle.cdf_types.specs.Device.{appended, AppendsPrefix}
+use Rattle.cdf_types.specs.Device.{Taken, Appends, appended, AppendsPrefix}
 use Rattle.cdf_types.specs.declared.fault.ReadFault.{ReadFault}
 use Rattle.cdf_types.specs.declared.fault.ReadFault.TheVariants.{TooLong, NotJson, Schema, Reference, Disagrees, Memory}
 use Rattle.cdf_types.proofs.Lemmas.{appended_twice}
@@ -17,13 +17,14 @@ use Rattle.cvr_office.specs.declared.event.Cause.{Cause}
 use Rattle.cvr_office.specs.declared.event.Cause.TheVariants.{Read, Join, NoOffice, NoFile}
 use Rattle.cvr_words.specs.declared.request.Task.{Task}
 use Rattle.cvr_run.specs.declared.merge.MergeFault.{MergeFault}
+use Rattle.cvr_run.specs.declared.status.Status.{Status}
 use Rattle.cvr_run.specs.declared.status.Status.TheVariants as status
 use Rattle.cvr_run.specs.declared.refusals.Refusals.{Refusals}
 use Rattle.cvr_run.specs.Refusals.{is_memory, wants_memory, status_of, Due, no_due, file_due, IsDue}
 use Rattle.cvr_run.specs.Outcome.{bytes_of}
 use Rattle.cvr_run.specs.Log.{cause_line, memory_line, has_path_in, Logs}
 use Rattle.cvr_run.specs.Laws.{AloneOrEachLaw}
-use Rattle.cvr_run.specs.Told.{Telling, AsDue, Lacking, Unspelled, refusal_line, refusal_lines, told_line, told_lines, can_be, can_all, is_lacking, is_unspelled, is_short, file_dues, texts_of, dues_of, run_lines, last_lines, Tells, TellsRun, CanEndAfter, IsCutShort, IsRunCutShort, LogsSome}
+use Rattle.cvr_run.specs.Told.{Telling, AsDue, Lacking, Unspelled, refusal_line, refusal_lines, told_line, told_lines, can_be, can_all, is_lacking, is_unspelled, is_short, file_dues, texts_of, dues_of, run_lines, last_lines, Dues, Tells, TellsRun, CanEndAfter, IsCutShort, IsRunCutShort, LogsSome}
 
 -- ---- logs, one after the other
 
@@ -31,10 +32,10 @@ pub appended_none : (before : Option (List ℕ)) → before ≡ appended before 
 appended_none None = refl
 appended_none (Some t) = sym (ap Some (append-nil t))
 
-pub logs_none : (before : Option (List ℕ)) (failed : Bool) → Logs before failed before failed []
-logs_none before failed = record {
-  whole = λ _. appended_none before;
-  front = ([], [], refl, appended_none before);
+pub logs_none : (before : Taken) → Logs before before []
+logs_none before = record {
+  whole = λ _. appended_none before.bytes;
+  front = ([], [], refl, appended_none before.bytes);
   silent = λ had. (refl, had);
 }
 
@@ -42,12 +43,12 @@ worked_before : (g h : Bool) (P : Type 0) → (g ≡ true → P × (h ≡ true))
 worked_before false h P silent works = refl
 worked_before true h P silent works = absurd (true≢false (sym (silent refl).1 ∙ works))
 
-front_then : (g : Bool) (b m a : Option (List ℕ)) (one two : List ℕ) → (g ≡ false → m ≡ appended b one) → AppendsPrefix b m one → AppendsPrefix m a two → (g ≡ true → a ≡ m) → AppendsPrefix b a (one ++ two)
+front_then : (g : Bool) (b m a : Taken) (one two : List ℕ) → (g ≡ false → Appends b m one) → AppendsPrefix b m one → AppendsPrefix m a two → (g ≡ true → a.bytes ≡ m.bytes) → AppendsPrefix b a (one ++ two)
 front_then false b m a one two whole first (some, more, cut, told) silent = (
   one ++ some,
   more,
   ap (λ t. one ++ t) cut ∙ sym (append_assoc one some more),
-  told ∙ (ap (λ t. appended t some) (whole refl) ∙ appended_twice b one some),
+  told ∙ (ap (λ t. appended t some) (whole refl) ∙ appended_twice b.bytes one some),
 )
 front_then true b m a one two whole (some, more, cut, told) next silent = (
   some,
@@ -56,12 +57,12 @@ front_then true b m a one two whole (some, more, cut, told) next silent = (
   silent refl ∙ told,
 )
 
-pub logs_then : (b m a : Option (List ℕ)) (f g h : Bool) (one two : List ℕ) → Logs b f m g one → Logs m g a h two → Logs b f a h (one ++ two)
-logs_then b m a f g h one two first next = record {
+pub logs_then : (b m a : Taken) (one two : List ℕ) → Logs b m one → Logs m a two → Logs b a (one ++ two)
+logs_then b m a one two first next = record {
   whole = λ works.
       next.whole works
-      ∙ (ap (λ t. appended t two) (first.whole (worked_before g h (a ≡ m) next.silent works)) ∙ appended_twice b one two);
-  front = front_then g b m a one two first.whole first.front next.front (λ had. (next.silent had).0);
+      ∙ (ap (λ t. appended t two) (first.whole (worked_before m.failed a.failed (a.bytes ≡ m.bytes) next.silent works)) ∙ appended_twice b.bytes one two);
+  front = front_then m.failed b m a one two first.whole first.front next.front (λ had. (next.silent had).0);
   silent = λ had.
       let still = next.silent (first.silent had).1 in
       (still.0 ∙ (first.silent had).0, still.1);
@@ -108,40 +109,40 @@ on_err P (Err e) p = p
 -- ---- a run so far
 
 -- of none yet
-pub tells_none : (texts : List (List ℕ)) (dues : List Due) (b : Option (List ℕ)) (f : Bool) (r : Refusals) → r.file_lacking ≡ false → r.path_unspelled ≡ false → Tells texts dues 0 r b f b f
-tells_none texts dues b f r lacking unlogged = record {
+pub tells_none : (of : Dues) (b : Taken) (r : Refusals) → r.file_lacking ≡ false → r.path_unspelled ≡ false → Tells of 0 r b b
+tells_none of b r lacking unlogged = record {
   tellings = [];
   count = refl;
   possible = refl;
   file_lacking = lacking;
   path_unspelled = unlogged;
-  logs = logs_none b f;
+  logs = logs_none b;
 }
 
-module _ (texts : List (List ℕ)) (dues : List Due) (b m : Option (List ℕ)) (f g : Bool) where
+module _ (of : Dues) (b m : Taken) where
   -- of one more, in this way
-  tells_more : (n : ℕ) (r s : Refusals) (a : Option (List ℕ)) (h : Bool) (t : Telling) → Tells texts dues n r b f m g → n < length texts → n < length dues
-      → can_be t (get_or dues n no_due) ≡ true → s.file_lacking ≡ (r.file_lacking || is_lacking t) → s.path_unspelled ≡ (r.path_unspelled || is_unspelled t)
-      → Logs m g a h (told_line t (get_or texts n []) (get_or dues n no_due)) → Tells texts dues (n + 1) s b f a h
-  tells_more n r s a h t so_far lp lf can lacking unlogged logs =
+  tells_more : (n : ℕ) (r s : Refusals) (a : Taken) (t : Telling) → Tells of n r b m → n < length of.texts → n < length of.dues
+      → can_be t (get_or of.dues n no_due) ≡ true → s.file_lacking ≡ (r.file_lacking || is_lacking t) → s.path_unspelled ≡ (r.path_unspelled || is_unspelled t)
+      → Logs m a (told_line t (get_or of.texts n []) (get_or of.dues n no_due)) → Tells of (n + 1) s b a
+  tells_more n r s a t so_far lp lf can lacking unlogged logs =
       let ts = so_far.tellings in
       let count = so_far.count in
       record {
         tellings = ts ++ t ∷ [];
         count = omega (arith, length_push ts t, count);
-        possible = can_all-more ts t dues so_far.possible (omega (arith, count, lf)) (subst (λ k. can_be t (get_or dues k no_due) ≡ true) (sym count) can);
+        possible = can_all-more ts t of.dues so_far.possible (omega (arith, count, lf)) (subst (λ k. can_be t (get_or of.dues k no_due) ≡ true) (sym count) can);
         file_lacking = lacking ∙ (ap (λ x. x || is_lacking t) so_far.file_lacking ∙ sym (any-push is_lacking ts t));
         path_unspelled = unlogged ∙ (ap (λ x. x || is_unspelled t) so_far.path_unspelled ∙ sym (any-push is_unspelled ts t));
         logs =
-            subst (Logs b f a h) (sym (told_lines-more ts t texts dues (omega (arith, count, lp)) (omega (arith, count, lf))))
-            (logs_then b m a f g h (told_lines ts texts dues) _ so_far.logs (subst (λ k. Logs m g a h (told_line t (get_or texts k []) (get_or dues k no_due))) (sym count) logs));
+            subst (Logs b a) (sym (told_lines-more ts t of.texts of.dues (omega (arith, count, lp)) (omega (arith, count, lf))))
+            (logs_then b m a (told_lines ts of.texts of.dues) _ so_far.logs (subst (λ k. Logs m a (told_line t (get_or of.texts k []) (get_or of.dues k no_due))) (sym count) logs));
       }
 
   -- of one more that is accepted
-  pub tells_accepted : (n : ℕ) (r : Refusals) → Tells texts dues n r b f m g → n < length texts → n < length dues → (get_or dues n no_due).cause ≡ None → Tells texts dues (n + 1) r b f m g
+  pub tells_accepted : (n : ℕ) (r : Refusals) → Tells of n r b m → n < length of.texts → n < length of.dues → (get_or of.dues n no_due).cause ≡ None → Tells of (n + 1) r b m
   tells_accepted n r so_far lp lf none =
-      tells_more n r r m g AsDue so_far lp lf refl (sym (or-false r.file_lacking)) (sym (or-false r.path_unspelled))
-      (subst (λ cause. Logs m g m g (refusal_line (get_or texts n []) cause)) (sym none) (logs_none m g))
+      tells_more n r r m AsDue so_far lp lf refl (sym (or-false r.file_lacking)) (sym (or-false r.path_unspelled))
+      (subst (λ cause. Logs m m (refusal_line (get_or of.texts n []) cause)) (sym none) (logs_none m))
 
 -- ---- one more that is refused
 
@@ -183,27 +184,27 @@ or_true true = refl
 or_true false = refl
 
 -- what a note told of a cause
-abbrev pub Noted : Refusals → Refusals → Option (List ℕ) → Bool → Option (List ℕ) → Bool → List ℕ → Cause → Type 0
-Noted r s m g a h what cause =
-    ((s.path_unspelled ≡ r.path_unspelled) × Logs m g a h (cause_line what cause)) ⊎ ((has_path_in cause ≡ true) × (s.path_unspelled ≡ true) × Logs m g a h memory_line)
+abbrev pub Noted : Refusals → Refusals → Taken → Taken → List ℕ → Cause → Type 0
+Noted r s m a what cause =
+    ((s.path_unspelled ≡ r.path_unspelled) × Logs m a (cause_line what cause)) ⊎ ((has_path_in cause ≡ true) × (s.path_unspelled ≡ true) × Logs m a memory_line)
 
 -- a cause with a path is due, and may be left unspelled
 path_due : (due : Due) (cause : Cause) → IsDue due (Some cause) → has_path_in cause ≡ true → due.cause ≡ Some cause
 path_due due cause is path = ap (λ want. if want then due.want else due.cause) (sym (path_not_want cause path)) ∙ is
 
-pub tells_noted : (texts : List (List ℕ)) (dues : List Due) (b m a : Option (List ℕ)) (f g h : Bool) (n : ℕ) (r s : Refusals) (what : List ℕ) (cause : Cause)
-    → Tells texts dues n r b f m g → n < length texts → n < length dues → what ≡ get_or texts n [] → IsDue (get_or dues n no_due) (Some cause)
-    → s.file_lacking ≡ (r.file_lacking || wants_memory cause) → Noted r s m g a h what cause → Tells texts dues (n + 1) s b f a h
-tells_noted texts dues b m a f g h n r s what cause so_far lp lf named due lacking (inl (same, logs)) =
-    let at = get_or dues n no_due in
+pub tells_noted : (of : Dues) (b m a : Taken) (n : ℕ) (r s : Refusals) (what : List ℕ) (cause : Cause)
+    → Tells of n r b m → n < length of.texts → n < length of.dues → what ≡ get_or of.texts n [] → IsDue (get_or of.dues n no_due) (Some cause)
+    → s.file_lacking ≡ (r.file_lacking || wants_memory cause) → Noted r s m a what cause → Tells of (n + 1) s b a
+tells_noted of b m a n r s what cause so_far lp lf named due lacking (inl (same, logs)) =
+    let at = get_or of.dues n no_due in
     let want = wants_memory cause in
-    tells_more texts dues b m f g n r s a h (telling_by want) so_far lp lf (can_be-telling_by want at cause due)
+    tells_more of b m n r s a (telling_by want) so_far lp lf (can_be-telling_by want at cause due)
     (lacking ∙ ap (λ x. r.file_lacking || x) (lacking-telling_by want))
     (same ∙ (sym (or-false r.path_unspelled) ∙ ap (λ x. r.path_unspelled || x) (unspelled-telling_by want)))
-    (subst (λ w. Logs m g a h (told_line (telling_by want) w at)) named (subst (Logs m g a h) (line_by want what at cause due) logs))
-tells_noted texts dues b m a f g h n r s what cause so_far lp lf named due lacking (inr (path, unspelled, logs)) =
-    let is = path_due (get_or dues n no_due) cause due path in
-    tells_more texts dues b m f g n r s a h Unspelled so_far lp lf (ap (λ c. option_map_or has_path_in c false) is ∙ path)
+    (subst (λ w. Logs m a (told_line (telling_by want) w at)) named (subst (Logs m a) (line_by want what at cause due) logs))
+tells_noted of b m a n r s what cause so_far lp lf named due lacking (inr (path, unspelled, logs)) =
+    let is = path_due (get_or of.dues n no_due) cause due path in
+    tells_more of b m n r s a Unspelled so_far lp lf (ap (λ c. option_map_or has_path_in c false) is ∙ path)
     (lacking ∙ ap (λ x. r.file_lacking || x) (path_not_want cause path))
     (unspelled ∙ or_true r.path_unspelled)
     logs
@@ -234,52 +235,52 @@ bool_false : (x : Bool) → (x ≡ true → ⊥) → x ≡ false
 bool_false true h = absurd (h refl)
 bool_false false h = refl
 
-module _ (check : Bool) (texts : List (List ℕ)) (dues : List Due) (n : ℕ) (r : Refusals) (b m a : Option (List ℕ)) (f g h : Bool) (so_far : Tells texts dues n r b f m g)
-    (fault : Option MergeFault) (failed : Bool) where
-  -- with `memory` after what was told, none lacking
-  pub cut_by_memory : CanEndAfter check n dues → r.file_lacking ≡ false → failed ≡ false → Logs m g a h memory_line → LogsSome (IsCutShort check texts dues fault failed) b f a h
+module _ (of : Dues) (n : ℕ) (r : Refusals) (b m a : Taken) (so_far : Tells of n r b m) (fault : Option MergeFault) (d : Taken) where
+  -- with `memory` after these lines, none lacking
+  pub cut_by_memory : CanEndAfter of.by_file n of.dues → r.file_lacking ≡ false → d.failed ≡ false → Logs m a memory_line → LogsSome (IsCutShort of fault d.failed) b a
   cut_by_memory can working works logs = (
-    told_lines so_far.tellings texts dues ++ memory_line,
+    told_lines so_far.tellings of.texts of.dues ++ memory_line,
     record {
       tellings = so_far.tellings;
       possible = so_far.possible;
-      ends = inr (inr (subst (λ k. CanEndAfter check k dues) (sym so_far.count) can, sym so_far.file_lacking ∙ working, works, refl));
+      ends = inr (inr (subst (λ k. CanEndAfter of.by_file k of.dues) (sym so_far.count) can, sym so_far.file_lacking ∙ working, works, refl));
     },
-    logs_then b m a f g h _ _ so_far.logs logs,
+    logs_then b m a _ _ so_far.logs logs,
   )
 
-  -- with all told, none lacking, and the path of one unspelled
-  cut_in_files : n ≡ length dues → r.file_lacking ≡ false → r.path_unspelled ≡ true → Logs m g a h (last_lines fault failed) → LogsSome (IsCutShort check texts dues fault failed) b f a h
+  -- with all lines, none lacking, and the path of one unspelled
+  cut_in_files : n ≡ length of.dues → r.file_lacking ≡ false → r.path_unspelled ≡ true → Logs m a (last_lines fault d.failed) → LogsSome (IsCutShort of fault d.failed) b a
   cut_in_files all working unspelled logs = (
-    told_lines so_far.tellings texts dues ++ last_lines fault failed,
+    told_lines so_far.tellings of.texts of.dues ++ last_lines fault d.failed,
     record {
       tellings = so_far.tellings;
       possible = so_far.possible;
       ends = inr (inl (so_far.count ∙ all, sym so_far.file_lacking ∙ working, sym so_far.path_unspelled ∙ unspelled, refl));
     },
-    logs_then b m a f g h _ _ so_far.logs logs,
+    logs_then b m a _ _ so_far.logs logs,
   )
 
   -- with the last lines after all, none of them lacking
-  pub told_whole : (wanting : Type 0) → n ≡ length dues → r.file_lacking ≡ false → (wanting → r.path_unspelled ≡ true) → (r.path_unspelled ≡ true → wanting)
-      → Logs m g a h (last_lines fault failed) → TellsRun check texts dues wanting fault failed b f a h
-  told_whole wanting all working is not logs = record {
+  pub told_whole : (s : Status) (c : Taken) → n ≡ length of.dues → r.file_lacking ≡ false → (s ≡ status.Memory → r.path_unspelled ≡ true) → (r.path_unspelled ≡ true → s ≡ status.Memory)
+      → Logs m a (last_lines fault d.failed) → TellsRun of fault s (record { out = c; log = b }) (record { out = d; log = a })
+  told_whole s c all working is not logs = record {
     log = λ no.
         let spelled = bool_false r.path_unspelled (λ e. no (not e)) in
-        subst (λ l. Logs b f a h (l ++ last_lines fault failed)) (as_due so_far.tellings texts dues (sym so_far.file_lacking ∙ working) (sym so_far.path_unspelled ∙ spelled) (so_far.count ∙ all))
-        (logs_then b m a f g h _ _ so_far.logs logs);
+        subst (λ l. Logs b a (l ++ last_lines fault d.failed)) (as_due so_far.tellings of.texts of.dues (sym so_far.file_lacking ∙ working) (sym so_far.path_unspelled ∙ spelled) (so_far.count ∙ all))
+        (logs_then b m a _ _ so_far.logs logs);
     cut_short = λ want. cut_in_files all working (is want) logs;
   }
 
--- with `memory` before any was told
-pub cut_at_once : (texts : List (List ℕ)) (dues : List Due) (b a : Option (List ℕ)) (f h : Bool) (fault : Option MergeFault) → Logs b f a h memory_line → LogsSome (IsCutShort false texts dues fault false) b f a h
-cut_at_once texts dues b a f h fault logs = (memory_line, record { tellings = []; possible = refl; ends = inr (inr (inl refl, refl, refl, refl)) }, logs)
+-- with `memory` before any line
+pub cut_at_once : (of : Dues) (b a : Taken) (fault : Option MergeFault) → of.by_file ≡ false → Logs b a memory_line → LogsSome (IsCutShort of fault false) b a
+cut_at_once of b a fault whole logs =
+    (memory_line, record { tellings = []; possible = refl; ends = inr (inr (subst (λ by. CanEndAfter by 0 of.dues) (sym whole) (inl refl), refl, refl, refl)) }, logs)
 
 -- with one lacking
-pub lacks : (check : Bool) (texts : List (List ℕ)) (dues : List Due) (n : ℕ) (r : Refusals) (b m : Option (List ℕ)) (f g : Bool) → Tells texts dues n r b f m g → n ≡ length dues → r.file_lacking ≡ true
-    → (fault : Option MergeFault) (failed : Bool) → LogsSome (IsCutShort check texts dues fault failed) b f m g
-lacks check texts dues n r b m f g so_far all lacking fault failed = (
-  told_lines so_far.tellings texts dues,
+pub lacks : (of : Dues) (n : ℕ) (r : Refusals) (b m : Taken) → Tells of n r b m → n ≡ length of.dues → r.file_lacking ≡ true
+    → (fault : Option MergeFault) (failed : Bool) → LogsSome (IsCutShort of fault failed) b m
+lacks of n r b m so_far all lacking fault failed = (
+  told_lines so_far.tellings of.texts of.dues,
   record {
     tellings = so_far.tellings;
     possible = so_far.possible;
@@ -288,19 +289,19 @@ lacks check texts dues n r b m f g so_far all lacking fault failed = (
   so_far.logs,
 )
 
--- a run that ended for want of memory, before it has printed anything
-pub wanted : (check : Bool) (texts : List (List ℕ)) (dues : List Due) (wanting : Type 0) (fault : Option MergeFault) (failed : Bool) (b a : Option (List ℕ)) (f h : Bool) → wanting
-    → LogsSome (IsCutShort check texts dues fault failed) b f a h → TellsRun check texts dues wanting fault failed b f a h
-wanted check texts dues wanting fault failed b a f h want some = record {
+-- a run that ended since memory ran out, before it has printed anything
+pub wanted : (of : Dues) (fault : Option MergeFault) (s : Status) (c d b a : Taken) → s ≡ status.Memory
+    → LogsSome (IsCutShort of fault d.failed) b a → TellsRun of fault s (record { out = c; log = b }) (record { out = d; log = a })
+wanted of fault s c d b a want some = record {
   log = λ no. absurd (no want);
   cut_short = λ _. some;
 }
 
 -- the same while the output works
-pub wanted_unprinted : (check : Bool) (texts : List (List ℕ)) (dues : List Due) (wanting : Type 0) (fault : Option MergeFault) (failed : Bool) (b a : Option (List ℕ)) (f h : Bool) → wanting → failed ≡ false
-    → LogsSome (IsCutShort check texts dues fault false) b f a h → TellsRun check texts dues wanting fault failed b f a h
-wanted_unprinted check texts dues wanting fault failed b a f h want works some =
-    wanted check texts dues wanting fault failed b a f h want (subst (λ x. LogsSome (IsCutShort check texts dues fault x) b f a h) (sym works) some)
+pub wanted_unprinted : (of : Dues) (fault : Option MergeFault) (s : Status) (c d b a : Taken) → s ≡ status.Memory → d.failed ≡ false
+    → LogsSome (IsCutShort of fault false) b a → TellsRun of fault s (record { out = c; log = b }) (record { out = d; log = a })
+wanted_unprinted of fault s c d b a want works some =
+    wanted of fault s c d b a want (subst (λ x. LogsSome (IsCutShort of fault x) b a) (sym works) some)
 
 no_tellings : (ts : List Telling) → length ts ≡ 0 → ts ≡ []
 no_tellings [] none = refl
@@ -351,18 +352,18 @@ status_wanting false true s want = refl
 status_wanting false false true want = absurd (cc)
 status_wanting false false false want = absurd (cc)
 
-module _ (task : Task) (what def : List ℕ) (paths files : List (List ℕ)) (fault : ReadFault) (none r : Refusals) (b a : Option (List ℕ)) (f h : Bool) (told rest : List ℕ)
+module _ (task : Task) (what def : List ℕ) (paths files : List (List ℕ)) (fault : ReadFault) (none r : Refusals) (b a : Taken) (told rest : List ℕ)
     (named : told ≡ what) (first : (fault ≡ Memory → ⊥) → first_unsound def ≡ Some fault) (lacks : none.file_lacking ≡ false) (spelled : none.path_unspelled ≡ false)
     (lacking : r.file_lacking ≡ (none.file_lacking || wants_memory (Read fault))) where
   own_due : IsDue (file_due (first_unsound def)) (Some (Read fault))
   own_due = read_due (first_unsound def) fault first
 
-  pub definition_log : (first_unsound def ≡ Some fault → rest ≡ []) → Noted none r b f a h told (Read fault) → (status_of r ≡ status.Memory → ⊥) → Logs b f a h (run_lines task what def paths files ++ rest)
+  pub definition_log : (first_unsound def ≡ Some fault → rest ≡ []) → Noted none r b a told (Read fault) → (status_of r ≡ status.Memory → ⊥) → Logs b a (run_lines task what def paths files ++ rest)
   definition_log last (inl (same, logs)) whole =
       let parts = status_whole r.file_lacking r.path_unspelled r.any_refusal whole in
       let other : fault ≡ Memory → ⊥ = λ is. true≢false (sym (ap is_memory is) ∙ (sym (ap (λ x. x || is_memory fault) lacks) ∙ (sym lacking ∙ parts.0))) in
       let due = first other in
-      subst (Logs b f a h)
+      subst (Logs b a)
       (sym (append-nil (cause_line told (Read fault)))
       ∙ ((λ i. refusal_line (named i) (option_map Read (sym due i)) ++ sym (last due) i)
       ∙ ap (λ l. l ++ rest) (sym (unsound_lines task what def paths files fault due))))
@@ -370,17 +371,17 @@ module _ (task : Task) (what def : List ℕ) (paths files : List (List ℕ)) (fa
   definition_log last (inr (path, unspelled, logs)) whole =
       absurd (true≢false (sym unspelled ∙ (status_whole r.file_lacking r.path_unspelled r.any_refusal whole).1))
 
-  pub definition_cut_short : (last : Option MergeFault) (failed : Bool) → Noted none r b f a h told (Read fault) → status_of r ≡ status.Memory → LogsSome (IsRunCutShort task what def paths files last failed) b f a h
-  definition_cut_short last failed (inl (same, logs)) want =
+  pub definition_cut_short : (failed : Bool) → Noted none r b a told (Read fault) → status_of r ≡ status.Memory → LogsSome (IsRunCutShort (record { request = record { task = task; def = what; paths = paths }; def = def; files = files }) failed) b a
+  definition_cut_short failed (inl (same, logs)) want =
       let due = file_due (first_unsound def) in
       let by = wants_memory (Read fault) in
       let short : (r.file_lacking || r.path_unspelled) ≡ true = status_wanting r.file_lacking r.path_unspelled r.any_refusal want in
       let is : (r.file_lacking || r.path_unspelled) ≡ is_short (telling_by by) = λ i. (lacking ∙ (ap (λ x. x || by) lacks ∙ lacking-telling_by by)) i || (same ∙ (spelled ∙ unspelled-telling_by by)) i in (
         told_line (telling_by by) what due,
         inl (telling_by by, can_be-telling_by by due (Read fault) own_due, sym is ∙ short, refl),
-        subst (λ w. Logs b f a h (told_line (telling_by by) w due)) named (subst (Logs b f a h) (line_by by told due (Read fault) own_due) logs),
+        subst (λ w. Logs b a (told_line (telling_by by) w due)) named (subst (Logs b a) (line_by by told due (Read fault) own_due) logs),
       )
-  definition_cut_short last failed (inr (path, unspelled, logs)) want = (
+  definition_cut_short failed (inr (path, unspelled, logs)) want = (
     memory_line,
     inl (Unspelled, ap (λ c. option_map_or has_path_in c false) (path_due (file_due (first_unsound def)) (Read fault) own_due path) ∙ path, refl, refl),
     logs,

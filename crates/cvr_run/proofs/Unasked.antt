@@ -1,7 +1,7 @@
 -- Words that ask for no request.
-use Rattle.std.proofs.Common.{◌≡◌, ◌≢◌, ◌∙◌, ℕ, List, [], Bool, true, false, Option, None, Result, Ok, Err, IfErr, inr, refl, sym, ap, subst}
+use Rattle.std.proofs.Common.{◌≡◌, ◌≢◌, ◌∙◌, ℕ, List, [], Bool, true, false, None, Result, Ok, Err, IfErr, inr, refl, sym, ap, subst}
 use Rattle.std.specs.Prelude.{if◌then◌else◌}
-use Rattle.cdf_types.specs.Device.{appended}
+use Rattle.cdf_types.specs.Device.{Taken, appended}
 use Rattle.cvr_words.specs.Fault.{IsLineFault}
 use Rattle.cvr_words.specs.Request.{IsRequest}
 use Rattle.cvr_words.specs.declared.fault.LineFault.{LineFault}
@@ -25,15 +25,15 @@ use Rattle.cvr_run.proofs.Printed.{whole_front}
 use Rattle.cvr_run.proofs.Telling.{appended_none}
 
 -- a fault that leaves the output as it was
-pub quiet_told : (unchanged : Type 0) (f k : LineFault) (answer : Status) (c : Option (List ℕ)) (g : Bool) (b : Option (List ℕ)) (had : Bool) (a : Option (List ℕ)) (h : Bool) → f ≡ k
-    → answer ≡ words_status k g → unchanged → help_text k ≡ [] → Logs b had a h (words_line k g) → TellsWords unchanged f answer c c g b had a h
-quiet_told unchanged f k answer c g b had a h is status quiet none log =
-    subst (λ (j : LineFault). TellsWords unchanged j answer c c g b had a h) (sym is)
+pub quiet_told : (unchanged : Type 0) (f k : LineFault) (answer : Status) (c b a : Taken) → f ≡ k
+    → answer ≡ words_status k c.failed → unchanged → help_text k ≡ [] → Logs b a (words_line k c.failed) → TellsWords f answer (record { out = c; log = b }) (record { out = c; log = a }) unchanged
+quiet_told unchanged f k answer c b a is status quiet none log =
+    subst (λ (j : LineFault). TellsWords j answer (record { out = c; log = b }) (record { out = c; log = a }) unchanged) (sym is)
     (record {
       status = status;
       quiet = λ _. quiet;
-      whole = λ _. appended_none c ∙ ap (appended c) (sym none);
-      front = ([], [], none, appended_none c);
+      whole = λ _. appended_none c.bytes ∙ ap (appended c.bytes) (sym none);
+      front = ([], [], none, appended_none c.bytes);
       log = log;
     })
 
@@ -54,49 +54,49 @@ help_line (BadStep place step) g is = cc
 help_line Memory g is = cc
 
 -- a text of the program's own that was printed, or not whole
-pub own_told : {T : Type 0} (text : List ℕ) (printed : Result T PrintFault) (r : Refusals) (answer : Status) (c d : Option (List ℕ)) (g : Bool) (b : Option (List ℕ)) (f : Bool) (a : Option (List ℕ)) (h : Bool)
-    → Prints c d g printed None text → IfErr printed (λ e. e ≡ fault.Device) → r.any_refusal ≡ false → r.file_lacking ≡ false → r.path_unspelled ≡ false
-    → answer ≡ status_after printed r → Logs b f a h (end_line printed) → PrintsOwn text answer c d g b f a h
-own_told text (Ok x) r answer c d g b f a h p e any lacking unspelled is log = record {
+pub own_told : {T : Type 0} (text : List ℕ) (printed : Result T PrintFault) (r : Refusals) (answer : Status) (c d b a : Taken)
+    → Prints c d printed None text → IfErr printed (λ e. e ≡ fault.Device) → r.any_refusal ≡ false → r.file_lacking ≡ false → r.path_unspelled ≡ false
+    → answer ≡ status_after printed r → Logs b a (end_line printed) → PrintsOwn text answer (record { out = c; log = b }) (record { out = d; log = a })
+own_told text (Ok x) r answer c d b a p e any lacking unspelled is log = record {
   status = is ∙ (none_refused r any lacking unspelled ∙ sym (ap (λ (o : Bool). if o then status.Device else status.Done) p.1));
   whole = λ _. p.0;
   prefix = whole_front c d text p.0;
-  log = subst (λ (o : Bool). Logs b f a h (out_line o)) (sym p.1) log;
+  log = subst (λ (o : Bool). Logs b a (out_line o)) (sym p.1) log;
 }
-own_told text (Err x) r answer c d g b f a h p e any lacking unspelled is log =
-    let failed : g ≡ true = p.1 ∙ ap is_output e in
+own_told text (Err x) r answer c d b a p e any lacking unspelled is log =
+    let failed : d.failed ≡ true = p.1 ∙ ap is_output e in
     record {
       status =
           is ∙ (ap (λ (o : Bool). if o then status.Memory else print_status x) unspelled
           ∙ (ap print_status e ∙ sym (ap (λ (o : Bool). if o then status.Device else status.Done) failed)));
       whole = λ works. absurd (let bad : true ≡ false = sym failed ∙ works in cc);
       prefix = p.0;
-      log = subst (λ (o : Bool). Logs b f a h (out_line o)) (sym failed) (subst (λ y. Logs b f a h (print_line y)) e log);
+      log = subst (λ (o : Bool). Logs b a (out_line o)) (sym failed) (subst (λ y. Logs b a (print_line y)) e log);
     }
 
 -- help that was printed, or not whole
-pub help_told : {T : Type 0} (unchanged : Type 0) (k : LineFault) (printed : Result T PrintFault) (r : Refusals) (answer : Status) (c d : Option (List ℕ)) (g : Bool) (b : Option (List ℕ)) (f : Bool) (a : Option (List ℕ)) (h : Bool)
-    → is_help k ≡ true → Prints c d g printed None (help_text k) → IfErr printed (λ e. e ≡ fault.Device) → r.any_refusal ≡ false → r.file_lacking ≡ false → r.path_unspelled ≡ false
-    → answer ≡ status_after printed r → Logs b f a h (end_line printed) → TellsWords unchanged k answer c d g b f a h
-help_told unchanged k (Ok x) r answer c d g b f a h help p e any lacking unspelled is log = record {
-  status = is ∙ (none_refused r any lacking unspelled ∙ (sym (ap (λ (o : Bool). if o then status.Device else status.Done) p.1) ∙ sym (help_status k g help)));
+pub help_told : {T : Type 0} (unchanged : Type 0) (k : LineFault) (printed : Result T PrintFault) (r : Refusals) (answer : Status) (c d b a : Taken)
+    → is_help k ≡ true → Prints c d printed None (help_text k) → IfErr printed (λ e. e ≡ fault.Device) → r.any_refusal ≡ false → r.file_lacking ≡ false → r.path_unspelled ≡ false
+    → answer ≡ status_after printed r → Logs b a (end_line printed) → TellsWords k answer (record { out = c; log = b }) (record { out = d; log = a }) unchanged
+help_told unchanged k (Ok x) r answer c d b a help p e any lacking unspelled is log = record {
+  status = is ∙ (none_refused r any lacking unspelled ∙ (sym (ap (λ (o : Bool). if o then status.Device else status.Done) p.1) ∙ sym (help_status k d.failed help)));
   quiet = λ other. absurd (let bad : true ≡ false = sym help ∙ other in cc);
   whole = λ _. p.0;
   front = whole_front c d (help_text k) p.0;
-  log = subst (Logs b f a h) (sym (help_line k g help)) (subst (λ (o : Bool). Logs b f a h (out_line o)) (sym p.1) log);
+  log = subst (Logs b a) (sym (help_line k d.failed help)) (subst (λ (o : Bool). Logs b a (out_line o)) (sym p.1) log);
 }
-help_told unchanged k (Err x) r answer c d g b f a h help p e any lacking unspelled is log =
-    let failed : g ≡ true = p.1 ∙ ap is_output e in
+help_told unchanged k (Err x) r answer c d b a help p e any lacking unspelled is log =
+    let failed : d.failed ≡ true = p.1 ∙ ap is_output e in
     record {
       status =
           is ∙ (ap (λ (o : Bool). if o then status.Memory else print_status x) unspelled
-          ∙ (ap print_status e ∙ (sym (ap (λ (o : Bool). if o then status.Device else status.Done) failed) ∙ sym (help_status k g help))));
+          ∙ (ap print_status e ∙ (sym (ap (λ (o : Bool). if o then status.Device else status.Done) failed) ∙ sym (help_status k d.failed help))));
       quiet = λ other. absurd (let bad : true ≡ false = sym help ∙ other in cc);
       whole = λ works. absurd (let bad : true ≡ false = sym failed ∙ works in cc);
       front = p.0;
       log =
-          subst (Logs b f a h) (sym (help_line k g help))
-          (subst (λ (o : Bool). Logs b f a h (out_line o)) (sym failed) (subst (λ y. Logs b f a h (print_line y)) e log));
+          subst (Logs b a) (sym (help_line k d.failed help))
+          (subst (λ (o : Bool). Logs b a (out_line o)) (sym failed) (subst (λ y. Logs b a (print_line y)) e log));
     }
 
 -- words that ask for a request are told as want of memory alone

@@ -9,7 +9,8 @@ use cdf_types::Memory;
 /// # Errors
 /// `Memory` where a growth was refused. The text is then a prefix of the longer one.
 pub fn push_count(text: &mut String, path: &str, records: usize) -> Result<(), Memory>
-    ensures { OnOk result (string_bytes text.new ≡ string_bytes text.old ++ count_line path.now records) }
+    ensures { OnOk result
+        (string_bytes text.new ≡ string_bytes text.old ++ count_line path.now records) }
 {
     text.push_str(path)?;
     text.push_str(" ")?;

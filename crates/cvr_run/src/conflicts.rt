@@ -12,7 +12,9 @@ use std::alloc::Global;
 
 // Adds the name of a record.
 fn push_record(alloc: Global, text: &mut String, key: &RecordName) -> Result<(), Memory>
-    ensures { OnOk result (string_bytes text.new ≡ string_bytes text.old ++ (word key.now.device ++ word key.now.unique)) }
+    ensures { OnOk result
+        (string_bytes text.new ≡ string_bytes text.old
+        ++ (word key.now.device ++ word key.now.unique)) }
 {
     push_word(alloc, text, key.device.as_str())?;
     push_word(alloc, text, key.unique.as_str())?;
@@ -43,7 +45,8 @@ fn push_name(alloc: Global, text: &mut String, name: &ConflictName) -> Result<()
 
 // Adds the line of a conflict.
 fn push_conflict(alloc: Global, text: &mut String, conflict: &Conflict) -> Result<(), Memory>
-    ensures { OnOk result (string_bytes text.new ≡ string_bytes text.old ++ conflict_line conflict.now) }
+    ensures { OnOk result
+        (string_bytes text.new ≡ string_bytes text.old ++ conflict_line conflict.now) }
 {
     push_name(alloc, text, &conflict.name)?;
     push_number(text, conflict.bodies)?;
@@ -53,7 +56,8 @@ fn push_conflict(alloc: Global, text: &mut String, conflict: &Conflict) -> Resul
 
 // Adds the lines of conflicts.
 fn push_conflicts(alloc: Global, text: &mut String, list: &[Conflict]) -> Result<(), Memory>
-    ensures { OnOk result (string_bytes text.new ≡ string_bytes text.old ++ flat_map conflict_line list.now) }
+    ensures { OnOk result
+        (string_bytes text.new ≡ string_bytes text.old ++ flat_map conflict_line list.now) }
 {
     for conflict in list {
         push_conflict(alloc, text, conflict)?;

@@ -13,7 +13,9 @@ use std::alloc::Global;
 // Adds the line of a snapshot.
 fn push_snapshot(alloc: Global, text: &mut String, snapshot: &SnapshotFact) -> Result<(), Memory>
     ensures { OnOk result (string_bytes text.new ≡ string_bytes text.old
-        ++ (word snapshot.now.key.device ++ (word snapshot.now.key.unique ++ (word snapshot.now.id ++ (snapshot_kind_text snapshot.now.kind ++ 10 ∷ []))))) }
+        ++ (word snapshot.now.key.device
+        ++ (word snapshot.now.key.unique
+        ++ (word snapshot.now.id ++ (snapshot_kind_text snapshot.now.kind ++ 10 ∷ []))))) }
 {
     push_word(alloc, text, snapshot.key.device.as_str())?;
     push_word(alloc, text, snapshot.key.unique.as_str())?;
@@ -30,7 +32,9 @@ fn push_line<O: Office>(
     office: &O,
     key: &RecordName,
 ) -> Result<(), Memory>
-    ensures { OnOk result (string_bytes text.new ≡ string_bytes text.old ++ line_of key.now (current (O.held office.now) key.now)) }
+    ensures { OnOk result
+        (string_bytes text.new ≡ string_bytes text.old
+        ++ line_of key.now (current (O.held office.now) key.now)) }
 {
     match office.current(key) {
         None => Ok(()),

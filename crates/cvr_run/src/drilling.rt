@@ -1,11 +1,13 @@
-ghost use Rattle.std.specs.Prelude.{◌≡◌, false, length, map, replicate, Option, None, IfOk, IfErr, OnErr};
+ghost use Rattle.std.specs.Prelude.{◌≡◌, false, length, map, replicate, Option, None, IfOk, IfErr};
+ghost use Rattle.std.specs.Prelude.{OnErr};
 ghost use Rattle.cvr_office.specs.declared.event.Event.{Event};
-ghost use Rattle.cvr_run.specs.Drill.{place_of, event_of, events_of, new_offices, step_texts, step_dues, drill_refused, drill_text, drilled, AreOfOne};
+ghost use Rattle.cvr_run.specs.Drill.{place_of, event_of, events_of, new_offices, drill_refused};
+ghost use Rattle.cvr_run.specs.Drill.{drill_text, drilled, AreOfOne};
 ghost use Rattle.cvr_run.specs.declared.status.Status.TheVariants.{Memory as NoMemory};
 ghost use Rattle.cvr_run.specs.declared.merge.MergeFault.{MergeFault};
 ghost use Rattle.cvr_run.specs.Ends.{Ends};
 ghost use Rattle.cvr_run.specs.Outcome.{bytes_of};
-ghost use Rattle.cvr_run.specs.Told.{Tells, TellsRun, IsCutShort, LogsSome};
+ghost use Rattle.cvr_run.specs.Told.{drill_dues, Tells, TellsRun, IsCutShort, LogsSome};
 
 use crate::collecting::note_refused;
 use crate::ending::{end_in_memory, end_with};
@@ -62,8 +64,10 @@ fn new_offices<O: Office + Drop>(
     definition: &Definition,
     count: usize,
 ) -> Result<Vec<O>, Memory>
-    ensures held { IfOk result (λ offices. map O.held offices.items ≡ new_offices definition.now count) }
-    ensures defined { IfOk result (λ offices. map O.defined offices.items ≡ replicate count definition.now) }
+    ensures held { IfOk result
+        (λ offices. map O.held offices.items ≡ new_offices definition.now count) }
+    ensures defined { IfOk result
+        (λ offices. map O.defined offices.items ≡ replicate count definition.now) }
 {
     let mut offices = Vec::new(alloc);
     let mut made = 0;
@@ -75,9 +79,9 @@ fn new_offices<O: Office + Drop>(
     Ok(offices)
 }
 
-// Plays steps among so many new offices of one definition, in order, and tells each refused one to the
-// log. The next one follows all the same. `Memory` where the offices or the lists of events and their
-// outcomes had no room: no step has then happened.
+// Plays steps among so many new offices of one definition, in order, and reports each refused one
+// in the log. The next one follows all the same. `Memory` where the offices or the lists of events
+// and their outcomes had no room: no step has then happened.
 fn drill<O: Office + Drop, L: Sink>(
     alloc: Global,
     definition: &Definition,
@@ -87,10 +91,13 @@ fn drill<O: Office + Drop, L: Sink>(
     log: &mut L,
 ) -> Result<(Vec<O>, Refusals), Memory>
     ensures of_one { IfOk result (λ r. AreOfOne (map O.defined r.0.items)) }
-    ensures contents { IfOk result (λ r. r.1.file_lacking ≡ false → map O.held r.0.items ≡ drilled definition.now count (bytes_of files.now) steps.now) }
-    ensures any_refusal { IfOk result (λ r. r.1.file_lacking ≡ false → r.1.any_refusal ≡ drill_refused definition.now count (bytes_of files.now) steps.now) }
-    ensures log { IfOk result (λ r. Tells (step_texts steps.now) (step_dues definition.now count (bytes_of files.now) steps.now) (length steps.now) r.1
-        (L.taken log.old) (L.has_failed log.old) (L.taken log.new) (L.has_failed log.new)) }
+    ensures contents { IfOk result (λ r. r.1.file_lacking ≡ false
+        → map O.held r.0.items ≡ drilled definition.now count (bytes_of files.now) steps.now) }
+    ensures any_refusal { IfOk result (λ r. r.1.file_lacking ≡ false
+        → r.1.any_refusal ≡ drill_refused definition.now count (bytes_of files.now) steps.now) }
+    ensures log { IfOk result (λ r. Tells
+        (drill_dues definition.now count (bytes_of files.now) steps.now) (length steps.now) r.1
+        (L.taken log.old) (L.taken log.new)) }
     ensures unchanged { OnErr result (log.new ≡ log.old) }
 {
     let mut offices = new_offices::<O>(alloc, definition, count)?;
@@ -100,7 +107,7 @@ fn drill<O: Office + Drop, L: Sink>(
     Ok((offices, refusals))
 }
 
-// The offices after all steps that aren't refused, or the status of a run that wanted memory for them.
+// The offices after all steps that aren't refused, or the status of a run for which memory ran out.
 fn drill_all<O: Office + Drop, L: Sink>(
     alloc: Global,
     definition: &Definition,
@@ -110,14 +117,18 @@ fn drill_all<O: Office + Drop, L: Sink>(
     log: &mut L,
 ) -> Result<(Vec<O>, Refusals), Status>
     ensures of_one { IfOk result (λ r. AreOfOne (map O.defined r.0.items)) }
-    ensures contents { IfOk result (λ r. map O.held r.0.items ≡ drilled definition.now count (bytes_of files.now) steps.now) }
-    ensures any_refusal { IfOk result (λ r. r.1.any_refusal ≡ drill_refused definition.now count (bytes_of files.now) steps.now) }
+    ensures contents { IfOk result (λ r.
+        map O.held r.0.items ≡ drilled definition.now count (bytes_of files.now) steps.now) }
+    ensures any_refusal { IfOk result (λ r.
+        r.1.any_refusal ≡ drill_refused definition.now count (bytes_of files.now) steps.now) }
     ensures whole { IfOk result (λ r. r.1.file_lacking ≡ false) }
     ensures status { IfErr result (λ s. s ≡ NoMemory) }
-    ensures log { IfOk result (λ r. Tells (step_texts steps.now) (step_dues definition.now count (bytes_of files.now) steps.now) (length steps.now) r.1
-        (L.taken log.old) (L.has_failed log.old) (L.taken log.new) (L.has_failed log.new)) }
-    ensures cut_short { OnErr result ((fault : Option MergeFault) → LogsSome (IsCutShort false (step_texts steps.now) (step_dues definition.now count (bytes_of files.now) steps.now) fault false)
-        (L.taken log.old) (L.has_failed log.old) (L.taken log.new) (L.has_failed log.new)) }
+    ensures log { IfOk result (λ r. Tells
+        (drill_dues definition.now count (bytes_of files.now) steps.now) (length steps.now) r.1
+        (L.taken log.old) (L.taken log.new)) }
+    ensures cut_short { OnErr result ((fault : Option MergeFault) → LogsSome
+        (IsCutShort (drill_dues definition.now count (bytes_of files.now) steps.now) fault false)
+        (L.taken log.old) (L.taken log.new)) }
 {
     let Ok((offices, refusals)) = drill::<O, L>(alloc, definition, count, steps, files, log) else {
         return Err(end_in_memory(log));
@@ -138,11 +149,14 @@ pub fn run_drill<O: Office + Drop, W: Sink, L: Sink>(
     out: &mut W,
     log: &mut L,
 ) -> Status
-    requires { W.has_failed out.old ≡ false }
-    ensures ends { Ends (W.taken out.old) (W.taken out.new) (W.has_failed out.new)
-        (drill_text definition.now count (bytes_of files.now) steps.now) (drill_refused definition.now count (bytes_of files.now) steps.now) result }
-    ensures log { TellsRun false (step_texts steps.now) (step_dues definition.now count (bytes_of files.now) steps.now) (result ≡ NoMemory) None (W.has_failed out.new)
-        (L.taken log.old) (L.has_failed log.old) (L.taken log.new) (L.has_failed log.new) }
+    requires { (W.taken out.old).failed ≡ false }
+    ensures ends { Ends (W.taken out.old) (W.taken out.new)
+        (drill_text definition.now count (bytes_of files.now) steps.now)
+        (drill_refused definition.now count (bytes_of files.now) steps.now) result }
+    ensures log { TellsRun (drill_dues definition.now count (bytes_of files.now) steps.now) None
+        result
+        (record { out = W.taken out.old; log = L.taken log.old })
+        (record { out = W.taken out.new; log = L.taken log.new }) }
 {
     match drill_all::<O, L>(alloc, definition, count, steps, files, log) {
         Ok((offices, refusals)) => {

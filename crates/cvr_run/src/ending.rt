@@ -12,7 +12,7 @@ use cdf_types::Sink;
 /// Ends a run with no text, for want of memory.
 pub fn end_in_memory<L: Sink>(log: &mut L) -> Status
     ensures status { result ≡ NoMemory }
-    ensures log { Logs (L.taken log.old) (L.has_failed log.old) (L.taken log.new) (L.has_failed log.new) memory_line }
+    ensures log { Logs (L.taken log.old) (L.taken log.new) memory_line }
 {
     say_memory(log);
     Status::Memory
@@ -21,7 +21,7 @@ pub fn end_in_memory<L: Sink>(log: &mut L) -> Status
 /// Ends a run after what was printed. No text lacks a file or a step.
 pub fn end_with<L: Sink>(printed: Result<(), PrintFault>, refusals: Refusals, log: &mut L) -> Status
     ensures status { result ≡ status_after printed refusals }
-    ensures log { Logs (L.taken log.old) (L.has_failed log.old) (L.taken log.new) (L.has_failed log.new) (end_line printed) }
+    ensures log { Logs (L.taken log.old) (L.taken log.new) (end_line printed) }
 {
     match printed {
         Ok(()) => refusals.status(),

@@ -4,10 +4,15 @@ ghost use Rattle.cvr_run.specs.declared.memory_files.MemoryFile.{MemoryFile};
 ghost use Rattle.cvr_run.specs.MemoryFiles.{IsTold, FailAsTold};
 ghost use Rattle.cvr_run.specs.CutShort.{AtOnce, AfterOne, AfterAll, AfterLacking};
 ghost use Rattle.cvr_run.specs.Listed.{TallyListed};
-ghost use Rattle.cvr_run.specs.Examples.{CurrentsOfFive, TallyOfFive, ConflictsOfTwo, NoConflict, LinesOfTen, DateAlone, DateFirst, DeviceAlone, DeviceBeforeNumber, NumberAlone, LastVolume};
+ghost use Rattle.cvr_run.specs.Opening.{FourAreShown};
+ghost use Rattle.cvr_run.specs.Worked.{TheMissingIsReported};
+ghost use Rattle.cvr_run.specs.Examples.{CurrentsOfFive, TallyOfFive, ConflictsOfTwo, NoConflict};
+ghost use Rattle.cvr_run.specs.Examples.{LinesOfTen, DateAlone, DateFirst, DeviceAlone};
+ghost use Rattle.cvr_run.specs.Examples.{DeviceBeforeNumber, NumberAlone, LastVolume};
 
 /// The current snapshots and the tally of five records in three contests, the conflicts among facts
-/// of two records and three devices, what is told where there is none, and the lines of ten offices.
+/// of two records and three devices, what is told where there is none, and the lines of ten
+/// offices.
 pub fn worked_examples()
     ensures currents { CurrentsOfFive }
     ensures tally { TallyOfFive }
@@ -16,8 +21,9 @@ pub fn worked_examples()
     ensures drill { LinesOfTen }
 {}
 
-/// The fault of merges of facts with twelve volumes, and its line: the date is no moment, the device
-/// isn't listed, or the number is above the volumes; which of several is told; and none of the last volume.
+/// The fault of merges of facts with twelve volumes, and its line: the date is no moment, the
+/// device isn't listed, or the number is above the volumes; which of several is told; and none of
+/// the last volume.
 pub fn merges()
     ensures date { DateAlone }
     ensures date_first { DateFirst }
@@ -27,19 +33,27 @@ pub fn merges()
     ensures none { LastVolume }
 {}
 
-/// Worked example of files in memory: one that was told no call, one at another path that was told its fifth, and
-/// one at the first path again, told its sixth.
+/// Worked example of files in memory: one that was told no call, one at another path that was told
+/// its fifth, and one at the first path again, told its sixth.
 pub fn files_fail_as_told()
-    ensures { (x y z : MemoryFile) → IsTold x (codes "a") 0 → IsTold y (codes "b") 5 → IsTold z (codes "a") 6 → FailAsTold x y z }
+    ensures { (x y z : MemoryFile) → IsTold x (codes "a") 0 → IsTold y (codes "b") 5
+        → IsTold z (codes "a") 6 → FailAsTold x y z }
 {}
 
-/// Worked examples of three files, the second one accepted: how the log ends where memory was wanting, and how
-/// it doesn't.
+/// Worked examples of three files, the second one accepted: how the log ends where memory was
+/// wanting, and how it doesn't.
 pub fn memory_ends_a_log_as_told()
     ensures at_once { AtOnce }
     ensures after_one { AfterOne }
     ensures after_all { AfterAll }
     ensures after_lacking { AfterLacking }
+{}
+
+/// Worked examples of openers: which paths one shows that was to open two more; and which file a run
+/// reports over an opener that has only the first of three.
+pub fn openers_show_what_they_were_to_open()
+    ensures four { FourAreShown }
+    ensures missing { TheMissingIsReported }
 {}
 
 /// Worked example of words that ask for the tally of the files of a list.

@@ -23,10 +23,11 @@ pub fn asked_code<'a>(words: &'a [String]) -> Option<&'a str>
 
 /// Prints what the code of this name means, or reports that no code has it. Takes no memory.
 pub fn explain<W: Sink, L: Sink>(name: &str, out: &mut W, log: &mut L) -> Status
-    requires { W.has_failed out.old ≡ false }
-    ensures { Explains (out.new ≡ out.old) name.now result
-        (W.taken out.old) (W.taken out.new) (W.has_failed out.new)
-        (L.taken log.old) (L.has_failed log.old) (L.taken log.new) (L.has_failed log.new) }
+    requires { (W.taken out.old).failed ≡ false }
+    ensures { Explains name.now result
+        (record { out = W.taken out.old; log = L.taken log.old })
+        (record { out = W.taken out.new; log = L.taken log.new })
+        (out.new ≡ out.old) }
 {
     match Code::from_name(name) {
         Some(code) => print_own(code.text(), out, log),

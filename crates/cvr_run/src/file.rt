@@ -1,4 +1,5 @@
-ghost use Rattle.std.specs.Prelude.{◌≡◌, ◌≤◌, false, Some, length, take, drop, vec_len, IfOk, IfErr, OnOk, IfSome};
+ghost use Rattle.std.specs.Prelude.{◌≡◌, ◌≤◌, false, Some, length, take, drop, vec_len, IfOk};
+ghost use Rattle.std.specs.Prelude.{IfErr, OnOk, IfSome};
 ghost use Rattle.cvr_run.specs.declared.file.FileFault.TheVariants.{Device, Memory as NoMemory};
 ghost use Rattle.cvr_run.specs.File.{is_device, held_bytes};
 
@@ -39,21 +40,22 @@ impl From<AllocError> for FileFault {
     }
 }
 
-/// The bytes of a source up to its end, or the first 67,108,865 of them, so that a longer file can be
-/// told from one that is as long as it may be. No more is taken of the source.
+/// The bytes of a source up to its end, or the first 67,108,865 of them, so that a longer file can
+/// be told from one that is as long as it may be. No more is taken of the source.
 ///
 /// # Errors
 /// `Device` exactly where the source has failed at the return; `Memory` where a growth was refused.
 /// What was read is lost in both.
 pub fn read_file<R: Source>(alloc: Global, source: &mut R) -> Result<Vec<u8>, FileFault>
-    requires { R.has_failed source.old ≡ false }
-    ensures bytes { IfOk result (λ v. IfSome (R.left source.old) (λ left. v.items ≡ take held_bytes left)) }
-    ensures rest { IfOk result (λ _. IfSome (R.left source.old)
-        (λ left. R.left source.new ≡ Some (drop held_bytes left))) }
+    requires { (R.left source.old).failed ≡ false }
+    ensures bytes { IfOk result
+        (λ v. IfSome (R.left source.old).bytes (λ left. v.items ≡ take held_bytes left)) }
+    ensures rest { IfOk result (λ _. IfSome (R.left source.old).bytes
+        (λ left. (R.left source.new).bytes ≡ Some (drop held_bytes left))) }
     ensures fits { IfOk result (λ v. vec_len v ≤ held_bytes) }
-    ensures working { OnOk result (R.has_failed source.new ≡ false) }
-    ensures fault { IfErr result (λ e. R.has_failed source.new ≡ is_device e) }
-    ensures steady { R.can_fail source.old ≡ false → R.has_failed source.new ≡ false }
+    ensures working { OnOk result ((R.left source.new).failed ≡ false) }
+    ensures fault { IfErr result (λ e. (R.left source.new).failed ≡ is_device e) }
+    ensures steady { (R.left source.old).can_fail ≡ false → (R.left source.new).failed ≡ false }
 {
     let mut bytes = Vec::new(alloc);
     let mut piece = [0u8; PIECE];

@@ -3,19 +3,25 @@ ghost use Rattle.cdf_form.specs.Reading.{max_file};
 ghost use Rattle.cvr_run.specs.Explained.{NoExplainLaw};
 ghost use Rattle.cvr_run.specs.File.{held_bytes};
 ghost use Rattle.cvr_run.specs.HeldBytes.{HeldTextLaw, HeldLinesLaw, HeldFaultLaw, HeldRefusedLaw};
-ghost use Rattle.cvr_run.specs.Laws.{HeldLaw, ByBytesLaw, SameFactsLaw, SameCurrentsLaw, SameConflictsLaw, SameTallyLaw, SameMergeFaultLaw, SameVolumeLaw, NoFaultLaw, NoTextLaw, ToldNumberLaw, LastNumberLaw, DueLaw, LeastSameLaw, StartLaw, ImportLaw, ExchangeLaw, FilesReachedLaw, ReachedLaw, SameReachedLaw, AllImportedLaw, ByPlacesLaw, BothWaysLaw, EachImportsBothLaw, OneLineLaw, TwoLinesLaw, AloneOrEachLaw};
+ghost use Rattle.cvr_run.specs.Laws.{HeldLaw, ByBytesLaw, SameFactsLaw, SameCurrentsLaw};
+ghost use Rattle.cvr_run.specs.Laws.{SameConflictsLaw, SameTallyLaw, SameMergeFaultLaw};
+ghost use Rattle.cvr_run.specs.Laws.{SameVolumeLaw, NoFaultLaw, NoTextLaw, ToldNumberLaw};
+ghost use Rattle.cvr_run.specs.Laws.{LastNumberLaw, DueLaw, LeastSameLaw, StartLaw, ImportLaw};
+ghost use Rattle.cvr_run.specs.Laws.{ExchangeLaw, FilesReachedLaw, ReachedLaw, SameReachedLaw};
+ghost use Rattle.cvr_run.specs.Laws.{AllImportedLaw, ByPlacesLaw, BothWaysLaw, EachImportsBothLaw};
+ghost use Rattle.cvr_run.specs.Laws.{OneLineLaw, TwoLinesLaw, AloneOrEachLaw};
 ghost use Rattle.cvr_run.specs.ListedPaths.{NoEndLaw, ReadBackLaw, ThreePaths, WholeListLaw};
 ghost use Rattle.cvr_run.specs.OwnWords.{UnknownVersionLaw};
 
-/// What a run holds, the devices of the definition and the facts of the accepted files, is the content
-/// of one new office after the import of each file.
+/// What a run holds, the devices of the definition and the facts of the accepted files, is the
+/// content of one new office after the import of each file.
 pub fn held_is_the_content_after_imports()
     ensures { HeldLaw }
 {}
 
-/// Lists whose accepted files have the same values, in any order and however often each comes, hold the
-/// same facts and have the same current snapshots, the same conflicts, the same tally and the same
-/// volumes. Lists of the same files, byte by byte, have the same values.
+/// Lists whose accepted files have the same values, in any order and however often each comes, hold
+/// the same facts and have the same current snapshots, the same conflicts, the same tally and the
+/// same volumes. Lists of the same files, byte by byte, have the same values.
 pub fn order_and_repeats_change_nothing()
     ensures facts { SameFactsLaw }
     ensures currents { SameCurrentsLaw }
@@ -26,8 +32,8 @@ pub fn order_and_repeats_change_nothing()
     ensures by_bytes { ByBytesLaw }
 {}
 
-/// A merge has a fault or prints a volume, and never both. A fault of a volume that is not there tells
-/// how many there are.
+/// A merge has a fault or prints a volume, and never both. A fault of a volume that is not there
+/// tells how many there are.
 pub fn a_merge_has_a_fault_or_a_volume()
     ensures volume { NoFaultLaw }
     ensures fault { NoTextLaw }
@@ -57,18 +63,18 @@ pub fn a_drill_has_the_outcomes_that_are_due()
     ensures { DueLaw }
 {}
 
-/// The number that a drill tells of an office, as the same as it, is the least of an office that holds
-/// the same facts.
+/// The number that a drill tells of an office, as the same as it, is the least of an office that
+/// holds the same facts.
 pub fn the_least_office_that_is_the_same_is_told()
     ensures { LeastSameLaw }
 {}
 
-/// An import adds to an office of a drill what the other commands hold of the file; after an exchange the
-/// office that takes holds what both held. So an office holds what they hold of the files that have
-/// reached it, and of any whose accepted values are the same; and two that the same values have reached
-/// hold the same. One that imports each accepted value, in any order and among any other steps, holds what
-/// they hold of all files; and so do two that between them import each, and at last exchange both ways.
-/// The text tells that.
+/// An import adds to an office of a drill what the other commands hold of the file; after an
+/// exchange the office that takes holds what both held. So an office holds what they hold of the
+/// files that have reached it, and of any whose accepted values are the same; and two that the same
+/// values have reached hold the same. One that imports each accepted value, in any order and among
+/// any other steps, holds what they hold of all files; and so do two that between them import each,
+/// and at last exchange both ways. The text tells that.
 pub fn offices_of_a_drill_hold_what_a_run_holds()
     ensures start { StartLaw }
     ensures import { ImportLaw }
@@ -89,7 +95,8 @@ pub fn want_of_memory_is_told_alone_or_after_each_file()
     ensures { AloneOrEachLaw }
 {}
 
-/// The commands of the line leave the words for the version free: without `respond` both are refused.
+/// The commands of the line leave the words for the version free: without `respond` both are
+/// refused.
 pub fn words_for_the_version_are_unknown()
     ensures { UnknownVersionLaw }
 {}
@@ -99,8 +106,8 @@ pub fn words_for_a_code_name_no_command()
     ensures { NoExplainLaw }
 {}
 
-/// The paths of a list with their ends are its text, or that with one more end. No path has an end in it,
-/// and paths without ends in them are read back. As an example, a list of three paths.
+/// The paths of a list with their ends are its text, or that with one more end. No path has an end
+/// in it, and paths without ends in them are read back. As an example, a list of three paths.
 pub fn paths_of_a_list_are_its_text()
     ensures whole { WholeListLaw }
     ensures no_end { NoEndLaw }

@@ -1,4 +1,5 @@
-//! The commands of `cvr` over any office: what is printed of a definition and files, and the devices it goes through.
+//! The commands of `cvr` over any office: what is printed of a definition and files, and the
+//! devices it goes through.
 #![tactic(auto)]
 
 mod answering;

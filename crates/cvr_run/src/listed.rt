@@ -1,14 +1,14 @@
-ghost use Rattle.std.specs.Prelude.{◌≡◌, ◌≢◌, ◌⊎◌, ◌++◌, ◌∷◌, [], ℕ, List, IfOk, IfErr, OnOk, IfSome, IfNone, true, false};
-ghost use Rattle.cdf_types.specs.Device.{appended};
-ghost use Rattle.cvr_run.specs.declared.status.Status.TheVariants.{Done, Refused};
-ghost use Rattle.cvr_run.specs.Listed.{bad_list_line, list_place, DoesListed, IsList, IsNoList, ListsFiles};
+ghost use Rattle.std.specs.Prelude.{◌≡◌, ◌∷◌, [], ℕ, List, IfOk, IfErr, OnOk, IfSome, IfNone};
+ghost use Rattle.std.specs.Prelude.{false};
+ghost use Rattle.cvr_run.specs.Ends.{Ran};
+ghost use Rattle.cvr_run.specs.Job.{Job};
+ghost use Rattle.cvr_run.specs.Listed.{bad_list_line, list_place, DoesListed, HasNoList, IsList};
+ghost use Rattle.cvr_run.specs.Listed.{ListsFiles};
 ghost use Rattle.cvr_run.specs.ListedPaths.{end_of, listed_paths};
 ghost use Rattle.cvr_run.specs.Log.{Logs};
-ghost use Rattle.cvr_run.specs.Merge.{merge_lines};
 ghost use Rattle.cvr_run.specs.Opening.{IsRead, Opens};
-ghost use Rattle.cvr_run.specs.Outcome.{run_text, run_fault, any_refused, IsWhole};
-ghost use Rattle.cvr_run.specs.Told.{run_lines};
-ghost use Rattle.cvr_run.specs.Worked.{Stops};
+ghost use Rattle.cvr_run.specs.Outcome.{IsWhole};
+ghost use Rattle.cvr_run.specs.Told.{LogsSome};
 
 use crate::file::HELD;
 use crate::listed_paths::read_paths;
@@ -44,7 +44,7 @@ fn text_of<'a>(bytes: &'a [u8]) -> Option<&'a str>
 
 // Reports a file that is no list.
 fn tell_bad_list<L: Sink>(log: &mut L, path: &str)
-    ensures { Logs (L.taken log.old) (L.has_failed log.old) (L.taken log.new) (L.has_failed log.new)
+    ensures { Logs (L.taken log.old) (L.taken log.new)
         (bad_list_line path.now) }
 {
     let path = path.as_bytes();
@@ -59,22 +59,15 @@ fn paths_at<O: Open, L: Sink>(
     by_null: bool,
     log: &mut L,
 ) -> Result<Seq<Body>, Status>
-    ensures paths { IfOk result
-        (λ paths. (text : List ℕ) × IsRead (O.file_at opener.old path.now) text
+    ensures paths { IfOk result (λ paths. (text : List ℕ)
+        × IsRead ((O.state opener.old).at path.now) text
         × IsList text × (paths ≡ listed_paths (end_of by_null) text)) }
     ensures quiet { OnOk result (log.new ≡ log.old) }
     ensures opens { OnOk result
-        (Opens (O.opened opener.old) (O.opened opener.new) (path.now ∷ [])) }
-    ensures files { O.file_at opener.new ≡ O.file_at opener.old }
-    ensures faults { O.may_fail opener.new ≡ O.may_fail opener.old }
-    ensures stops { IfErr result (λ status.
-        Stops (O.file_at opener.old) (O.may_fail opener.old)
-        (Opens (O.opened opener.old) (O.opened opener.new)) (path.now ∷ []) status
-        (L.taken log.old) (L.has_failed log.old) (L.taken log.new) (L.has_failed log.new)
-        ⊎ ((text : List ℕ) × IsRead (O.file_at opener.old path.now) text
-        × IsNoList (Opens (O.opened opener.old) (O.opened opener.new))
-        (Unit {0}) path.now text status
-        (L.taken log.old) (L.has_failed log.old) (L.taken log.new) (L.has_failed log.new))) }
+        (Opens (O.state opener.old) (O.state opener.new) (path.now ∷ [])) }
+    ensures none { IfErr result (λ status.
+        LogsSome (HasNoList (O.state opener.old) (O.state opener.new) path.now status)
+        (L.taken log.old) (L.taken log.new)) }
 {
     let bytes = read_told(alloc, opener, path, log)?;
     match text_of(bytes.as_slice()) {
@@ -92,9 +85,9 @@ fn paths_at<O: Open, L: Sink>(
     }
 }
 
-/// Does a request over the files of a list: reads the list, and goes on as with a request that names
-/// them. Where the list isn't read, or is none, the log says so, and nothing else is done. Where the
-/// opener says what stands at each path, the text is that of these files.
+/// Does a request over the files of a list: reads the list, and goes on as with a request that
+/// names them. Where the list isn't read, or is none, the log says so, and nothing else is done.
+/// Where the opener says what stands at each path, the run is one over these files.
 pub fn run_listed<C: Office + Drop, O: Open, W: Sink, L: Sink>(
     alloc: Global,
     opener: &mut O,
@@ -104,31 +97,18 @@ pub fn run_listed<C: Office + Drop, O: Open, W: Sink, L: Sink>(
     out: &mut W,
     log: &mut L,
 ) -> Status
-    requires working { W.has_failed out.old ≡ false }
-    requires log_working { L.has_failed log.old ≡ false }
-    ensures does { DoesListed (O.file_at opener.old) (O.may_fail opener.old)
-        (Opens (O.opened opener.old) (O.opened opener.new)) (out.new ≡ out.old)
-        request (list_place list.now) by_null result
-        (W.taken out.old) (W.taken out.new) (W.has_failed out.new)
-        (L.taken log.old) (L.has_failed log.old) (L.taken log.new) (L.has_failed log.new) }
-    ensures text { (paths : List (List ℕ)) (def : List ℕ) (files : List (List ℕ))
-        → ListsFiles (O.file_at opener.old) request list.now by_null paths def files
-        → IsWhole result
-        → W.taken out.new ≡ appended (W.taken out.old) (run_text request.task def paths files) }
-    ensures log { (paths : List (List ℕ)) (def : List ℕ) (files : List (List ℕ))
-        → ListsFiles (O.file_at opener.old) request list.now by_null paths def files
-        → IsWhole result
-        → Logs (L.taken log.old) (L.has_failed log.old) (L.taken log.new) (L.has_failed log.new)
-        (run_lines request.task request.def def paths files
-        ++ merge_lines (run_fault request.task def files)) }
-    ensures done { (paths : List (List ℕ)) (def : List ℕ) (files : List (List ℕ))
-        → ListsFiles (O.file_at opener.old) request list.now by_null paths def files
-        → result ≡ Done → any_refused request.task def files ≡ false }
-    ensures refused { (paths : List (List ℕ)) (def : List ℕ) (files : List (List ℕ))
-        → ListsFiles (O.file_at opener.old) request list.now by_null paths def files
-        → result ≡ Refused → any_refused request.task def files ≡ true }
-    ensures files { O.file_at opener.new ≡ O.file_at opener.old }
-    ensures faults { O.may_fail opener.new ≡ O.may_fail opener.old }
+    requires working { (W.taken out.old).failed ≡ false }
+    requires log_working { (L.taken log.old).failed ≡ false }
+    ensures does { DoesListed (record { request = request; list = list.now; by_null = by_null })
+        result
+        (record { opener = O.state opener.old; out = W.taken out.old; log = L.taken log.old })
+        (record { opener = O.state opener.new; out = W.taken out.new; log = L.taken log.new })
+        (out.new ≡ out.old) }
+    ensures given { (job : Job) → ListsFiles (O.state opener.old).at
+        (record { request = request; list = list.now; by_null = by_null }) job
+        → IsWhole result → Ran job result
+        (record { out = W.taken out.old; log = L.taken log.old })
+        (record { out = W.taken out.new; log = L.taken log.new }) }
 {
     let Request { task, def, .. } = request;
     match paths_at(alloc, opener, place_of(list), by_null, log) {

@@ -1,9 +1,11 @@
-ghost use Rattle.std.specs.Prelude.{◌≡◌, ◌≢◌, [], ℕ, List, Bool, map, true, false, string_bytes, IfOk, IfSome, IfNone};
+ghost use Rattle.std.specs.Prelude.{◌≡◌, ◌≢◌, [], map, true, false, string_bytes, IfOk, IfSome};
+ghost use Rattle.std.specs.Prelude.{IfNone};
 ghost use Rattle.cvr_words.specs.declared.fault.LineFault.TheVariants.{Memory as NoMemory};
 ghost use Rattle.cvr_words.specs.declared.request.Request.{Request};
 ghost use Rattle.cvr_words.specs.Line.{named};
 ghost use Rattle.cvr_words.specs.Request.{IsRequest};
-ghost use Rattle.cvr_run.specs.Listed.{AsksListed, IsBefore, list_words, takes_files};
+ghost use Rattle.cvr_run.specs.Listed.{AsksListed, IsBefore, ListedRequest, list_words};
+ghost use Rattle.cvr_run.specs.Listed.{takes_files};
 
 use crate::listing::Listing;
 use cdf_types::Memory;
@@ -52,8 +54,8 @@ fn request_of(alloc: Global, words: &[String]) -> Result<Option<Request>, Memory
     }
 }
 
-/// The request that words ask for with a list, if they ask for one: as they stand they ask for none,
-/// and those before the list ask for it, without files.
+/// The request that words ask for with a list, if they ask for one: as they stand they ask for
+/// none, and those before the list ask for it, without files.
 ///
 /// # Errors
 /// `Memory` where a growth was refused.
@@ -67,10 +69,13 @@ pub fn listed_request(
         ≡ list_words (map string_bytes listing.now.before.now) listing.now.list.now
         listing.now.by_null }
     ensures some { IfOk result (λ found. IfSome found (λ request.
-        AsksListed (map string_bytes words.now) request listing.now.list.now listing.now.by_null)) }
+        AsksListed (map string_bytes words.now) (record {
+          request = request;
+          list = listing.now.list.now;
+          by_null = listing.now.by_null;
+        }))) }
     ensures none { IfOk result (λ found. IfNone found
-        ((request : Request) (list : List ℕ) (by_null : Bool)
-        → ¬ AsksListed (map string_bytes words.now) request list by_null)) }
+        ((asked : ListedRequest) → ¬ AsksListed (map string_bytes words.now) asked)) }
 {
     let asked = request_of(alloc, words)?;
     if asked.is_some() {

@@ -1,4 +1,5 @@
-ghost use Rattle.std.specs.Prelude.{◌≡◌, ◌≢◌, ◌⊎◌, ◌+◌, ◌≤◌, ℕ, List, map, Bool, IfSome, IfNone, string_bytes};
+ghost use Rattle.std.specs.Prelude.{◌≡◌, ◌≢◌, ◌⊎◌, ◌+◌, ◌≤◌, ℕ, List, map, Bool, IfSome, IfNone};
+ghost use Rattle.std.specs.Prelude.{string_bytes};
 ghost use Rattle.cvr_run.specs.Listed.{IsBefore, list_tail, list_words};
 
 /// Words with a list in the place of files.

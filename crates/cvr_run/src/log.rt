@@ -1,6 +1,8 @@
-ghost use Rattle.std.specs.Prelude.{◌≡◌, ℕ, ◌≤◌, List, [], ◌∷◌, ◌++◌, length, false, OnOk, OnErr, IsOk};
+ghost use Rattle.std.specs.Prelude.{◌≡◌, ℕ, ◌≤◌, List, [], ◌∷◌, ◌++◌, length, false, OnOk, OnErr};
+ghost use Rattle.std.specs.Prelude.{IsOk};
 ghost use Rattle.std.specs.List.{flat_map};
-ghost use Rattle.cvr_run.specs.Log.{fault_line, cause_line, memory_line, has_path, has_path_in, Logs};
+ghost use Rattle.cvr_run.specs.Log.{fault_line, cause_line, memory_line, has_path, has_path_in};
+ghost use Rattle.cvr_run.specs.Log.{Logs};
 
 use cdf_types::{Memory, ReadFault, Sink, write_all};
 use cvr_fact_types::text::quoted;
@@ -8,10 +10,10 @@ use cvr_office::{Cause, JoinFault};
 use itoa::Buffer;
 use std::alloc::Global;
 
-/// Writes a line to the log, piece by piece, unless the log has failed. A log that fails gets a front
-/// of it. Takes no memory.
+/// Writes a line to the log, piece by piece, unless the log has failed. A log that fails gets a
+/// front of it. Takes no memory.
 pub fn say<L: Sink>(log: &mut L, pieces: &[&[u8]])
-    ensures { Logs (L.taken log.old) (L.has_failed log.old) (L.taken log.new) (L.has_failed log.new) (flat_map (λ p. p.now) pieces.now) }
+    ensures { Logs (L.taken log.old) (L.taken log.new) (flat_map (λ p. p.now) pieces.now) }
 {
     if log.failed() {
         return;
@@ -25,7 +27,7 @@ pub fn say<L: Sink>(log: &mut L, pieces: &[&[u8]])
 
 /// Tells want of memory to the log. Takes no memory.
 pub fn say_memory<L: Sink>(log: &mut L)
-    ensures { Logs (L.taken log.old) (L.has_failed log.old) (L.taken log.new) (L.has_failed log.new) memory_line }
+    ensures { Logs (L.taken log.old) (L.taken log.new) memory_line }
 {
     say(log, &[b"memory\n"]);
 }
@@ -33,13 +35,14 @@ pub fn say_memory<L: Sink>(log: &mut L)
 // What stands between the first byte and the last.
 fn inner(text: &[u8]) -> &[u8]
     requires { 2 ≤ length text.now }
-    ensures { (within : List ℕ) (a b : ℕ) → text.now ≡ a ∷ (within ++ b ∷ []) → result.now ≡ within }
+    ensures { (within : List ℕ) (a b : ℕ) → text.now ≡ a ∷ (within ++ b ∷ [])
+        → result.now ≡ within }
 {
     &text[1..text.len() - 1]
 }
 
-// Tells a file that was refused to the log. `Memory` where its path could not be spelled: the log is then as it
-// was.
+// Tells a file that was refused to the log. `Memory` where its path could not be spelled: the log
+// is then as it was.
 #[tactic(auto, using(crate::proofs::Pieces::end_of_rule))]
 fn tell_fault<L: Sink>(
     alloc: Global,
@@ -47,7 +50,8 @@ fn tell_fault<L: Sink>(
     what: &str,
     fault: &ReadFault,
 ) -> Result<(), Memory>
-    ensures line { OnOk result (Logs (L.taken log.old) (L.has_failed log.old) (L.taken log.new) (L.has_failed log.new) (fault_line what.now fault.now)) }
+    ensures line { OnOk result
+        (Logs (L.taken log.old) (L.taken log.new) (fault_line what.now fault.now)) }
     ensures unchanged { OnErr result (log.new ≡ log.old) }
     ensures pathless { has_path fault.now ≡ false → IsOk result }
 {
@@ -75,13 +79,14 @@ fn tell_fault<L: Sink>(
     Ok(())
 }
 
-/// Tells a refusal to the log: what was refused, as it was given, and why. Only the spelling of a path
-/// takes memory.
+/// Tells a refusal to the log: what was refused, as it was given, and why. Only the spelling of a
+/// path takes memory.
 ///
 /// # Errors
 /// `Memory` where the path could not be spelled. The log is as it was.
 pub fn tell<L: Sink>(alloc: Global, log: &mut L, what: &str, cause: &Cause) -> Result<(), Memory>
-    ensures line { OnOk result (Logs (L.taken log.old) (L.has_failed log.old) (L.taken log.new) (L.has_failed log.new) (cause_line what.now cause.now)) }
+    ensures line { OnOk result
+        (Logs (L.taken log.old) (L.taken log.new) (cause_line what.now cause.now)) }
     ensures unchanged { OnErr result (log.new ≡ log.old) }
     ensures pathless { has_path_in cause.now ≡ false → IsOk result }
 {

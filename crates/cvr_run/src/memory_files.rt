@@ -1,9 +1,10 @@
-ghost use Rattle.std.specs.Prelude.{◌≡◌, ◌==◌, not, true, false, Some, None, Err, IsOk, IfOk, IfErr, MatchOption};
+ghost use Rattle.std.specs.Prelude.{◌≡◌, ◌==◌, not, true, false, Some, Err, IsOk, IfOk};
+ghost use Rattle.std.specs.Prelude.{◌∷◌, [], IfErr, MatchOption};
 ghost use Rattle.cdf_types.specs.MemorySource.{can_fail};
 ghost use Rattle.cvr_run.specs.declared.file.FileFault.TheVariants.{Device};
 ghost use Rattle.cvr_run.specs.File.{is_device};
-ghost use Rattle.cvr_run.specs.Opening.{Absent, Has, has_file, IsOpened};
-ghost use Rattle.cvr_run.specs.MemoryFiles.{found_at, can_fail_at};
+ghost use Rattle.cvr_run.specs.Opening.{Absent, Has, has_file, IsOpened, Opens};
+ghost use Rattle.cvr_run.specs.MemoryFiles.{found_at, can_fail_at, opener_over};
 
 use crate::file::FileFault;
 use crate::opening::Open;
@@ -48,11 +49,7 @@ fn find<'a>(files: &'a [MemoryFile<'a>], path: &str) -> Option<&'a MemoryFile<'a
 impl<'a> Open for MemoryFiles<'a> {
     type File = MemorySource<'a>;
 
-    ghost file_at = { λ files path. found_at files.files.now path };
-
-    ghost may_fail = { λ files path. can_fail_at files.files.now path };
-
-    ghost opened = { λ _. None };
+    ghost state = { λ files. opener_over files.files.now };
 
     /// The file at a path, which gives at most 100 bytes a call. Takes no memory.
     ///
@@ -70,6 +67,8 @@ impl<'a> Open for MemoryFiles<'a> {
             → has_file (found_at self.old.files.now path.now) ≡ false) }
         ensures absent { IfErr result
             (λ e. found_at self.old.files.now path.now ≡ Absent → e ≡ Device) }
+        ensures opens { Opens (opener_over self.old.files.now) (opener_over self.new.files.now)
+            (path.now ∷ []) }
         ensures opened { has_file (found_at self.old.files.now path.now) ≡ true → IsOk result }
         ensures fault { has_file (found_at self.old.files.now path.now) ≡ false
             → result ≡ Err Device }

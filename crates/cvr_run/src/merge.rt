@@ -24,7 +24,7 @@ pub enum MergeFault {
 
 /// Tells the fault of a merge to the log. Takes no memory.
 pub fn say_merge<L: Sink>(log: &mut L, fault: MergeFault)
-    ensures { Logs (L.taken log.old) (L.has_failed log.old) (L.taken log.new) (L.has_failed log.new) (merge_line fault) }
+    ensures { Logs (L.taken log.old) (L.taken log.new) (merge_line fault) }
 {
     match fault {
         MergeFault::NotMoment => say(log, &[b"merge: H1\n"]),
@@ -40,8 +40,8 @@ pub fn say_merge<L: Sink>(log: &mut L, fault: MergeFault)
 /// Prints volume `i` of what an office holds, under a date and a device, without a line end.
 ///
 /// # Errors
-/// The first fault of the merge, with nothing printed; `Device` where the output has failed; `Memory`
-/// where a growth was refused. The output has then taken a front of the volume.
+/// The first fault of the merge, with nothing printed; `Device` where the output has failed;
+/// `Memory` where a growth was refused. The output has then taken a front of the volume.
 pub fn print_volume<O: Office, W: Sink>(
     alloc: Global,
     office: &O,
@@ -50,9 +50,9 @@ pub fn print_volume<O: Office, W: Sink>(
     i: usize,
     out: &mut W,
 ) -> Result<(), PrintFault>
-    requires working { W.has_failed out.old ≡ false }
+    requires working { (W.taken out.old).failed ≡ false }
     requires number { 0 < i }
-    ensures { Prints (W.taken out.old) (W.taken out.new) (W.has_failed out.new) result
+    ensures { Prints (W.taken out.old) (W.taken out.new) result
         (merge_fault (O.defined office.now) date.now device.now i (O.held office.now))
         (merge_text (O.defined office.now) date.now device.now i (O.held office.now)) }
 {

@@ -1,4 +1,5 @@
-ghost use Rattle.std.specs.Prelude.{◌≡◌, ◌<◌, ◌≤◌, ◌++◌, length, map, get_or, decimal, OnOk, IfOk, string_bytes, false, None};
+ghost use Rattle.std.specs.Prelude.{◌≡◌, ◌<◌, ◌≤◌, ◌++◌, length, map, get_or, decimal, OnOk, IfOk};
+ghost use Rattle.std.specs.Prelude.{string_bytes, false, None};
 ghost use Rattle.std.specs.FinSet.{empty};
 ghost use Rattle.std.specs.List.{position_or_len};
 ghost use Rattle.cvr_run.specs.Drill.{are_same, office_line, office_lines, AreOfOne};
@@ -22,7 +23,9 @@ fn holds_same<O: Office>(one: &O, other: &O) -> bool
 fn same_place<O: Office>(offices: &[O], place: usize) -> usize
     requires there { place < length offices.now }
     requires of_one { AreOfOne (map O.defined offices.now) }
-    ensures least { result ≡ position_or_len (are_same (get_or (map O.held offices.now) place empty)) (map O.held offices.now) }
+    ensures least { result
+        ≡ position_or_len (are_same (get_or (map O.held offices.now) place empty))
+        (map O.held offices.now) }
     ensures within { result ≤ place }
 {
     let office = &offices[place];
@@ -36,7 +39,8 @@ fn same_place<O: Office>(offices: &[O], place: usize) -> usize
 
 // Adds a label and a number.
 fn push_field(text: &mut String, label: &str, number: usize) -> Result<(), Memory>
-    ensures { OnOk result (string_bytes text.new ≡ string_bytes text.old ++ (label.now ++ decimal number)) }
+    ensures { OnOk result
+        (string_bytes text.new ≡ string_bytes text.old ++ (label.now ++ decimal number)) }
 {
     text.push_str(label)?;
     push_number(text, number)?;
@@ -47,7 +51,9 @@ fn push_field(text: &mut String, label: &str, number: usize) -> Result<(), Memor
 fn push_office<O: Office>(text: &mut String, offices: &[O], place: usize) -> Result<(), Memory>
     requires there { place < length offices.now }
     requires of_one { AreOfOne (map O.defined offices.now) }
-    ensures { OnOk result (string_bytes text.new ≡ string_bytes text.old ++ office_line (map O.held offices.now) place) }
+    ensures { OnOk result
+        (string_bytes text.new ≡ string_bytes text.old
+        ++ office_line (map O.held offices.now) place) }
 {
     push_field(text, "office ", place + 1)?;
     push_field(text, " records ", offices[place].record_count())?;
@@ -69,20 +75,21 @@ fn offices_text<O: Office>(alloc: Global, offices: &[O]) -> Result<String, Memor
     Ok(text)
 }
 
-/// Prints a line for each office of one definition: its number, how many records and facts it holds,
-/// and the least number of an office that is the same.
+/// Prints a line for each office of one definition: its number, how many records and facts it
+/// holds, and the least number of an office that is the same.
 ///
 /// # Errors
-/// `Device` where the output has failed; `Memory` where a growth was refused. The output has then taken
-/// a front of the text.
+/// `Device` where the output has failed; `Memory` where a growth was refused. The output has then
+/// taken a front of the text.
 pub fn print_offices<O: Office, W: Sink>(
     alloc: Global,
     offices: &[O],
     out: &mut W,
 ) -> Result<(), PrintFault>
-    requires working { W.has_failed out.old ≡ false }
+    requires working { (W.taken out.old).failed ≡ false }
     requires of_one { AreOfOne (map O.defined offices.now) }
-    ensures { Prints (W.taken out.old) (W.taken out.new) (W.has_failed out.new) result None (office_lines (map O.held offices.now)) }
+    ensures { Prints (W.taken out.old) (W.taken out.new) result None
+        (office_lines (map O.held offices.now)) }
 {
     let text = offices_text(alloc, offices)?;
     print_text(text.as_str(), out)

@@ -1,9 +1,11 @@
-ghost use Rattle.std.specs.Prelude.{◌≡◌, ◌∷◌, [], ℕ, List, Option, length, Bool, true, false, IfOk, IfErr, OnOk};
+ghost use Rattle.std.specs.Prelude.{◌≡◌, ◌∷◌, [], length, true, false, IfOk, IfErr, OnOk};
 ghost use Rattle.cvr_run.specs.File.{is_device};
 ghost use Rattle.cvr_run.specs.declared.file.FileFault.TheVariants.{Device};
 ghost use Rattle.cvr_run.specs.Log.{Logs};
-ghost use Rattle.cvr_run.specs.Opening.{At, Absent, has_file, IsOpened, IsRead, AreRead, FailedAt, Opens};
+ghost use Rattle.cvr_run.specs.Opening.{Absent, Opener, has_file, IsOpened, IsRead, AreRead};
+ghost use Rattle.cvr_run.specs.Opening.{FailedAt, Opens};
 ghost use Rattle.cvr_run.specs.Outcome.{bytes_of};
+ghost use Rattle.cvr_run.specs.Told.{LogsSome};
 ghost use Rattle.cvr_run.specs.Worked.{unread_status, unread_line, Stops};
 
 use crate::file::{FileFault, read_file};
@@ -12,20 +14,15 @@ use crate::status::Status;
 use cdf_types::{Body, Sink, Source};
 use std::alloc::Global;
 
-/// Where the files of a run are found. Contracts see what it says of each path, if it says anything,
-/// whether the reading of a file may fail, and which paths it was to open, if it tells them.
+/// Where the files of a run are found. Contracts see what it says of each path, if it says
+/// anything, whether the reading of a file may fail, and which paths it was to open, if it shows
+/// them.
 pub trait Open {
     /// What a file's bytes are read from.
     type File: Source + Drop;
 
-    // What it says of a path.
-    ghost file_at: { Self → List ℕ → At };
-
-    // Whether the reading of the file at a path may fail.
-    ghost may_fail: { Self → List ℕ → Bool };
-
-    // The paths that it was to open, in order, where it tells them.
-    ghost opened: { Self → Option (List (List ℕ)) };
+    // What it says of paths, and which it was to open.
+    ghost state: { Self → Opener };
 
     /// The file at a path, from its first byte on. What it says of paths stays.
     ///
@@ -33,17 +30,15 @@ pub trait Open {
     /// `Device` where no file could be opened; `Memory` where a growth was refused, but never where
     /// it says that no file is there.
     fn open(&mut self, path: &str) -> Result<Self::File, FileFault>
-        ensures working { IfOk result (λ file. Self.File.has_failed file ≡ false) }
+        ensures working { IfOk result (λ file. (Self.File.left file).failed ≡ false) }
         ensures bytes { IfOk result
-            (λ file. IsOpened (file_at self.old path.now) (Self.File.left file)) }
-        ensures steady { IfOk result (λ file. may_fail self.old path.now ≡ false
-            → Self.File.can_fail file ≡ false) }
+            (λ file. IsOpened ((state self.old).at path.now) (Self.File.left file).bytes) }
+        ensures steady { IfOk result (λ file. (state self.old).may_fail path.now ≡ false
+            → (Self.File.left file).can_fail ≡ false) }
         ensures device { IfErr result (λ e. is_device e ≡ true
-            → has_file (file_at self.old path.now) ≡ false) }
-        ensures absent { IfErr result (λ e. file_at self.old path.now ≡ Absent → e ≡ Device) }
-        ensures opens { Opens (opened self.old) (opened self.new) (path.now ∷ []) }
-        ensures files { file_at self.new ≡ file_at self.old }
-        ensures faults { may_fail self.new ≡ may_fail self.old };
+            → has_file ((state self.old).at path.now) ≡ false) }
+        ensures absent { IfErr result (λ e. (state self.old).at path.now ≡ Absent → e ≡ Device) }
+        ensures opens { Opens (state self.old) (state self.new) (path.now ∷ []) };
 }
 
 impl From<FileFault> for Status {
@@ -59,22 +54,19 @@ impl From<FileFault> for Status {
 
 // The bytes of the file at a path.
 fn read_at<O: Open>(alloc: Global, opener: &mut O, path: &str) -> Result<Vec<u8>, FileFault>
-    ensures bytes { IfOk result (λ bytes. IsRead (O.file_at opener.old path.now) bytes.items) }
+    ensures bytes { IfOk result (λ bytes. IsRead ((O.state opener.old).at path.now) bytes.items) }
     ensures device { IfErr result (λ e. is_device e ≡ true
-        → FailedAt (O.file_at opener.old path.now) (O.may_fail opener.old path.now)) }
-    ensures absent { IfErr result (λ e. O.file_at opener.old path.now ≡ Absent → e ≡ Device) }
-    ensures opens { Opens (O.opened opener.old) (O.opened opener.new) (path.now ∷ []) }
-    ensures files { O.file_at opener.new ≡ O.file_at opener.old }
-    ensures faults { O.may_fail opener.new ≡ O.may_fail opener.old }
+        → FailedAt ((O.state opener.old).at path.now) ((O.state opener.old).may_fail path.now)) }
+    ensures absent { IfErr result (λ e. (O.state opener.old).at path.now ≡ Absent → e ≡ Device) }
+    ensures opens { Opens (O.state opener.old) (O.state opener.new) (path.now ∷ []) }
 {
     let mut file = opener.open(path)?;
     read_file(alloc, &mut file)
 }
 
-// Tells a file that was not read to the log, by its path as given.
+// Reports a file that was not read, by its path as given.
 fn tell_unread<L: Sink>(log: &mut L, path: &str, fault: FileFault)
-    ensures { Logs (L.taken log.old) (L.has_failed log.old) (L.taken log.new)
-        (L.has_failed log.new) (unread_line path.now fault) }
+    ensures { Logs (L.taken log.old) (L.taken log.new) (unread_line path.now fault) }
 {
     let path = path.as_bytes();
     match fault {
@@ -83,28 +75,25 @@ fn tell_unread<L: Sink>(log: &mut L, path: &str, fault: FileFault)
     }
 }
 
-/// The bytes of the file at a path, as far as a file is held. Where it isn't read, that is told to the
-/// log.
+/// The bytes of the file at a path, as far as a file is held. Where it isn't read, the log says so.
 ///
 /// # Errors
-/// `Device` where it could not be opened, or its source failed; `Memory` where a growth was refused.
+/// `Device` where it could not be opened, or its source failed; `Memory` where a growth was
+/// refused.
 pub fn read_told<O: Open, L: Sink>(
     alloc: Global,
     opener: &mut O,
     path: &str,
     log: &mut L,
 ) -> Result<Vec<u8>, FileFault>
-    ensures bytes { IfOk result (λ bytes. IsRead (O.file_at opener.old path.now) bytes.items) }
+    ensures bytes { IfOk result (λ bytes. IsRead ((O.state opener.old).at path.now) bytes.items) }
     ensures quiet { OnOk result (log.new ≡ log.old) }
     ensures device { IfErr result (λ e. is_device e ≡ true
-        → FailedAt (O.file_at opener.old path.now) (O.may_fail opener.old path.now)) }
-    ensures absent { IfErr result (λ e. O.file_at opener.old path.now ≡ Absent → e ≡ Device) }
-    ensures opens { Opens (O.opened opener.old) (O.opened opener.new) (path.now ∷ []) }
-    ensures files { O.file_at opener.new ≡ O.file_at opener.old }
-    ensures faults { O.may_fail opener.new ≡ O.may_fail opener.old }
+        → FailedAt ((O.state opener.old).at path.now) ((O.state opener.old).may_fail path.now)) }
+    ensures absent { IfErr result (λ e. (O.state opener.old).at path.now ≡ Absent → e ≡ Device) }
+    ensures opens { Opens (O.state opener.old) (O.state opener.new) (path.now ∷ []) }
     ensures told { IfErr result
-        (λ e. Logs (L.taken log.old) (L.has_failed log.old) (L.taken log.new)
-        (L.has_failed log.new) (unread_line path.now e)) }
+        (λ e. Logs (L.taken log.old) (L.taken log.new) (unread_line path.now e)) }
 {
     match read_at(alloc, opener, path) {
         Ok(bytes) => Ok(bytes),
@@ -115,11 +104,11 @@ pub fn read_told<O: Open, L: Sink>(
     }
 }
 
-/// The bytes of the files at paths, in order. The first that isn't read is told to the log, and none is
+/// The bytes of the files at paths, in order. The log names the first that isn't read, and none is
 /// read after it.
 ///
 /// # Errors
-/// The status of a run that stops there, or for want of memory.
+/// The status of a run that stops there, or where memory ran out.
 pub fn read_all<O: Open, L: Sink>(
     alloc: Global,
     opener: &mut O,
@@ -127,15 +116,13 @@ pub fn read_all<O: Open, L: Sink>(
     log: &mut L,
 ) -> Result<Vec<Vec<u8>>, Status>
     ensures read { IfOk result
-        (λ files. AreRead (O.file_at opener.old) paths.now (bytes_of files.items)) }
+        (λ files. AreRead (O.state opener.old).at paths.now (bytes_of files.items)) }
     ensures named { IfOk result (λ files. length paths.now ≡ length files.items) }
-    ensures opens { OnOk result (Opens (O.opened opener.old) (O.opened opener.new) paths.now) }
-    ensures files { O.file_at opener.new ≡ O.file_at opener.old }
-    ensures faults { O.may_fail opener.new ≡ O.may_fail opener.old }
+    ensures opens { OnOk result (Opens (O.state opener.old) (O.state opener.new) paths.now) }
     ensures quiet { OnOk result (log.new ≡ log.old) }
-    ensures stops { IfErr result (λ status. Stops (O.file_at opener.old) (O.may_fail opener.old)
-        (Opens (O.opened opener.old) (O.opened opener.new)) paths.now status
-        (L.taken log.old) (L.has_failed log.old) (L.taken log.new) (L.has_failed log.new)) }
+    ensures stops { IfErr result (λ status.
+        LogsSome (Stops (O.state opener.old) (O.state opener.new) paths.now status)
+        (L.taken log.old) (L.taken log.new)) }
 {
     let mut files = Vec::new(alloc);
     for path in paths {

@@ -26,9 +26,7 @@ impl<W: Write + Drop> OverWrite<W> {
 }
 
 impl<W: Write + Drop> Sink for OverWrite<W> {
-    ghost taken = { λ _. None };
-
-    ghost has_failed = { λ s. s.failed };
+    ghost taken = { λ s. record { bytes = None; failed = s.failed } };
 
     /// Writes once to the writer, which takes what the answer says.
     ///
@@ -81,11 +79,7 @@ impl<R: Read + Drop> OverRead<R> {
 }
 
 impl<R: Read + Drop> Source for OverRead<R> {
-    ghost left = { λ _. None };
-
-    ghost has_failed = { λ s. s.failed };
-
-    ghost can_fail = { λ _. true };
+    ghost left = { λ s. record { bytes = None; failed = s.failed; can_fail = true } };
 
     /// Reads once from the reader, which gives what the answer says.
     ///

@@ -23,9 +23,10 @@ pub fn asks_version(words: &[String]) -> bool
 
 /// Prints a text of the program's own. Takes no memory.
 pub fn print_own<W: Sink, L: Sink>(text: &str, out: &mut W, log: &mut L) -> Status
-    requires { W.has_failed out.old ≡ false }
-    ensures { PrintsOwn text.now result (W.taken out.old) (W.taken out.new) (W.has_failed out.new)
-        (L.taken log.old) (L.has_failed log.old) (L.taken log.new) (L.has_failed log.new) }
+    requires { (W.taken out.old).failed ≡ false }
+    ensures { PrintsOwn text.now result
+        (record { out = W.taken out.old; log = L.taken log.old })
+        (record { out = W.taken out.new; log = L.taken log.new }) }
 {
     let printed = print_text(text, out);
     end_with(printed, Refusals::none(), log)
@@ -33,10 +34,10 @@ pub fn print_own<W: Sink, L: Sink>(text: &str, out: &mut W, log: &mut L) -> Stat
 
 /// Prints the version, and the kit that built the program. Takes no memory.
 pub fn print_version<W: Sink, L: Sink>(out: &mut W, log: &mut L) -> Status
-    requires { W.has_failed out.old ≡ false }
+    requires { (W.taken out.old).failed ≡ false }
     ensures { PrintsOwn version_text result
-        (W.taken out.old) (W.taken out.new) (W.has_failed out.new)
-        (L.taken log.old) (L.has_failed log.old) (L.taken log.new) (L.has_failed log.new) }
+        (record { out = W.taken out.old; log = L.taken log.old })
+        (record { out = W.taken out.new; log = L.taken log.new }) }
 {
     print_own("cvr 1.0.0 (rattle-kit-13f)\n", out, log)
 }

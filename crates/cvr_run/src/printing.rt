@@ -83,7 +83,7 @@ impl PrintFault {
 
 /// Tells to the log why a text was not printed. Takes no memory.
 pub fn say_fault<L: Sink>(log: &mut L, fault: PrintFault)
-    ensures { Logs (L.taken log.old) (L.has_failed log.old) (L.taken log.new) (L.has_failed log.new) (print_line fault) }
+    ensures { Logs (L.taken log.old) (L.taken log.new) (print_line fault) }
 {
     match fault {
         PrintFault::Merge(fault) => say_merge(log, fault),
@@ -97,8 +97,8 @@ pub fn say_fault<L: Sink>(log: &mut L, fault: PrintFault)
 /// # Errors
 /// `Device` exactly where the output has failed. It has then taken a front of the text.
 pub fn print_text<W: Sink>(text: &str, out: &mut W) -> Result<(), PrintFault>
-    requires { W.has_failed out.old ≡ false }
-    ensures printed { Prints (W.taken out.old) (W.taken out.new) (W.has_failed out.new) result None text.now }
+    requires { (W.taken out.old).failed ≡ false }
+    ensures printed { Prints (W.taken out.old) (W.taken out.new) result None text.now }
     ensures fault { IfErr result (λ e. e ≡ print_fault.Device) }
 {
     write_all(out, text.as_bytes())?;
@@ -111,8 +111,9 @@ fn print_currents<O: Office, W: Sink>(
     office: &O,
     out: &mut W,
 ) -> Result<(), PrintFault>
-    requires { W.has_failed out.old ≡ false }
-    ensures { Prints (W.taken out.old) (W.taken out.new) (W.has_failed out.new) result None (currents (O.held office.now)) }
+    requires { (W.taken out.old).failed ≡ false }
+    ensures { Prints (W.taken out.old) (W.taken out.new) result None
+        (currents (O.held office.now)) }
 {
     let text = currents_text(alloc, office)?;
     print_text(text.as_str(), out)
@@ -124,8 +125,9 @@ fn print_conflicts<O: Office, W: Sink>(
     office: &O,
     out: &mut W,
 ) -> Result<(), PrintFault>
-    requires { W.has_failed out.old ≡ false }
-    ensures { Prints (W.taken out.old) (W.taken out.new) (W.has_failed out.new) result None (conflict_text (conflicts (O.held office.now))) }
+    requires { (W.taken out.old).failed ≡ false }
+    ensures { Prints (W.taken out.old) (W.taken out.new) result None
+        (conflict_text (conflicts (O.held office.now))) }
 {
     let list = office.conflicts(alloc)?;
     let text = conflicts_text(alloc, &list)?;
@@ -134,14 +136,16 @@ fn print_conflicts<O: Office, W: Sink>(
 
 // Prints the tally.
 fn print_tally<O: Office, W: Sink>(alloc: Global, office: &O, out: &mut W) -> Result<(), PrintFault>
-    requires { W.has_failed out.old ≡ false }
-    ensures { Prints (W.taken out.old) (W.taken out.new) (W.has_failed out.new) result None (tally (O.defined office.now).contests (O.held office.now)) }
+    requires { (W.taken out.old).failed ≡ false }
+    ensures { Prints (W.taken out.old) (W.taken out.new) result None
+        (tally (O.defined office.now).contests (O.held office.now)) }
 {
     let text = office.tally_text(alloc)?;
     print_text(text.as_str(), out)
 }
 
-/// Shows how many names have several bodies, where somebody watches, and they aren't what is printed.
+/// Shows how many names have several bodies, where somebody watches, and they aren't what is
+/// printed.
 pub fn show_several<O: Office, L: Sink>(alloc: Global, office: &O, task: &Task, log: &L) {
     if !log.is_watched() || matches!(task, Task::Conflicts) {
         return;
@@ -162,8 +166,8 @@ pub fn print_office<O: Office, W: Sink>(
     task: &Task,
     out: &mut W,
 ) -> Result<(), PrintFault>
-    requires { W.has_failed out.old ≡ false }
-    ensures { Prints (W.taken out.old) (W.taken out.new) (W.has_failed out.new) result
+    requires { (W.taken out.old).failed ≡ false }
+    ensures { Prints (W.taken out.old) (W.taken out.new) result
         (facts_fault (O.defined office.now) task.now (O.held office.now))
         (facts_text (O.defined office.now) task.now (O.held office.now)) }
 {

@@ -47,7 +47,8 @@ pub fn count_records(
 ) -> Result<usize, ReadFault>
     ensures accepted { OnOk result (first_refusal definition.now bytes.now ≡ None) }
     ensures count { IfOk result (λ n. n ≡ record_count (value_in bytes.now)) }
-    ensures fault { IfErr result (λ e. ¬ IsMemory e → first_refusal definition.now bytes.now ≡ Some e) }
+    ensures fault { IfErr result
+        (λ e. ¬ IsMemory e → first_refusal definition.now bytes.now ≡ Some e) }
 {
     let (_, count) = check_file(alloc, definition, bytes, &Count)?;
     Ok(count)

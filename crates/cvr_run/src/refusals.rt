@@ -46,14 +46,16 @@ impl Refusals {
         }
     }
 
-    /// Notes a refusal, and tells it to the log. Where its path can't be spelled for want of memory,
-    /// that is told in its place.
+    /// Notes a refusal, and tells it to the log. Where its path can't be spelled for want of
+    /// memory, that is told in its place.
     pub fn note<L: Sink>(&mut self, alloc: Global, log: &mut L, what: &str, cause: &Cause)
         ensures any_refusal { self.new.any_refusal ≡ true }
-        ensures file_lacking { self.new.file_lacking ≡ (self.old.file_lacking || wants_memory cause.now) }
-        ensures told { (self.new.path_unspelled ≡ self.old.path_unspelled) × Logs (L.taken log.old) (L.has_failed log.old) (L.taken log.new) (L.has_failed log.new) (cause_line what.now cause.now)
+        ensures file_lacking { self.new.file_lacking
+            ≡ (self.old.file_lacking || wants_memory cause.now) }
+        ensures told { (self.new.path_unspelled ≡ self.old.path_unspelled)
+            × Logs (L.taken log.old) (L.taken log.new) (cause_line what.now cause.now)
             ⊎ (has_path_in cause.now ≡ true) × (self.new.path_unspelled ≡ true)
-            × Logs (L.taken log.old) (L.has_failed log.old) (L.taken log.new) (L.has_failed log.new) memory_line }
+            × Logs (L.taken log.old) (L.taken log.new) memory_line }
     {
         self.any_refusal = true;
         if wants_memory(cause) {
@@ -68,10 +70,12 @@ impl Refusals {
     /// Notes that a file was refused, as `note` does.
     pub fn note_file<L: Sink>(&mut self, alloc: Global, log: &mut L, what: &str, fault: ReadFault)
         ensures any_refusal { self.new.any_refusal ≡ true }
-        ensures file_lacking { self.new.file_lacking ≡ (self.old.file_lacking || wants_memory (Read fault)) }
-        ensures told { (self.new.path_unspelled ≡ self.old.path_unspelled) × Logs (L.taken log.old) (L.has_failed log.old) (L.taken log.new) (L.has_failed log.new) (cause_line what.now (Read fault))
+        ensures file_lacking { self.new.file_lacking
+            ≡ (self.old.file_lacking || wants_memory (Read fault)) }
+        ensures told { (self.new.path_unspelled ≡ self.old.path_unspelled)
+            × Logs (L.taken log.old) (L.taken log.new) (cause_line what.now (Read fault))
             ⊎ (has_path_in (Read fault) ≡ true) × (self.new.path_unspelled ≡ true)
-            × Logs (L.taken log.old) (L.has_failed log.old) (L.taken log.new) (L.has_failed log.new) memory_line }
+            × Logs (L.taken log.old) (L.taken log.new) memory_line }
     {
         let cause = Cause::Read(fault);
         self.note(alloc, log, what, &cause);

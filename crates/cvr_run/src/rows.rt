@@ -1,7 +1,8 @@
-ghost use Rattle.cvr_run.specs.Rows.{TwoRefused, OtherElection, DefinitionRefused, CheckOfThree, OneValue, FiveStepsRefused, LinesOfThree};
+ghost use Rattle.cvr_run.specs.Rows.{TwoRefused, OtherElection, DefinitionRefused, CheckOfThree};
+ghost use Rattle.cvr_run.specs.Rows.{OneValue, FiveStepsRefused, LinesOfThree};
 
-/// Worked examples: the lines of runs with refused files, and of a drill with refused steps; and the
-/// text of a drill in which one file is accepted.
+/// Worked examples: the lines of runs with refused files, and of a drill with refused steps; and
+/// the text of a drill in which one file is accepted.
 pub fn worked_rows()
     ensures two_refused { TwoRefused }
     ensures other_election { OtherElection }

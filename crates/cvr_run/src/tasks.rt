@@ -1,15 +1,17 @@
-ghost use Rattle.std.specs.Prelude.{◌≡◌, ◌≢◌, ◌⊎◌, ◌++◌, ℕ, length, true, false, Option, None, IfOk, IfErr, OnErr, string_bytes};
+ghost use Rattle.std.specs.Prelude.{◌≡◌, ◌++◌, ℕ, length, true, false, Option, None, IfOk, IfErr};
+ghost use Rattle.std.specs.Prelude.{OnErr, string_bytes};
 ghost use Rattle.std.specs.List.{list_any};
-ghost use Rattle.cdf_types.specs.Device.{appended, AppendsPrefix};
 ghost use Rattle.cvr_run.specs.Accepted.{is_refused};
 ghost use Rattle.cvr_run.specs.Imported.{files_bytes};
-ghost use Rattle.cvr_run.specs.Outcome.{held, check_lines, facts_text, task_text, run_text, task_fault, run_fault, files_refused, task_refused, any_refused, bytes_of, IsWhole};
-ghost use Rattle.cvr_run.specs.declared.status.Status.TheVariants.{Done, Refused, CommandLine, Device, Memory as NoMemory};
+ghost use Rattle.cvr_run.specs.Outcome.{held, check_lines, facts_text, task_text, task_fault};
+ghost use Rattle.cvr_run.specs.Outcome.{files_refused, task_refused, bytes_of};
+ghost use Rattle.cvr_run.specs.declared.status.Status.TheVariants.{Memory as NoMemory};
+ghost use Rattle.cvr_words.specs.declared.request.Task.TheVariants.{Check};
 ghost use Rattle.cvr_run.specs.declared.refusals.Refusals.{Refusals};
 ghost use Rattle.cvr_run.specs.declared.merge.MergeFault.{MergeFault};
-ghost use Rattle.cvr_run.specs.Ends.{Ends};
-ghost use Rattle.cvr_run.specs.Log.{Logs};
-ghost use Rattle.cvr_run.specs.Told.{file_dues, texts_of, dues_of, is_check, run_lines, last_lines, Tells, TellsRun, CanEndAfter, IsCutShort, IsRunCutShort, LogsSome};
+ghost use Rattle.cvr_run.specs.Ends.{Ends, Ran};
+ghost use Rattle.cvr_run.specs.Told.{file_dues, import_dues, task_dues, Tells, TellsRun};
+ghost use Rattle.cvr_run.specs.Told.{CanEndAfter, IsCutShort, LogsSome};
 
 use crate::check::push_count;
 use crate::collecting::collect;
@@ -36,13 +38,17 @@ fn count_files<L: Sink>(
     log: &mut L,
 ) -> Result<Refusals, Memory>
     requires { length paths.now ≡ length files.now }
-    ensures any_refusal { IfOk result (λ r. r.file_lacking ≡ false → r.any_refusal ≡ list_any (is_refused definition.now) (bytes_of files.now)) }
-    ensures text { IfOk result (λ r. r.file_lacking ≡ false
-        → string_bytes text.new ≡ string_bytes text.old ++ check_lines definition.now paths.now (bytes_of files.now)) }
-    ensures log { IfOk result (λ r. Tells paths.now (file_dues definition.now (bytes_of files.now)) (length files.now) r
-        (L.taken log.old) (L.has_failed log.old) (L.taken log.new) (L.has_failed log.new)) }
-    ensures cut_short { OnErr result ((n : ℕ) × (r : Refusals) × (r.file_lacking ≡ false) × CanEndAfter true n (file_dues definition.now (bytes_of files.now))
-        × Tells paths.now (file_dues definition.now (bytes_of files.now)) n r (L.taken log.old) (L.has_failed log.old) (L.taken log.new) (L.has_failed log.new)) }
+    ensures any_refusal { IfOk result (λ r. r.file_lacking ≡ false
+        → r.any_refusal ≡ list_any (is_refused definition.now) (bytes_of files.now)) }
+    ensures text { IfOk result (λ r. r.file_lacking ≡ false → string_bytes text.new
+        ≡ string_bytes text.old ++ check_lines definition.now paths.now (bytes_of files.now)) }
+    ensures log { IfOk result
+        (λ r. Tells (task_dues definition.now Check paths.now (bytes_of files.now))
+        (length files.now) r (L.taken log.old) (L.taken log.new)) }
+    ensures cut_short { OnErr result ((n : ℕ) × (r : Refusals) × (r.file_lacking ≡ false)
+        × CanEndAfter true n (file_dues definition.now (bytes_of files.now))
+        × Tells (task_dues definition.now Check paths.now (bytes_of files.now)) n r
+        (L.taken log.old) (L.taken log.new)) }
 {
     let mut refusals = Refusals::none();
     for (place, file) in files.iter().enumerate() {
@@ -57,7 +63,7 @@ fn count_files<L: Sink>(
     Ok(refusals)
 }
 
-// One office with all files that aren't refused, or the status of a run that wanted memory for it.
+// One office with all files that aren't refused, or the status of a run for which memory ran out.
 fn collect_all<O: Office + Drop, L: Sink>(
     alloc: Global,
     definition: Definition,
@@ -68,13 +74,16 @@ fn collect_all<O: Office + Drop, L: Sink>(
     requires { length paths.now ≡ length (files_bytes files) }
     ensures definition { IfOk result (λ r. O.defined r.0 ≡ definition) }
     ensures content { IfOk result (λ r. O.held r.0 ≡ held definition (files_bytes files.entry)) }
-    ensures any_refusal { IfOk result (λ r. r.1.any_refusal ≡ list_any (is_refused definition) (files_bytes files.entry)) }
+    ensures any_refusal { IfOk result (λ r.
+        r.1.any_refusal ≡ list_any (is_refused definition) (files_bytes files.entry)) }
     ensures whole { IfOk result (λ r. r.1.file_lacking ≡ false) }
     ensures status { IfErr result (λ s. s ≡ NoMemory) }
-    ensures log { IfOk result (λ r. Tells paths.now (file_dues definition (files_bytes files.entry)) (length (files_bytes files.entry)) r.1
-        (L.taken log.old) (L.has_failed log.old) (L.taken log.new) (L.has_failed log.new)) }
-    ensures cut_short { OnErr result ((fault : Option MergeFault) → LogsSome (IsCutShort false paths.now (file_dues definition (files_bytes files.entry)) fault false)
-        (L.taken log.old) (L.has_failed log.old) (L.taken log.new) (L.has_failed log.new)) }
+    ensures log { IfOk result
+        (λ r. Tells (import_dues definition paths.now (files_bytes files.entry))
+        (length (files_bytes files.entry)) r.1 (L.taken log.old) (L.taken log.new)) }
+    ensures cut_short { OnErr result ((fault : Option MergeFault) → LogsSome
+        (IsCutShort (import_dues definition paths.now (files_bytes files.entry)) fault false)
+        (L.taken log.old) (L.taken log.new)) }
 {
     let Ok((office, refusals)) = collect::<O, L>(alloc, definition, paths, files, log) else {
         return Err(end_in_memory(log));
@@ -95,13 +104,15 @@ fn run_office<O: Office + Drop, W: Sink, L: Sink>(
     out: &mut W,
     log: &mut L,
 ) -> Status
-    requires working { W.has_failed out.old ≡ false }
+    requires working { (W.taken out.old).failed ≡ false }
     requires named { length paths.now ≡ length (files_bytes files) }
-    ensures ends { Ends (W.taken out.old) (W.taken out.new) (W.has_failed out.new)
-        (facts_text definition task.now (held definition (files_bytes files.entry))) (files_refused definition task.now (files_bytes files.entry)) result }
-    ensures log { TellsRun false paths.now (file_dues definition (files_bytes files.entry)) (result ≡ NoMemory)
-        (task_fault definition task.now (files_bytes files.entry)) (W.has_failed out.new)
-        (L.taken log.old) (L.has_failed log.old) (L.taken log.new) (L.has_failed log.new) }
+    ensures ends { Ends (W.taken out.old) (W.taken out.new)
+        (facts_text definition task.now (held definition (files_bytes files.entry)))
+        (files_refused definition task.now (files_bytes files.entry)) result }
+    ensures log { TellsRun (import_dues definition paths.now (files_bytes files.entry))
+        (task_fault definition task.now (files_bytes files.entry)) result
+        (record { out = W.taken out.old; log = L.taken log.old })
+        (record { out = W.taken out.new; log = L.taken log.new }) }
 {
     match collect_all::<O, L>(alloc, definition, paths, files, log) {
         Ok((office, refusals)) => {
@@ -122,12 +133,15 @@ fn run_check<W: Sink, L: Sink>(
     out: &mut W,
     log: &mut L,
 ) -> Status
-    requires working { W.has_failed out.old ≡ false }
+    requires working { (W.taken out.old).failed ≡ false }
     requires named { length paths.now ≡ length files.now }
-    ensures ends { Ends (W.taken out.old) (W.taken out.new) (W.has_failed out.new)
-        (check_lines definition.now paths.now (bytes_of files.now)) (list_any (is_refused definition.now) (bytes_of files.now)) result }
-    ensures log { TellsRun true paths.now (file_dues definition.now (bytes_of files.now)) (result ≡ NoMemory) None (W.has_failed out.new)
-        (L.taken log.old) (L.has_failed log.old) (L.taken log.new) (L.has_failed log.new) }
+    ensures ends { Ends (W.taken out.old) (W.taken out.new)
+        (check_lines definition.now paths.now (bytes_of files.now))
+        (list_any (is_refused definition.now) (bytes_of files.now)) result }
+    ensures log { TellsRun (task_dues definition.now Check paths.now (bytes_of files.now)) None
+        result
+        (record { out = W.taken out.old; log = L.taken log.old })
+        (record { out = W.taken out.new; log = L.taken log.new }) }
 {
     let mut text = String::new(alloc);
     match count_files(alloc, definition, paths, files, &mut text, log) {
@@ -149,14 +163,16 @@ fn run_task<O: Office + Drop, W: Sink, L: Sink>(
     out: &mut W,
     log: &mut L,
 ) -> Status
-    requires working { W.has_failed out.old ≡ false }
+    requires working { (W.taken out.old).failed ≡ false }
     requires named { length request.now.paths ≡ length (files_bytes files) }
-    ensures ends { Ends (W.taken out.old) (W.taken out.new) (W.has_failed out.new)
+    ensures ends { Ends (W.taken out.old) (W.taken out.new)
         (task_text definition request.now.task request.now.paths (files_bytes files.entry))
         (task_refused definition request.now.task (files_bytes files.entry)) result }
-    ensures log { TellsRun (is_check request.now.task) (texts_of request.now.task request.now.paths) (dues_of definition request.now.task (files_bytes files.entry))
-        (result ≡ NoMemory) (task_fault definition request.now.task (files_bytes files.entry)) (W.has_failed out.new)
-        (L.taken log.old) (L.has_failed log.old) (L.taken log.new) (L.has_failed log.new) }
+    ensures log { TellsRun
+        (task_dues definition request.now.task request.now.paths (files_bytes files.entry))
+        (task_fault definition request.now.task (files_bytes files.entry)) result
+        (record { out = W.taken out.old; log = L.taken log.old })
+        (record { out = W.taken out.new; log = L.taken log.new }) }
 {
     let paths = request.paths.as_slice();
     let task = &request.task;
@@ -186,18 +202,14 @@ pub fn run_files<O: Office + Drop, W: Sink, L: Sink>(
     out: &mut W,
     log: &mut L,
 ) -> Status
-    requires working { W.has_failed out.old ≡ false }
-    requires log_working { L.has_failed log.old ≡ false }
+    requires working { (W.taken out.old).failed ≡ false }
+    requires log_working { (L.taken log.old).failed ≡ false }
     requires named { length request.now.paths ≡ length (files_bytes files) }
-    ensures ends { Ends (W.taken out.old) (W.taken out.new) (W.has_failed out.new)
-        (run_text request.now.task def.now request.now.paths (files_bytes files.entry)) (any_refused request.now.task def.now (files_bytes files.entry)) result }
-    ensures log { result ≢ NoMemory → Logs (L.taken log.old) (L.has_failed log.old) (L.taken log.new) (L.has_failed log.new)
-        (run_lines request.now.task request.now.def def.now request.now.paths (files_bytes files.entry)
-        ++ last_lines (run_fault request.now.task def.now (files_bytes files.entry)) (W.has_failed out.new)) }
-    ensures cut_short { result ≡ NoMemory
-        → LogsSome (IsRunCutShort request.now.task request.now.def def.now request.now.paths (files_bytes files.entry)
-        (run_fault request.now.task def.now (files_bytes files.entry)) (W.has_failed out.new))
-        (L.taken log.old) (L.has_failed log.old) (L.taken log.new) (L.has_failed log.new) }
+    ensures ran { Ran
+        (record { request = request.now; def = def.now; files = files_bytes files.entry })
+        result
+        (record { out = W.taken out.old; log = L.taken log.old })
+        (record { out = W.taken out.new; log = L.taken log.new }) }
 {
     match Definition::read(alloc, def) {
         Err(fault) => {
@@ -209,11 +221,11 @@ pub fn run_files<O: Office + Drop, W: Sink, L: Sink>(
     }
 }
 
-/// Runs a request over the bytes of its definition and of its files, in the order of its paths.
-/// A refused file or step is told to the log, and the rest is done. Where the definition is refused
-/// nothing else is done, and where a file or a step was refused for want of memory nothing is printed,
-/// nor any fault of a merge told. That fault comes after the refused files, and nothing is printed then
-/// either.
+/// Runs a request over the bytes of its definition and of its files, in the order of its paths. A
+/// refused file or step is reported in the log, and the rest is done. Where the definition is
+/// refused nothing else is done. Where memory ran out for a file or a step nothing is printed, and
+/// no fault of a merge is reported. That fault comes after the refused files, and nothing is
+/// printed then either.
 pub fn run<O: Office + Drop, W: Sink, L: Sink>(
     alloc: Global,
     request: &Request,
@@ -222,25 +234,13 @@ pub fn run<O: Office + Drop, W: Sink, L: Sink>(
     out: &mut W,
     log: &mut L,
 ) -> Status
-    requires working { W.has_failed out.old ≡ false }
-    requires log_working { L.has_failed log.old ≡ false }
+    requires working { (W.taken out.old).failed ≡ false }
+    requires log_working { (L.taken log.old).failed ≡ false }
     requires named { length request.now.paths ≡ length files.now }
-    ensures text { IsWhole result → W.taken out.new
-        ≡ appended (W.taken out.old) (run_text request.now.task def.now request.now.paths (bytes_of files.now)) }
-    ensures front { AppendsPrefix (W.taken out.old) (W.taken out.new)
-        (run_text request.now.task def.now request.now.paths (bytes_of files.now)) }
-    ensures done { result ≡ Done → any_refused request.now.task def.now (bytes_of files.now) ≡ false }
-    ensures refused { result ≡ Refused → any_refused request.now.task def.now (bytes_of files.now) ≡ true }
-    ensures device { result ≡ Device → W.has_failed out.new ≡ true }
-    ensures failed { W.has_failed out.new ≡ true → (result ≡ Device) ⊎ (result ≡ NoMemory) }
-    ensures no_words { result ≢ CommandLine }
-    ensures log { result ≢ NoMemory → Logs (L.taken log.old) (L.has_failed log.old) (L.taken log.new) (L.has_failed log.new)
-        (run_lines request.now.task request.now.def def.now request.now.paths (bytes_of files.now)
-        ++ last_lines (run_fault request.now.task def.now (bytes_of files.now)) (W.has_failed out.new)) }
-    ensures cut_short { result ≡ NoMemory
-        → LogsSome (IsRunCutShort request.now.task request.now.def def.now request.now.paths (bytes_of files.now)
-        (run_fault request.now.task def.now (bytes_of files.now)) (W.has_failed out.new))
-        (L.taken log.old) (L.has_failed log.old) (L.taken log.new) (L.has_failed log.new) }
+    ensures ran { Ran (record { request = request.now; def = def.now; files = bytes_of files.now })
+        result
+        (record { out = W.taken out.old; log = L.taken log.old })
+        (record { out = W.taken out.new; log = L.taken log.new }) }
 {
     run_files::<O, W, L>(alloc, request, def, Files::Lent(files), out, log)
 }

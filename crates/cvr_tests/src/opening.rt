@@ -74,11 +74,11 @@ struct Noting<'r, 'a, R> {
 impl<'r, 'a, R: Abort + AllocGlobal> Open for Noting<'r, 'a, R> {
     type File = MemorySource<'a>;
 
-    ghost file_at = { λ _ _. Unknown };
-
-    ghost may_fail = { λ _ _. true };
-
-    ghost opened = { λ noting. Some (map string_bytes noting.paths.items) };
+    ghost state = { λ noting. record {
+        at = λ _. Unknown;
+        may_fail = λ _. true;
+        opened = Some (map string_bytes noting.paths.items);
+    } };
 
     fn open(&mut self, path: &str) -> Result<MemorySource<'a>, FileFault> {
         let noted = path.to_string(self.rt.alloc()).expect(self.rt, "no memory");

@@ -18,9 +18,7 @@ struct Narrow {
 }
 
 impl Sink for Narrow {
-    ghost taken = { λ _. None };
-
-    ghost has_failed = { λ s. s.failed };
+    ghost taken = { λ s. record { bytes = None; failed = s.failed } };
 
     fn write(&mut self, bytes: &[u8]) -> Result<usize, DeviceFault> {
         let count = bytes.len().min(self.per_call);

@@ -10,11 +10,7 @@ use std::process::Abort;
 struct Endless;
 
 impl Source for Endless {
-    ghost left = { λ _. None };
-
-    ghost has_failed = { λ _. false };
-
-    ghost can_fail = { λ _. false };
+    ghost left = { λ _. record { bytes = None; failed = false; can_fail = false } };
 
     fn read(&mut self, buffer: &mut [u8]) -> Result<usize, DeviceFault> {
         Ok(buffer.len())
@@ -38,11 +34,7 @@ struct Pieces {
 }
 
 impl Source for Pieces {
-    ghost left = { λ _. None };
-
-    ghost has_failed = { λ _. false };
-
-    ghost can_fail = { λ _. false };
+    ghost left = { λ _. record { bytes = None; failed = false; can_fail = false } };
 
     fn read(&mut self, buffer: &mut [u8]) -> Result<usize, DeviceFault> {
         let count = buffer.len().min(4096).min(self.left);

@@ -18,8 +18,8 @@ returns-in_err-write_piece g c =
       | else-later w ↦ ap (λ (s : Bor (List ℕ)). s.now) w.lead-is ∙ ap comma_if (sym w.if-later.false)
     ] in
     let body = shown c.args.i (device_list (g.O.Office.held c.args.office.now) c.args.id.now) in
-    subst (λ t. Writes (g.W.Sink.taken c.args.out.now) (g.W.Sink.taken c.write_piece.new.out) (g.W.Sink.has_failed c.write_piece.new.out) c.from_residual.result (t ++ body)) lead
-    (cut_short (g.W.Sink.taken c.args.out.now) (g.W.Sink.taken c.write_piece.new.out) _ c.from_residual.result c.in_err-write_piece.field-0.0 c.as_bytes.result.now body c.from_residual.ensures.1
+    subst (λ t. Writes (g.W.Sink.taken c.args.out.now) (g.W.Sink.taken c.write_piece.new.out) c.from_residual.result (t ++ body)) lead
+    (cut_short (g.W.Sink.taken c.args.out.now) (g.W.Sink.taken c.write_piece.new.out) c.from_residual.result c.in_err-write_piece.field-0.0 c.as_bytes.result.now body c.from_residual.ensures.1
     (some_prefix (g.W.Sink.taken c.args.out.now) (g.W.Sink.taken c.write_piece.new.out) c.as_bytes.result.now c.in_err-write_piece.ensures.0, c.in_err-write_piece.ensures.1))
 
 pub returns-in-Some : goal.returns-in-Some
@@ -34,7 +34,7 @@ returns-in-Some g c =
     c.as_bytes-in-Some.ensures.value ∙ (c.as_str.ensures
     ∙ shown_is (bodies_under (g.O.Office.held c.args.office.now) (name.Device c.args.id.now)) c.args.i c.min.result c.device_count.result c.in-Some.body.now
     c.min.ensures c.device_count.ensures (ap (option_map (λ b. b.now)) (sym c.in-Some.is) ∙ c.device_body.ensures)) in
-    subst (λ t. Writes (g.W.Sink.taken c.args.out.now) (g.W.Sink.taken c.write_piece-in-Some.new.out) (g.W.Sink.has_failed c.write_piece-in-Some.new.out) c.write_piece-in-Some.result (t ++ body)) lead
-    (goes_on (g.W.Sink.taken c.args.out.now) (g.W.Sink.taken c.write_piece.new.out) (g.W.Sink.taken c.write_piece-in-Some.new.out) _ c.write_piece-in-Some.result c.as_bytes.result.now body c.in_ok-write_piece.ensures.0
-    (subst (Writes (g.W.Sink.taken c.write_piece.new.out) (g.W.Sink.taken c.write_piece-in-Some.new.out) (g.W.Sink.has_failed c.write_piece-in-Some.new.out) c.write_piece-in-Some.result) is
-    (writes (g.W.Sink.taken c.write_piece.new.out) (g.W.Sink.taken c.write_piece-in-Some.new.out) _ c.write_piece-in-Some.result c.as_bytes-in-Some.result.now c.write_piece-in-Some.ensures)))
+    subst (λ t. Writes (g.W.Sink.taken c.args.out.now) (g.W.Sink.taken c.write_piece-in-Some.new.out) c.write_piece-in-Some.result (t ++ body)) lead
+    (goes_on (g.W.Sink.taken c.args.out.now) (g.W.Sink.taken c.write_piece.new.out) (g.W.Sink.taken c.write_piece-in-Some.new.out) c.write_piece-in-Some.result c.as_bytes.result.now body c.in_ok-write_piece.ensures.0
+    (subst (Writes (g.W.Sink.taken c.write_piece.new.out) (g.W.Sink.taken c.write_piece-in-Some.new.out) c.write_piece-in-Some.result) is
+    (writes (g.W.Sink.taken c.write_piece.new.out) (g.W.Sink.taken c.write_piece-in-Some.new.out) c.write_piece-in-Some.result c.as_bytes-in-Some.result.now c.write_piece-in-Some.ensures)))

@@ -14,7 +14,7 @@ devices-init g c =
     let s = g.O.Office.held c.args.office.now in
     let first = option_map (λ i. i.now) c.next_device-next.result in
     record {
-      progress = starts (g.W.Sink.taken c.args.out.now) (g.W.Sink.has_failed c.args.out.now) (joined false (device_texts s c.args.i (devices s))) (devices_rest s c.args.i false first) c.requires.working
+      progress = starts (g.W.Sink.taken c.args.out.now) (joined false (device_texts s c.args.i (devices s))) (devices_rest s c.args.i false first) c.requires.working
           (devices_begin s c.args.i first c.next_device-next.ensures);
       listed = device_there s c.args.i None first c.next_device-next.ensures;
     }
@@ -26,7 +26,7 @@ returns-in_err-write_device g c =
     let here = option_map (λ i. i.now) c.devices.next in
     let id = c.in-Some.id.now in
     let above = next text_cmp (devices s) (Some id) in
-    stops (g.W.Sink.taken c.args.out.now) (g.W.Sink.taken c.devices.out) (g.W.Sink.taken c.write_device.new.out) (g.W.Sink.has_failed c.devices.out) (g.W.Sink.has_failed c.write_device.new.out)
+    stops (g.W.Sink.taken c.args.out.now) (g.W.Sink.taken c.devices.out) (g.W.Sink.taken c.write_device.new.out)
     (joined false (device_texts s i (devices s))) (devices_rest s i c.devices.later here) c.devices.invariant.progress c.from_residual.result c.in_err-write_device.field-0.0
     (comma_if c.devices.later ++ shown i (device_list s id)) (devices_rest s i true above)
     (device_next s i here above id c.devices.invariant.listed (ap (option_map (λ i. i.now)) c.in-Some.is) refl c.devices.later)
@@ -46,7 +46,7 @@ devices-preserved g c =
     let above = option_map (λ i. i.now) c.next_device-next-in-Some.result in
     record {
       progress =
-          writes_on (g.W.Sink.taken c.args.out.now) (g.W.Sink.taken c.devices.out) (g.W.Sink.taken c.write_device.new.out) (g.W.Sink.has_failed c.devices.out) (g.W.Sink.has_failed c.write_device.new.out)
+          writes_on (g.W.Sink.taken c.args.out.now) (g.W.Sink.taken c.devices.out) (g.W.Sink.taken c.write_device.new.out)
           (joined false (device_texts s i (devices s))) (devices_rest s i c.devices.later here) c.devices.invariant.progress
           (comma_if c.devices.later ++ shown i (device_list s id)) (devices_rest s i true above)
           (device_next s i here above id c.devices.invariant.listed (ap (option_map (λ i. i.now)) c.in-Some.is) c.next_device-next-in-Some.ensures c.devices.later)

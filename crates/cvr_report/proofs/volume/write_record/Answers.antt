@@ -35,7 +35,7 @@ returns-then-not-stands-clause-written g c =
     let frame = g.O.Office.defined c.args.office.now in
     let are = subst (AreRecordFacts frame.contests s c.args.key.now) c.in-Some.is c.in_ok-found.ensures in
     let not : stands s c.args.i c.args.key.now ≡ false = sym (stands_is frame s c.requires.keeps c.args.key.now c.in-Some.found are.1 c.args.i) ∙ (sym c.stands.ensures ∙ c.if-not-stands.true) in
-    (appended_none (g.W.Sink.taken c.args.out.now) ∙ ap (λ o. appended (g.W.Sink.taken c.args.out.now) (record_piece c.args.later o)) (sym (no_text s c.args.i c.args.key.now not)), c.requires.working)
+    (appended_none (g.W.Sink.taken c.args.out.now).bytes ∙ ap (λ o. appended (g.W.Sink.taken c.args.out.now).bytes (record_piece c.args.later o)) (sym (no_text s c.args.i c.args.key.now not)), c.requires.working)
 
 pub push_shown-requires-clause-some : goal.push_shown-requires-clause-some
 push_shown-requires-clause-some g c =
@@ -61,8 +61,8 @@ returns-in_err-write_piece-clause-written g c =
     c.as_slice.ensures.value ∙ (c.in_ok-push_shown.ensures frame s key c.requires.keeps are.1
     ∙ (ap (λ b. b ++ text) (c.in_ok-extend_from_slice.ensures.items ∙ (ap (λ b. b ++ c.as_bytes.result.now) c.clear.ensures.items ∙ lead))
     ∙ (lead_piece c.args.later text ∙ ap (record_piece c.args.later) (sym (some_text s c.args.i key is))))) in
-    subst (Writes (g.W.Sink.taken c.args.out.now) (g.W.Sink.taken c.write_piece.new.out) (g.W.Sink.has_failed c.write_piece.new.out) c.from_residual-in_err-write_piece.result) (append-nil _ ∙ piece)
-    (cut_short (g.W.Sink.taken c.args.out.now) (g.W.Sink.taken c.write_piece.new.out) _ c.from_residual-in_err-write_piece.result c.in_err-write_piece.field-0.0 c.as_slice.result.now [] c.from_residual-in_err-write_piece.ensures.1
+    subst (Writes (g.W.Sink.taken c.args.out.now) (g.W.Sink.taken c.write_piece.new.out) c.from_residual-in_err-write_piece.result) (append-nil _ ∙ piece)
+    (cut_short (g.W.Sink.taken c.args.out.now) (g.W.Sink.taken c.write_piece.new.out) c.from_residual-in_err-write_piece.result c.in_err-write_piece.field-0.0 c.as_slice.result.now [] c.from_residual-in_err-write_piece.ensures.1
     (some_prefix (g.W.Sink.taken c.args.out.now) (g.W.Sink.taken c.write_piece.new.out) c.as_slice.result.now c.in_err-write_piece.ensures.0, c.in_err-write_piece.ensures.1))
 
 pub returns-clause-stands : goal.returns-clause-stands
@@ -90,4 +90,4 @@ returns-clause-written g c =
     c.as_slice.ensures.value ∙ (c.in_ok-push_shown.ensures frame s key c.requires.keeps are.1
     ∙ (ap (λ b. b ++ text) (c.in_ok-extend_from_slice.ensures.items ∙ (ap (λ b. b ++ c.as_bytes.result.now) c.clear.ensures.items ∙ lead))
     ∙ (lead_piece c.args.later text ∙ ap (record_piece c.args.later) (sym (some_text s c.args.i key is))))) in
-    (c.in_ok-write_piece.ensures.0 ∙ ap (appended (g.W.Sink.taken c.args.out.now)) piece, c.in_ok-write_piece.ensures.1)
+    (c.in_ok-write_piece.ensures.0 ∙ ap (appended (g.W.Sink.taken c.args.out.now).bytes) piece, c.in_ok-write_piece.ensures.1)

@@ -14,7 +14,7 @@ records-init g c =
     let s = g.O.Office.held c.args.office.now in
     let first = option_map (λ k. k.now) c.next_record-next.result in
     record {
-      progress = starts (g.W.Sink.taken c.args.out.now) (g.W.Sink.has_failed c.args.out.now) (list_text false (record_texts s c.args.i (records s))) (records_rest s c.args.i false first) c.requires.working
+      progress = starts (g.W.Sink.taken c.args.out.now) (list_text false (record_texts s c.args.i (records s))) (records_rest s c.args.i false first) c.requires.working
           (records_begin s c.args.i first c.next_record-next.ensures);
       listed = record_there s c.args.i None first c.next_record-next.ensures;
     }
@@ -26,7 +26,7 @@ returns-in_err-stands g c =
     let here = option_map (λ k. k.now) c.records.next in
     let key = c.in-Some.key.now in
     let above = next name_cmp (records s) (Some key) in
-    stops (g.W.Sink.taken c.args.out.now) (g.W.Sink.taken c.records.out) (g.W.Sink.taken c.write_record.new.out) (g.W.Sink.has_failed c.records.out) (g.W.Sink.has_failed c.write_record.new.out)
+    stops (g.W.Sink.taken c.args.out.now) (g.W.Sink.taken c.records.out) (g.W.Sink.taken c.write_record.new.out)
     (list_text false (record_texts s i (records s))) (records_rest s i c.records.later here) c.records.invariant.progress c.from_residual.result c.in_err-stands.field-0.0
     (record_piece c.records.later (record_text s i key)) (records_rest s i (c.records.later || is_some (record_text s i key)) above)
     (record_next s i here above key c.records.invariant.listed (ap (option_map (λ k. k.now)) c.in-Some.is) refl c.records.later)
@@ -53,8 +53,8 @@ records-preserved g c =
     let whole = list_text false (record_texts s i (records s)) in
     record {
       progress =
-          subst (λ b. Progress (g.W.Sink.taken c.args.out.now) (g.W.Sink.taken c.write_record.new.out) (g.W.Sink.has_failed c.write_record.new.out) whole (records_rest s i b above)) flag
-          (writes_on (g.W.Sink.taken c.args.out.now) (g.W.Sink.taken c.records.out) (g.W.Sink.taken c.write_record.new.out) (g.W.Sink.has_failed c.records.out) (g.W.Sink.has_failed c.write_record.new.out)
+          subst (λ b. Progress (g.W.Sink.taken c.args.out.now) (g.W.Sink.taken c.write_record.new.out) whole (records_rest s i b above)) flag
+          (writes_on (g.W.Sink.taken c.args.out.now) (g.W.Sink.taken c.records.out) (g.W.Sink.taken c.write_record.new.out)
           whole (records_rest s i c.records.later here) c.records.invariant.progress
           (record_piece c.records.later text) (records_rest s i (c.records.later || is_some text) above)
           (record_next s i here above key c.records.invariant.listed (ap (option_map (λ k. k.now)) c.in-Some.is) c.next_record-next-in-Some.ensures c.records.later)
@@ -72,8 +72,8 @@ returns g c =
       | then-later-2 w ↦ ap (λ (s : Bor (List ℕ)). s.now) w.end-is ∙ ap list_end (sym w.if-later-2.true)
       | else-later-2 w ↦ ap (λ (s : Bor (List ℕ)). s.now) w.end-is ∙ ap list_end (sym w.if-later-2.false)
     ] in
-    ends (g.W.Sink.taken c.args.out.now) (g.W.Sink.taken c.records.out) (g.W.Sink.taken c.write_piece.new.out) (g.W.Sink.has_failed c.records.out) (g.W.Sink.has_failed c.write_piece.new.out)
+    ends (g.W.Sink.taken c.args.out.now) (g.W.Sink.taken c.records.out) (g.W.Sink.taken c.write_piece.new.out)
     (list_text false (record_texts s i (records s))) (records_rest s i c.records.later here) c.records.invariant.progress c.write_piece.result
-    (subst (Writes (g.W.Sink.taken c.records.out) (g.W.Sink.taken c.write_piece.new.out) (g.W.Sink.has_failed c.write_piece.new.out) c.write_piece.result)
+    (subst (Writes (g.W.Sink.taken c.records.out) (g.W.Sink.taken c.write_piece.new.out) c.write_piece.result)
     (last ∙ sym (records_end s i here (ap (option_map (λ k. k.now)) c.in_default.is) c.records.later))
-    (writes (g.W.Sink.taken c.records.out) (g.W.Sink.taken c.write_piece.new.out) (g.W.Sink.has_failed c.write_piece.new.out) c.write_piece.result c.as_bytes.result.now c.write_piece.ensures))
+    (writes (g.W.Sink.taken c.records.out) (g.W.Sink.taken c.write_piece.new.out) c.write_piece.result c.as_bytes.result.now c.write_piece.ensures))

@@ -33,8 +33,8 @@ returns-in_err-write_piece g c =
     let b = g.W.Sink.taken c.args.out.now in
     let a1 = g.W.Sink.taken c.write_piece.new.out in
     let r = c.from_residual.result in
-    subst (WritesOrLess b a1 (g.W.Sink.has_failed c.write_piece.new.out) r) (sym (whole_text frame h.date h.device s i c.definition-definition.ensures.keeps c.requires.number))
-    (cut_before b a1 (g.W.Sink.has_failed c.write_piece.new.out) r c.in_err-write_piece.field-0.0 head_text (R ++ (M ++ (D ++ end_text))) (records_left R M D) c.from_residual.ensures.1
+    subst (WritesOrLess b a1 r) (sym (whole_text frame h.date h.device s i c.definition-definition.ensures.keeps c.requires.number))
+    (cut_before b a1 r c.in_err-write_piece.field-0.0 head_text (R ++ (M ++ (D ++ end_text))) (records_left R M D) c.from_residual.ensures.1
     (some_prefix b a1 head_text c.in_err-write_piece.ensures.0, c.in_err-write_piece.ensures.1))
 
 pub returns-in_err-write_records : goal.returns-in_err-write_records
@@ -49,11 +49,10 @@ returns-in_err-write_records g c =
     let b = g.W.Sink.taken c.args.out.now in
     let a1 = g.W.Sink.taken c.write_piece.new.out in
     let a2 = g.W.Sink.taken c.write_records.new.out in
-    let f2 = g.W.Sink.has_failed c.write_records.new.out in
     let r = c.from_residual-in_err-write_records.result in
-    subst (WritesOrLess b a2 f2 r) (sym (whole_text frame h.date h.device s i c.definition-definition.ensures.keeps c.requires.number))
-    (then_less b a1 a2 f2 r head_text (R ++ (M ++ (D ++ end_text))) c.in_ok-write_piece.ensures.0
-    (cut_before a1 a2 f2 r c.in_err-write_records.field-0.0 R (M ++ (D ++ end_text)) (middle_left M D) c.from_residual-in_err-write_records.ensures.1 c.in_err-write_records.ensures))
+    subst (WritesOrLess b a2 r) (sym (whole_text frame h.date h.device s i c.definition-definition.ensures.keeps c.requires.number))
+    (then_less b a1 a2 r head_text (R ++ (M ++ (D ++ end_text))) c.in_ok-write_piece.ensures.0
+    (cut_before a1 a2 r c.in_err-write_records.field-0.0 R (M ++ (D ++ end_text)) (middle_left M D) c.from_residual-in_err-write_records.ensures.1 c.in_err-write_records.ensures))
 
 pub returns-in_err-push_middle : goal.returns-in_err-push_middle
 returns-in_err-push_middle g c =
@@ -67,12 +66,11 @@ returns-in_err-push_middle g c =
     let b = g.W.Sink.taken c.args.out.now in
     let a1 = g.W.Sink.taken c.write_piece.new.out in
     let a2 = g.W.Sink.taken c.write_records.new.out in
-    let f2 = g.W.Sink.has_failed c.write_records.new.out in
     let r = c.from_residual-in_err-push_middle.result in
-    subst (WritesOrLess b a2 f2 r) (sym (whole_text frame h.date h.device s i c.definition-definition.ensures.keeps c.requires.number))
-    (then_less b a1 a2 f2 r head_text (R ++ (M ++ (D ++ end_text))) c.in_ok-write_piece.ensures.0
-    (then_less a1 a2 a2 f2 r R (M ++ (D ++ end_text)) c.in_ok-write_records.ensures.0
-    (no_memory a2 f2 r (M ++ (D ++ end_text)) (middle_left M D) c.from_residual-in_err-push_middle.ensures.1 c.in_ok-write_records.ensures.1)))
+    subst (WritesOrLess b a2 r) (sym (whole_text frame h.date h.device s i c.definition-definition.ensures.keeps c.requires.number))
+    (then_less b a1 a2 r head_text (R ++ (M ++ (D ++ end_text))) c.in_ok-write_piece.ensures.0
+    (then_less a1 a2 a2 r R (M ++ (D ++ end_text)) c.in_ok-write_records.ensures.0
+    (no_memory a2 r (M ++ (D ++ end_text)) (middle_left M D) c.from_residual-in_err-push_middle.ensures.1 c.in_ok-write_records.ensures.1)))
 
 pub returns-in_err-write_piece-2 : goal.returns-in_err-write_piece-2
 returns-in_err-write_piece-2 g c =
@@ -87,14 +85,13 @@ returns-in_err-write_piece-2 g c =
     let a1 = g.W.Sink.taken c.write_piece.new.out in
     let a2 = g.W.Sink.taken c.write_records.new.out in
     let a3 = g.W.Sink.taken c.write_piece-2.new.out in
-    let f3 = g.W.Sink.has_failed c.write_piece-2.new.out in
     let r = c.from_residual-in_err-write_piece-2.result in
     let middle : c.as_slice.result.now ≡ M = c.as_slice.ensures.value ∙ (c.in_ok-push_middle.ensures ∙ (ap (λ o. o ++ middle_text c.definition-definition.result.now h.date h.device) c.clear.ensures.items ∙ ap (λ d. middle_text d h.date h.device) c.definition-definition.ensures.is)) in
-    subst (WritesOrLess b a3 f3 r) (sym (whole_text frame h.date h.device s i c.definition-definition.ensures.keeps c.requires.number))
-    (then_less b a1 a3 f3 r head_text (R ++ (M ++ (D ++ end_text))) c.in_ok-write_piece.ensures.0
-    (then_less a1 a2 a3 f3 r R (M ++ (D ++ end_text)) c.in_ok-write_records.ensures.0
-    (subst (λ m. WritesOrLess a2 a3 f3 r (m ++ (D ++ end_text))) middle
-    (cut_before a2 a3 f3 r c.in_err-write_piece-2.field-0.0 c.as_slice.result.now (D ++ end_text) (devices_left D) c.from_residual-in_err-write_piece-2.ensures.1
+    subst (WritesOrLess b a3 r) (sym (whole_text frame h.date h.device s i c.definition-definition.ensures.keeps c.requires.number))
+    (then_less b a1 a3 r head_text (R ++ (M ++ (D ++ end_text))) c.in_ok-write_piece.ensures.0
+    (then_less a1 a2 a3 r R (M ++ (D ++ end_text)) c.in_ok-write_records.ensures.0
+    (subst (λ m. WritesOrLess a2 a3 r (m ++ (D ++ end_text))) middle
+    (cut_before a2 a3 r c.in_err-write_piece-2.field-0.0 c.as_slice.result.now (D ++ end_text) (devices_left D) c.from_residual-in_err-write_piece-2.ensures.1
     (some_prefix a2 a3 c.as_slice.result.now c.in_err-write_piece-2.ensures.0, c.in_err-write_piece-2.ensures.1)))))
 
 pub returns-in_err-write_devices : goal.returns-in_err-write_devices
@@ -111,14 +108,13 @@ returns-in_err-write_devices g c =
     let a2 = g.W.Sink.taken c.write_records.new.out in
     let a3 = g.W.Sink.taken c.write_piece-2.new.out in
     let a4 = g.W.Sink.taken c.write_devices.new.out in
-    let f4 = g.W.Sink.has_failed c.write_devices.new.out in
     let r = c.from_residual-in_err-write_devices.result in
     let middle : c.as_slice.result.now ≡ M = c.as_slice.ensures.value ∙ (c.in_ok-push_middle.ensures ∙ (ap (λ o. o ++ middle_text c.definition-definition.result.now h.date h.device) c.clear.ensures.items ∙ ap (λ d. middle_text d h.date h.device) c.definition-definition.ensures.is)) in
-    subst (WritesOrLess b a4 f4 r) (sym (whole_text frame h.date h.device s i c.definition-definition.ensures.keeps c.requires.number))
-    (then_less b a1 a4 f4 r head_text (R ++ (M ++ (D ++ end_text))) c.in_ok-write_piece.ensures.0
-    (then_less a1 a2 a4 f4 r R (M ++ (D ++ end_text)) c.in_ok-write_records.ensures.0
-    (then_less a2 a3 a4 f4 r M (D ++ end_text) (c.in_ok-write_piece-2.ensures.0 ∙ ap (appended a2) middle)
-    (cut_before a3 a4 f4 r c.in_err-write_devices.field-0.0 D end_text end_left c.from_residual-in_err-write_devices.ensures.1 c.in_err-write_devices.ensures))))
+    subst (WritesOrLess b a4 r) (sym (whole_text frame h.date h.device s i c.definition-definition.ensures.keeps c.requires.number))
+    (then_less b a1 a4 r head_text (R ++ (M ++ (D ++ end_text))) c.in_ok-write_piece.ensures.0
+    (then_less a1 a2 a4 r R (M ++ (D ++ end_text)) c.in_ok-write_records.ensures.0
+    (then_less a2 a3 a4 r M (D ++ end_text) (c.in_ok-write_piece-2.ensures.0 ∙ ap (appended a2.bytes) middle)
+    (cut_before a3 a4 r c.in_err-write_devices.field-0.0 D end_text end_left c.from_residual-in_err-write_devices.ensures.1 c.in_err-write_devices.ensures))))
 
 pub returns : goal.returns
 returns g c =
@@ -135,11 +131,10 @@ returns g c =
     let a3 = g.W.Sink.taken c.write_piece-2.new.out in
     let a4 = g.W.Sink.taken c.write_devices.new.out in
     let a5 = g.W.Sink.taken c.write_piece-3.new.out in
-    let f5 = g.W.Sink.has_failed c.write_piece-3.new.out in
     let r = c.write_piece-3.result in
     let middle : c.as_slice.result.now ≡ M = c.as_slice.ensures.value ∙ (c.in_ok-push_middle.ensures ∙ (ap (λ o. o ++ middle_text c.definition-definition.result.now h.date h.device) c.clear.ensures.items ∙ ap (λ d. middle_text d h.date h.device) c.definition-definition.ensures.is)) in
-    subst (WritesOrLess b a5 f5 r) (sym (whole_text frame h.date h.device s i c.definition-definition.ensures.keeps c.requires.number))
-    (then_less b a1 a5 f5 r head_text (R ++ (M ++ (D ++ end_text))) c.in_ok-write_piece.ensures.0
-    (then_less a1 a2 a5 f5 r R (M ++ (D ++ end_text)) c.in_ok-write_records.ensures.0
-    (then_less a2 a3 a5 f5 r M (D ++ end_text) (c.in_ok-write_piece-2.ensures.0 ∙ ap (appended a2) middle)
-    (then_less a3 a4 a5 f5 r D end_text c.in_ok-write_devices.ensures.0 c.write_piece-3.ensures))))
+    subst (WritesOrLess b a5 r) (sym (whole_text frame h.date h.device s i c.definition-definition.ensures.keeps c.requires.number))
+    (then_less b a1 a5 r head_text (R ++ (M ++ (D ++ end_text))) c.in_ok-write_piece.ensures.0
+    (then_less a1 a2 a5 r R (M ++ (D ++ end_text)) c.in_ok-write_records.ensures.0
+    (then_less a2 a3 a5 r M (D ++ end_text) (c.in_ok-write_piece-2.ensures.0 ∙ ap (appended a2.bytes) middle)
+    (then_less a3 a4 a5 r D end_text c.in_ok-write_devices.ensures.0 c.write_piece-3.ensures))))

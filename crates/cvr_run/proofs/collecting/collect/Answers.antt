@@ -1,4 +1,4 @@
-use Rattle.std.proofs.Common.{◌∙◌, ℕ, List, length, map, sym, ap, subst}
+use Rattle.std.proofs.Common.{◌∙◌, false, ℕ, List, length, map, sym, ap, subst}
 use Rattle.std.specs.List.{list_any}
 use Rattle.cvr_run.specs.Imported.{files_bytes}
 use Rattle.cvr_run.specs.Refusals.{is_refusal, is_want, AreDue}
@@ -23,7 +23,7 @@ returns-clause-log g c =
     let dues = file_dues c.args.definition files in
     let due = c.in_ok-office.ensures.imported.due in
     let same = c.as_slice.ensures.value in
-    let tells : List (List ℕ) → ℕ → Type 0 = λ texts n. Tells texts dues n c.note_refused-refusals.result (g.L.Sink.taken c.args.log.now) (g.L.Sink.has_failed c.args.log.now) (g.L.Sink.taken c.note_refused-refusals.new.log) (g.L.Sink.has_failed c.note_refused-refusals.new.log) in
+    let tells : List (List ℕ) → ℕ → Type 0 = λ texts n. Tells (record { by_file = false; texts = texts; dues = dues }) n c.note_refused-refusals.result (g.L.Sink.taken c.args.log.now) (g.L.Sink.taken c.note_refused-refusals.new.log) in
     subst (λ texts. tells texts (length files)) (path_texts c.args.paths.now)
     (subst (tells (map (λ path. path) c.args.paths.now)) (ap length same ∙ (sym due.count ∙ sym (all_due c.args.definition files)))
     (c.note_refused-refusals.ensures.log dues (subst (AreDue dues) (sym same) due)))

@@ -1,4 +1,4 @@
-use Rattle.std.proofs.Common.{◌≡◌, ◌+◌, ◌<◌, ◌∙◌, length, map, Some, None, option_map, sym, ap, subst, arith, rules, []}
+use Rattle.std.proofs.Common.{◌≡◌, false, ◌+◌, ◌<◌, ◌∙◌, length, map, Some, None, option_map, sym, ap, subst, arith, rules, []}
 use Rattle.std.proofs.lemmas.List.{length-map, get_or-map}
 use Rattle.cvr_run.specs.Refusals.{cause_in}
 use Rattle.cvr_run.specs.Told.{Tells}
@@ -11,7 +11,7 @@ pub loop-place-init : goal.loop-place-init
 loop-place-init g c = record {
   any_refusal = search rules;
   file_lacking = search rules;
-  log = λ dues due. tells_none _ dues _ _ c.none-refusals.result c.none-refusals.ensures.file_lacking c.none-refusals.ensures.path_unspelled;
+  log = λ dues due. tells_none (record { by_file = false; texts = map g.N.Named.text_of c.args.named.now; dues = dues }) _ c.none-refusals.result c.none-refusals.ensures.file_lacking c.none-refusals.ensures.path_unspelled;
 }
 
 pub loop-place-preserved : goal.loop-place-preserved
@@ -37,9 +37,9 @@ loop-place-preserved g c =
             any_refusal = ap (λ r. r.any_refusal) w.refusals-is ∙ refused_here rs n o lt at cause before.any_refusal now.any_refusal told was.any_refusal w.note.ensures.any_refusal;
             file_lacking = ap (λ r. r.file_lacking) w.refusals-is ∙ wanted_here rs n o lt at cause before.file_lacking now.file_lacking told was.file_lacking w.note.ensures.file_lacking;
             log = λ dues due.
-                subst (λ r. Tells texts dues (n + 1) r (g.L.Sink.taken c.args.log.now) (g.L.Sink.has_failed c.args.log.now) (g.L.Sink.taken c.match-cause_in.log) (g.L.Sink.has_failed c.match-cause_in.log)) (sym w.refusals-is)
-                (subst (λ l. Tells texts dues (n + 1) now (g.L.Sink.taken c.args.log.now) (g.L.Sink.has_failed c.args.log.now) (g.L.Sink.taken l) (g.L.Sink.has_failed l)) (sym w.log-is)
-                (tells_noted texts dues _ _ _ _ _ _ n before now w.text.result.now cause (was.log dues due) within (omega (arith, lt, due.count))
+                subst (λ r. Tells (record { by_file = false; texts = texts; dues = dues }) (n + 1) r (g.L.Sink.taken c.args.log.now) (g.L.Sink.taken c.match-cause_in.log)) (sym w.refusals-is)
+                (subst (λ l. Tells (record { by_file = false; texts = texts; dues = dues }) (n + 1) now (g.L.Sink.taken c.args.log.now) (g.L.Sink.taken l)) (sym w.log-is)
+                (tells_noted (record { by_file = false; texts = texts; dues = dues }) _ _ _ n before now w.text.result.now cause (was.log dues due) within (omega (arith, lt, due.count))
                 (w.text.ensures ∙ (ap text_of w.index-named-place.is ∙ sym (get_or-map text_of named n w.index-named-place.result [] there))) (due_where_told rs n o lt at dues due cause told) w.note.ensures.file_lacking w.note.ensures.told));
           }
       | in_default w ↦
@@ -48,14 +48,14 @@ loop-place-preserved g c =
             any_refusal = ap (λ r. r.any_refusal) w.refusals-is ∙ accepted_here rs n o lt at before.any_refusal told was.any_refusal;
             file_lacking = ap (λ r. r.file_lacking) w.refusals-is ∙ unwanted_here rs n o lt at before.file_lacking told was.file_lacking;
             log = λ dues due.
-                subst (λ r. Tells texts dues (n + 1) r (g.L.Sink.taken c.args.log.now) (g.L.Sink.has_failed c.args.log.now) (g.L.Sink.taken c.match-cause_in.log) (g.L.Sink.has_failed c.match-cause_in.log)) (sym w.refusals-is)
-                (subst (λ l. Tells texts dues (n + 1) before (g.L.Sink.taken c.args.log.now) (g.L.Sink.has_failed c.args.log.now) (g.L.Sink.taken l) (g.L.Sink.has_failed l)) (sym w.log-is)
-                (tells_accepted texts dues _ _ _ _ n before (was.log dues due) within (omega (arith, lt, due.count)) (none_where_not rs n o lt at dues due told)));
+                subst (λ r. Tells (record { by_file = false; texts = texts; dues = dues }) (n + 1) r (g.L.Sink.taken c.args.log.now) (g.L.Sink.taken c.match-cause_in.log)) (sym w.refusals-is)
+                (subst (λ l. Tells (record { by_file = false; texts = texts; dues = dues }) (n + 1) before (g.L.Sink.taken c.args.log.now) (g.L.Sink.taken l)) (sym w.log-is)
+                (tells_accepted (record { by_file = false; texts = texts; dues = dues }) _ _ n before (was.log dues due) within (omega (arith, lt, due.count)) (none_where_not rs n o lt at dues due told)));
           }
     ]
 
 pub returns-clause-log : goal.returns-clause-log
 returns-clause-log g c = λ dues due.
     let all : c.loop-place.place ≡ length c.args.outcomes.now = omega (arith, c.loop-place-test.false, c.loop-place.auto.place-end) in
-    subst (λ k. Tells (map g.N.Named.text_of c.args.named.now) dues k c.loop-place.refusals (g.L.Sink.taken c.args.log.now) (g.L.Sink.has_failed c.args.log.now) (g.L.Sink.taken c.loop-place.log) (g.L.Sink.has_failed c.loop-place.log)) all
+    subst (λ k. Tells (record { by_file = false; texts = map g.N.Named.text_of c.args.named.now; dues = dues }) k c.loop-place.refusals (g.L.Sink.taken c.args.log.now) (g.L.Sink.taken c.loop-place.log)) all
     (c.loop-place.invariant.log dues due)

@@ -1,4 +1,4 @@
-use Rattle.std.proofs.Common.{◌≡◌, List, map, take}
+use Rattle.std.proofs.Common.{false, ◌≡◌, List, map, take}
 use Rattle.std.specs.List.{list_any}
 use Rattle.cvr_run.specs.Refusals.{Due, is_refusal, is_want, AreDue}
 use Rattle.cvr_run.specs.Told.{Tells}
@@ -10,5 +10,5 @@ invariant-loop-place g l = record {
   any_refusal : l.refusals.any_refusal ≡ list_any is_refusal (take l.place l.outcomes);
   file_lacking : l.refusals.file_lacking ≡ list_any is_want (take l.place l.outcomes);
   log : (dues : List Due) → AreDue dues l.outcomes
-      → Tells (map g.N.Named.text_of l.named) dues l.place l.refusals (g.L.Sink.taken l.initial.log) (g.L.Sink.has_failed l.initial.log) (g.L.Sink.taken l.log) (g.L.Sink.has_failed l.log);
+      → Tells (record { by_file = false; texts = map g.N.Named.text_of l.named; dues = dues }) l.place l.refusals (g.L.Sink.taken l.initial.log) (g.L.Sink.taken l.log);
 }

@@ -1,9 +1,9 @@
-use Rattle.std.proofs.Common.{◌≡◌, false, None, length, sym, rules}
+use Rattle.std.proofs.Common.{None, length, refl, sym, rules}
 use Rattle.std.proofs.lemmas.List.{length-map}
-use Rattle.cvr_run.specs.declared.status.Status.TheVariants.{Memory}
-use Rattle.cvr_run.specs.Drill.{step_texts, step_due, step_dues, drill_text, drill_refused}
+use Rattle.cvr_run.specs.Drill.{step_due, drill_text, drill_refused}
 use Rattle.cvr_run.specs.Outcome.{bytes_of}
 use Rattle.cvr_run.specs.Printing.{Prints}
+use Rattle.cvr_run.specs.Told.{drill_dues}
 use Rattle.cvr_run.proofs.Endings.{ends_in_memory}
 use Rattle.cvr_run.proofs.Printed.{ends_after, tells_after}
 use Rattle.cvr_run.proofs.Telling.{wanted_unprinted}
@@ -16,10 +16,9 @@ returns-in-Ok-clause-ends g c =
     let files = bytes_of c.args.files.now in
     let before = g.W.Sink.taken c.args.out.now in
     let after = g.W.Sink.taken c.print_offices-printed.new.out in
-    let failed = g.W.Sink.has_failed c.print_offices-printed.new.out in
     let printed = c.print_offices-printed.result in
-    let prints : Prints before after failed printed None (drill_text definition c.args.count files steps) = search rules in
-    ends_after before after failed printed None (drill_text definition c.args.count files steps) c.in-Ok.refusals (drill_refused definition c.args.count files steps) _ prints
+    let prints : Prints before after printed None (drill_text definition c.args.count files steps) = search rules in
+    ends_after before after printed None (drill_text definition c.args.count files steps) c.in-Ok.refusals (drill_refused definition c.args.count files steps) _ prints
     (λ m is. absurd (cc)) c.in-Ok.ensures.whole c.in-Ok.ensures.any_refusal c.end_with.ensures.status
 
 pub returns-in-Ok-clause-log : goal.returns-in-Ok-clause-log
@@ -27,16 +26,14 @@ returns-in-Ok-clause-log g c =
     let definition = c.args.definition.now in
     let steps = c.args.steps.now in
     let files = bytes_of c.args.files.now in
-    let dues = step_dues definition c.args.count files steps in
-    tells_after (step_texts steps) dues (length steps) c.in-Ok.refusals _ _ _ _ _ _ c.in-Ok.ensures.log (sym (length-map steps (step_due definition c.args.count files))) c.in-Ok.ensures.whole
-    _ _ _ c.print_offices-printed.result None _ _ c.print_offices-printed.ensures c.end_with.ensures.status c.end_with.ensures.log
+    tells_after (drill_dues definition c.args.count files steps) (length steps) c.in-Ok.refusals _ _ _ c.in-Ok.ensures.log (sym (length-map steps (step_due definition c.args.count files))) c.in-Ok.ensures.whole
+    (g.W.Sink.taken c.args.out.now) (g.W.Sink.taken c.print_offices-printed.new.out) c.print_offices-printed.result None _ _ refl c.print_offices-printed.ensures c.end_with.ensures.status c.end_with.ensures.log
 
 pub returns-in-Err-clause-ends : goal.returns-in-Err-clause-ends
-returns-in-Err-clause-ends g c = ends_in_memory _ _ _ _ _ c.requires c.in-Err.ensures.status
+returns-in-Err-clause-ends g c = ends_in_memory _ _ _ _ c.requires c.in-Err.ensures.status
 
 pub returns-in-Err-clause-log : goal.returns-in-Err-clause-log
 returns-in-Err-clause-log g c =
     let definition = c.args.definition.now in
     let steps = c.args.steps.now in
-    let dues = step_dues definition c.args.count (bytes_of c.args.files.now) steps in
-    wanted_unprinted false (step_texts steps) dues (c.in-Err.status ≡ Memory) None _ _ _ _ _ c.in-Err.ensures.status c.requires (c.in-Err.ensures.cut_short None)
+    wanted_unprinted (drill_dues definition c.args.count (bytes_of c.args.files.now) steps) None _ _ (g.W.Sink.taken c.args.out.now) _ _ c.in-Err.ensures.status c.requires (c.in-Err.ensures.cut_short None)

@@ -1,4 +1,4 @@
-use Rattle.std.proofs.Common.{◌≡◌, ◌∙◌, [], ◌∷◌, false, codes, inl, refl, sym}
+use Rattle.std.proofs.Common.{◌≡◌, ◌∙◌, [], ◌∷◌, codes, inl, refl, sym}
 use Rattle.clap.specs.Words.{fault_of}
 use Rattle.clap.specs.declared.error.ErrorKind.TheVariants.{UnknownArgument}
 use Rattle.clap.proofs.OnLiterals.{clap_on_literals}
@@ -16,7 +16,7 @@ returns c = record {
   short = inl refl;
   split = refl;
   free = λ other asks. let bad : [] ≡ UnknownArgument ∷ [] = sym asks.0 ∙ list_unknown in cc;
-  asked = (refl, codes "tally", _, refl, record { task = refl; def = refl; paths = refl });
+  request = (refl, codes "tally", _, refl, record { task = refl; def = refl; paths = refl });
   files = refl;
   none = refl;
 }

@@ -3,11 +3,11 @@ use Rattle.cvr_run.proofs.file.read_file.Given as goal
 
 abbrev pub invariant-reads : goal.invariant-reads
 invariant-reads g l = record {
-  working : g.R.Source.has_failed l.source ≡ false;
-  stays : g.R.Source.can_fail l.source ≡ g.R.Source.can_fail l.initial.source;
+  working : (g.R.Source.left l.source).failed ≡ false;
+  stays : (g.R.Source.left l.source).can_fail ≡ (g.R.Source.left l.initial.source).can_fail;
   held : vec_len l.bytes ≤ 67108865;
   piece : length l.piece ≡ 4096;
-  all : IfSome (g.R.Source.left l.initial.source) (λ xs. (rest : List ℕ) × (g.R.Source.left l.source ≡ Some rest) × (xs ≡ l.bytes.items ++ rest));
+  all : IfSome (g.R.Source.left l.initial.source).bytes (λ xs. (rest : List ℕ) × ((g.R.Source.left l.source).bytes ≡ Some rest) × (xs ≡ l.bytes.items ++ rest));
 }
 
 abbrev pub decreases-reads : goal.decreases-reads

@@ -1,10 +1,10 @@
 use Rattle.std.proofs.Common.{false, length}
 use Rattle.cvr_run.specs.Imported.{files_bytes}
-use Rattle.cvr_run.specs.Told.{file_dues}
+use Rattle.cvr_run.specs.Told.{import_dues}
 use Rattle.cvr_run.proofs.Telling.{lacks, all_due}
 use Rattle.cvr_run.proofs.tasks.collect_all.Goals as goal
 
 pub returns-then-refusals-clause-cut_short : goal.returns-then-refusals-clause-cut_short
 returns-then-refusals-clause-cut_short g c = λ fault.
-    let dues = file_dues c.args.definition (files_bytes c.args.files) in
-    lacks false c.args.paths.now dues (length (files_bytes c.args.files)) c.in-Ok.refusals _ _ _ _ c.in-Ok.ensures.log (all_due c.args.definition (files_bytes c.args.files)) c.if-refusals.true fault false
+    let of = import_dues c.args.definition c.args.paths.now (files_bytes c.args.files) in
+    lacks of (length (files_bytes c.args.files)) c.in-Ok.refusals _ _ c.in-Ok.ensures.log (all_due c.args.definition (files_bytes c.args.files)) c.if-refusals.true fault false

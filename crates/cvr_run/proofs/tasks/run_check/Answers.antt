@@ -1,19 +1,19 @@
-use Rattle.std.proofs.Common.{◌≡◌, true, None, refl, length, rules, subst}
+use Rattle.std.proofs.Common.{◌≡◌, None, refl, length, rules, subst}
 use Rattle.std.specs.List.{list_any}
 use Rattle.cvr_run.specs.Accepted.{is_refused}
 use Rattle.cvr_run.specs.Outcome.{check_lines, bytes_of}
 use Rattle.cvr_run.specs.Printing.{Prints}
-use Rattle.cvr_run.specs.Told.{file_dues}
+use Rattle.cvr_run.specs.Told.{task_dues}
+use Rattle.cvr_words.specs.declared.request.Task.TheVariants.{Check}
 use Rattle.cvr_run.proofs.Printed.{ends_after, tells_whole, by_device}
 use Rattle.cvr_run.proofs.Telling.{lacks, wanted, cut_by_memory, dues_count}
 use Rattle.cvr_run.proofs.tasks.run_check.Goals as goal
 
 pub returns-then-refusals-clause-log : goal.returns-then-refusals-clause-log
 returns-then-refusals-clause-log g c =
-    let dues = file_dues c.args.definition.now (bytes_of c.args.files.now) in
-    let failed = g.W.Sink.has_failed c.args.out.now in
-    wanted true c.args.paths.now dues _ None failed _ _ _ _ refl
-    (lacks true c.args.paths.now dues (length c.args.files.now) c.in-Ok.refusals _ _ _ _ c.in-Ok.ensures.log (dues_count c.args.definition.now c.args.files.now) c.if-refusals.true None failed)
+    let of = task_dues c.args.definition.now Check c.args.paths.now (bytes_of c.args.files.now) in
+    wanted of None _ _ (g.W.Sink.taken c.args.out.now) _ _ refl
+    (lacks of (length c.args.files.now) c.in-Ok.refusals _ _ c.in-Ok.ensures.log (dues_count c.args.definition.now c.args.files.now) c.if-refusals.true None (g.W.Sink.taken c.args.out.now).failed)
 
 pub returns-in-Ok-clause-ends : goal.returns-in-Ok-clause-ends
 returns-in-Ok-clause-ends g c =
@@ -21,20 +21,20 @@ returns-in-Ok-clause-ends g c =
     let files = bytes_of c.args.files.now in
     let working = c.if-refusals.false in
     let text : c.as_str.result.now ≡ check_lines definition c.args.paths.now files = search rules in
-    let prints = subst (Prints (g.W.Sink.taken c.args.out.now) (g.W.Sink.taken c.print_text.new.out) (g.W.Sink.has_failed c.print_text.new.out) c.print_text.result None) text c.print_text.ensures.printed in
-    ends_after _ _ _ c.print_text.result None (check_lines definition c.args.paths.now files) c.in-Ok.refusals (list_any (is_refused definition) files) _ prints
+    let prints = subst (Prints (g.W.Sink.taken c.args.out.now) (g.W.Sink.taken c.print_text.new.out) c.print_text.result None) text c.print_text.ensures.printed in
+    ends_after _ _ c.print_text.result None (check_lines definition c.args.paths.now files) c.in-Ok.refusals (list_any (is_refused definition) files) _ prints
     (λ m is. absurd (cc)) working (c.in-Ok.ensures.any_refusal working) c.end_with.ensures.status
 
 pub returns-in-Ok-clause-log : goal.returns-in-Ok-clause-log
 returns-in-Ok-clause-log g c =
     let definition = c.args.definition.now in
-    let dues = file_dues definition (bytes_of c.args.files.now) in
-    tells_whole c.args.paths.now dues (length c.args.files.now) c.in-Ok.refusals _ _ _ _ _ _ c.in-Ok.ensures.log (dues_count definition c.args.files.now) c.if-refusals.false
-    true _ _ _ c.print_text.result None c.as_str.result.now _ c.print_text.ensures.printed (by_device c.print_text.result c.print_text.ensures.fault) c.end_with.ensures.status c.end_with.ensures.log
+    let of = task_dues definition Check c.args.paths.now (bytes_of c.args.files.now) in
+    tells_whole of (length c.args.files.now) c.in-Ok.refusals _ _ _ c.in-Ok.ensures.log (dues_count definition c.args.files.now) c.if-refusals.false
+    (g.W.Sink.taken c.args.out.now) (g.W.Sink.taken c.print_text.new.out) c.print_text.result None c.as_str.result.now _ c.print_text.ensures.printed (by_device c.print_text.result c.print_text.ensures.fault) c.end_with.ensures.status c.end_with.ensures.log
 
 pub returns-clause-log : goal.returns-clause-log
 returns-clause-log g c =
-    let dues = file_dues c.args.definition.now (bytes_of c.args.files.now) in
+    let of = task_dues c.args.definition.now Check c.args.paths.now (bytes_of c.args.files.now) in
     let cut = c.in-Err.ensures.cut_short in
-    wanted true c.args.paths.now dues _ None _ _ _ _ _ c.end_in_memory.ensures.status
-    (cut_by_memory true c.args.paths.now dues cut.0 cut.1 _ _ _ _ _ _ cut.4 None _ cut.3 cut.2 c.requires.working c.end_in_memory.ensures.log)
+    wanted of None _ _ (g.W.Sink.taken c.args.out.now) _ _ c.end_in_memory.ensures.status
+    (cut_by_memory of cut.0 cut.1 _ _ _ cut.4 None (g.W.Sink.taken c.args.out.now) cut.3 cut.2 c.requires.working c.end_in_memory.ensures.log)
