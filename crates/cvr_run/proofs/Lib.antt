@@ -4,7 +4,6 @@ pub mod Members
 pub mod Steps
 pub mod DueOutcomes
 pub mod Imports
-pub mod Turns
 pub mod Endings
 pub mod CurrentLines
 pub mod Most
@@ -12,6 +11,7 @@ mod Pieces
 pub mod Outcomes
 pub mod Telling
 pub mod ToldRows
+pub mod Collected
 pub mod Printed
 pub mod Merging
 pub mod Last

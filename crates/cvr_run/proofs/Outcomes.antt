@@ -1,5 +1,5 @@
 -- What outcomes tell of files or steps, one after the other.
-use Rattle.std.proofs.Common.{◌≡◌, ℕ, ◌+◌, ◌<◌, List, [], ◌∷◌, map, length, get_or, take, Bool, true, false, ◌||◌, Some, None, refl, sym, ap, ◌∙◌, subst}
+use Rattle.std.proofs.Common.{◌≡◌, ℕ, ◌+◌, ◌<◌, List, length, get_or, take, Bool, true, false, ◌||◌, Some, None, sym, ap, ◌∙◌, subst}
 use Rattle.std.specs.Prelude.{is_some}
 use Rattle.std.specs.Option.{option_map_or}
 use Rattle.std.specs.List.{list_any}
@@ -37,8 +37,3 @@ module _ (outcomes : List Outcome) (k : ℕ) (o : Outcome) (lt : k < length outc
 
   pub unwanted_here : (before : Bool) → None ≡ cause_in o → before ≡ list_any is_want (take k outcomes) → before ≡ list_any is_want (take (k + 1) outcomes)
   unwanted_here before told is = any_here is_want before before is (sym (or-false before) ∙ ap (λ c. before || option_map_or wants_memory c false) told)
-
--- files are told by their paths
-pub path_texts : (paths : List (List ℕ)) → map (λ path. path) paths ≡ paths
-path_texts [] = refl
-path_texts (path ∷ paths) = ap (λ ps. path ∷ ps) (path_texts paths)

@@ -10,7 +10,7 @@ pub mod Status
 pub mod Job
 pub mod Told
 pub mod CutShort
-pub mod Imported
+pub mod Given
 pub mod Printing
 pub mod Opening
 pub mod Devices

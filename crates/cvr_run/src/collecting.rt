@@ -1,141 +1,78 @@
-ghost use Rattle.std.specs.Prelude.{◌≡◌, ℕ, ◌<◌, List, false, length, map, get_or, option_map};
-ghost use Rattle.std.specs.Prelude.{IfOk, OnErr};
+ghost use Rattle.std.specs.Prelude.{◌≡◌, ◌+◌, ℕ, ◌||◌, false, length, IfOk, OnErr};
 ghost use Rattle.std.specs.List.{list_any};
-ghost use Rattle.std.specs.FinSet.{empty};
-ghost use Rattle.cvr_office.specs.declared.event.Event.TheVariants.{Import, Exchange};
-ghost use Rattle.cvr_office.specs.Outcomes.{no_frame};
+ghost use Rattle.std.specs.FinSet.{union};
+ghost use Rattle.cdf_types.specs.Device.{Taken};
+ghost use Rattle.cdf_definition.specs.Acceptance.{first_refusal};
+ghost use Rattle.cvr_office.specs.Reach.{union_over};
 ghost use Rattle.cvr_run.specs.Accepted.{is_refused};
-ghost use Rattle.cvr_run.specs.Imported.{files_bytes, IsImported, AreImported};
-ghost use Rattle.cvr_run.specs.Outcome.{held, bytes_of};
-ghost use Rattle.cvr_run.specs.Refusals.{cause_in, is_refusal, is_want, AreDue, Due};
-ghost use Rattle.cvr_run.specs.Told.{import_dues, Tells};
+ghost use Rattle.cvr_run.specs.Given.{files_bytes};
+ghost use Rattle.cvr_run.specs.Outcome.{accepted_facts, held};
+ghost use Rattle.cvr_run.specs.Refusals.{file_due};
+ghost use Rattle.cvr_run.specs.Told.{import_dues, Dues, IsNext, Tells};
 
 use crate::given::Files;
-use crate::named::Named;
 use crate::refusals::Refusals;
 use cdf_check::Definition;
 use cdf_types::{Body, Memory, Sink};
-use cvr_office::{Cause, Event, Office, Outcome, play};
+use cvr_office::Office;
 use std::alloc::Global;
-use std::slice::from_ref;
 
-// The import of each file into the first office, in order.
-fn imports_of(alloc: Global, files: usize) -> Result<Vec<Event>, Memory>
-    ensures count { IfOk result (λ events. length events.items ≡ files) }
-    ensures each { IfOk result
-        (λ events. (k : ℕ) → k < files → get_or events.items k (Exchange 0 0) ≡ Import 0 k) }
-{
-    let mut events = Vec::new(alloc);
-    for file in 0..files {
-        events.push(Event::Import { office: 0, file })?;
-    }
-    Ok(events)
-}
-
-// The cause for which an event was refused.
-fn cause_in(outcome: &Outcome) -> Option<&Cause>
-    ensures { option_map (λ c. c.now) result ≡ cause_in outcome.now }
-{
-    match outcome {
-        Outcome::Accepted(_) => None,
-        Outcome::Refused(cause) => Some(cause),
-    }
-}
-
-/// Reports each file or step that was refused in the log.
-pub fn note_refused<N: Named, L: Sink>(
+// Imports a file into an office, and reports it in the log where it is refused.
+fn import_one<O: Office, L: Sink>(
     alloc: Global,
-    named: &[N],
-    outcomes: &[Outcome],
+    office: &mut O,
+    path: &str,
+    file: &[u8],
+    refusals: &mut Refusals,
+    log: &mut L,
+)
+    ensures definition { O.defined office.new ≡ O.defined office.old }
+    ensures content { refusals.new.file_lacking ≡ false → O.held office.new
+        ≡ union (O.held office.old) (accepted_facts (O.defined office.old) file.now) }
+    ensures any_refusal { refusals.new.file_lacking ≡ false → refusals.new.any_refusal
+        ≡ (refusals.old.any_refusal || is_refused (O.defined office.old) file.now) }
+    ensures lacking { refusals.new.file_lacking ≡ false → refusals.old.file_lacking ≡ false }
+    ensures log { (of : Dues) (n : ℕ) (start : Taken)
+        → Tells of n refusals.old start (L.taken log.old)
+        → IsNext of n path.now (file_due (first_refusal (O.defined office.old) file.now))
+        → Tells of (n + 1) refusals.new start (L.taken log.new) }
+{
+    if let Err(fault) = office.import(file) {
+        refusals.note_file(alloc, log, path, fault);
+    }
+}
+
+// Imports files into an office, in order, and reports each refused one in the log. Given files are
+// freed one by one, as they are imported.
+fn import_all<O: Office, L: Sink>(
+    alloc: Global,
+    office: &mut O,
+    paths: &[Body],
+    mut files: Files<'_>,
     log: &mut L,
 ) -> Refusals
-    requires { length named.now ≡ length outcomes.now }
-    ensures any_refusal { result.any_refusal ≡ list_any is_refusal outcomes.now }
-    ensures file_lacking { result.file_lacking ≡ list_any is_want outcomes.now }
-    ensures log { (dues : List Due) → AreDue dues outcomes.now
-        → Tells (record { by_file = false; texts = map N.text_of named.now; dues = dues })
-        (length outcomes.now) result (L.taken log.old) (L.taken log.new) }
+    requires { length paths.now ≡ length (files_bytes files) }
+    ensures definition { O.defined office.new ≡ O.defined office.old }
+    ensures content { result.file_lacking ≡ false → O.held office.new ≡ union (O.held office.old)
+        (union_over (accepted_facts (O.defined office.old)) (files_bytes files.entry)) }
+    ensures any_refusal { result.file_lacking ≡ false → result.any_refusal
+        ≡ list_any (is_refused (O.defined office.old)) (files_bytes files.entry) }
+    ensures log { Tells (import_dues (O.defined office.old) paths.now (files_bytes files.entry))
+        (length (files_bytes files.entry)) result (L.taken log.old) (L.taken log.new) }
 {
     let mut refusals = Refusals::none();
-    for (place, outcome) in outcomes.iter().enumerate() {
-        if let Some(cause) = cause_in(outcome) {
-            refusals.note(alloc, log, named[place].text(), cause);
-        }
+    for (place, path) in paths.iter().enumerate() {
+        let file = files.all()[place].as_slice();
+        import_one(alloc, office, path.as_str(), file, &mut refusals, log);
+        files.free(place);
     }
     refusals
 }
 
-// Imports lent files into one new office, in order, and answers the outcomes.
-fn import_lent<O: Office + Drop>(
-    alloc: Global,
-    definition: Definition,
-    files: &[Vec<u8>],
-) -> Result<(O, Vec<Outcome>), Memory>
-    ensures definition { IfOk result (λ r. O.defined r.0 ≡ definition) }
-    ensures imported { IfOk result
-        (λ r. AreImported definition (bytes_of files.now) r.1.items (O.held r.0)) }
-{
-    let mut offices = Vec::new(alloc);
-    offices.push(O::new(alloc, definition)?)?;
-    let events = imports_of(alloc, files.len())?;
-    let outcomes = play(alloc, offices.as_mut_slice(), files, events.as_slice())?;
-    Ok((offices.swap_remove(0), outcomes))
-}
-
-// Imports one file into the first office, lets it go, and answers the outcome.
-fn import_one<O: Office>(alloc: Global, offices: &mut [O], file: Vec<u8>) -> Result<Outcome, Memory>
-    requires { 0 < length offices.old }
-    ensures imported { IfOk result
-        (λ outcome. IsImported (get_or (map O.defined offices.old) 0 no_frame) file.items outcome
-        (get_or (map O.held offices.old) 0 empty) (get_or (map O.held offices.new) 0 empty)) }
-    ensures definitions { map O.defined offices.new ≡ map O.defined offices.old }
-{
-    let event = Event::Import { office: 0, file: 0 };
-    let mut outcomes = play(alloc, offices, from_ref(&file), from_ref(&event))?;
-    Ok(outcomes.swap_remove(0))
-}
-
-// Imports given files so, each of which is let go before the next one.
-fn import_given<O: Office + Drop>(
-    alloc: Global,
-    definition: Definition,
-    files: Vec<Vec<u8>>,
-) -> Result<(O, Vec<Outcome>), Memory>
-    ensures definition { IfOk result (λ r. O.defined r.0 ≡ definition) }
-    ensures imported { IfOk result
-        (λ r. AreImported definition (bytes_of files.items) r.1.items (O.held r.0)) }
-{
-    let mut offices = Vec::new(alloc);
-    offices.push(O::new(alloc, definition)?)?;
-    let mut outcomes = Vec::new(alloc);
-    for file in files {
-        outcomes.push(import_one(alloc, offices.as_mut_slice(), file)?)?;
-    }
-    Ok((offices.swap_remove(0), outcomes))
-}
-
-// Imports files, lent or given, into one new office, in order, and answers the outcomes.
-fn import_all<O: Office + Drop>(
-    alloc: Global,
-    definition: Definition,
-    files: Files<'_>,
-) -> Result<(O, Vec<Outcome>), Memory>
-    ensures definition { IfOk result (λ r. O.defined r.0 ≡ definition) }
-    ensures imported { IfOk result
-        (λ r. AreImported definition (files_bytes files.entry) r.1.items (O.held r.0)) }
-{
-    match files {
-        Files::Lent(files) => import_lent(alloc, definition, files),
-        Files::Given(files) => import_given(alloc, definition, files),
-    }
-}
-
-/// Collects files in one new office, in order, and reports each refused one in the log. Given files
-/// are dropped one by one, as they are imported.
+/// Collects files in one new office, in order, and reports each refused one in the log.
 ///
 /// # Errors
-/// `Memory` where the office or the lists of imports and their outcomes had no room. No file is
-/// then collected.
+/// `Memory` where the office had no room. No file is then collected.
 pub fn collect<O: Office + Drop, L: Sink>(
     alloc: Global,
     definition: Definition,
@@ -154,7 +91,7 @@ pub fn collect<O: Office + Drop, L: Sink>(
         (length (files_bytes files.entry)) r.1 (L.taken log.old) (L.taken log.new)) }
     ensures unchanged { OnErr result (log.new ≡ log.old) }
 {
-    let (office, outcomes) = import_all::<O>(alloc, definition, files)?;
-    let refusals = note_refused(alloc, paths, outcomes.as_slice(), log);
+    let mut office = O::new(alloc, definition)?;
+    let refusals = import_all(alloc, &mut office, paths, files, log);
     Ok((office, refusals))
 }

@@ -49,8 +49,8 @@ pub fn memory_ends_a_log_as_told()
     ensures after_lacking { AfterLacking }
 {}
 
-/// Worked examples of openers: which paths one shows that was to open two more; and which file a run
-/// reports over an opener that has only the first of three.
+/// Worked examples of openers: which paths one shows that was to open two more; and which file a
+/// run reports over an opener that has only the first of three.
 pub fn openers_show_what_they_were_to_open()
     ensures four { FourAreShown }
     ensures missing { TheMissingIsReported }

@@ -22,7 +22,6 @@ mod listing;
 mod log;
 mod memory_files;
 mod merge;
-mod named;
 mod number;
 mod offices;
 mod opening;

@@ -2,7 +2,7 @@ ghost use Rattle.std.specs.Prelude.{◌≡◌, ◌++◌, ℕ, length, true, fals
 ghost use Rattle.std.specs.Prelude.{OnErr, string_bytes};
 ghost use Rattle.std.specs.List.{list_any};
 ghost use Rattle.cvr_run.specs.Accepted.{is_refused};
-ghost use Rattle.cvr_run.specs.Imported.{files_bytes};
+ghost use Rattle.cvr_run.specs.Given.{files_bytes};
 ghost use Rattle.cvr_run.specs.Outcome.{held, check_lines, facts_text, task_text, task_fault};
 ghost use Rattle.cvr_run.specs.Outcome.{files_refused, task_refused, bytes_of};
 ghost use Rattle.cvr_run.specs.declared.status.Status.TheVariants.{Memory as NoMemory};

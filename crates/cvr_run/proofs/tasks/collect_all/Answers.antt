@@ -1,5 +1,5 @@
 use Rattle.std.proofs.Common.{false, length}
-use Rattle.cvr_run.specs.Imported.{files_bytes}
+use Rattle.cvr_run.specs.Given.{files_bytes}
 use Rattle.cvr_run.specs.Told.{import_dues}
 use Rattle.cvr_run.proofs.Telling.{lacks, all_due}
 use Rattle.cvr_run.proofs.tasks.collect_all.Goals as goal

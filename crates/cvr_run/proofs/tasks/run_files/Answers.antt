@@ -2,7 +2,7 @@ use Rattle.std.proofs.Common.{ℕ, List, [], Bool, inr, sym, ◌∙◌, subst, a
 use Rattle.std.proofs.lemmas.Grind.{common_steps}
 use Rattle.cdf_definition.specs.Acceptance.{frame_in}
 use Rattle.cvr_run.specs.Ends.{Ends}
-use Rattle.cvr_run.specs.Imported.{files_bytes}
+use Rattle.cvr_run.specs.Given.{files_bytes}
 use Rattle.cvr_run.specs.Outcome.{run_text, task_text, task_fault, run_fault, any_refused}
 use Rattle.cvr_run.specs.Log.{Logs}
 use Rattle.cvr_run.specs.Told.{last_lines, task_dues, IsCutShort}

@@ -1,7 +1,7 @@
 use Rattle.std.proofs.Common.{length, refl, subst}
 use Rattle.std.specs.List.{list_any}
 use Rattle.cvr_run.specs.Accepted.{is_refused}
-use Rattle.cvr_run.specs.Imported.{files_bytes}
+use Rattle.cvr_run.specs.Given.{files_bytes}
 use Rattle.cvr_run.specs.Outcome.{held, facts_fault, facts_text, task_fault}
 use Rattle.cvr_run.specs.Printing.{Prints}
 use Rattle.cvr_run.specs.Told.{import_dues}

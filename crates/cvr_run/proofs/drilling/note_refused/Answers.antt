@@ -1,23 +1,27 @@
-use Rattle.std.proofs.Common.{◌≡◌, false, ◌+◌, ◌<◌, ◌∙◌, length, map, Some, None, option_map, sym, ap, subst, arith, rules, []}
+use Rattle.std.proofs.Common.{◌≡◌, false, ℕ, List, ◌+◌, ◌<◌, ◌∙◌, length, map, Some, None, option_map, sym, ap, subst, arith, rules, []}
 use Rattle.std.proofs.lemmas.List.{length-map, get_or-map}
+use Rattle.cvr_words.specs.declared.request.Step.{Step}
 use Rattle.cvr_run.specs.Refusals.{cause_in}
 use Rattle.cvr_run.specs.Told.{Tells}
 use Rattle.cvr_run.proofs.Outcomes.{due_where_told, none_where_not, refused_here, wanted_here, accepted_here, unwanted_here}
 use Rattle.cvr_run.proofs.Telling.{tells_none, tells_noted, tells_accepted}
-use Rattle.cvr_run.proofs.collecting.note_refused.Goals as goal
-use Rattle.cvr_run.proofs.collecting.note_refused.Goals.{in-Some, in_default}
+use Rattle.cvr_run.proofs.drilling.note_refused.Goals as goal
+use Rattle.cvr_run.proofs.drilling.note_refused.Goals.{in-Some, in_default}
+
+abbrev step_text : Step → List ℕ
+step_text step = step.text
 
 pub loop-place-init : goal.loop-place-init
 loop-place-init g c = record {
   any_refusal = search rules;
   file_lacking = search rules;
-  log = λ dues due. tells_none (record { by_file = false; texts = map g.N.Named.text_of c.args.named.now; dues = dues }) _ c.none-refusals.result c.none-refusals.ensures.file_lacking c.none-refusals.ensures.path_unspelled;
+  log = λ dues due. tells_none (record { by_file = false; texts = map step_text c.args.steps.now; dues = dues }) _ c.none-refusals.result c.none-refusals.ensures.file_lacking c.none-refusals.ensures.path_unspelled;
 }
 
 pub loop-place-preserved : goal.loop-place-preserved
 loop-place-preserved g c =
-    let text_of = g.N.Named.text_of in
-    let named = c.args.named.now in
+    let text_of = step_text in
+    let named = c.args.steps.now in
     let texts = map text_of named in
     let rs = c.args.outcomes.now in
     let n = c.loop-place.place in
@@ -39,8 +43,8 @@ loop-place-preserved g c =
             log = λ dues due.
                 subst (λ r. Tells (record { by_file = false; texts = texts; dues = dues }) (n + 1) r (g.L.Sink.taken c.args.log.now) (g.L.Sink.taken c.match-cause_in.log)) (sym w.refusals-is)
                 (subst (λ l. Tells (record { by_file = false; texts = texts; dues = dues }) (n + 1) now (g.L.Sink.taken c.args.log.now) (g.L.Sink.taken l)) (sym w.log-is)
-                (tells_noted (record { by_file = false; texts = texts; dues = dues }) _ _ _ n before now w.text.result.now cause (was.log dues due) within (omega (arith, lt, due.count))
-                (w.text.ensures ∙ (ap text_of w.index-named-place.is ∙ sym (get_or-map text_of named n w.index-named-place.result [] there))) (due_where_told rs n o lt at dues due cause told) w.note.ensures.file_lacking w.note.ensures.told));
+                (tells_noted (record { by_file = false; texts = texts; dues = dues }) _ _ _ n before now w.as_str.result.now cause (was.log dues due) within (omega (arith, lt, due.count))
+                (w.as_str.ensures ∙ sym (get_or-map text_of named n w.index-steps-place.result [] there)) (due_where_told rs n o lt at dues due cause told) w.note.ensures.file_lacking w.note.ensures.told));
           }
       | in_default w ↦
           let told : None ≡ cause_in o = sym (ap (option_map (λ c. c.now)) w.in_default.is) ∙ c.cause_in.ensures in
@@ -57,5 +61,5 @@ loop-place-preserved g c =
 pub returns-clause-log : goal.returns-clause-log
 returns-clause-log g c = λ dues due.
     let all : c.loop-place.place ≡ length c.args.outcomes.now = omega (arith, c.loop-place-test.false, c.loop-place.auto.place-end) in
-    subst (λ k. Tells (record { by_file = false; texts = map g.N.Named.text_of c.args.named.now; dues = dues }) k c.loop-place.refusals (g.L.Sink.taken c.args.log.now) (g.L.Sink.taken c.loop-place.log)) all
+    subst (λ k. Tells (record { by_file = false; texts = map step_text c.args.steps.now; dues = dues }) k c.loop-place.refusals (g.L.Sink.taken c.args.log.now) (g.L.Sink.taken c.loop-place.log)) all
     (c.loop-place.invariant.log dues due)
