@@ -7,7 +7,7 @@ use Rattle.cdf_definition.specs.Named.{Entry}
 use Rattle.cdf_definition.specs.Frame.{Frame}
 use Rattle.cvr_fact_types.specs.Facts.{Device, name_cmp}
 use Rattle.cvr_facts.proofs.Lemmas.{none_listed, in_map, from_map}
-use Rattle.cvr_tally.specs.Rows.{Rows}
+use Rattle.cvr_tally.specs.Rows.{Rows, TotalsValue}
 use Rattle.cvr_tally.specs.Keys.{key_cmp, keys_total, keys_exact}
 use Rattle.cvr_office.specs.declared.any_fact.AnyFact.{AnyFact}
 use Rattle.cvr_office.specs.Names.{record_of}
@@ -16,7 +16,7 @@ use Rattle.cvr_office.specs.Plain.{set_of, IsPlain, IsPut}
 use Rattle.cvr_office.specs.Tallied.{rows, row_over}
 use Rattle.cvr_office.proofs.Laws.{rows_law}
 use Rattle.cvr_cached.specs.Contents.{Entries, listed}
-use Rattle.cvr_cached.specs.Held.{AreOwn, IsCached}
+use Rattle.cvr_cached.specs.Held.{AreOwn, IsHeld, IsCached}
 use Rattle.cvr_cached.proofs.Listed.{sorted_nil}
 use Rattle.cvr_cached.proofs.Answering.{records_are}
 
@@ -47,9 +47,13 @@ module _ (frame : Frame) (none more d : List AnyFact) (empty_is : none ≡ []) (
       ap (λ m. Rattle.std.specs.FinMap.get m q) is ∙ (get-empty key_cmp q
       ∙ sym (rows_law contests (set_of (listed d [])) q ∙ ap (row_over contests (set_of (listed d [])) q) (records_are d [] own_nil))))
 
-  pub cached_start : IsPlain frame d → (contests : List Contest) (m : Rows) (count : ℕ) → contests ≡ frame.contests → m ≡ empty → count ≡ length d → count < 2 ^ 64 → IsCached frame d es contests m count
-  cached_start plain contests m count same rows_are is fits = subst (λ es. IsCached frame d es contests m count) (sym no_entries) record {
-    plain = subst (IsPlain frame) (sym (append-nil d)) plain;
-    held = record { own = own_nil; rows_are = no_rows contests m rows_are; counted = is ∙ ap length (sym (append-nil d)); fits = fits };
-    contests_are = same;
+  pub held_start : (t : TotalsValue) (count : ℕ) → t.rows ≡ empty → count ≡ length d → count < 2 ^ 64 → IsHeld (record { devices = d; records = es; totals = t }) count
+  held_start t count rows_are is fits = subst (λ (es : Entries). IsHeld (record { devices = d; records = es; totals = t }) count) (sym no_entries) record {
+    own = own_nil;
+    rows_are = no_rows t.contests t.rows rows_are;
+    counted = is ∙ ap length (sym (append-nil d));
+    fits = fits;
   }
+
+  pub cached_start : IsPlain frame d → (t : TotalsValue) → t.contests ≡ frame.contests → IsCached frame (record { devices = d; records = es; totals = t })
+  cached_start plain t same = record { plain = subst (IsPlain frame) (sym alone) plain; contests_are = same }

@@ -1,5 +1,5 @@
 -- A content that facts were put into: by how many it grew, and the step that it is for a plan.
-use Rattle.std.proofs.Common.{◌≡◌, ℕ, ◌+◌, ◌-◌, List, length, Contains, inr, false, arith}
+use Rattle.std.proofs.Common.{◌≡◌, ◌+◌, ◌-◌, List, [], ◌∷◌, ◌++◌, length, Contains, inr, false, arith}
 use Rattle.std.specs.Prelude.{OnOk}
 use Rattle.std.specs.declared.result.Result.{Result}
 use Rattle.std.specs.declared.result.Result.TheVariants.{Ok, Err}
@@ -10,8 +10,8 @@ use Rattle.cvr_office.specs.declared.any_fact.AnyFact.{AnyFact}
 use Rattle.cvr_office.specs.Place.{fact_of, any_cmp}
 use Rattle.cvr_office.specs.Plain.{set_of, IsPut}
 use Rattle.cvr_lists.proofs.Laws.{put_growth}
-use Rattle.cvr_cached.specs.Contents.{Entries}
-use Rattle.cvr_cached.specs.Plans.{IsPushed, IsStep}
+use Rattle.cvr_cached.specs.declared.plan.Plan.{Plan}
+use Rattle.cvr_cached.specs.Plans.{IsStep}
 use Rattle.cvr_cached.proofs.Listed.{len-set_of}
 use Rattle.cvr_cached.proofs.Searched.{grows}
 
@@ -22,7 +22,8 @@ grown_set old more new rises put =
     omega (arith, by.0, len-set_of old rises, len-set_of new put.rises)
 
 -- it is one change more, where something was new
-pub step_added : {T E : Type 0} (r : Result T E) (old group content : List AnyFact) (name : RecordName) (cs : Entries) (n : ℕ) (cs' : Entries) (n' : ℕ) → IsStrictlySortedBy any_cmp old → IsPut old group content
-    → (x : AnyFact) × Contains group x × (contains (set_of old) (fact_of x) ≡ false) → OnOk r (IsPushed old content name cs n cs' n') → OnOk r (IsStep old group name cs n cs' n')
-step_added (Ok u) old group content name cs n cs' n' rises put fresh pushed = inr record { content = content; put = put; more = grows old group content rises put fresh; pushed = pushed }
-step_added (Err e) old group content name cs n cs' n' rises put fresh pushed = tt
+pub step_added : {T E : Type 0} (r : Result T E) (old group content : List AnyFact) (name : RecordName) (plan plan' : Plan) → IsStrictlySortedBy any_cmp old → IsPut old group content
+    → (x : AnyFact) × Contains group x × (contains (set_of old) (fact_of x) ≡ false) → OnOk r (plan'.contents.items ≡ plan.contents.items ++ (name, content) ∷ [])
+    → OnOk r (plan'.new_facts + length old ≡ plan.new_facts + length content) → OnOk r (IsStep old group name plan plan')
+step_added (Ok u) old group content name plan plan' rises put fresh pushed counted = inr record { content = content; put = put; more = grows old group content rises put fresh; contents_are = pushed; count = counted }
+step_added (Err e) old group content name plan plan' rises put fresh pushed counted = tt

@@ -8,7 +8,6 @@ pub mod Pairs
 pub mod Passing
 pub mod Olds
 pub mod Wholes
-pub mod ListedSets
 pub mod After
 pub mod Answering
 pub mod Begins
@@ -25,7 +24,6 @@ pub mod Opening
 pub mod Committing
 pub mod Importing
 pub mod Growing
-pub mod Joined
 pub mod Theirs
 pub mod Apart
 pub mod SameContents
@@ -34,3 +32,4 @@ pub mod NextOver
 pub mod GivenMoves
 pub mod Moving
 pub mod Moved
+pub mod Settled

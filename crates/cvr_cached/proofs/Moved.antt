@@ -1,8 +1,6 @@
 -- A plan that is carried out changes rows as often as the facts before and after tell.
-use Rattle.std.proofs.Common.{◌≡◌, ℕ, ◌+◌, ◌<◌, Bool, true, false, not, cond, ◌&&◌, ◌||◌, List, [], ◌∷◌, length, map, Contains, inl, inr, Option, Some, None, Less, refl, sym, ap, ◌∙◌, subst, arith, is_ok}
-use Rattle.std.specs.Prelude.{◌⊎◌, ◌↔◌, OnOk}
-use Rattle.std.specs.declared.result.Result.{Result}
-use Rattle.std.specs.declared.result.Result.TheVariants.{Ok, Err}
+use Rattle.std.proofs.Common.{◌≡◌, ℕ, ◌+◌, ◌<◌, Bool, true, false, not, cond, ◌&&◌, ◌||◌, List, [], ◌∷◌, length, map, Contains, inl, inr, Option, Some, None, Less, refl, sym, ap, ◌∙◌, subst, arith}
+use Rattle.std.specs.Prelude.{◌⊎◌, ◌↔◌}
 use Rattle.std.specs.List.{sum_by, filter_map}
 use Rattle.std.specs.List.Sorted.{IsStrictlySortedBy}
 use Rattle.std.specs.FinSet.{contains, difference, items, len, contains-difference}
@@ -21,7 +19,6 @@ use Rattle.cvr_fact_types.specs.Facts.{Fact, Facts, name_cmp, fact_total, fact_e
 use Rattle.cvr_facts.proofs.Laws.{contains_iff}
 use Rattle.cvr_facts.proofs.Lemmas.{none_listed, at_head, at_tail, head_or_tail, in_map, from_map, in_set, from_set, Contains-filter_map, from-filter_map}
 use Rattle.cvr_tally.specs.declared.key.RowKey.{RowKey}
-use Rattle.cvr_tally.specs.Rows.{Rows}
 use Rattle.cvr_office.specs.declared.any_fact.AnyFact.{AnyFact}
 use Rattle.cvr_office.specs.Adding.{key_for}
 use Rattle.cvr_office.specs.Names.{record_of}
@@ -31,8 +28,9 @@ use Rattle.cvr_office.specs.Readers.{IsHeader, IsCurrent}
 use Rattle.cvr_office.specs.Tallied.{sums_of_body}
 use Rattle.cvr_office.proofs.Laws.{name_total, name_exact}
 use Rattle.cvr_office.proofs.Lemmas.{ordered-members, in_union, from_union}
-use Rattle.cvr_cached.specs.Contents.{Entries, facts_at, listed, header_in, current_in, pairs_of}
-use Rattle.cvr_cached.specs.Held.{AreOwn, IsHeld, IsTold}
+use Rattle.cvr_cached.specs.declared.plan.Plan.{Plan}
+use Rattle.cvr_cached.specs.Contents.{Entries, content_at, facts_at, listed, header_in, current_in, pairs_of}
+use Rattle.cvr_cached.specs.Held.{Stored, facts_of, AreOwn, IsHeld, CanTake}
 use Rattle.cvr_cached.specs.Moves.{contests_at, moved}
 use Rattle.cvr_cached.specs.Plans.{is_named, is_name_of, laid, all_moves, IsPlan}
 use Rattle.cvr_cached.proofs.KeyTests.{own_name, same_name}
@@ -149,15 +147,26 @@ sum_moves f w (c ∷ cs) is =
 
 -- ---- the plan is carried out
 
-module _ (contests : List Contest) (d : List AnyFact) (es : Entries) (m : Rows) (count : ℕ) (more : List AnyFact) (held : IsHeld contests d es m count) (told : IsTold contests (listed d es) more)
-    (d' : List AnyFact) (fs : Entries) (put : IsPut (listed d es) more (listed d' fs)) (own : AreOwn d' fs)
+module _ (s : Stored) (count : ℕ) (more : List AnyFact) (held : IsHeld s count) (allowed : CanTake s more) (s' : Stored) (put : IsPut (facts_of s) more (facts_of s')) (own : AreOwn s'.devices s'.records)
     (g : RecordName → List AnyFact) (group_is : (k : RecordName) (f : AnyFact) → Contains (g k) f ↔ (Contains more f × (record_of (fact_of f) ≡ Some k)))
-    (cs : Entries) (n : ℕ) (plan : IsPlan (λ k. at_name k es) g cs n) (done : (k : RecordName) → at_name k fs ≡ laid cs (λ k. at_name k es) k) where
+    (made : Plan) (plan : IsPlan (content_at s.records) g made) (done : (k : RecordName) → content_at s'.records k ≡ laid made.contents.items (content_at s.records) k) where
+  abbrev cs : Entries
+  cs = made.contents.items
+
+  abbrev d : List AnyFact
+  d = s.devices
+
+  abbrev es : Entries
+  es = s.records
+
+  abbrev contests : List Contest
+  contests = s.totals.contests
+
   abbrev before : Facts
-  before = set_of (listed d es)
+  before = set_of (facts_of s)
 
   abbrev after : Facts
-  after = set_of (listed d' fs)
+  after = set_of (facts_of s')
 
   -- a fact of a record stands exactly where it is in its content
   in_content : (k : RecordName) (f : Fact) → record_of f ≡ Some k → contains before f ≡ true → contains (set_of (facts_at (at_name k es))) f ≡ true
@@ -174,7 +183,7 @@ module _ (contests : List Contest) (d : List AnyFact) (es : Entries) (m : Rows) 
   planned_gains : (c : RecordName × List AnyFact) → Contains cs c → Contains (filter_map record_of (items (difference after before))) c.0
   planned_gains c at =
       let change = plan.changes c at in
-      let x = brings_new (facts_at (at_name c.0 es)) (g c.0) c.1 (rise_before contests d es m count more held told c.0) change.put change.more in
+      let x = brings_new (facts_at (at_name c.0 es)) (g c.0) c.1 (rise_before s count held c.0) change.put change.more in
       let came = (group_is c.0 x.0).0 x.1 in
       let now : contains after (fact_of x.0) ≡ true = subst (λ u. contains u (fact_of x.0) ≡ true) (sym put.set) (in_union fact_total fact_exact before (set_of more) (fact_of x.0) (inr (in_set_of more x.0 came.0))) in
       let then : contains before (fact_of x.0) ≡ false = not_held (contains before (fact_of x.0)) (λ e. false≢true (sym x.2 ∙ in_content c.0 (fact_of x.0) came.1 e)) in
@@ -201,9 +210,9 @@ module _ (contests : List Contest) (d : List AnyFact) (es : Entries) (m : Rows) 
   -- and each of its sums is of a contest
   moved_at : (c : RecordName × List AnyFact) → Contains cs c → length (pairs_of (facts_at (at_name c.0 es))) + length (pairs_of c.1) ≡ contests_at contests before c.0 + contests_at contests after c.0
   moved_at c at =
-      let out = sums_are_contests told.frame d es told.before held.own c.0 ∙ ap (λ l. contests_at l before c.0) (sym told.contests_are) in
+      let out = sums_are_contests allowed.frame d es allowed.before.plain held.own c.0 ∙ ap (λ l. contests_at l before c.0) (sym allowed.before.contests_are) in
       let back = ap (λ o. length (pairs_of (facts_at o))) (sym (done c.0 ∙ laid_own (λ k. at_name k es) cs plan.names_rise c at))
-      ∙ (sums_are_contests told.frame d' fs (plain_after contests d es m count more held told d' fs m contests count n put own) own c.0 ∙ ap (λ l. contests_at l after c.0) (sym told.contests_are)) in
+      ∙ (sums_are_contests allowed.frame s'.devices s'.records (plain_after s more allowed s' put) own c.0 ∙ ap (λ l. contests_at l after c.0) (sym allowed.before.contests_are)) in
       λ i. out i + back i
 
   pub moved_is : all_moves (λ k. at_name k es) cs ≡ moved contests before after
@@ -213,8 +222,3 @@ module _ (contests : List Contest) (d : List AnyFact) (es : Entries) (m : Rows) 
       ∙ ap (sum_by w) (sym (ordered-members name_total name_exact (filter_map record_of (items (difference after before))) (map name_in cs) plan.names_rise
       (λ k at. let c = from_map name_in k cs at in subst (Contains (filter_map record_of (items (difference after before)))) c.2 (planned_gains c.0 c.1))
       gaining_planned))
-
--- the moves of a plan that was carried out
-pub moved_told : {T E A B : Type 0} (r : Result T E) (old new k w : ℕ) → new ≡ old + cond (is_ok r) k 0 → OnOk r A → OnOk r B → (A → B → k ≡ w) → OnOk r (new ≡ old + w)
-moved_told (Ok x) old new k w is a b f = is ∙ ap (λ n. old + n) (f a b)
-moved_told (Err e) old new k w is a b f = tt

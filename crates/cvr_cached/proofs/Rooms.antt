@@ -30,10 +30,11 @@ use Rattle.cvr_office.specs.Plain.{IsSpelled}
 use Rattle.cvr_office.specs.Runs.{as_snapshot, snapshots}
 use Rattle.cvr_office.proofs.Lemmas.{found}
 use Rattle.cvr_lists.proofs.Laws.{facts_are_sums}
-use Rattle.cvr_cached.specs.Contents.{Entries, facts_at, header_in, current_in, pairs_of, pairs_of}
-use Rattle.cvr_cached.specs.Cells.{Column, Ballots, Overvotes, Undervotes, WriteIns, Pending, Unassigned, Vote, worth, cell_limit, shares, total, AreFit}
-use Rattle.cvr_cached.specs.Held.{IsRoomy, IsSummed}
-use Rattle.cvr_cached.specs.Plans.{all_moves, IsPlan}
+use Rattle.cvr_cached.specs.declared.plan.Plan.{Plan}
+use Rattle.cvr_cached.specs.Contents.{Entries, content_at, facts_at, header_in, current_in, pairs_of, pairs_of}
+use Rattle.cvr_cached.specs.Cells.{Column, Ballots, Overvotes, Undervotes, WriteIns, Pending, Unassigned, Vote, worth, cell_limit, shares, AreFit}
+use Rattle.cvr_cached.specs.Held.{IsSummed}
+use Rattle.cvr_cached.specs.Plans.{all_moves, IsPlan, IsRoomy}
 use Rattle.cvr_cached.proofs.Listed.{at_name, found_listed}
 use Rattle.cvr_cached.proofs.Pairs.{pairs_are}
 use Rattle.cvr_cached.proofs.RowLink.{sum_pairs, share_found}
@@ -178,8 +179,14 @@ module _ (f : RecordName → Option (List AnyFact)) where
       let rest = grows cs (λ d at. more d (at_tail c d cs at)) in
       omega (arith, a, b, here, rest)
 
-module _ (contests : List Contest) (es cs : Entries) (n : ℕ) (g : RecordName → List AnyFact) (full : (e : RecordName × List AnyFact) → Contains es e → 0 < length e.1) (plan : IsPlan (λ k. at_name k es) g cs n)
+module _ (contests : List Contest) (es : Entries) (made : Plan) (g : RecordName → List AnyFact) (full : (e : RecordName × List AnyFact) → Contains es e → 0 < length e.1) (plan : IsPlan (content_at es) g made)
     (old : (e : RecordName × List AnyFact) → Contains es e → (x : AnyFact) → Contains e.1 x → IsSummed contests x) (new : (k : RecordName) (x : AnyFact) → Contains (g k) x → IsSummed contests x) where
+  abbrev cs : Entries
+  cs = made.contents.items
+
+  abbrev n : ℕ
+  n = made.new_facts
+
   old_at : (k : RecordName) (o : Option (List AnyFact)) → at_name k es ≡ o → (x : AnyFact) → Contains (facts_at o) x → IsSummed contests x
   old_at k None is x at = absurd (none_listed x at)
   old_at k (Some facts) is x at = old (k, facts) (found_listed es k facts is) x at
@@ -190,8 +197,9 @@ module _ (contests : List Contest) (es cs : Entries) (n : ℕ) (g : RecordName �
     | inr came ↦ new c.0 x came
   ]
 
-  pub roomy : sum_by length (values_of es) + n < 2 ^ 64 → IsRoomy contests (λ k. at_name k es) (total es) cs
+  pub roomy : sum_by length (values_of es) + n < 2 ^ 64 → IsRoomy contests es cs
   roomy few = record {
+    names_rise = plan.names_rise;
     fit_old = λ q. fit contests (facts_at (at_name q es)) (old_at q (at_name q es) refl);
     fit_new = λ c at. fit contests c.1 (new_at c at);
     room = λ q j.

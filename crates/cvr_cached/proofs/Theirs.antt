@@ -1,5 +1,5 @@
 -- A plan made from the contents of another office, name by name.
-use Rattle.std.proofs.Common.{◌≡◌, ℕ, List, [], ◌∷◌, inl, inr, Option, Some, None, IfSome, Less, Equal, Greater, refl, sym, ap, ◌∙◌, subst}
+use Rattle.std.proofs.Common.{◌≡◌, List, [], ◌∷◌, inl, inr, Option, Some, None, IfSome, Less, Equal, Greater, refl, sym, ap, ◌∙◌, subst}
 use Rattle.std.specs.Prelude.{◌⊎◌}
 use Rattle.std.specs.List.{AllByRecursion}
 use Rattle.std.specs.List.Sorted.{IsStrictlySortedBy}
@@ -14,6 +14,7 @@ use Rattle.cvr_office.specs.declared.any_fact.AnyFact.{AnyFact}
 use Rattle.cvr_office.specs.Place.{any_cmp}
 use Rattle.cvr_office.specs.Plain.{IsPut}
 use Rattle.cvr_office.proofs.Laws.{name_exact, name_total}
+use Rattle.cvr_cached.specs.declared.plan.Plan.{Plan}
 use Rattle.cvr_cached.specs.Contents.{Entries, facts_at}
 use Rattle.cvr_cached.specs.Plans.{IsPassed, IsPlanned, IsStep}
 use Rattle.cvr_cached.proofs.Listed.{at_name, each_of, all_of_each, less_other, turned}
@@ -107,9 +108,9 @@ module _ (f : RecordName → Option (List AnyFact)) (rise : (q : RecordName) →
       ] refl;
     }
 
-    pub theirs_go_on : (cs : Entries) (n : ℕ) → IsPlanned f (λ q. facts_at (at_name q all)) (Some e.0) cs n → (cs' : Entries) (n' : ℕ)
-        → IsStep (facts_at (f e.0)) e.1 e.0 cs n cs' n' → IsPlanned f (λ q. facts_at (at_name q all)) (first_name rest) cs' n'
-    theirs_go_on cs n was cs' n' step =
-        planned_step f theirs e.0 cs n was (first_name rest) up
+    pub theirs_go_on : (plan : Plan) → IsPlanned f (λ q. facts_at (at_name q all)) (Some e.0) plan.contents.items plan.new_facts → (plan' : Plan)
+        → IsStep (facts_at (f e.0)) e.1 e.0 plan plan' → IsPlanned f (λ q. facts_at (at_name q all)) (first_name rest) plan'.contents.items plan'.new_facts
+    theirs_go_on plan was plan' step =
+        planned_step f theirs e.0 plan was (first_name rest) up
         (λ q passed above. nothing_put q (sym (behind q above) ∙ none_before rest q tail_rises passed))
-        cs' n' (subst (λ g. IsStep (facts_at (f e.0)) g e.0 cs n cs' n') (sym own_group) step)
+        plan' (subst (λ g. IsStep (facts_at (f e.0)) g e.0 plan plan') (sym own_group) step)

@@ -1,6 +1,5 @@
-use crate::content::RecordContent;
 use crate::listing::{conflicts_over, greatest_count_over, next_over};
-use crate::taking::{take_contents, take_in};
+use crate::store::Store;
 use cdf_check::Definition;
 use cdf_types::{Body, Memory, ReadFault};
 use cvr_facts::{HeaderFact, RecordName, SnapshotFact};
@@ -8,7 +7,6 @@ use cvr_lists::devices::{device_body_in, device_count_in, next_device_in};
 use cvr_lists::putting::{of_devices, of_records, own_devices, put_in};
 use cvr_lists::read_facts;
 use cvr_lists::record_lists::{grouped, headers_down};
-use cvr_office::any_fact::AnyFact;
 use cvr_office::{ConflictList, JoinFault, Office, Receipt, RecordFacts};
 use cvr_tally::{Row, RowKey, Totals, tally_text};
 use std::alloc::Global;
@@ -20,28 +18,24 @@ use std::marker::Model;
 #[derive(Drop)]
 pub struct CachedOffice {
     definition: Definition,
-    devices: Vec<AnyFact>,
-    records: BTreeMap<RecordName, RecordContent>,
-    totals: Totals,
-    count: usize,
+    store: Store,
 }
 
 impl Model for CachedOffice {
     ghost use Rattle.cvr_office.specs.Plain.{content};
-    ghost use Rattle.cvr_cached.specs.Contents.{listed};
-    ghost use Rattle.cvr_cached.specs.Held.{Holding, coded_holding, IsCached};
+    ghost use Rattle.cvr_cached.specs.Held.{Holding, coded_holding, facts_of, IsCached};
 
     ghost Value = { Holding };
 
     ghost coded = { coded_holding };
 
-    ghost view = { λ a. record { content = content a.definition (listed a.devices.items a.records.entries); moves = a.totals.moves } };
+    ghost view = { λ a. record { content = content a.definition (facts_of a.store); moves = a.store.totals.moves } };
 
-    ghost invariant = { λ a. IsCached a.definition a.devices.items a.records.entries a.totals.contests a.totals.rows a.count };
+    ghost invariant = { λ a. IsCached a.definition a.store };
 }
 
 impl CachedOffice {
-    ghost use Rattle.std.specs.Prelude.{◌≡◌, ◌↔◌, IsTrue};
+    ghost use Rattle.std.specs.Prelude.{◌≡◌};
     ghost use Rattle.std.specs.FinMap.{get};
     ghost use Rattle.std.specs.Option.{IfSome};
     ghost use Rattle.cvr_tally.specs.declared.key.RowKey.{RowKey};
@@ -55,14 +49,8 @@ impl CachedOffice {
         ensures below { (q : RowKey) → IfSome (get result.now.rows q) (IsBelow total_limit) }
         ensures moves { result.now.moves ≡ self.now.moves }
     {
-        &self.totals
-    }
-
-    // Whether both hold the same facts. Takes no memory.
-    fn holds_the_same(&self, other: &CachedOffice) -> bool
-        ensures { IsTrue result ↔ (self.now.content.facts ≡ other.now.content.facts) }
-    {
-        self.devices == other.devices && self.records == other.records
+        let store = &self.store;
+        &store.totals
     }
 }
 
@@ -88,13 +76,13 @@ impl Office for CachedOffice {
         let totals = Totals::new(alloc, &definition)?;
         definition.made_of_a_report();
         let count = devices.len();
-        Ok(CachedOffice {
-            definition,
+        let store = Store {
             devices,
             records: BTreeMap::new(alloc),
             totals,
             count,
-        })
+        };
+        Ok(CachedOffice { definition, store })
     }
 
     fn definition(&self) -> &Definition {
@@ -115,20 +103,13 @@ impl Office for CachedOffice {
         ensures moves_few { IfOk result (λ r. self.new.moves ≤ self.old.moves + 2 * length self.old.content.frame.contests * r.new_facts) }
         ensures moves_stay { OnErr result (self.new.moves ≡ self.old.moves) }
     {
-        let alloc = *self.devices.allocator();
+        let store = &self.store;
+        let alloc = *store.devices.allocator();
         let (cvrs, list) = read_facts(alloc, &self.definition, bytes)?;
         let theirs = of_devices(alloc, list.devices)?;
         let mut more = Vec::new(alloc);
         put_in(&mut more, of_records(alloc, list.headers, list.snapshots)?)?;
-        let new_facts = take_in(
-            alloc,
-            &mut self.devices,
-            &mut self.records,
-            &mut self.totals,
-            &mut self.count,
-            &theirs,
-            more,
-        )?;
+        let new_facts = self.store.take_in(&theirs, more)?;
         Ok(Receipt { cvrs, new_facts })
     }
 
@@ -149,31 +130,24 @@ impl Office for CachedOffice {
         if !self.definition.same(&other.definition) {
             return Err(JoinFault::OtherDefinition);
         }
-        let alloc = *self.devices.allocator();
-        match take_contents(
-            alloc,
-            &mut self.devices,
-            &mut self.records,
-            &mut self.totals,
-            &mut self.count,
-            &other.devices,
-            &other.records,
-        ) {
+        match self.store.take_contents(&other.store) {
             Ok(new_facts) => Ok(new_facts),
             Err(Memory) => Err(JoinFault::Memory),
         }
     }
 
     fn same(&self, other: &Self) -> bool {
-        self.definition.same(&other.definition) && self.holds_the_same(other)
+        self.definition.same(&other.definition) && self.store.holds_the_same(&other.store)
     }
 
     fn current(&self, key: &RecordName) -> Option<&SnapshotFact> {
-        self.records.get(key)?.current()
+        let store = &self.store;
+        store.records.get(key)?.current()
     }
 
     fn header(&self, key: &RecordName) -> Option<&HeaderFact> {
-        self.records.get(key)?.header()
+        let store = &self.store;
+        store.records.get(key)?.header()
     }
 
     fn record_facts(
@@ -181,7 +155,8 @@ impl Office for CachedOffice {
         alloc: Global,
         key: &RecordName,
     ) -> Result<Option<RecordFacts<'_>>, Memory> {
-        let Some(content) = self.records.get(key) else {
+        let store = &self.store;
+        let Some(content) = store.records.get(key) else {
             return Ok(None);
         };
         let headers = headers_down(alloc, content.facts())?;
@@ -190,51 +165,62 @@ impl Office for CachedOffice {
     }
 
     fn next_record(&self, after: Option<&RecordName>) -> Option<&RecordName> {
-        next_over(&self.records, after)
+        let store = &self.store;
+        next_over(&store.records, after)
     }
 
     fn next_device(&self, after: Option<&str>) -> Option<&str> {
-        next_device_in(&self.devices, after)
+        let store = &self.store;
+        next_device_in(&store.devices, after)
     }
 
     fn device_count(&self, id: &str) -> usize {
-        device_count_in(&self.devices, id)
+        let store = &self.store;
+        device_count_in(&store.devices, id)
     }
 
     fn device_body(&self, id: &str, k: usize) -> Option<&Body> {
-        device_body_in(&self.devices, id, k)
+        let store = &self.store;
+        device_body_in(&store.devices, id, k)
     }
 
     fn conflicts(&self, alloc: Global) -> Result<ConflictList, Memory> {
-        conflicts_over(alloc, &self.devices, &self.records)
+        let store = &self.store;
+        conflicts_over(alloc, &store.devices, &store.records)
     }
 
     fn row(&self, alloc: Global, key: &RowKey) -> Result<Option<Row>, Memory> {
-        match self.totals.row(key) {
+        let store = &self.store;
+        match store.totals.row(key) {
             Some(row) => Ok(Some(row.copy(alloc)?)),
             None => Ok(None),
         }
     }
 
     fn totals(&self, alloc: Global) -> Result<Totals, Memory> {
-        let totals = self.totals.copy(alloc)?;
+        let store = &self.store;
+        let totals = store.totals.copy(alloc)?;
         Ok(totals)
     }
 
     fn tally_text(&self, alloc: Global) -> Result<String, Memory> {
-        let text = tally_text(alloc, &self.totals)?;
+        let store = &self.store;
+        let text = tally_text(alloc, &store.totals)?;
         Ok(text)
     }
 
     fn record_count(&self) -> usize {
-        self.records.len()
+        let store = &self.store;
+        store.records.len()
     }
 
     fn fact_count(&self) -> usize {
-        self.count
+        let store = &self.store;
+        store.count
     }
 
     fn greatest_count(&self) -> usize {
-        greatest_count_over(&self.devices, &self.records)
+        let store = &self.store;
+        greatest_count_over(&store.devices, &store.records)
     }
 }

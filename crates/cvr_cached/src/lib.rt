@@ -11,6 +11,7 @@ mod names;
 mod plan;
 mod remembered;
 mod rows;
+mod store;
 mod taking;
 
 pub use cached::CachedOffice;

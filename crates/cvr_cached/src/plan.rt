@@ -1,4 +1,4 @@
-ghost use Rattle.std.specs.Prelude.{◌≡◌, ◌≤◌, OnOk, IfOk, IsTrue, Some, false, length};
+ghost use Rattle.std.specs.Prelude.{◌≡◌, ◌≤◌, ◌+◌, ◌++◌, ◌∷◌, [], OnOk, IfOk, IsTrue, Some, false, length};
 ghost use Rattle.std.specs.List.{Contains};
 ghost use Rattle.std.specs.FinSet.{contains};
 ghost use Rattle.cvr_office.specs.declared.any_fact.AnyFact.{AnyFact};
@@ -11,7 +11,7 @@ ghost use Rattle.cvr_office.specs.Place.{fact_of, any_cmp};
 ghost use Rattle.cvr_office.specs.Plain.{set_of, IsPut};
 ghost use Rattle.cvr_office.specs.Runs.{run};
 ghost use Rattle.cvr_cached.specs.Contents.{facts_at};
-ghost use Rattle.cvr_cached.specs.Plans.{IsPlan, IsPushed, IsStep};
+ghost use Rattle.cvr_cached.specs.Plans.{IsPlan, IsStep};
 
 use crate::content::RecordContent;
 use cdf_types::Memory;
@@ -30,16 +30,19 @@ pub(crate) struct Plan {
     pub(crate) new_facts: usize,
 }
 
-// What facts in order, all of records, change in the contents of these. The facts go there record by record.
+// What facts in order, all of records, change in the contents of these. The facts go there
+// record by record.
 pub(crate) fn plan_of(
     alloc: Global,
     records: &BTreeMap<RecordName, RecordContent>,
     more: Vec<AnyFact>,
 ) -> Result<Plan, Memory>
     requires more { IsStrictlySortedBy any_cmp more.items }
-    requires named { (f : AnyFact) → Contains more.items f → (k : RecordName) × (record_of (fact_of f) ≡ Some k) }
-    requires rise { (q : RecordName) → IsStrictlySortedBy any_cmp (facts_at (get name_cmp records.now q)) }
-    ensures { IfOk result (λ plan. IsPlan (get name_cmp records.now) (λ k. run k more.items) plan.contents.items plan.new_facts) }
+    requires named { (f : AnyFact) → Contains more.items f
+        → (k : RecordName) × (record_of (fact_of f) ≡ Some k) }
+    requires rise { (q : RecordName)
+        → IsStrictlySortedBy any_cmp (facts_at (get name_cmp records.now q)) }
+    ensures { IfOk result (IsPlan (get name_cmp records.now) (λ k. run k more.items)) }
 {
     let mut plan = Plan {
         contents: Vec::new(alloc),
@@ -60,8 +63,10 @@ pub(crate) fn plan_of_contents(
     records: &BTreeMap<RecordName, RecordContent>,
     theirs: &BTreeMap<RecordName, RecordContent>,
 ) -> Result<Plan, Memory>
-    requires { (q : RecordName) → IsStrictlySortedBy any_cmp (facts_at (get name_cmp records.now q)) }
-    ensures { IfOk result (λ plan. IsPlan (get name_cmp records.now) (λ k. facts_at (get name_cmp theirs.now k)) plan.contents.items plan.new_facts) }
+    requires { (q : RecordName)
+        → IsStrictlySortedBy any_cmp (facts_at (get name_cmp records.now q)) }
+    ensures { IfOk result (IsPlan (get name_cmp records.now)
+        (λ k. facts_at (get name_cmp theirs.now k))) }
 {
     let mut plan = Plan {
         contents: Vec::new(alloc),
@@ -81,7 +86,8 @@ fn add_change(
     name: RecordName,
     group: Vec<AnyFact>,
 ) -> Result<(), Memory>
-    ensures { OnOk result (IsStep (facts_at (get name_cmp records.now name)) group.items name plan.old.contents.items plan.old.new_facts plan.new.contents.items plan.new.new_facts) }
+    ensures { OnOk result (IsStep (facts_at (get name_cmp records.now name))
+        group.items name plan.old plan.new) }
 {
     let none = RecordContent::empty(alloc);
     let old = records.get(&name).unwrap_or(&none);
@@ -100,7 +106,8 @@ fn add_join(
     name: &RecordName,
     theirs: &RecordContent,
 ) -> Result<(), Memory>
-    ensures { OnOk result (IsStep (facts_at (get name_cmp records.now name.now)) theirs.now name.now plan.old.contents.items plan.old.new_facts plan.new.contents.items plan.new.new_facts) }
+    ensures { OnOk result (IsStep (facts_at (get name_cmp records.now name.now))
+        theirs.now name.now plan.old plan.new) }
 {
     let none = RecordContent::empty(alloc);
     let old = records.get(name).unwrap_or(&none);
@@ -120,7 +127,10 @@ fn push_change(
     content: RecordContent,
 ) -> Result<(), Memory>
     requires { length old.now ≤ length content }
-    ensures { OnOk result (IsPushed old.now content name plan.old.contents.items plan.old.new_facts plan.new.contents.items plan.new.new_facts) }
+    ensures pushed { OnOk result
+        (plan.new.contents.items ≡ plan.old.contents.items ++ (name, content) ∷ []) }
+    ensures counted { OnOk result
+        (plan.new.new_facts + length old.now ≡ plan.old.new_facts + length content) }
 {
     let grown = content.facts().len() - old.facts().len();
     let new_facts = match plan.new_facts.checked_add(grown) {
@@ -136,7 +146,8 @@ fn push_change(
 pub(crate) fn has_all(facts: &[AnyFact], group: &[AnyFact]) -> bool
     requires { IsStrictlySortedBy any_cmp facts.now }
     ensures all { IsTrue result → IsPut facts.now group.now facts.now }
-    ensures some { result ≡ false → (x : AnyFact) × Contains group.now x × (contains (set_of facts.now) (fact_of x) ≡ false) }
+    ensures some { result ≡ false → (x : AnyFact)
+        × Contains group.now x × (contains (set_of facts.now) (fact_of x) ≡ false) }
 {
     for fact in group {
         if facts.binary_search(fact).is_err() {

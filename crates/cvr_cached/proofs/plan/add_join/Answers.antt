@@ -1,15 +1,16 @@
-use Rattle.std.proofs.Common.{◌≡◌, ◌∙◌, false, subst}
+use Rattle.std.proofs.Common.{◌≡◌, ◌∙◌, [], ◌∷◌, ◌++◌, false, subst}
 use Rattle.std.specs.Prelude.{OnOk}
 use Rattle.std.specs.BTreeMap.{get}
 use Rattle.std.specs.FinSet.{contains}
 use Rattle.std.specs.List.{Contains}
+use Rattle.cvr_fact_types.specs.declared.name.RecordName.{RecordName}
 use Rattle.cvr_fact_types.specs.Facts.{name_cmp}
 use Rattle.cvr_office.specs.declared.any_fact.AnyFact.{AnyFact}
 use Rattle.cvr_office.specs.Place.{fact_of}
 use Rattle.cvr_office.specs.Plain.{set_of, IsPut}
 use Rattle.cvr_lists.proofs.Laws.{put_growth}
 use Rattle.cvr_cached.specs.Contents.{facts_at}
-use Rattle.cvr_cached.specs.Plans.{IsPushed, IsStep}
+use Rattle.cvr_cached.specs.Plans.{IsStep}
 use Rattle.cvr_cached.proofs.Growing.{step_added}
 use Rattle.cvr_cached.proofs.Olds.{old_is}
 use Rattle.cvr_cached.proofs.plan.add_join.Goals as goal
@@ -29,6 +30,6 @@ returns c =
     let fresh = subst (λ xs. (x : AnyFact) × Contains xs x × (contains (set_of old) (fact_of x) ≡ false)) c.facts-2.ensures.is among in
     let was = c.args.plan.now in
     let now = c.push_change.new.plan in
-    let pushed = subst (λ n. OnOk c.push_change.result (IsPushed old c.in_ok-content.content n was.contents.items was.new_facts now.contents.items now.new_facts)) c.in_ok-name.ensures c.push_change.ensures in
-    subst (λ o. OnOk c.push_change.result (IsStep o c.args.theirs.now c.args.name.now was.contents.items was.new_facts now.contents.items now.new_facts)) is
-    (step_added c.push_change.result old c.args.theirs.now c.in_ok-content.content c.args.name.now was.contents.items was.new_facts now.contents.items now.new_facts c.facts.ensures.rises put fresh pushed)
+    let pushed = subst (λ (n : RecordName). OnOk c.push_change.result (now.contents.items ≡ was.contents.items ++ (n, c.in_ok-content.content) ∷ [])) c.in_ok-name.ensures c.push_change.ensures.pushed in
+    subst (λ o. OnOk c.push_change.result (IsStep o c.args.theirs.now c.args.name.now was now)) is
+    (step_added c.push_change.result old c.args.theirs.now c.in_ok-content.content c.args.name.now was now c.facts.ensures.rises put fresh pushed c.push_change.ensures.counted)

@@ -31,13 +31,12 @@ loop-name-preserved c =
     let are = subst (AreLeft all) is c.loop-name.invariant.left in
     let was = subst (λ left. IsPlanned f (λ k. facts_at (get name_cmp c.args.theirs.now k)) (first_name left) c.loop-name.plan.contents.items c.loop-name.plan.new_facts) is c.loop-name.invariant.planned in
     record {
-      planned = theirs_go_on f c.requires all e rest are c.loop-name.plan.contents.items c.loop-name.plan.new_facts was
-          c.add_join.new.plan.contents.items c.add_join.new.plan.new_facts c.in_ok-add_join.ensures;
+      planned = theirs_go_on f c.requires all e rest are c.loop-name.plan was c.add_join.new.plan c.in_ok-add_join.ensures;
       left = rest_left f c.requires all e rest are;
     }
 
 pub returns : goal.returns
 returns c =
     let none = rest_all deref_pair c.loop-name.name-iterator c.next.new.self c.next.result c.in-None.is c.next.ensures.steps in
-    all_planned (get name_cmp c.args.records.now) (λ k. facts_at (get name_cmp c.args.theirs.now k)) (first_name c.loop-name.name-iterator) c.loop-name.plan.contents.items c.loop-name.plan.new_facts
+    all_planned (get name_cmp c.args.records.now) (λ k. facts_at (get name_cmp c.args.theirs.now k)) (first_name c.loop-name.name-iterator) c.loop-name.plan
     (ap first_name none) c.loop-name.invariant.planned

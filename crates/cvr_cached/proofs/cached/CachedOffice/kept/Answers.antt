@@ -7,11 +7,16 @@ use Rattle.cvr_cached.proofs.cached.CachedOffice.kept.Goals as goal
 
 pub returns-clause-rows : goal.returns-clause-rows
 returns-clause-rows c =
-    rw (← c.self.view_is)
-    (c.self.invariant.held.rows_are ∙ ap (λ cs. rows cs (set_of (listed c.self.inside.devices.items c.self.inside.records.entries))) c.self.invariant.contests_are)
+    let cached = rw (← c.store.view_is) at c.self.invariant in
+    rw (← c.self.view_is, ← c.store.view_is)
+    (c.store.invariant.rows_are ∙ ap (λ cs. rows cs (set_of (listed c.store.inside.devices.items c.store.inside.records.entries))) cached.contests_are)
 
 pub returns-clause-contests : goal.returns-clause-contests
-returns-clause-contests c = rw (← c.self.view_is) c.self.invariant.contests_are
+returns-clause-contests c =
+    let cached = rw (← c.store.view_is) at c.self.invariant in
+    rw (← c.self.view_is) cached.contests_are
 
 pub returns-clause-below : goal.returns-clause-below
-returns-clause-below c = all_below c.self.inside.definition c.self.inside.devices.items c.self.inside.records.entries c.self.inside.totals.contests c.self.inside.totals.rows c.self.inside.count c.self.invariant
+returns-clause-below c =
+    let cached = rw (← c.store.view_is) at c.self.invariant in
+    all_below c.self.inside.definition _ _ c.store.invariant cached

@@ -7,5 +7,5 @@ use Rattle.cvr_cached.proofs.cached.CachedOfficeOffice.next_record.Goals as goal
 pub returns : goal.returns
 returns c =
     let after = option_map (λ k. k.now) c.args.after in
-    rw (← c.self.view_is)
-    (c.next_over.ensures ∙ ap (λ ks. next name_cmp ks after) (sym (records_are c.self.inside.devices.items c.self.inside.records.entries c.self.invariant.held.own)))
+    rw (← c.self.view_is, ← c.store.view_is)
+    (c.next_over.ensures ∙ ap (λ ks. next name_cmp ks after) (sym (records_are c.store.inside.devices.items c.store.inside.records.entries c.store.invariant.own)))

@@ -10,19 +10,22 @@ use Rattle.cvr_cached.proofs.cached.CachedOfficeOffice.row.Goals as goal
 
 pub returns-in_ok-copy-in-Some-clause-row : goal.returns-in_ok-copy-in-Some-clause-row
 returns-in_ok-copy-in-Some-clause-row c =
+    let cached = rw (← c.store.view_is) at c.self.invariant in
     let key = c.args.key.now in
-    let s = set_of (listed c.self.inside.devices.items c.self.inside.records.entries) in
-    let is = c.self.invariant.held.rows_are ∙ ap (λ cs. rows cs s) c.self.invariant.contests_are in
-    rw (← c.self.view_is) (ap Some c.in_ok-copy-in-Some.ensures ∙ (c.in-Some.ensures ∙ (ap (λ m. get m key) is ∙ rows_law c.self.inside.definition.contests s key)))
+    let s = set_of (listed c.store.inside.devices.items c.store.inside.records.entries) in
+    let is = c.store.invariant.rows_are ∙ ap (λ cs. rows cs s) cached.contests_are in
+    rw (← c.self.view_is, ← c.store.view_is) (ap Some c.in_ok-copy-in-Some.ensures ∙ (c.in-Some.ensures ∙ (ap (λ m. get m key) is ∙ rows_law c.self.inside.definition.contests s key)))
 
 pub returns-in_ok-copy-in-Some-clause-below : goal.returns-in_ok-copy-in-Some-clause-below
 returns-in_ok-copy-in-Some-clause-below c =
+    let cached = rw (← c.store.view_is) at c.self.invariant in
     subst (λ found. IfSome found (IsBelow total_limit)) (sym (ap Some c.in_ok-copy-in-Some.ensures ∙ c.in-Some.ensures))
-    (all_below c.self.inside.definition c.self.inside.devices.items c.self.inside.records.entries c.self.inside.totals.contests c.self.inside.totals.rows c.self.inside.count c.self.invariant c.args.key.now)
+    (all_below c.self.inside.definition _ _ c.store.invariant cached c.args.key.now)
 
 pub returns-in-None-clause-row : goal.returns-in-None-clause-row
 returns-in-None-clause-row c =
+    let cached = rw (← c.store.view_is) at c.self.invariant in
     let key = c.args.key.now in
-    let s = set_of (listed c.self.inside.devices.items c.self.inside.records.entries) in
-    let is = c.self.invariant.held.rows_are ∙ ap (λ cs. rows cs s) c.self.invariant.contests_are in
-    rw (← c.self.view_is) (c.in-None.ensures ∙ (ap (λ m. get m key) is ∙ rows_law c.self.inside.definition.contests s key))
+    let s = set_of (listed c.store.inside.devices.items c.store.inside.records.entries) in
+    let is = c.store.invariant.rows_are ∙ ap (λ cs. rows cs s) cached.contests_are in
+    rw (← c.self.view_is, ← c.store.view_is) (c.in-None.ensures ∙ (ap (λ m. get m key) is ∙ rows_law c.self.inside.definition.contests s key))

@@ -7,6 +7,7 @@ use Rattle.cvr_cached.proofs.cached.CachedOfficeOffice.tally_text.Goals as goal
 
 pub returns : goal.returns
 returns c =
-    let s = set_of (listed c.self.inside.devices.items c.self.inside.records.entries) in
-    let is = c.self.invariant.held.rows_are ∙ ap (λ cs. rows cs s) c.self.invariant.contests_are in
-    rw (← c.self.view_is) (c.in_ok-text.ensures ∙ (λ i. tally_text (c.self.invariant.contests_are i) (is i)))
+    let cached = rw (← c.store.view_is) at c.self.invariant in
+    let s = set_of (listed c.store.inside.devices.items c.store.inside.records.entries) in
+    let is = c.store.invariant.rows_are ∙ ap (λ cs. rows cs s) cached.contests_are in
+    rw (← c.self.view_is, ← c.store.view_is) (c.in_ok-text.ensures ∙ (λ i. tally_text (cached.contests_are i) (is i)))

@@ -10,13 +10,17 @@ use Rattle.cvr_cached.proofs.cached.CachedOfficeOffice.totals.Goals as goal
 
 pub returns-clause-rows : goal.returns-clause-rows
 returns-clause-rows c =
-    let s = set_of (listed c.self.inside.devices.items c.self.inside.records.entries) in
-    rw (← c.self.view_is) (ap (λ t. t.rows) c.in_ok-totals.ensures ∙ (c.self.invariant.held.rows_are ∙ ap (λ cs. rows cs s) c.self.invariant.contests_are))
+    let cached = rw (← c.store.view_is) at c.self.invariant in
+    let s = set_of (listed c.store.inside.devices.items c.store.inside.records.entries) in
+    rw (← c.self.view_is, ← c.store.view_is) (ap (λ t. t.rows) c.in_ok-totals.ensures ∙ (c.store.invariant.rows_are ∙ ap (λ cs. rows cs s) cached.contests_are))
 
 pub returns-clause-contests : goal.returns-clause-contests
-returns-clause-contests c = rw (← c.self.view_is) (ap (λ t. t.contests) c.in_ok-totals.ensures ∙ c.self.invariant.contests_are)
+returns-clause-contests c =
+    let cached = rw (← c.store.view_is) at c.self.invariant in
+    rw (← c.self.view_is) (ap (λ t. t.contests) c.in_ok-totals.ensures ∙ cached.contests_are)
 
 pub returns-clause-below : goal.returns-clause-below
 returns-clause-below c q =
+    let cached = rw (← c.store.view_is) at c.self.invariant in
     subst (λ (m : Rows). IfSome (get m q) (IsBelow total_limit)) (sym (ap (λ t. t.rows) c.in_ok-totals.ensures))
-    (all_below c.self.inside.definition c.self.inside.devices.items c.self.inside.records.entries c.self.inside.totals.contests c.self.inside.totals.rows c.self.inside.count c.self.invariant q)
+    (all_below c.self.inside.definition _ _ c.store.invariant cached q)
