@@ -1,6 +1,6 @@
 -- The sums of a snapshot: for each of its contests the votes that count, are pending or name no selection. (NIST SP 1500-103, classes CVRContest, CVRContestSelection and SelectionPosition; which positions count is this project's own.)
-use Rattle.std.specs.Prelude.{◌<◌, ◌==◌, ℕ, zero, suc, List, [], ◌∷◌, ◌++◌, map, length, Bool, true, false, ◌&&◌, is_none}
-use Rattle.std.specs.List.{filter, sum_by, Contains, IsDistinct}
+use Rattle.std.specs.Prelude.{◌<◌, ◌==◌, ℕ, List, map, length, Bool, true, false, ◌&&◌, is_none}
+use Rattle.std.specs.List.{filter, flat_map, range_with_len, sum_by, Contains, IsDistinct}
 use Rattle.std.specs.Option.{option_map_or}
 use Rattle.cdf_types.specs.declared.mark.Indication.{Indication}
 use Rattle.cdf_types.specs.declared.mark.Indication.TheVariants as indication
@@ -9,7 +9,7 @@ use Rattle.cdf_types.specs.declared.mark.Allocation.TheVariants as allocation
 use Rattle.cdf_types.specs.declared.report.Position.{Position}
 use Rattle.cdf_types.specs.declared.report.SelectionVote.{SelectionVote}
 use Rattle.cdf_types.specs.declared.report.ContestVote.{ContestVote}
-use Rattle.cdf_parts.specs.Places.{Texts, Contest, selections_at}
+use Rattle.cdf_parts.specs.Places.{Contest, selections_at}
 use Rattle.cdf_typed.specs.Range.{ContestInRange}
 use Rattle.cvr_fact_types.specs.declared.sums.VoteSums.{VoteSums}
 
@@ -58,14 +58,13 @@ names_none s = is_none s.selection
 
 -- ---- contests
 
+-- the places in a list: 0, 1, and so on up to its length
+abbrev pub places_of : {X : Type 0} → List X → List ℕ
+places_of xs = range_with_len 0 (length xs)
+
 -- the votes of the selection at a place
 abbrev pub votes_for : ℕ → ContestVote → ℕ
 votes_for place vote = sum_by (votes_of counts) (filter (names place) vote.selections)
-
--- the votes of each selection, from a place on
-abbrev pub votes_from : ℕ → Texts → ContestVote → List ℕ
-votes_from place [] vote = []
-votes_from place (id ∷ ids) vote = votes_for place vote ∷ votes_from (suc place) ids vote
 
 abbrev pub unassigned_in : ContestVote → ℕ
 unassigned_in vote = sum_by (votes_of counts) (filter names_none vote.selections)
@@ -73,10 +72,11 @@ unassigned_in vote = sum_by (votes_of counts) (filter names_none vote.selections
 abbrev pub pending_in : ContestVote → ℕ
 pending_in vote = sum_by (votes_of is_pending) vote.selections
 
+-- the votes of each selection of the contest, in order of place, and its other numbers
 abbrev pub sums_of : List Contest → ContestVote → VoteSums
 sums_of contests vote = record {
   contest = vote.contest;
-  votes = votes_from 0 (selections_at contests vote.contest) vote;
+  votes = map (λ place. votes_for place vote) (places_of (selections_at contests vote.contest));
   overvotes = vote.overvotes;
   undervotes = vote.undervotes;
   write_ins = vote.write_ins;
@@ -86,14 +86,13 @@ sums_of contests vote = record {
 
 -- ---- snapshots
 
--- those at n places from a place on, in order of place
-abbrev pub by_place : ℕ → ℕ → List ContestVote → List ContestVote
-by_place place zero votes = []
-by_place place (suc n) votes = filter (λ vote. vote.contest == place) votes ++ by_place (suc place) n votes
+-- a snapshot's contests, in order of their places in the definition
+abbrev pub by_place : List Contest → List ContestVote → List ContestVote
+by_place contests votes = flat_map (λ place. filter (λ vote. vote.contest == place) votes) (places_of contests)
 
--- the sums of a snapshot's contests, in order of place
+-- their sums
 abbrev pub sums_in : List Contest → List ContestVote → List VoteSums
-sums_in contests votes = map (sums_of contests) (by_place 0 (length contests) votes)
+sums_in contests votes = map (sums_of contests) (by_place contests votes)
 
 -- contests of the definition, each once and in range
 pub record AreInRange (contests : List Contest) (votes : List ContestVote) : Type 0 where
