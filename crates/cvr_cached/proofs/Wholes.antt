@@ -34,13 +34,6 @@ module _ {M : Type 0} (join : M → M → M) (nothing : M) (laws : JoinLaws join
   each_in : (s t : M) → IsIn s t → IsIn t s → s ≡ t
   each_in s t a b = sym b ∙ (laws.commutes t s ∙ a)
 
-  -- two joins joined
-  join_joins : (s t u v : M) → join (join s t) (join u v) ≡ join (join s u) (join t v)
-  join_joins s t u v =
-      laws.associates s t (join u v)
-      ∙ (ap (join s) (sym (laws.associates t u v) ∙ (ap (λ w. join w v) (laws.commutes t u) ∙ laws.associates u t v))
-      ∙ sym (laws.associates s u (join t v)))
-
   -- ---- parts
 
   module _ {P : Type 0} (held : P → M) where

@@ -1,16 +1,16 @@
 -- How large the sums of a contest can be.
-use Rattle.std.proofs.Common.{◌≡◌, ◌<◌, ◌≤◌, ◌+◌, ℕ, get_or, take, ap, suc, List, [], ◌∷◌, Bool, not, refl, length, arith}
+use Rattle.std.proofs.Common.{◌≡◌, ◌<◌, ◌≤◌, ◌+◌, ℕ, get_or, take, ap, List, Bool, not, refl, length, arith}
 use Rattle.std.specs.List.{All, filter, sum_by}
-use Rattle.std.proofs.lemmas.List.Elements.{All-filter, All-nil, All-cons, All-contains, Contains-get_or}
+use Rattle.std.proofs.lemmas.List.Elements.{All-filter, All-map, All-contains, Contains-get_or}
 use Rattle.std.proofs.lemmas.List.Filters.{sum_by-filter_both}
 use Rattle.std.proofs.lemmas.List.Sums.{sum_by-le, sum_by_more_le, length-filter, count_by-le-length}
 use Rattle.cdf_types.specs.declared.report.Position.{Position}
 use Rattle.cdf_types.specs.declared.report.SelectionVote.{SelectionVote}
 use Rattle.cdf_types.specs.declared.report.ContestVote.{ContestVote}
 use Rattle.cdf_types.specs.declared.report.Snapshot.{Snapshot}
-use Rattle.cdf_parts.specs.Places.{Texts, Contest, selections_at}
+use Rattle.cdf_parts.specs.Places.{Contest, selections_at}
 use Rattle.cdf_typed.specs.Range.{IsCount, SelectionInRange, ContestInRange, SnapshotInRange}
-use Rattle.cvr_facts.specs.Sums.{counts, votes_of, names, names_none, votes_from, sums_of, sum_limit, AreBelow, AreInRange}
+use Rattle.cvr_facts.specs.Sums.{counts, votes_of, names, names_none, votes_for, places_of, sums_of, sum_limit, AreBelow, AreInRange}
 
 -- the most that a selection can have
 abbrev pub selection_limit : ℕ
@@ -49,15 +49,12 @@ part-lt : (p : SelectionVote → Bool) (contests : List Contest) (vote : Contest
 part-lt p contests vote h =
     omega (arith, sum_by-filter-le (votes_of counts) p vote.selections, votes_are_below counts contests vote h)
 
-votes_from-lt : (contests : List Contest) (vote : ContestVote) → ContestInRange contests vote → (place : ℕ) (ids : Texts)
-    → All (λ n. n < sum_limit) (votes_from place ids vote)
-votes_from-lt contests vote h place [] = All-nil (λ n. n < sum_limit)
-votes_from-lt contests vote h place (id ∷ ids) =
-    All-cons (λ n. n < sum_limit) _ _ (part-lt (names place) contests vote h) (votes_from-lt contests vote h (suc place) ids)
-
 pub sums_of_are_below : (contests : List Contest) (vote : ContestVote) → ContestInRange contests vote → AreBelow sum_limit (sums_of contests vote)
 sums_of_are_below contests vote h = record {
-  votes = λ n c. All-contains (λ m. m < sum_limit) _ n (votes_from-lt contests vote h 0 (selections_at contests vote.contest)) c;
+  votes = λ n c.
+      let places = places_of (selections_at contests vote.contest) in
+      let all = All-map (λ m. m < sum_limit) (λ place. votes_for place vote) places (λ k d less. part-lt (names _) contests vote h) in
+      All-contains (λ m. m < sum_limit) _ n all c;
   overvotes = omega (arith, h.overvotes);
   undervotes = omega (arith, h.undervotes);
   write_ins = omega (arith, h.write_ins);

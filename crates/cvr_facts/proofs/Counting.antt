@@ -1,34 +1,24 @@
 -- The votes of each selection, as they are counted.
-use Rattle.std.proofs.Common.{◌≡◌, ◌<◌, ◌+◌, ℕ, zero, suc, List, [], ◌∷◌, Some, None, Bool, true, false, cond, refl, sym, ap, subst, ◌∙◌, Contains, length, map, take, get_or, set, arith, zero-add, add-zero, length-set, get_or-set_same, get_or-set_other, eq-eqb, ne_eqb, ⊎_elim}
+use Rattle.std.proofs.Common.{◌≡◌, ◌<◌, ◌+◌, ℕ, List, [], ◌∷◌, Some, None, Bool, true, false, cond, refl, sym, ap, subst, ◌∙◌, Contains, length, map, take, get_or, set, arith, zero-add, add-zero, length-set, get_or-set_same, get_or-set_other, eq-eqb, ne_eqb, ⊎_elim}
 use Rattle.std.specs.Option.{option_map_or}
 use Rattle.std.specs.Prelude.{◌==◌, ◌≤◌, ◌⊎◌, is_none}
 use Rattle.std.specs.List.{filter, sum_by, AllClonesOf}
 use Rattle.std.proofs.lemmas.Bool.{cases_eq}
-use Rattle.std.proofs.lemmas.List.{ext_get_or, get_or_default, get_or-map, length-map}
+use Rattle.std.proofs.lemmas.List.{get_or_default, get_or-map, length-map}
 use Rattle.std.proofs.lemmas.List.Elements.{filter_more, All-from_recursion}
+use Rattle.std.proofs.lemmas.List.FromFn.{fill_by_all}
 use Rattle.std.proofs.lemmas.List.Sums.{sum_by-append, sum_by_more, sum_by_more_le}
 use Rattle.cdf_types.specs.declared.report.Position.{Position}
 use Rattle.cdf_types.specs.declared.report.SelectionVote.{SelectionVote}
 use Rattle.cdf_types.specs.declared.report.ContestVote.{ContestVote}
 use Rattle.cdf_parts.specs.Places.{Texts, Contest, selections_at}
 use Rattle.cdf_typed.specs.Range.{SelectionInRange, ContestInRange}
-use Rattle.cvr_facts.specs.Sums.{counts, is_pending, votes_among, votes_of, names, names_none, votes_for, votes_from, sum_limit}
+use Rattle.cvr_facts.specs.Sums.{counts, is_pending, votes_among, votes_of, names, names_none, votes_for, places_of, sum_limit}
 use Rattle.cvr_facts.proofs.Bounds.{positions-le, votes_are_below, sum_by-filter_next-lt}
 
 -- at each place the votes of the selections seen that name it
 pub record AreCounted (seen : List SelectionVote) (votes : List ℕ) : Type 0 where
   pub each : (place : ℕ) → place < length votes → get_or votes place 0 ≡ sum_by (votes_of counts) (filter (names place) seen)
-
-pub length-votes_from : (place : ℕ) (ids : Texts) (vote : ContestVote) → length (votes_from place ids vote) ≡ length ids
-length-votes_from place [] vote = refl
-length-votes_from place (id ∷ ids) vote = ap suc (length-votes_from (suc place) ids vote)
-
-pub get_or-votes_from : (place : ℕ) (ids : Texts) (vote : ContestVote) (k : ℕ) → k < length ids
-    → get_or (votes_from place ids vote) k 0 ≡ votes_for (place + k) vote
-get_or-votes_from place [] vote k less = absurd (omega arith)
-get_or-votes_from place (id ∷ ids) vote zero less = ap (λ n. votes_for n vote) (sym (add-zero place))
-get_or-votes_from place (id ∷ ids) vote (suc k) less =
-    get_or-votes_from (suc place) ids vote k (omega arith) ∙ (let e : suc place + k ≡ place + suc k = omega arith in ap (λ n. votes_for n vote) e)
 
 -- ---- one more of a sort
 
@@ -50,11 +40,6 @@ module _ {A B : Type 0} (told : A → B) (xs : List A) (i : ℕ) (x : A) (less :
 
   pub told_is : told x ≡ get_or (map told xs) i (told x)
   told_is = sym (get_or-map told xs i x (told x) less ∙ ap told (sym is))
-
--- what is typed already tells itself
-pub map-same : {A : Type 0} (xs : List A) → map (λ x. x) xs ≡ xs
-map-same [] = refl
-map-same (x ∷ xs) = ap (λ ys. x ∷ ys) (map-same xs)
 
 -- ---- one more position
 
@@ -150,7 +135,5 @@ module _ (contests : List Contest) (vote : ContestVote) (h : ContestInRange cont
 -- ---- all selections
 
 pub counted_all : (ids : Texts) (vote : ContestVote) (votes : List ℕ) → length votes ≡ length ids → AreCounted vote.selections votes
-    → votes ≡ votes_from 0 ids vote
-counted_all ids vote votes long h = ext_get_or 0 votes (votes_from 0 ids vote) (long ∙ sym (length-votes_from 0 ids vote))
-    (λ k less. let e : 0 + k ≡ k = zero-add k in
-    h.each k less ∙ (ap (λ n. votes_for n vote) (sym e) ∙ sym (get_or-votes_from 0 ids vote k (omega (arith, long, less)))))
+    → votes ≡ map (λ place. votes_for place vote) (places_of ids)
+counted_all ids vote votes long h = fill_by_all (λ place. votes_for place vote) votes (length ids) 0 long (λ k less. h.each k (omega (arith, long, less)))

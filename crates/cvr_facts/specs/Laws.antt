@@ -15,7 +15,6 @@ use Rattle.cvr_fact_types.specs.declared.name.RecordName.{RecordName}
 use Rattle.cvr_fact_types.specs.declared.snapshot.SnapshotFact.{SnapshotFact}
 use Rattle.cvr_fact_types.specs.Facts.{Facts, fact_cmp, text_cmp}
 use Rattle.cvr_facts.specs.Sets.{JoinLaws}
-use Rattle.cvr_facts.specs.Reports.{facts}
 use Rattle.cvr_facts.specs.Choosing.{choice_cmp, fact_choice, snapshot_bodies, current, IsGreatest}
 use Rattle.cvr_facts.specs.Sums.{sums_of, sum_limit, AreBelow}
 use Rattle.cvr_facts.specs.Stands.{IsSpelledSnapshot}

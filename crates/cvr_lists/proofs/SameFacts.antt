@@ -8,7 +8,7 @@ use Rattle.std.specs.FinSet.{contains}
 use Rattle.cvr_fact_types.specs.Facts.{Fact, fact_total, fact_exact}
 use Rattle.cvr_facts.proofs.Lemmas.{in_set, from_set, same_lists_of_members}
 use Rattle.cvr_office.specs.declared.any_fact.AnyFact.{AnyFact}
-use Rattle.cvr_office.specs.Place.{fact_of, place_cmp, place_total, place_exact, any_cmp}
+use Rattle.cvr_office.specs.Place.{fact_of, place_cmp, place_total, any_cmp}
 use Rattle.cvr_office.specs.Plain.{set_of}
 
 module _ {X K : Type 0} (key : X → K) where
@@ -34,5 +34,5 @@ module _ (xs ys : List AnyFact) (h : IsStrictlySortedBy any_cmp xs) (k : IsStric
 
   pub same_facts : set_of xs ≡ set_of ys → map fact_of xs ≡ map fact_of ys
   same_facts same =
-      same_lists_of_members place_total place_exact (map fact_of xs) (map fact_of ys)
+      same_lists_of_members place_total (map fact_of xs) (map fact_of ys)
       (IsStrictlySortedBy-map fact_of place_cmp xs h) (IsStrictlySortedBy-map fact_of place_cmp ys k) (within xs ys same) (within ys xs (sym same))

@@ -121,13 +121,13 @@ module _ (s t : Facts) (apart : AreApart s t) where
   not_first r false is at = refl
 
   firsts : filter is_first (records (union s t)) ≡ records s
-  firsts = same_lists_of_members name_total name_exact _ _
+  firsts = same_lists_of_members name_total _ _
       (IsStrictlySortedBy-filter name_cmp is_first (records (union s t)) (rise (union s t))) (rise s)
       (λ r at. first_is r (from_filter is_first (records (union s t)) r at).1)
       (λ r at. in_filter is_first (records (union s t)) r (record_of_left s t r at) (is_first_of r at))
 
   others : filter (λ r. not (is_first r)) (records (union s t)) ≡ records t
-  others = same_lists_of_members name_total name_exact _ _
+  others = same_lists_of_members name_total _ _
       (IsStrictlySortedBy-filter name_cmp (λ r. not (is_first r)) (records (union s t)) (rise (union s t))) (rise t)
       (λ r at.
       let kept = from_filter (λ r. not (is_first r)) (records (union s t)) r at in

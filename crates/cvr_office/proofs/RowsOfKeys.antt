@@ -23,7 +23,7 @@ use Rattle.cvr_office.specs.Tallied.{unit_of, batch_of, is_headed, sums_of_body,
 use Rattle.cvr_office.specs.Adding.{added, key_for, sums_for}
 use Rattle.cvr_office.specs.Laws.{RowsLaw, BallotsLaw}
 use Rattle.cvr_office.proofs.RowSteps.{found, row_stands}
-use Rattle.cvr_office.proofs.RowSums.{from_filter}
+use Rattle.cvr_office.proofs.RecordMembers.{from_filter}
 
 -- ---- keys
 
