@@ -3,7 +3,7 @@ use Rattle.std.specs.Prelude.{◌≡◌, ℕ, List, map, codes}
 use Rattle.serde_json.specs.Data.{Data}
 use Rattle.cdf_parts.specs.Parts.{array_at, the_election}
 use Rattle.cdf_parts.specs.Places.{Texts, Contest, contest_of}
-use Rattle.cdf_definition.specs.Named.{Entry, named, sorted, ids_of, texts_of}
+use Rattle.cdf_definition.specs.Named.{Entry, named, by_id, ids_of, texts_of}
 use Rattle.cdf_definition.specs.References.{Scope}
 
 pub record Frame : Type 0 where
@@ -15,7 +15,7 @@ pub record Frame : Type 0 where
 
 -- the objects in the array under a name, in byte order of their ids
 abbrev pub entries_at : List ℕ → Data → List Entry
-entries_at name d = sorted (map named (array_at name d))
+entries_at name d = by_id (map named (array_at name d))
 
 abbrev pub frame_of : Data → Frame
 frame_of d = record {

@@ -1,9 +1,9 @@
 -- Objects by their ids: lists of id and text, in byte order of id. (This project's own.)
-use Rattle.std.specs.Prelude.{ℕ, List, [], ◌∷◌, map, Option, bytes_eq, string_bytes, String}
+use Rattle.std.specs.Prelude.{ℕ, List, map, reverse, Option, bytes_eq, string_bytes, String}
 use Rattle.std.specs.Map.{lookup}
 use Rattle.std.specs.Ordering.{nat_cmp}
 use Rattle.std.specs.Cmp.Lexicographic.{slice_cmp}
-use Rattle.std.specs.BTreeMap.{insert_entry}
+use Rattle.std.specs.FinMap.{entries, from_entries}
 use Rattle.std.specs.declared.alloc.Global.{Global}
 use Rattle.serde_json.specs.Data.{Data}
 use Rattle.serde_json.specs.Written.{compact_text}
@@ -28,14 +28,9 @@ texts_of entries = map (λ e. e.1) entries
 abbrev pub text_of : List Entry → List ℕ → Option (List ℕ)
 text_of entries id = lookup (bytes_eq id) entries
 
--- entries put in at their places
-abbrev pub put_all : List Entry → List Entry → List Entry
-put_all done [] = done
-put_all done (e ∷ es) = put_all (insert_entry (slice_cmp nat_cmp) done e.0 e.1) es
-
--- in byte order of their ids
-abbrev pub sorted : List Entry → List Entry
-sorted entries = put_all [] entries
+-- the map of ids to texts that the entries make, where the last of an id stands: its entries, in byte order of the ids
+abbrev pub by_id : List Entry → List Entry
+by_id es = entries (from_entries {R = slice_cmp nat_cmp} (reverse es))
 
 -- the entries of a map
 abbrev pub entries_of : List (String Global × List ℕ) → List Entry

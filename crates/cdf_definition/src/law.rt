@@ -1,5 +1,12 @@
-ghost use Rattle.cdf_definition.specs.Laws.{ReferencesLaw, RecordLaw, SnapshotLaw, AgreementLaw, SoundLaw, ValueLaw, SoundFileLaw, ValidFileLaw, OneElectionLaw, KeptLaw};
+ghost use Rattle.cdf_definition.specs.Laws.{ByIdLaw, TwoOfOneId, ReferencesLaw, RecordLaw, SnapshotLaw, AgreementLaw, SoundLaw, ValueLaw, SoundFileLaw, ValidFileLaw, OneElectionLaw, KeptLaw};
 ghost use Rattle.cdf_definition.specs.Depths.{ReportRowLaw, HasIdLaw, WasReadLaw, ReportIsProperLaw, ListedIsProperLaw};
+
+/// Entries by their ids rise strictly by id, and beside each id stands the text of the last entry
+/// that has it. Worked example: two of three entries have one id.
+pub fn entries_by_id()
+    ensures entries { ByIdLaw }
+    ensures example { TwoOfOneId }
+{}
 
 /// A list of faults is empty exactly where what the faults tell of holds: of references, of
 /// agreement, of a value, and of a file alone and beside a definition.
