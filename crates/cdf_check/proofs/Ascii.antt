@@ -11,6 +11,7 @@ use Rattle.cdf_types.specs.declared.fault.ReadFault.{ReadFault}
 use Rattle.cdf_form.specs.Reading.{max_file, value_of}
 use Rattle.cdf_form.proofs.Lemmas.{and-left, and-right}
 use Rattle.cdf_definition.specs.Frame.{Frame, frame_of, IsSame}
+use Rattle.cdf_definition.proofs.Lemmas.{frame_of-put, frame_put}
 use Rattle.cdf_definition.specs.Acceptance.{of_value, own_refusal, value_refusal, first_unsound, first_refusal, frame_in}
 
 abbrev pub all_ascii : List ℕ → Bool
@@ -27,21 +28,21 @@ ascii (b ∷ bs) h = IsAscii-cons b bs (nat_lt-from b (and-left (nat_lt b 128) (
 ascii_value : (bytes : List ℕ) → all_ascii bytes ≡ true → value_of bytes ≡ read bytes
 ascii_value bytes a = rw (is_utf8-from_IsUtf8 bytes (IsUtf8-from_ascii bytes (ascii bytes a)))
 
+pub ascii_frame : (bytes : List ℕ) → all_ascii bytes ≡ true → frame_in bytes ≡ frame_put (unwrap_or (read bytes) null)
+ascii_frame bytes a = ap (λ o. frame_of (unwrap_or o null)) (ascii_value bytes a) ∙ frame_of-put (unwrap_or (read bytes) null)
+
 pub ascii_unsound : (bytes : List ℕ) (r : Option ReadFault) → all_ascii bytes ≡ true → nat_le (length bytes) max_file ≡ true
     → of_value own_refusal (read bytes) ≡ r → first_unsound bytes ≡ r
 ascii_unsound bytes r a l e = rw (l, ascii_value bytes a) e
 
 pub ascii_refusal : (def bytes : List ℕ) (r : Option ReadFault) → all_ascii def ≡ true → all_ascii bytes ≡ true → nat_le (length bytes) max_file ≡ true
-    → of_value (value_refusal (frame_of (unwrap_or (read def) null))) (read bytes) ≡ r → first_refusal (frame_in def) bytes ≡ r
-ascii_refusal def bytes r d a l e = rw (l, ascii_value bytes a, ascii_value def d) e
-
-pub ascii_frame : (bytes : List ℕ) → all_ascii bytes ≡ true → frame_in bytes ≡ frame_of (unwrap_or (read bytes) null)
-ascii_frame bytes a = rw (ascii_value bytes a)
+    → of_value (value_refusal (frame_put (unwrap_or (read def) null))) (read bytes) ≡ r → first_refusal (frame_in def) bytes ≡ r
+ascii_refusal def bytes r d a l e = rw (l, ascii_value bytes a) (ap (λ f. of_value (value_refusal f) (read bytes)) (ascii_frame def d) ∙ e)
 
 -- ---- definitions of two files
 
 abbrev frame_read : List ℕ → Frame
-frame_read bytes = frame_of (unwrap_or (read bytes) null)
+frame_read bytes = frame_put (unwrap_or (read bytes) null)
 
 pub ascii_same : (a b : List ℕ) → all_ascii a ≡ true → all_ascii b ≡ true → IsSame (frame_read a) (frame_read b) → IsSame (frame_in a) (frame_in b)
 ascii_same a b p q h = subst (λ f. IsSame f (frame_in b)) (sym (ascii_frame a p)) (subst (λ f. IsSame (frame_read a) f) (sym (ascii_frame b q)) h)

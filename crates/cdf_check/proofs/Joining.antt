@@ -1,5 +1,5 @@
 -- A report agrees with a definition, and all that its records name is there, exactly where what they name is the definition's or their own, and what is left beside them has the rest.
-use Rattle.std.proofs.Common.{◌≡◌, ℕ, List, [], ◌∷◌, slice_index_or, Contains, true, false, Some, codes, refl, subst, ◌∙◌}
+use Rattle.std.proofs.Common.{◌≡◌, ℕ, List, [], ◌∷◌, slice_index_or, Contains, true, false, Some, codes, refl, ap, subst, ◌∙◌}
 use Rattle.std.specs.List.{All}
 use Rattle.std.proofs.lemmas.List.Elements.{All-contains, Contains-get_or}
 use Rattle.std.proofs.Math.Logic.{∥∥₁_elim}
@@ -14,7 +14,7 @@ use Rattle.cdf_parts.proofs.Laws.{proper_read}
 use Rattle.cdf_check.specs.declared.record_names.RecordNames.{RecordNames}
 use Rattle.cdf_definition.specs.References.{Scope, scope_of, one, in_snapshot, in_cvr}
 use Rattle.cdf_definition.specs.Scoped.{contests_alone}
-use Rattle.cdf_definition.specs.Named.{ids_of}
+use Rattle.cdf_definition.specs.Named.{named, ids_of}
 use Rattle.cdf_definition.specs.Frame.{Frame, frame_of, entries_at}
 use Rattle.cdf_definition.specs.Agreement.{AreListed, Agrees}
 use Rattle.cdf_definition.specs.Sound.{IsSound, IsFrame, WasRead}
@@ -26,7 +26,7 @@ use Rattle.cdf_definition.specs.Naming.{NamesOwn}
 use Rattle.cdf_check.proofs.NamedTexts.{listed_all, listed_at, many_listed, one_listed}
 use Rattle.cdf_definition.proofs.Laws.{sound}
 use Rattle.cdf_definition.proofs.Laws.{one_election}
-use Rattle.cdf_definition.proofs.Lemmas.{election_is}
+use Rattle.cdf_definition.proofs.Lemmas.{by_id-put, election_is}
 use Rattle.cdf_check.proofs.SameElection.{proper_report, same_election}
 use Rattle.cdf_check.proofs.Wider.{each_wider, one_wider, snapshot_wider, cvr_parts, parts_cvr}
 use Rattle.cdf_check.proofs.Apart.{array_stays, agrees_apart}
@@ -104,7 +104,7 @@ module _ (frame : Frame) (bytes : List ℕ) (ds : List Data) (ms : Members) (is 
   contests_at q = rw (q.3, election_is q.0 (first_own q).0 (first_own q).1, one_and_the_same q, ← election_is (object ms) own.0 own.1)
 
   elections_at : Origin → ids_of frame.elections ≡ (scope_of (object ms)).elections
-  elections_at q = rw (q.3, (first_own q).1, one_and_the_same q, own.1)
+  elections_at q = rw (q.3, (first_own q).1, one_and_the_same q, own.1) (ap ids_of (by_id-put (named own.0 ∷ [])))
 
   pub own_contests : IsFrame frame → frame.contests ≡ (scope_of (object ms)).contests
   own_contests of = ∥∥₁_elim of (hlevel (ℕ_set, is_set)) contests_at

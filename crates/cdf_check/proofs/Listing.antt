@@ -1,6 +1,7 @@
 -- The lists of a definition, and the places of its ids.
-use Rattle.std.proofs.Common.{◌≡◌, ◌<◌, ◌+◌, ℕ, zero, suc, List, [], ◌∷◌, length, slice_index_or, map, Bool, true, false, cond, Option, Some, Contains, codes, bytes_eq, inl, inr, refl, sym, ap, ◌∙◌, subst, arith}
-use Rattle.std.specs.List.{position_from}
+use Rattle.std.proofs.Common.{◌≡◌, ◌<◌, ◌+◌, ℕ, zero, suc, List, [], ◌∷◌, length, slice_index_or, map, Bool, true, false, cond, Option, Some, Contains, codes, bytes_eq, refl, sym, ap, ◌∙◌, subst, arith}
+use Rattle.std.specs.List.{AllByRecursion, IsDistinct, position_from}
+use Rattle.std.proofs.lemmas.Bool.{false_from_ne_true}
 use Rattle.std.proofs.lemmas.Slice.Eq.{bytes_eq-Decides}
 use Rattle.serde_json.specs.Data.{Data}
 use Rattle.cdf_form.specs.declared.table.Group.{Group}
@@ -14,14 +15,14 @@ use Rattle.cdf_form.specs.Form.{key_text}
 use Rattle.cdf_parts.specs.Parts.{array_at, id_of, the_election}
 use Rattle.cdf_form.specs.ByRow.{AllClasses, find_row, HasRow, ListApart}
 use Rattle.cdf_form.proofs.Laws.{row_of, items_have_form, items_are_apart}
-use Rattle.cdf_definition.specs.Named.{Entry, named}
+use Rattle.cdf_definition.specs.Named.{Entry, named, ids_of}
 use Rattle.cdf_definition.specs.Frame.{entries_at}
 use Rattle.cdf_definition.specs.Acceptance.{IsReport}
 use Rattle.cdf_check.specs.Laws.{IsListOf, ListsLaw, AreFoundByIds, PlacesLaw}
 use Rattle.cdf_definition.proofs.Lemmas.{at_head, at_tail, election_is, election_listed}
-use Rattle.cdf_check.proofs.Entries.{IsAmong, AreAlone, sorted_rises, sorted_same}
+use Rattle.cdf_check.proofs.Entries.{AreAlone, same_by_id}
 use Rattle.cdf_definition.specs.Depths.{id_row, election_row}
-use Rattle.cdf_definition.proofs.Laws.{report_row, has_id, one_election}
+use Rattle.cdf_definition.proofs.Laws.{by_id_law, report_row, has_id, one_election}
 use Rattle.cdf_form.specs.HasForm.{HasForm}
 
 abbrev contest_row : tables.Entry
@@ -54,22 +55,25 @@ first_differs d e ds i h apart lt is same =
 
 -- ---- lists
 
-named_in : (ds : List Data) (x : Entry) → IsAmong (map named ds) x → (e : Data) × Contains ds e × (named e ≡ x)
-named_in [] x a = absurd a
-named_in (d ∷ ds) x (inl is) = (d, at_head d ds, is)
-named_in (d ∷ ds) x (inr a) = let p = named_in ds x a in (p.0, at_tail d p.0 ds p.1, p.2)
+none_has : (id : List ℕ) (ds : List Data) → ((e : Data) → Contains ds e → id_of e ≡ id → ⊥) → AllByRecursion (λ k. bytes_eq id k ≡ false) (ids_of (map named ds))
+none_has id [] none = tt
+none_has id (d ∷ ds) none = (
+  false_from_ne_true (bytes_eq id (id_of d)) (λ same. none d (at_head d ds) (sym ((bytes_eq-Decides id (id_of d)).0 same))),
+  none_has id ds (λ e at. none e (at_tail d e ds at)),
+)
 
 alone : (ds : List Data) → HaveIds ds → ListApart key.Id ds → AreAlone (map named ds)
+unfolding IsDistinct
 alone [] h apart = tt
 alone (d ∷ ds) h apart = (
-  (λ x a same. let p = named_in ds x a in first_differs d p.0 ds p.1.0 h apart p.1.1 p.1.2 (ap (λ y. y.0) p.2 ∙ same)),
+  none_has (id_of d) ds (λ e at. first_differs d e ds at.0 h apart at.1 at.2),
   alone ds (rest_have d ds h) (rest_apart d ds apart),
 )
 
 listed : (name : List ℕ) (d : Data) → AreAlone (map named (array_at name d)) → IsListOf (entries_at name d) name d
 listed name d h = record {
-  rises = sorted_rises (map named (array_at name d));
-  members = sorted_same (map named (array_at name d)) h;
+  rises = (by_id_law (map named (array_at name d))).rises;
+  members = same_by_id (map named (array_at name d)) h;
 }
 
 -- ---- places
@@ -128,10 +132,14 @@ devices_row = required (codes "ReportingDevice") (Array (leaf.Object group.Repor
 abbrev selections_row : tables.Entry
 selections_row = optional (codes "ContestSelection") (Array (leaf.Object group.ContestSelections) 0 any key.Id)
 
+alone_one : (e : Entry) → AreAlone (e ∷ [])
+unfolding IsDistinct
+alone_one e = (tt, tt)
+
 one_alone : (d : Data) → IsReport d → AreAlone (map named (array_at (codes "Election") d))
 one_alone d h =
     let one = one_election d h in
-    subst (λ ds. AreAlone (map named ds)) (sym one.1) ((λ x a same. a), tt)
+    subst (λ ds. AreAlone (map named ds)) (sym one.1) (alone_one (named one.0))
 
 pub lists : ListsLaw
 lists d h = (

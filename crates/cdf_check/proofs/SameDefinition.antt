@@ -15,7 +15,7 @@ use Rattle.cdf_parts.specs.Parts.{array_at, the_election}
 use Rattle.cdf_parts.specs.Places.{contest_of}
 use Rattle.cdf_parts.specs.Proper.{IsProper}
 use Rattle.cdf_parts.proofs.Laws.{part_proper, listed_part, same_text}
-use Rattle.cdf_definition.specs.Named.{Entry, named, ids_of, texts_of, sorted}
+use Rattle.cdf_definition.specs.Named.{Entry, named, ids_of, texts_of, by_id}
 use Rattle.cdf_definition.specs.Frame.{Frame, frame_of, entries_at, IsSame}
 use Rattle.cdf_definition.specs.Sound.{IsSound, IsFrame, WasRead}
 use Rattle.cdf_definition.specs.Acceptance.{IsReport}
@@ -24,7 +24,7 @@ use Rattle.cdf_check.specs.Same.{HaveSameTexts, AgreeInTexts, AreEqualButDevices
 use Rattle.cdf_check.proofs.Entries.{IsAmong, among_from, from_among}
 use Rattle.cdf_check.proofs.Listing.{lists}
 use Rattle.cdf_definition.proofs.Laws.{one_election}
-use Rattle.cdf_definition.proofs.Lemmas.{election_is, election_listed}
+use Rattle.cdf_definition.proofs.Lemmas.{by_id-put, election_is, election_listed}
 use Rattle.cdf_check.proofs.SameElection.{proper_report}
 use Rattle.cdf_definition.proofs.Laws.{sound}
 
@@ -113,8 +113,8 @@ list_spelled name d l proper e a =
     (s.0, part_proper max_depth s.0 d (listed_part name d s.0 (from_among (array_at name d) s.0 s.1)) proper, s.2)
 
 -- the only entry has the text of the only object
-only_text : (d e : Data) → sorted (map named (d ∷ [])) ≡ sorted (map named (e ∷ [])) → compact_text d ≡ compact_text e
-only_text d e is = let same : named d ∷ [] ≡ named e ∷ [] = is in Prim.cc same
+only_text : (d e : Data) → by_id (map named (d ∷ [])) ≡ by_id (map named (e ∷ [])) → compact_text d ≡ compact_text e
+only_text d e is = let same : named d ∷ [] ≡ named e ∷ [] = sym (by_id-put (named d ∷ [])) ∙ is ∙ by_id-put (named e ∷ []) in Prim.cc same
 
 module _ (c d : Data) (read : WasRead c) (also : WasRead d) (r : IsReport c) (q : IsReport d) where
   equal_lists : (name : List ℕ) → IsListOf (entries_at name c) name c → IsListOf (entries_at name d) name d
@@ -132,8 +132,8 @@ module _ (c d : Data) (read : WasRead c) (also : WasRead d) (r : IsReport c) (q 
       let other = one_election d q in
       let p = part_proper max_depth one.0 c (listed_part (codes "Election") c one.0 (election_listed c one.0 one.1)) (proper_report read.0 c read.1.1 r) in
       let s = part_proper max_depth other.0 d (listed_part (codes "Election") d other.0 (election_listed d other.0 other.1)) (proper_report also.0 d also.1.1 q) in
-      let entries : sorted (map named (one.0 ∷ [])) ≡ sorted (map named (other.0 ∷ [])) =
-      ap (λ ds. sorted (map named ds)) (sym one.1) ∙ same ∙ ap (λ ds. sorted (map named ds)) other.1 in
+      let entries : by_id (map named (one.0 ∷ [])) ≡ by_id (map named (other.0 ∷ [])) =
+      ap (λ ds. by_id (map named ds)) (sym one.1) ∙ same ∙ ap (λ ds. by_id (map named ds)) other.1 in
       election_is c one.0 one.1
       ∙ same_text one.0 other.0 p.well p.whole p.shallow s.well s.whole s.shallow (only_text one.0 other.0 entries)
       ∙ sym (election_is d other.0 other.1)

@@ -13,7 +13,7 @@ use Rattle.cdf_parts.specs.Parts.{array_at, the_election, id_of}
 use Rattle.cdf_parts.specs.Places.{contest_of}
 use Rattle.cdf_parts.specs.Proper.{IsProper}
 use Rattle.cdf_parts.proofs.Laws.{part_proper, listed_part, proper_read, same_text}
-use Rattle.cdf_definition.specs.Named.{named, text_of, sorted}
+use Rattle.cdf_definition.specs.Named.{named, text_of, by_id}
 use Rattle.cdf_definition.specs.Frame.{Frame, frame_of, entries_at}
 use Rattle.cdf_definition.specs.Agreement.{AreListed}
 use Rattle.cdf_definition.specs.Sound.{IsSound, WasRead}
@@ -21,7 +21,7 @@ use Rattle.cdf_definition.specs.Acceptance.{IsReport, Valid, value_in}
 use Rattle.cdf_check.specs.Laws.{SameElectionLaw}
 use Rattle.cdf_definition.proofs.Laws.{sound}
 use Rattle.cdf_definition.proofs.Laws.{one_election}
-use Rattle.cdf_definition.proofs.Lemmas.{election_is, election_listed}
+use Rattle.cdf_definition.proofs.Lemmas.{by_id-put, election_is, election_listed}
 
 -- ---- what was read
 
@@ -43,15 +43,17 @@ own_text true a b e = cc
 own_text false a b e = absurd (cc)
 
 -- the only entry has the text of what is listed
-only_text : (e0 e : Data) → text_of (sorted (map named (e0 ∷ []))) (id_of e) ≡ Some (compact_text e) → compact_text e0 ≡ compact_text e
-only_text e0 e h = own_text (bytes_eq (id_of e) (id_of e0)) (compact_text e0) (compact_text e) h
+only_text : (e0 e : Data) → text_of (by_id (map named (e0 ∷ []))) (id_of e) ≡ Some (compact_text e) → compact_text e0 ≡ compact_text e
+only_text e0 e h =
+    own_text (bytes_eq (id_of e) (id_of e0)) (compact_text e0) (compact_text e)
+    (subst (λ es. text_of es (id_of e) ≡ Some (compact_text e)) (by_id-put (named e0 ∷ [])) h)
 
 pub same_election : (d0 d e0 e : Data) → IsProper max_depth d0 → IsProper max_depth d
     → array_at (codes "Election") d0 ≡ e0 ∷ [] → array_at (codes "Election") d ≡ e ∷ []
     → AreListed (entries_at (codes "Election") d0) (codes "Election") d → e0 ≡ e
 same_election d0 d e0 e g0 g one0 one agree =
-    let listed : text_of (sorted (map named (array_at (codes "Election") d0))) (id_of e) ≡ Some (compact_text e) = agree e (election_listed d e one) in
-    let here : text_of (sorted (map named (e0 ∷ []))) (id_of e) ≡ Some (compact_text e) = subst (λ ds. text_of (sorted (map named ds)) (id_of e) ≡ Some (compact_text e)) one0 listed in
+    let listed : text_of (by_id (map named (array_at (codes "Election") d0))) (id_of e) ≡ Some (compact_text e) = agree e (election_listed d e one) in
+    let here : text_of (by_id (map named (e0 ∷ []))) (id_of e) ≡ Some (compact_text e) = subst (λ ds. text_of (by_id (map named ds)) (id_of e) ≡ Some (compact_text e)) one0 listed in
     let p0 = proper_election d0 e0 g0 one0 in
     let p = proper_election d e g one in
     same_text e0 e p0.well p0.whole p0.shallow p.well p.whole p.shallow (only_text e0 e here)

@@ -3,6 +3,8 @@ use Rattle.std.proofs.Common.{◌≡◌, ℕ, suc, ◌+◌, ◌-◌, ◌<◌, �
 use Rattle.std.specs.String.{string_cmp}
 use Rattle.std.specs.List.{position_from, zip}
 use Rattle.std.specs.BTreeMap.{insert_entry}
+use Rattle.std.specs.FinMap.{put}
+use Rattle.std.specs.FinMap.Entries.{by_order}
 use Rattle.std.specs.Ordering.{match_ordering}
 use Rattle.std.specs.Cmp.Lexicographic.{slice_cmp}
 use Rattle.std.proofs.lemmas.List.{take_more, map-append, append_assoc}
@@ -11,7 +13,8 @@ use Rattle.cdf_node.specs.declared.node.Node.{Node}
 use Rattle.cdf_parts.specs.Places.{Texts, place_in}
 use Rattle.cdf_parts.specs.Kept.{bytes_of}
 use Rattle.cdf_parts.proofs.Lemmas.{length-bytes_of}
-use Rattle.cdf_definition.specs.Named.{Entry, named, put_all, sorted, entries_of, ids_of, texts_of, text_of}
+use Rattle.cdf_definition.specs.Named.{Entry, named, by_id, entries_of, ids_of, texts_of, text_of}
+use Rattle.cdf_definition.proofs.ById.{by_id-push}
 
 -- ---- gathering
 
@@ -19,27 +22,23 @@ use Rattle.cdf_definition.specs.Named.{Entry, named, put_all, sorted, entries_of
 abbrev pub Held : Type 0
 Held = String Global × List ℕ
 
-at_order : (o : Ordering) (a b c : List Held) → entries_of (match_ordering o a b c) ≡ match_ordering o (entries_of a) (entries_of b) (entries_of c)
+at_order : (o : Ordering) (a b c : List Held) → entries_of (match_ordering o a b c) ≡ by_order o (entries_of a) (entries_of b) (entries_of c)
 at_order Less a b c = refl
 at_order Equal a b c = refl
 at_order Greater a b c = refl
 
-pub entries_of-insert_entry : (es : List Held) (k : String Global) (v : List ℕ) → entries_of (insert_entry string_cmp es k v) ≡ insert_entry (slice_cmp nat_cmp) (entries_of es) (string_bytes k) v
+pub entries_of-insert_entry : (es : List Held) (k : String Global) (v : List ℕ) → entries_of (insert_entry string_cmp es k v) ≡ put (slice_cmp nat_cmp) (string_bytes k) v (entries_of es)
 entries_of-insert_entry [] k v = refl
 entries_of-insert_entry (e ∷ es) k v = at_order (string_cmp k e.0) _ _ _ ∙ rw (entries_of-insert_entry es k v)
 
-pub put_all-push : (done es : List Entry) (e : Entry) → put_all done (es ++ e ∷ []) ≡ insert_entry (slice_cmp nat_cmp) (put_all done es) e.0 e.1
-put_all-push done [] e = refl
-put_all-push done (f ∷ es) e = put_all-push (insert_entry (slice_cmp nat_cmp) done f.0 f.1) es e
-
-pub gathered_more : (es fs : List Held) (k : String Global) (v : List ℕ) (vs : List Node) (i : ℕ) (x : Node) → i < length vs → entries_of es ≡ sorted (map named (map view (take i vs))) → fs ≡ insert_entry string_cmp es k v
-    → (string_bytes k, v) ≡ named (view (get_or vs i x)) → entries_of fs ≡ sorted (map named (map view (take (i + 1) vs)))
+pub gathered_more : (es fs : List Held) (k : String Global) (v : List ℕ) (vs : List Node) (i : ℕ) (x : Node) → i < length vs → entries_of es ≡ by_id (map named (map view (take i vs))) → fs ≡ insert_entry string_cmp es k v
+    → (string_bytes k, v) ≡ named (view (get_or vs i x)) → entries_of fs ≡ by_id (map named (map view (take (i + 1) vs)))
 gathered_more es fs k v vs i x h e is n =
-    let put : entries_of fs ≡ insert_entry (slice_cmp nat_cmp) (entries_of es) (string_bytes k) v = rw is (entries_of-insert_entry es k v) in
+    let now : entries_of fs ≡ put (slice_cmp nat_cmp) (string_bytes k) v (entries_of es) = rw is (entries_of-insert_entry es k v) in
     let more : map named (map view (take (i + 1) vs)) ≡ map named (map view (take i vs)) ++ named (view (get_or vs i x)) ∷ [] = rw (take_more vs i x h, map-append view (take i vs), map-append named (map view (take i vs))) in
-    put ∙ ap (λ xs. insert_entry (slice_cmp nat_cmp) xs (string_bytes k) v) e
-    ∙ ap (λ (m : Entry). insert_entry (slice_cmp nat_cmp) (sorted (map named (map view (take i vs)))) m.0 m.1) n
-    ∙ sym (ap sorted more ∙ put_all-push [] (map named (map view (take i vs))) (named (view (get_or vs i x))))
+    now ∙ ap (put (slice_cmp nat_cmp) (string_bytes k) v) e
+    ∙ ap (λ (m : Entry). put (slice_cmp nat_cmp) m.0 m.1 (by_id (map named (map view (take i vs))))) n
+    ∙ sym (ap by_id more ∙ by_id-push (map named (map view (take i vs))) (named (view (get_or vs i x))))
 
 -- ---- pairs
 

@@ -4,6 +4,7 @@ pub mod Agreeing
 pub mod Sounding
 pub mod Accepting
 pub mod Reports
+pub mod ById
 pub mod Gathered
 pub mod OneElection
 pub mod Items

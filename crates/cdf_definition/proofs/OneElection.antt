@@ -11,9 +11,10 @@ use Rattle.cdf_form.specs.Reading.{document_faults}
 use Rattle.cdf_form.proofs.Lemmas.{left_nil}
 use Rattle.cdf_form.proofs.Laws.{whole_of}
 use Rattle.cdf_parts.proofs.Laws.{whole_array}
-use Rattle.cdf_definition.specs.Named.{named, sorted, texts_of}
+use Rattle.cdf_definition.specs.Named.{named, by_id, texts_of}
 use Rattle.cdf_definition.specs.Frame.{Frame, frame_of}
 use Rattle.cdf_definition.specs.Sound.{IsSound, IsFrame}
+use Rattle.cdf_definition.proofs.ById.{by_id-put}
 use Rattle.cdf_definition.proofs.Sounding.{sound}
 use Rattle.cdf_definition.proofs.Reports.{one_election}
 
@@ -23,7 +24,7 @@ whole_at name d h = whole_array d name (whole_of d (left_nil _ _ h))
 one_of : (d : Data) → IsSound d → length (texts_of (frame_of d).elections) ≡ 1
 one_of d h =
     let one = one_election d ((sound d).0 h) in
-    ap (λ ds. length (texts_of (sorted (map named ds)))) one.1
+    ap (λ ds. length (texts_of (by_id (map named ds)))) one.1 ∙ ap (λ es. length (texts_of es)) (by_id-put (named one.0 ∷ []))
 
 -- a definition has the text of one Election
 pub one_text : (f : Frame) → IsFrame f → length (texts_of f.elections) ≡ 1

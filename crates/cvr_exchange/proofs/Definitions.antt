@@ -11,11 +11,11 @@ use Rattle.cdf_definition.specs.Acceptance.{Holds, IsReport}
 use Rattle.cdf_definition.specs.Agreement.{Agrees}
 use Rattle.cdf_definition.specs.Frame.{Frame, frame_of, entries_at}
 use Rattle.cdf_check.specs.Laws.{IsListOf}
-use Rattle.cdf_definition.specs.Named.{Entry, named, sorted, ids_of, texts_of}
+use Rattle.cdf_definition.specs.Named.{Entry, named, by_id, ids_of, texts_of}
 use Rattle.cdf_definition.specs.Sound.{IsFrame}
 use Rattle.cdf_definition.proofs.Laws.{was_read, report_proper, listed_proper, one_election, sound}
 use Rattle.cdf_check.proofs.Laws.{lists, file_utf8, part_utf8}
-use Rattle.cdf_definition.proofs.Lemmas.{election_listed}
+use Rattle.cdf_definition.proofs.Lemmas.{by_id-put, election_listed}
 use Rattle.cvr_facts.specs.Choosing.{data_of}
 use Rattle.cvr_facts.proofs.Lemmas.{at_head, at_tail, in_map, from_map}
 use Rattle.cvr_office.proofs.Laws.{entry_source, own_agrees}
@@ -93,8 +93,8 @@ module _ (bytes : List ℕ) (d : Data) (holds : Holds bytes d) (r : IsReport d) 
         units = values_of_list (codes "GpUnit") l.1;
         parties = values_of_list (codes "Party") l.2;
         election =
-            subst (λ ds. values (sorted (map named ds)) ≡ ds) (sym one.1)
-            (ap (λ x. x ∷ []) (back (codes "Election") one.0 (election_listed d one.0 one.1)));
+            subst (λ ds. values (by_id (map named ds)) ≡ ds) (sym one.1)
+            (ap values (by_id-put (named one.0 ∷ [])) ∙ ap (λ x. x ∷ []) (back (codes "Election") one.0 (election_listed d one.0 one.1)));
         contests = refl;
         agrees = own_agrees d r;
       }

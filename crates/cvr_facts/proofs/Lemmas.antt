@@ -2,7 +2,7 @@
 pub use Rattle.cvr_facts.proofs.Bools.{tie_decides, tie_is, tie_itself}
 pub use Rattle.cvr_facts.proofs.Greatest.{greatest_is, has_greatest, is_greatest}
 pub use Rattle.cvr_facts.proofs.Members.{at_head, at_tail, from_flat, from_map, from_set, head_or_tail, in_flat, in_map, in_set, none_listed, one_listed, same_from_list}
-pub use Rattle.cvr_facts.proofs.Ordered.{keys_rise, list_any-ordered, ordered-same, ordered_rises}
+pub use Rattle.cvr_facts.proofs.Ordered.{list_any-ordered, ordered-same, ordered_rises}
 pub use Rattle.cvr_facts.proofs.Records.{Contains-filter_map, from-filter_map}
 pub use Rattle.cvr_facts.proofs.SameLists.{same_lists_of_members}
 pub use Rattle.cvr_facts.proofs.Sorted.{IsSorted-strict, from_list-append}

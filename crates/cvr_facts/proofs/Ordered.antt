@@ -1,43 +1,19 @@
 -- A list put in order.
-use Rattle.std.proofs.Common.{◌≡◌, List, [], ◌∷◌, map, Bool, true, false, cond, ◌||◌, ◌&&◌, T, Option, Some, is_some, Ordering, Less, Equal, Greater, refl, sym, ap, ◌∙◌}
-use Rattle.std.specs.List.{list_any, AllByRecursion}
+use Rattle.std.proofs.Common.{◌≡◌, List, [], ◌∷◌, Bool, true, false, cond, ◌||◌, Option, Some, is_some, Ordering, refl, sym, ap, ◌∙◌}
+use Rattle.std.specs.List.{list_any}
 use Rattle.std.specs.List.Sorted.{IsStrictlySortedBy}
-use Rattle.std.specs.Ordering.{eq_by_cmp, is_lt}
+use Rattle.std.specs.Ordering.{eq_by_cmp}
 use Rattle.std.specs.Cmp.{IsTotalOrder}
 use Rattle.std.specs.FinMap as map_of
 use Rattle.std.specs.FinMap.{IsAntisymmetric, entries, entries_sorted}
-use Rattle.std.specs.FinMap.Entries.{is_sorted, below_all}
 use Rattle.std.specs.FinSet.{items, from_list, contains-from_list, contains-items}
+use Rattle.cdf_definition.proofs.Lemmas.{keys_rise}
 use Rattle.cvr_facts.specs.Ordered.{keys_of, ordered}
 use Rattle.cvr_facts.proofs.SameLists.{same_lists}
 
 some_cond : (b : Bool) (o : Option (Unit {0})) → is_some (cond b (Some tt) o) ≡ (b || is_some o)
 some_cond true o = refl
 some_cond false o = refl
-
-both_left : (a b : Bool) → T (a && b) → T a
-both_left true b h = tt
-both_left false b h = h
-
-both_right : (a b : Bool) → T (a && b) → T b
-both_right true b h = h
-both_right false b h = absurd h
-
-less_is : (o : Ordering) → T (is_lt o) → o ≡ Less
-less_is Less h = refl
-less_is Equal h = absurd h
-less_is Greater h = absurd h
-
-module _ {K X : Type 0} (R : K → K → Ordering) where
-  below_is : (k : K) (es : List (K × X)) → T (below_all R k es) → AllByRecursion (λ y. R k y ≡ Less) (map (λ x. x.0) es)
-  below_is k [] h = tt
-  below_is k (x ∷ es) h = (less_is (R k x.0) (both_left (is_lt (R k x.0)) _ h), below_is k es (both_right (is_lt (R k x.0)) _ h))
-
-  -- the keys of sorted entries rise
-  pub keys_rise : (es : List (K × X)) → T (is_sorted R es) → IsStrictlySortedBy R (map (λ x. x.0) es)
-  unfolding IsStrictlySortedBy
-  keys_rise [] h = tt
-  keys_rise (x ∷ es) h = (below_is x.0 es (both_left (below_all R x.0 es) _ h), keys_rise es (both_right (below_all R x.0 es) _ h))
 
 pub ordered_rises : {K : Type 0} (R : K → K → Ordering) (ks : List K) → IsStrictlySortedBy R (ordered R ks)
 ordered_rises R ks = keys_rise R (entries (keys_of R ks)) (entries_sorted (keys_of R ks))

@@ -20,7 +20,8 @@ use Rattle.cvr_fact_types.specs.declared.name.RecordName.{RecordName}
 use Rattle.cvr_fact_types.specs.Facts.{Facts, Snapshot}
 use Rattle.cvr_facts.specs.Choosing.{header, current, header_bodies, snapshot_bodies}
 use Rattle.cvr_facts.proofs.Laws.{text_total, text_exact, choice_total, Contains-header_bodies, Contains-snapshot_bodies}
-use Rattle.cvr_facts.proofs.Lemmas.{greatest_is, is_greatest, has_greatest, none_listed, at_head, at_tail, head_or_tail, in_map, keys_rise}
+use Rattle.cdf_definition.proofs.Lemmas.{keys_rise}
+use Rattle.cvr_facts.proofs.Lemmas.{greatest_is, is_greatest, has_greatest, none_listed, at_head, at_tail, head_or_tail, in_map}
 use Rattle.cvr_tally.specs.declared.key.RowKey.{RowKey}
 use Rattle.cvr_tally.specs.declared.row.Row.{Row}
 use Rattle.cvr_tally.specs.Keys.{part_cmp, key_cmp, keys_total, keys_exact}

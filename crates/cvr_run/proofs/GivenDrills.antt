@@ -10,6 +10,7 @@ use Rattle.std.proofs.lemmas.Str.{IsUtf8-from_ascii, is_utf8-from_IsUtf8}
 use Rattle.std.proofs.lemmas.Str.Ascii.{IsAscii-nil, IsAscii-cons}
 use Rattle.cdf_definition.specs.Frame.{Frame, frame_of}
 use Rattle.cdf_definition.specs.Acceptance.{value_in, frame_in, first_unsound}
+use Rattle.cdf_definition.proofs.Lemmas.{frame_of-put, frame_put}
 use Rattle.cdf_check.specs.Rows as file
 use Rattle.cvr_fact_types.specs.Facts.{Fact, Device, Header, Snapshot, Facts, fact_cmp, fact_total, fact_exact}
 use Rattle.cvr_facts.specs.Choosing.{data_of}
@@ -102,9 +103,11 @@ run-given def paths files n steps text sound is = ap (λ fault. if is_some fault
 
 -- ---- the facts of files
 
-pub starts-given : (def : List ℕ) (fs : List Fact) → all_ascii def ≡ true → map (λ e. Device e.0 e.1) (frame_of (data_of def)).devices ≡ fs
+pub starts-given : (def : List ℕ) (fs : List Fact) → all_ascii def ≡ true → map (λ e. Device e.0 e.1) (frame_put (data_of def)).devices ≡ fs
     → starting (frame_in def) ≡ from_list fs
-starts-given def fs a is = ap (λ d. from_list (map (λ e. Device e.0 e.1) (frame_of d).devices)) (value-ascii def a) ∙ ap from_list is
+starts-given def fs a is =
+    let starts = λ (f : Frame). from_list {R = fact_cmp} (map (λ e. Device e.0 e.1) f.devices) in
+    ap (λ d. starts (frame_of d)) (value-ascii def a) ∙ ap starts (frame_of-put (data_of def)) ∙ ap from_list is
 
 pub facts-given : (bytes : List ℕ) (fs : List Fact) → all_ascii bytes ≡ true → report_facts (data_of bytes) ≡ fs → facts bytes ≡ from_list fs
 facts-given bytes fs a is = ap (λ d. from_list (report_facts d)) (value-ascii bytes a) ∙ ap from_list is
