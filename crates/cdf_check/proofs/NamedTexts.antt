@@ -20,7 +20,7 @@ use Rattle.cdf_parts.specs.Kept.{bytes_of}
 use Rattle.cdf_parts.specs.Parts.{array_at, text_in}
 use Rattle.cdf_parts.specs.Places.{Texts}
 use Rattle.cdf_form.proofs.Lemmas.{and-left, and-right}
-use Rattle.cdf_definition.specs.Paths.{Path, below, unless, places}
+use Rattle.cdf_definition.specs.Paths.{Path, below, itself_unless, places}
 use Rattle.cdf_definition.specs.References.{unknown, one, many}
 use Rattle.cdf_check.specs.Within.{lists, parties_of, SameTexts}
 use Rattle.cdf_definition.proofs.Lemmas.{inner}
@@ -105,7 +105,7 @@ listed_one : (ids : Texts) (s : Step) (o : Option (List ℕ)) (ps : List Path) (
 listed_one ids s None ps texts h = h
 listed_one ids s (Some x) ps texts h = known (list_any (bytes_eq x) ids)
   where
-    known : (t : Bool) → (below s (unless t) ++ ps ≡ []) ↔ ((t && lists ids texts) ≡ true)
+    known : (t : Bool) → (below s (itself_unless t) ++ ps ≡ []) ↔ ((t && lists ids texts) ≡ true)
     known true = h
     known false = ((λ e. cc), λ e. cc)
 

@@ -11,13 +11,13 @@ use Rattle.serde_json.specs.Written.{compact_text}
 use Rattle.cdf_form.specs.Form.{at_member}
 use Rattle.cdf_parts.specs.Parts.{array_at, ids_at, id_of, list_of, text_at, text_in}
 use Rattle.cdf_parts.specs.Places.{Texts, Contest, contest_ids, selections_of}
-use Rattle.cdf_definition.specs.Paths.{Path, below, unless, places, each}
+use Rattle.cdf_definition.specs.Paths.{Path, below, itself_unless, places, each}
 use Rattle.cdf_definition.specs.References.{Scope, scope_of, unknown, one, many}
 use Rattle.cdf_definition.specs.References.{in_selection_vote, in_contest_vote, in_snapshot, in_cvr}
 use Rattle.cdf_definition.specs.Named.{Entry, ids_of, text_of}
 use Rattle.cdf_definition.specs.Frame.{Frame, scope_in}
 use Rattle.cdf_definition.specs.Agreement.{Agrees}
-use Rattle.cdf_definition.specs.Bodies.{IsKept}
+use Rattle.cdf_definition.specs.Bodies.{IsInHeader}
 use Rattle.cdf_check.specs.Wider.{Includes, Wider, IsResolved}
 use Rattle.cdf_definition.proofs.Lemmas.{left_nil, right_nil, two, inner, unless_nil, all_items, at_head, at_tail}
 use Rattle.cdf_definition.proofs.Laws.{is_kept}
@@ -42,7 +42,7 @@ each_wider f g h name d e =
 
 unknown_wider : (xs ys : Texts) → Includes xs ys → (o : Option (List ℕ)) → unknown xs o ≡ [] → unknown ys o ≡ []
 unknown_wider xs ys w None e = refl
-unknown_wider xs ys w (Some s) e = ap unless (w s (unless_nil (list_any (bytes_eq s) xs) e))
+unknown_wider xs ys w (Some s) e = ap itself_unless (w s (unless_nil (list_any (bytes_eq s) xs) e))
 
 pub one_wider : (xs ys : Texts) → Includes xs ys → (name : List ℕ) (d : Data) → one xs name d ≡ [] → one ys name d ≡ []
 one_wider xs ys w name d e =
@@ -94,7 +94,7 @@ parts_cvr a d h = nil_six _ _ _ _ _ _ h.unit h.snapshots h.device h.current h.el
 
 -- the value has no snapshots, and the other members of the CVR
 pub record IsHeaderOf (d h : Data) : Type 0 where
-  pub others : (name : List ℕ) → IsKept name → get name h ≡ get name d
+  pub others : (name : List ℕ) → IsInHeader name → get name h ≡ get name d
   pub no_snapshots : get (codes "CVRSnapshot") h ≡ None
   pub no_current : get (codes "CurrentSnapshotId") h ≡ None
 

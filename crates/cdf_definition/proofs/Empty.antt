@@ -3,7 +3,7 @@ use Rattle.std.proofs.Common.{◌≡◌, ◌↔◌, ◌<◌, ℕ, zero, suc, ◌
 use Rattle.serde_json.specs.Data.{Data}
 use Rattle.cdf_form.specs.Form.{Step, at_member, at_item}
 use Rattle.cdf_parts.specs.Parts.{array_at}
-use Rattle.cdf_definition.specs.Paths.{Path, below, unless, places, each}
+use Rattle.cdf_definition.specs.Paths.{Path, below, itself_unless, places, each}
 use Rattle.cdf_definition.specs.Resolves.{Each}
 
 -- ---- lists
@@ -31,12 +31,12 @@ below_nil s (x ∷ xs) e = cc
 pub inner : {P : Type 0} (s : Step) (xs : List Path) → (xs ≡ []) ↔ P → (below s xs ≡ []) ↔ P
 inner s xs p = ((λ e. p.0 (below_nil s xs e)), λ h. ap (below s) (p.1 h))
 
-pub unless_nil : (b : Bool) → unless b ≡ [] → b ≡ true
+pub unless_nil : (b : Bool) → itself_unless b ≡ [] → b ≡ true
 unless_nil true e = refl
 unless_nil false e = cc
 
-pub nil_unless : (b : Bool) → b ≡ true → unless b ≡ []
-nil_unless b e = ap unless e
+pub nil_unless : (b : Bool) → b ≡ true → itself_unless b ≡ []
+nil_unless b e = ap itself_unless e
 
 -- ---- items
 

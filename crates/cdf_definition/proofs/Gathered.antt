@@ -13,7 +13,7 @@ use Rattle.cdf_node.specs.declared.node.Node.{Node}
 use Rattle.cdf_parts.specs.Places.{Texts, place_in}
 use Rattle.cdf_parts.specs.Kept.{bytes_of}
 use Rattle.cdf_parts.proofs.Lemmas.{length-bytes_of}
-use Rattle.cdf_definition.specs.Named.{Entry, named, by_id, entries_of, ids_of, texts_of, text_of}
+use Rattle.cdf_definition.specs.Named.{Entry, named, by_id, map_entries, ids_of, texts_of, text_of}
 use Rattle.cdf_definition.proofs.ById.{by_id-push}
 
 -- ---- gathering
@@ -22,19 +22,19 @@ use Rattle.cdf_definition.proofs.ById.{by_id-push}
 abbrev pub Held : Type 0
 Held = String Global × List ℕ
 
-at_order : (o : Ordering) (a b c : List Held) → entries_of (match_ordering o a b c) ≡ by_order o (entries_of a) (entries_of b) (entries_of c)
+at_order : (o : Ordering) (a b c : List Held) → map_entries (match_ordering o a b c) ≡ by_order o (map_entries a) (map_entries b) (map_entries c)
 at_order Less a b c = refl
 at_order Equal a b c = refl
 at_order Greater a b c = refl
 
-pub entries_of-insert_entry : (es : List Held) (k : String Global) (v : List ℕ) → entries_of (insert_entry string_cmp es k v) ≡ put (slice_cmp nat_cmp) (string_bytes k) v (entries_of es)
+pub entries_of-insert_entry : (es : List Held) (k : String Global) (v : List ℕ) → map_entries (insert_entry string_cmp es k v) ≡ put (slice_cmp nat_cmp) (string_bytes k) v (map_entries es)
 entries_of-insert_entry [] k v = refl
 entries_of-insert_entry (e ∷ es) k v = at_order (string_cmp k e.0) _ _ _ ∙ rw (entries_of-insert_entry es k v)
 
-pub gathered_more : (es fs : List Held) (k : String Global) (v : List ℕ) (vs : List Node) (i : ℕ) (x : Node) → i < length vs → entries_of es ≡ by_id (map named (map view (take i vs))) → fs ≡ insert_entry string_cmp es k v
-    → (string_bytes k, v) ≡ named (view (get_or vs i x)) → entries_of fs ≡ by_id (map named (map view (take (i + 1) vs)))
+pub gathered_more : (es fs : List Held) (k : String Global) (v : List ℕ) (vs : List Node) (i : ℕ) (x : Node) → i < length vs → map_entries es ≡ by_id (map named (map view (take i vs))) → fs ≡ insert_entry string_cmp es k v
+    → (string_bytes k, v) ≡ named (view (get_or vs i x)) → map_entries fs ≡ by_id (map named (map view (take (i + 1) vs)))
 gathered_more es fs k v vs i x h e is n =
-    let now : entries_of fs ≡ put (slice_cmp nat_cmp) (string_bytes k) v (entries_of es) = rw is (entries_of-insert_entry es k v) in
+    let now : map_entries fs ≡ put (slice_cmp nat_cmp) (string_bytes k) v (map_entries es) = rw is (entries_of-insert_entry es k v) in
     let more : map named (map view (take (i + 1) vs)) ≡ map named (map view (take i vs)) ++ named (view (get_or vs i x)) ∷ [] = rw (take_more vs i x h, map-append view (take i vs), map-append named (map view (take i vs))) in
     now ∙ ap (put (slice_cmp nat_cmp) (string_bytes k) v) e
     ∙ ap (λ (m : Entry). put (slice_cmp nat_cmp) m.0 m.1 (by_id (map named (map view (take i vs))))) n
@@ -59,12 +59,12 @@ texts_of-zip [] (y ∷ texts) e = absurd (omega arith)
 texts_of-zip (x ∷ ids) [] e = absurd (omega arith)
 texts_of-zip (x ∷ ids) (y ∷ texts) e = ap (λ zs. y ∷ zs) (texts_of-zip ids texts (omega arith))
 
-pub pairs_more : (ids : List (String Global)) (texts : Texts) (id : String Global) (text : List ℕ) (rest more : List Held) (all : List Entry) → length ids ≡ length texts → zip (bytes_of ids) texts ++ entries_of rest ≡ all
-    → rest ≡ (id, text) ∷ more → zip (bytes_of (ids ++ id ∷ [])) (texts ++ text ∷ []) ++ entries_of more ≡ all
+pub pairs_more : (ids : List (String Global)) (texts : Texts) (id : String Global) (text : List ℕ) (rest more : List Held) (all : List Entry) → length ids ≡ length texts → zip (bytes_of ids) texts ++ map_entries rest ≡ all
+    → rest ≡ (id, text) ∷ more → zip (bytes_of (ids ++ id ∷ [])) (texts ++ text ∷ []) ++ map_entries more ≡ all
 pairs_more ids texts id text rest more all e is step =
     let same : length (bytes_of ids) ≡ length texts = length-bytes_of ids ∙ e in
     rw (map-append (λ (s : String Global). string_bytes s) ids (id ∷ []), zip-push (bytes_of ids) texts (string_bytes id) text same, append_assoc)
-    (sym (ap (λ (r : List Held). zip (bytes_of ids) texts ++ entries_of r) step) ∙ is)
+    (sym (ap (λ (r : List Held). zip (bytes_of ids) texts ++ map_entries r) step) ∙ is)
 
 -- ---- looking up
 

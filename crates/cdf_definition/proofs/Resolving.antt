@@ -12,7 +12,7 @@ use Rattle.cdf_form.specs.declared.table.Group.TheVariants as group
 use Rattle.cdf_form.specs.Form.{at_member, class_in}
 use Rattle.cdf_parts.specs.Parts.{ids_at, text_in, text_at}
 use Rattle.cdf_parts.specs.Places.{Texts, contest_ids, selections_of}
-use Rattle.cdf_definition.specs.Paths.{unless, each}
+use Rattle.cdf_definition.specs.Paths.{itself_unless, each}
 use Rattle.cdf_definition.specs.References.{Scope, scope_of, unknown, one, many, in_selection_vote, in_votes, in_contest_vote, in_snapshot, in_cvr, in_class, in_selection, in_contest, in_candidate, in_election}
 use Rattle.cdf_definition.specs.Resolves.{Names, AllName, Each, VoteResolves, SnapshotResolves, CvrResolves, SelectionResolves, ElectionResolves}
 use Rattle.cdf_definition.specs.Laws.{ReferencesLaw}
@@ -20,7 +20,7 @@ use Rattle.cdf_definition.proofs.Empty.{two, inner, unless_nil, nil_unless, all_
 
 -- ---- one text
 
-known : (ids : Texts) (s : List ℕ) → (unless (list_any (bytes_eq s) ids) ≡ []) ↔ Contains ids s
+known : (ids : Texts) (s : List ℕ) → (itself_unless (list_any (bytes_eq s) ids) ≡ []) ↔ Contains ids s
 known ids s = (
   (λ e. Contains-from_any (λ x y. (bytes_eq-Decides x y).0) s ids (unless_nil _ e)),
   λ h. nil_unless _ (list_any-from_Contains nat_list_eq_equiv s ids h),

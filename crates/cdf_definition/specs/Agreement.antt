@@ -4,7 +4,7 @@ use Rattle.std.specs.List.{Contains}
 use Rattle.serde_json.specs.Data.{Data}
 use Rattle.serde_json.specs.Written.{compact_text}
 use Rattle.cdf_parts.specs.Parts.{array_at, id_of}
-use Rattle.cdf_definition.specs.Paths.{Path, unless, each}
+use Rattle.cdf_definition.specs.Paths.{Path, itself_unless, each}
 use Rattle.cdf_definition.specs.Named.{Entry, text_of}
 use Rattle.cdf_definition.specs.Frame.{Frame}
 
@@ -13,7 +13,7 @@ abbrev pub agrees : List Entry → Data → Bool
 agrees entries d = unwrap_or (option_map (bytes_eq (compact_text d)) (text_of entries (id_of d))) false
 
 abbrev pub differing : List Entry → Data → List Path
-differing entries d = unless (agrees entries d)
+differing entries d = itself_unless (agrees entries d)
 
 -- the paths of the objects that are not the definition's, in the order of Election, GpUnit, Party, by place
 abbrev pub disagreements : Frame → Data → List Path

@@ -13,14 +13,14 @@ use Rattle.cdf_parts.specs.Proper.{IsProper}
 use Rattle.cdf_definition.specs.References.{Scope, in_snapshot, in_cvr}
 
 -- a member of a CVR that its header keeps
-abbrev pub IsKept : List ℕ → Type 0
-IsKept name = (name ≢ codes "CVRSnapshot") × (name ≢ codes "CurrentSnapshotId")
+abbrev pub IsInHeader : List ℕ → Type 0
+IsInHeader name = (name ≢ codes "CVRSnapshot") × (name ≢ codes "CurrentSnapshotId")
 
 -- a CVR but for its two members CVRSnapshot and CurrentSnapshotId
 pub record HasHeaderForm (d : Data) : Type 0 where
   pub class_is : class_in group.Cvrs d ≡ Some class.Cvr
-  pub needed : (r : Entry) → IsRow (table class.Cvr) r → IsKept r.name → r.required ≡ true → IsSome (get r.name d)
-  pub member : (r : Entry) (e : Data) → IsRow (table class.Cvr) r → IsKept r.name → get r.name d ≡ Some e → HasForm r.kind e
+  pub needed : (r : Entry) → IsRow (table class.Cvr) r → IsInHeader r.name → r.required ≡ true → IsSome (get r.name d)
+  pub member : (r : Entry) (e : Data) → IsRow (table class.Cvr) r → IsInHeader r.name → get r.name d ≡ Some e → HasForm r.kind e
   pub no_snapshots : get (codes "CVRSnapshot") d ≡ None
   pub no_current : get (codes "CurrentSnapshotId") d ≡ None
 

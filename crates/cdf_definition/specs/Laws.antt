@@ -12,7 +12,7 @@ use Rattle.cdf_definition.specs.Frame.{Frame}
 use Rattle.cdf_definition.specs.Agreement.{disagreements, Agrees}
 use Rattle.cdf_definition.specs.Sound.{IsSound}
 use Rattle.cdf_definition.specs.Acceptance.{IsReport, Sound, Valid, value_refusal, first_unsound, first_refusal}
-use Rattle.cdf_definition.specs.Bodies.{IsKept}
+use Rattle.cdf_definition.specs.Bodies.{IsInHeader}
 
 -- ---- objects by their ids
 
@@ -75,4 +75,4 @@ OneElectionLaw = (d : Data) → IsReport d → (e : Data) × (array_at (codes "E
 
 -- a header keeps each member but for the two that it leaves out
 abbrev pub KeptLaw : Type 0
-KeptLaw = (name : List ℕ) → bytes_eq name (codes "CVRSnapshot") ≡ false → bytes_eq name (codes "CurrentSnapshotId") ≡ false → IsKept name
+KeptLaw = (name : List ℕ) → bytes_eq name (codes "CVRSnapshot") ≡ false → bytes_eq name (codes "CurrentSnapshotId") ≡ false → IsInHeader name

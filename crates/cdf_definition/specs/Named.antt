@@ -33,5 +33,5 @@ abbrev pub by_id : List Entry → List Entry
 by_id es = entries (from_entries {R = slice_cmp nat_cmp} (reverse es))
 
 -- the entries of a map
-abbrev pub entries_of : List (String Global × List ℕ) → List Entry
-entries_of es = map (λ e. (string_bytes e.0, e.1)) es
+abbrev pub map_entries : List (String Global × List ℕ) → List Entry
+map_entries es = map (λ e. (string_bytes e.0, e.1)) es

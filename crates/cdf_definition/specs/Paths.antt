@@ -18,8 +18,8 @@ abbrev pub below : Step → List Path → List Path
 below s ps = map (λ p. s ∷ p) ps
 
 -- none where the test holds, and else the value itself
-abbrev pub unless : Bool → List Path
-unless b = if b then [] else [] ∷ []
+abbrev pub itself_unless : Bool → List Path
+itself_unless b = if b then [] else [] ∷ []
 
 -- those of the items from place i on
 abbrev pub places : (Data → List Path) → List Data → ℕ → List Path

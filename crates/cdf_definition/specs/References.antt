@@ -9,7 +9,7 @@ use Rattle.cdf_form.specs.declared.table.Group.TheVariants as group
 use Rattle.cdf_form.specs.Form.{at_member, class_in}
 use Rattle.cdf_parts.specs.Parts.{array_at, ids_at, text_in, text_at, the_election}
 use Rattle.cdf_parts.specs.Places.{Texts, Contest, contest_of, contest_ids, selections_of}
-use Rattle.cdf_definition.specs.Paths.{Path, below, unless, each}
+use Rattle.cdf_definition.specs.Paths.{Path, below, itself_unless, each}
 
 -- the ids that can be named
 pub record Scope : Type 0 where
@@ -34,7 +34,7 @@ scope_of d = record {
 -- a text, if there is one, that is none of the ids
 abbrev pub unknown : Texts → Option (List ℕ) → List Path
 unknown ids None = []
-unknown ids (Some s) = unless (list_any (bytes_eq s) ids)
+unknown ids (Some s) = itself_unless (list_any (bytes_eq s) ids)
 
 -- the text under a name
 abbrev pub one : Texts → List ℕ → Data → List Path

@@ -32,7 +32,7 @@ impl Named {
     ghost use Rattle.cdf_node.specs.View.{view};
     ghost use Rattle.serde_json.specs.Written.{has_float};
     ghost use Rattle.cdf_parts.specs.Kept.{bytes_of};
-    ghost use Rattle.cdf_definition.specs.Named.{named, by_id, entries_of, ids_of, texts_of, text_of};
+    ghost use Rattle.cdf_definition.specs.Named.{named, by_id, map_entries, ids_of, texts_of, text_of};
 
     /// The texts of objects, in byte order of their ids; of several with one id the last.
     ///
@@ -47,7 +47,7 @@ impl Named {
 
     // The entries of a map.
     fn of_map(alloc: Global, texts: BTreeMap<String, Body>) -> Result<Named, Memory>
-        ensures { IfOk result (λ n. n ≡ entries_of texts.entries) }
+        ensures { IfOk result (λ n. n ≡ map_entries texts.entries) }
     {
         let mut ids = Vec::with_capacity(alloc, texts.len())?;
         let mut bodies = Vec::with_capacity(alloc, texts.len())?;

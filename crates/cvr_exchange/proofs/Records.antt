@@ -21,7 +21,7 @@ use Rattle.cdf_parts.specs.Removing.{without}
 use Rattle.cdf_parts.proofs.Laws.{list_of-items_of, without-put}
 use Rattle.cdf_parts.proofs.Lemmas.{inside}
 use Rattle.cdf_typed.specs.Typed.{header_of}
-use Rattle.cdf_definition.specs.Bodies.{IsKept, HeaderStands, SnapshotStands}
+use Rattle.cdf_definition.specs.Bodies.{IsInHeader, HeaderStands, SnapshotStands}
 use Rattle.cdf_definition.specs.References.{Scope, one, many}
 use Rattle.cdf_definition.specs.Resolves.{Names, AllName, CvrResolves}
 use Rattle.cdf_definition.proofs.Lemmas.{differ}
@@ -52,7 +52,7 @@ abbrev current_row : Entry
 current_row = required current_name (One leaf.Text)
 
 abbrev Case : Entry → Type 0
-Case r = IsKept r.name ⊎ ((r ≡ snapshots_row) ⊎ (r ≡ current_row))
+Case r = IsInHeader r.name ⊎ ((r ≡ snapshots_row) ⊎ (r ≡ current_row))
 
 cvr_cases : AllRows Case (table class_of.Cvr)
 cvr_cases = (
@@ -116,7 +116,7 @@ module _ (ms : Members) (ds : List Data) (current : List ℕ) where
       get_member-put_other current_name snapshots_name (array (items_of ds)) (put current_name (string current) ms) (differ current_name snapshots_name refl)
       ∙ get_member-put current_name (string current) ms
 
-  at_other : (name : List ℕ) → IsKept name → get_member name made ≡ get_member name ms
+  at_other : (name : List ℕ) → IsInHeader name → get_member name made ≡ get_member name ms
   at_other name kept =
       get_member-put_other name snapshots_name (array (items_of ds)) (put current_name (string current) ms) kept.0
       ∙ get_member-put_other name current_name (string current) ms kept.1
@@ -124,7 +124,7 @@ module _ (ms : Members) (ds : List Data) (current : List ℕ) where
   pub snapshots_are : array_at snapshots_name (object made) ≡ ds
   snapshots_are = ap list_in at_snapshots ∙ list_of-items_of ds
 
-  pub text_other : (name s : List ℕ) → IsKept name → get name (object ms) ≡ Some (string s) → text_at name (object made) ≡ s
+  pub text_other : (name s : List ℕ) → IsInHeader name → get name (object ms) ≡ Some (string s) → text_at name (object made) ≡ s
   text_other name s kept is = ap (λ o. unwrap_or (option_and_then as_str o) []) (at_other name kept ∙ is)
 
   pub header_back : get snapshots_name (object ms) ≡ None → get current_name (object ms) ≡ None → header_of (object made) ≡ object ms
@@ -167,10 +167,10 @@ module _ (ms : Members) (ds : List Data) (current : List ℕ) where
       record_form = class class_is (λ r i q. needed_at r i (all_rows Case (table class_of.Cvr) r cvr_cases i) q)
           (λ r e i at. part_at r i (all_rows Case (table class_of.Cvr) r cvr_cases i) e at)
 
-    kept_names : (ids : Texts) (name : List ℕ) → IsKept name → one ids name (object ms) ≡ [] → Names ids name (object made)
+    kept_names : (ids : Texts) (name : List ℕ) → IsInHeader name → one ids name (object ms) ≡ [] → Names ids name (object made)
     kept_names ids name kept e = λ s is. names_of ids name (object ms) e s (sym (ap (option_and_then as_str) (at_other name kept)) ∙ is)
 
-    kept_all : (ids : Texts) (name : List ℕ) → IsKept name → many ids name (object ms) ≡ [] → AllName ids name (object made)
+    kept_all : (ids : Texts) (name : List ℕ) → IsInHeader name → many ids name (object ms) ≡ [] → AllName ids name (object made)
     kept_all ids name kept e = λ x s a is. all_name_of ids name (object ms) e x s (subst (λ xs. Contains xs x) (ap list_in (at_other name kept)) a) is
 
     pub record_resolves : Contains (map id_of ds) current → CvrResolves scope (object made)

@@ -8,7 +8,7 @@ use Rattle.std.proofs.lemmas.List.FromFn.{sum_by-map-range_with_len_more}
 use Rattle.std.proofs.lemmas.List.Sums.{sum_by-cons, sum_by-le}
 use Rattle.cdf_types.specs.declared.report.SelectionVote.{SelectionVote}
 use Rattle.cdf_parts.specs.Places.{selections_at}
-use Rattle.cvr_facts.specs.Sums.{counts, votes_of, names, names_none}
+use Rattle.cvr_facts.specs.Sums.{counts, votes_of, names_place, names_none}
 use Rattle.cvr_facts.specs.SumLaws.{VotesLaw}
 use Rattle.cvr_facts.proofs.Members.{at_head, at_tail}
 
@@ -38,7 +38,7 @@ module _ (f : SelectionVote → ℕ) where
   before_none x =
       elim x.selection as (λ o. cond (option_map_or (λ i. nat_lt i 0) o false) (f x) 0 ≤ 0) [ None ↦ omega arith | Some i ↦ grind (arith, nat_tests) ]
 
-  before_next : (n : ℕ) (x : SelectionVote) → before (n + 1) x ≡ before n x + cond (names n x) (f x) 0
+  before_next : (n : ℕ) (x : SelectionVote) → before (n + 1) x ≡ before n x + cond (names_place n x) (f x) 0
   before_next n x =
       elim x.selection as (λ o. cond (option_map_or (λ i. nat_lt i (n + 1)) o false) (f x) 0 ≡ cond (option_map_or (λ i. nat_lt i n) o false) (f x) 0 + cond (option_map_or (λ i. i == n) o false) (f x) 0)
       [ None ↦ refl | Some i ↦ grind (arith, nat_tests) ]
@@ -51,17 +51,17 @@ module _ (f : SelectionVote → ℕ) where
       ] within
 
   -- those of the first n places, place by place
-  by_places : (n : ℕ) (xs : List SelectionVote) → sum (map (λ place. sum_by f (filter (names place) xs)) (range_with_len 0 n)) ≡ sum_by (before n) xs
+  by_places : (n : ℕ) (xs : List SelectionVote) → sum (map (λ place. sum_by f (filter (names_place place) xs)) (range_with_len 0 n)) ≡ sum_by (before n) xs
   by_places zero xs = omega (arith, sum_by-le (before 0) 0 xs (λ k d less. before_none (get_or xs k d)))
   by_places (suc n) xs =
-      let next : sum (map (λ place. sum_by f (filter (names place) xs)) (range_with_len 0 (n + 1))) ≡ sum_by (before (n + 1)) xs = omega (
+      let next : sum (map (λ place. sum_by f (filter (names_place place) xs)) (range_with_len 0 (n + 1))) ≡ sum_by (before (n + 1)) xs = omega (
         arith,
         by_places n xs,
-        larger (before (n + 1)) (before n) (names n) xs (λ x _. before_next n x),
-        sum_by-map-range_with_len_more (λ m. m) (λ place. sum_by f (filter (names place) xs)) 0 n n (omega arith),
+        larger (before (n + 1)) (before n) (names_place n) xs (λ x _. before_next n x),
+        sum_by-map-range_with_len_more (λ m. m) (λ place. sum_by f (filter (names_place place) xs)) 0 n n (omega arith),
       ) in
       let is : n + 1 ≡ suc n = omega arith in
-      subst (λ m. sum (map (λ place. sum_by f (filter (names place) xs)) (range_with_len 0 m)) ≡ sum_by (before m) xs) is next
+      subst (λ m. sum (map (λ place. sum_by f (filter (names_place place) xs)) (range_with_len 0 m)) ≡ sum_by (before m) xs) is next
 
 pub votes_add_up : VotesLaw
 votes_add_up contests vote h =

@@ -10,7 +10,7 @@ use Rattle.cdf_types.specs.declared.report.ContestVote.{ContestVote}
 use Rattle.cdf_types.specs.declared.report.Snapshot.{Snapshot}
 use Rattle.cdf_parts.specs.Places.{Contest, selections_at}
 use Rattle.cdf_typed.specs.Range.{IsCount, SelectionInRange, ContestInRange, SnapshotInRange}
-use Rattle.cvr_facts.specs.Sums.{counts, votes_of, names, names_none, votes_for, places_of, sums_of, sum_limit, AreBelow, AreInRange}
+use Rattle.cvr_facts.specs.Sums.{counts, votes_of, names_place, names_none, votes_for, places_of, sums_of, sum_limit, AreBelow, AreInRange}
 
 -- the most that a selection can have
 abbrev pub selection_limit : ℕ
@@ -53,7 +53,7 @@ pub sums_of_are_below : (contests : List Contest) (vote : ContestVote) → Conte
 sums_of_are_below contests vote h = record {
   votes = λ n c.
       let places = places_of (selections_at contests vote.contest) in
-      let all = All-map (λ m. m < sum_limit) (λ place. votes_for place vote) places (λ k d less. part-lt (names _) contests vote h) in
+      let all = All-map (λ m. m < sum_limit) (λ place. votes_for place vote) places (λ k d less. part-lt (names_place _) contests vote h) in
       All-contains (λ m. m < sum_limit) _ n all c;
   overvotes = omega (arith, h.overvotes);
   undervotes = omega (arith, h.undervotes);

@@ -13,12 +13,12 @@ use Rattle.cdf_types.specs.declared.report.SelectionVote.{SelectionVote}
 use Rattle.cdf_types.specs.declared.report.ContestVote.{ContestVote}
 use Rattle.cdf_parts.specs.Places.{Texts, Contest, selections_at}
 use Rattle.cdf_typed.specs.Range.{SelectionInRange, ContestInRange}
-use Rattle.cvr_facts.specs.Sums.{counts, is_pending, votes_among, votes_of, names, names_none, votes_for, places_of, sum_limit}
+use Rattle.cvr_facts.specs.Sums.{counts, is_pending, votes_among, votes_of, names_place, names_none, votes_for, places_of, sum_limit}
 use Rattle.cvr_facts.proofs.Bounds.{positions-le, votes_are_below, sum_by-filter_next-lt}
 
 -- at each place the votes of the selections seen that name it
 pub record AreCounted (seen : List SelectionVote) (votes : List ℕ) : Type 0 where
-  pub each : (place : ℕ) → place < length votes → get_or votes place 0 ≡ sum_by (votes_of counts) (filter (names place) seen)
+  pub each : (place : ℕ) → place < length votes → get_or votes place 0 ≡ sum_by (votes_of counts) (filter (names_place place) seen)
 
 -- ---- one more of a sort
 
@@ -77,19 +77,19 @@ module _ (xs : List SelectionVote) (i : ℕ) (x : SelectionVote) (less : i < len
     each = λ k k_less.
         h.each k k_less
         ∙ (sym (add-zero _)
-        ∙ sym (sum_by-filter_more (votes_of counts) (names k) xs i x less is ∙ ap (λ o. sum_by (votes_of counts) (filter (names k) (take i xs)) + cond (option_map_or (λ n. n == k) o false) (votes_of counts x) 0) none));
+        ∙ sym (sum_by-filter_more (votes_of counts) (names_place k) xs i x less is ∙ ap (λ o. sum_by (votes_of counts) (filter (names_place k) (take i xs)) + cond (option_map_or (λ n. n == k) o false) (votes_of counts x) 0) none));
   }
 
   pub counted_some : (votes : List ℕ) (place : ℕ) → AreCounted (take i xs) votes → x.selection ≡ Some place → place < length votes
       → AreCounted (take (i + 1) xs) (set votes place (get_or votes place 0 + votes_of counts x))
   counted_some votes place h some here = record { each = λ k k_less. step k (rw length-set at k_less) ∙ sym (next k) }
     where
-      next : (k : ℕ) → sum_by (votes_of counts) (filter (names k) (take (i + 1) xs))
-          ≡ sum_by (votes_of counts) (filter (names k) (take i xs)) + cond (place == k) (votes_of counts x) 0
-      next k = sum_by-filter_more (votes_of counts) (names k) xs i x less is ∙ ap (λ o. sum_by (votes_of counts) (filter (names k) (take i xs)) + cond (option_map_or (λ n. n == k) o false) (votes_of counts x) 0) some
+      next : (k : ℕ) → sum_by (votes_of counts) (filter (names_place k) (take (i + 1) xs))
+          ≡ sum_by (votes_of counts) (filter (names_place k) (take i xs)) + cond (place == k) (votes_of counts x) 0
+      next k = sum_by-filter_more (votes_of counts) (names_place k) xs i x less is ∙ ap (λ o. sum_by (votes_of counts) (filter (names_place k) (take i xs)) + cond (option_map_or (λ n. n == k) o false) (votes_of counts x) 0) some
 
       step : (k : ℕ) → k < length votes → get_or (set votes place (get_or votes place 0 + votes_of counts x)) k 0
-          ≡ sum_by (votes_of counts) (filter (names k) (take i xs)) + cond (place == k) (votes_of counts x) 0
+          ≡ sum_by (votes_of counts) (filter (names_place k) (take i xs)) + cond (place == k) (votes_of counts x) 0
       step k k_less = ⊎_elim
           (λ e. grind (arith, e, get_or-set_same, eq-eqb, h.each))
           (λ ne. grind (arith, ne, get_or-set_other, ne_eqb, h.each))
@@ -119,7 +119,7 @@ module _ (contests : List Contest) (vote : ContestVote) (h : ContestInRange cont
         → n + votes_of counts x < sum_limit
     counted_next-lt votes place n counted here at =
         let whole = subst (λ ys. sum_by (votes_of counts) ys < sum_limit) (sym all) (votes_are_below counts contests vote h) in
-        let next = sum_by-filter_next-lt (votes_of counts) (names place) xs i x sum_limit less is whole in
+        let next = sum_by-filter_next-lt (votes_of counts) (names_place place) xs i x sum_limit less is whole in
         omega (arith, next, at, get_or_default votes place n 0 here, counted.each place here)
 
     pub pending_next-lt : sum_by (votes_of is_pending) (take i xs) + votes_of is_pending x < sum_limit

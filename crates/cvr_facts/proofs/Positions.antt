@@ -6,7 +6,7 @@ use Rattle.cdf_types.specs.declared.mark.Indication.TheVariants as indication
 use Rattle.cdf_types.specs.declared.mark.Allocation.{Allocation}
 use Rattle.cdf_types.specs.declared.mark.Allocation.TheVariants as allocation
 use Rattle.cvr_facts.specs.Sums.{is_marked, is_allowed, is_unsettled}
-use Rattle.cvr_facts.specs.SumLaws.{ApartLaw, MarkedLaw, AbsentLaw}
+use Rattle.cvr_facts.specs.SumLaws.{EitherLaw, MarkedLaw, UnsetLaw}
 
 apart_at : (o : Option Allocation) (b : Bool) → option_map_or is_allowed o b ≡ true → (option_map_or is_unsettled o false && b) ≡ false
 apart_at None b h = refl
@@ -14,7 +14,7 @@ apart_at (Some allocation.No) b h = refl
 apart_at (Some allocation.Unknown) b h = absurd (true≢false (sym h))
 apart_at (Some allocation.Yes) b h = refl
 
-pub apart : ApartLaw
+pub apart : EitherLaw
 apart p counted = apart_at p.allocation (is_marked p.indication) counted
 
 marked_is : (i : Indication) → is_marked i ≡ true → i ≡ indication.Yes
@@ -29,7 +29,7 @@ second false b h = absurd (true≢false (sym h))
 pub marked : MarkedLaw
 marked p pending = marked_is p.indication (second (option_map_or is_unsettled p.allocation false) (is_marked p.indication) pending)
 
-pub absent : AbsentLaw
+pub absent : UnsetLaw
 absent p none = (
   λ counted. marked_is p.indication (ap (λ o. option_map_or is_allowed o (is_marked p.indication)) (sym none) ∙ counted),
   λ is. ap (λ o. option_map_or is_allowed o (is_marked p.indication)) none ∙ ap is_marked is,

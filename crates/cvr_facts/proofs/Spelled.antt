@@ -15,21 +15,21 @@ use Rattle.cdf_parts.proofs.Laws.{listed_part, listed_reads_back, part_proper, p
 use Rattle.cdf_typed.specs.Typed.{device_of, snapshot_of, header_of, cvr_of, report_of}
 use Rattle.cdf_definition.specs.Frame.{Frame}
 use Rattle.cdf_definition.specs.Acceptance.{value_in}
-use Rattle.cdf_definition.specs.Bodies.{IsKept}
+use Rattle.cdf_definition.specs.Bodies.{IsInHeader}
 use Rattle.cdf_definition.proofs.Laws.{valid_file, was_read, is_kept}
 use Rattle.cvr_fact_types.specs.declared.device.DeviceFact.{DeviceFact}
 use Rattle.cvr_fact_types.specs.declared.header.HeaderFact.{HeaderFact}
 use Rattle.cvr_fact_types.specs.declared.snapshot.SnapshotFact.{SnapshotFact}
 use Rattle.cvr_facts.specs.declared.list.FactList.{FactList}
-use Rattle.cvr_facts.specs.Lists.{told_device, told_header, told_snapshot, told_snapshots, IsTold, IsReportOf}
-use Rattle.cvr_facts.specs.Stands.{IsSpelledDevice, IsSpelledHeader, IsSpelledSnapshot, AreSpelled}
+use Rattle.cvr_facts.specs.Lists.{told_device, told_header, told_snapshot, told_snapshots, AreFactsOf, IsReportOf}
+use Rattle.cvr_facts.specs.Stands.{IsSpelledDevice, IsSpelledHeader, IsSpelledSnapshot, ListIsSpelled}
 use Rattle.cvr_facts.proofs.Members.{from_map, from_flat}
 use Rattle.cvr_facts.specs.Sources.{devices_in, cvrs_in, snapshots_in}
 
 -- ---- headers
 
 -- what a header keeps is what the record has
-pub get-header_of : (name : List ℕ) (c : Data) → IsKept name → get name (header_of c) ≡ get name c
+pub get-header_of : (name : List ℕ) (c : Data) → IsInHeader name → get name (header_of c) ≡ get name c
 get-header_of name null kept = refl
 get-header_of name (boolean b) kept = refl
 get-header_of name (number n) kept = refl
@@ -40,10 +40,10 @@ get-header_of name (object ms) kept =
     ∙ others_stay name (codes "CVRSnapshot") ms kept.0
 
 -- so is a text in it
-pub text_in-header_of : (name : List ℕ) (c : Data) → IsKept name → text_in name (header_of c) ≡ text_in name c
+pub text_in-header_of : (name : List ℕ) (c : Data) → IsInHeader name → text_in name (header_of c) ≡ text_in name c
 text_in-header_of name c kept = ap (option_and_then as_str) (get-header_of name c kept)
 
-pub text_at-header_of : (name : List ℕ) (c : Data) → IsKept name → text_at name (header_of c) ≡ text_at name c
+pub text_at-header_of : (name : List ℕ) (c : Data) → IsInHeader name → text_at name (header_of c) ≡ text_at name c
 text_at-header_of name c kept = ap (λ o. unwrap_or o []) (text_in-header_of name c kept)
 
 null_proper : (n : ℕ) → IsProper n null
@@ -113,7 +113,7 @@ module _ (contests : List Contest) (text : List ℕ) (d : Data) (is : read text 
       let c = from_map (cvr_of contests) t.0 (cvrs_in d) t.1 in
       snapshot_of_cvr c.0 f c.1 (subst (λ x. Contains (told_snapshots contests x) f) (sym c.2) t.2)
 
-  read_spelled : (list : FactList) → IsTold contests (report_of contests d) list → AreSpelled contests list
+  read_spelled : (list : FactList) → AreFactsOf contests (report_of contests d) list → ListIsSpelled contests list
   read_spelled list told = record {
     devices = λ f a. device_told f (told.devices f a);
     headers = λ f a. header_told f (told.headers f a);
@@ -123,9 +123,9 @@ module _ (contests : List Contest) (text : List ℕ) (d : Data) (is : read text 
 -- ---- an accepted file
 
 pub spelled_are : (frame : Frame) (bytes : List ℕ) (report : Report) (list : FactList) → IsReportOf frame bytes report
-    → IsTold frame.contests report list → AreSpelled frame.contests list
+    → AreFactsOf frame.contests report list → ListIsSpelled frame.contests list
 spelled_are frame bytes report list of told =
     let v = (valid_file frame bytes).0 of.accepted in
     let same : value_in bytes ≡ v.0 = ap (λ o. unwrap_or o null) v.1.1 in
     let is : report ≡ report_of frame.contests v.0 = of.report_is ∙ ap (report_of frame.contests) same in
-    read_spelled frame.contests bytes v.0 (was_read bytes v.0 v.1.1) v.2.whole list (subst (λ r. IsTold frame.contests r list) is told)
+    read_spelled frame.contests bytes v.0 (was_read bytes v.0 v.1.1) v.2.whole list (subst (λ r. AreFactsOf frame.contests r list) is told)

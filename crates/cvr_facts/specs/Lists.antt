@@ -71,21 +71,21 @@ told_facts contests report =
 -- ---- lists in order
 
 -- each fact stands once, in order
-pub record Rises (list : FactList) : Type 0 where
+pub record ListsRise (list : FactList) : Type 0 where
   pub devices : IsStrictlySortedBy device_cmp list.devices
   pub headers : IsStrictlySortedBy header_cmp list.headers
   pub snapshots : IsStrictlySortedBy snapshot_cmp list.snapshots
 
 -- each is what the report tells
-pub record IsTold (contests : List Contest) (report : Report) (list : FactList) : Type 0 where
+pub record AreFactsOf (contests : List Contest) (report : Report) (list : FactList) : Type 0 where
   pub devices : (d : DeviceFact) → Contains list.devices d → Contains (map told_device report.devices) d
   pub headers : (h : HeaderFact) → Contains list.headers h → Contains (map told_header report.cvrs) h
   pub snapshots : (s : SnapshotFact) → Contains list.snapshots s → Contains (flat_map (told_snapshots contests) report.cvrs) s
 
 -- the list has the facts of the report, and each is what it tells
-pub record IsListOf (contests : List Contest) (report : Report) (list : FactList) : Type 0 where
+pub record HasFactsOf (contests : List Contest) (report : Report) (list : FactList) : Type 0 where
   pub facts : from_list {R = fact_cmp} (facts_in list) ≡ from_list (told_facts contests report)
-  pub told : IsTold contests report list
+  pub told : AreFactsOf contests report list
 
 -- ---- records one by one
 

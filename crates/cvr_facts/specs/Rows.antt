@@ -189,15 +189,15 @@ abbrev pub device_body : List ℕ → List ℕ
 device_body id = codes "{\"@id\":\"" ++ id ++ codes "\",\"@type\":\"CVR.ReportingDevice\"}"
 
 -- the text of the record's header in a unit
-abbrev pub header_body : List ℕ → List ℕ
-header_body unit =
+abbrev pub header_text : List ℕ → List ℕ
+header_text unit =
     codes "{\"@type\":\"CVR.CVR\",\"BallotStyleUnitId\":\"" ++ unit ++ codes "\",\"CreatingDeviceId\":\"s1\",\"ElectionId\":\"e\",\"UniqueId\":\"u1\"}"
 
 -- the facts of the file of every kind of vote
 abbrev pub every_kind_facts : List Fact
 every_kind_facts =
     Device (codes "desk") (device_body (codes "desk")) ∷ Device (codes "s1") (device_body (codes "s1")) ∷ Device (codes "s2") (device_body (codes "s2")) ∷
-    Header (codes "s1") (codes "u1") (header_body (codes "p1")) ∷ Snapshot (codes "s1") (codes "u1") (codes "x") every_kind ∷ []
+    Header (codes "s1") (codes "u1") (header_text (codes "p1")) ∷ Snapshot (codes "s1") (codes "u1") (codes "x") every_kind ∷ []
 
 -- the election's contests
 abbrev pub contests : List Contest
@@ -234,7 +234,7 @@ FactsToldOfReport = told_facts contests every_kind_report ≡ every_kind_facts
 
 -- the header with its unit and without a batch
 abbrev pub HeaderOfReport : Type 0
-HeaderOfReport = map told_header every_kind_report.cvrs ≡ record { key = the_record; unit = Some (codes "p1"); batch = None; body = header_body (codes "p1") } ∷ []
+HeaderOfReport = map told_header every_kind_report.cvrs ≡ record { key = the_record; unit = Some (codes "p1"); batch = None; body = header_text (codes "p1") } ∷ []
 
 -- the snapshot with its sums in order of contest
 abbrev pub SnapshotOfReport : Type 0
@@ -320,4 +320,4 @@ abbrev pub moved_files : List (List ℕ)
 moved_files = scan_file ∷ moved_file ∷ []
 
 abbrev pub UnitMoves : Type 0
-UnitMoves = (header (facts_of_files moved_files) the_record ≡ Some (header_body (codes "p2"))) × (len (facts_of_files moved_files) ≡ 6)
+UnitMoves = (header (facts_of_files moved_files) the_record ≡ Some (header_text (codes "p2"))) × (len (facts_of_files moved_files) ≡ 6)

@@ -11,5 +11,5 @@ pub record JoinLaws {M : Type 0} (join : M → M → M) (unit : M) : Type 0 wher
   pub unit_left : (s : M) → join unit s ≡ s
 
 -- the texts of a set, rising
-abbrev pub in_order : FinSet text_cmp → List (List ℕ)
-in_order s = ordered text_cmp (items s)
+abbrev pub texts_in : FinSet text_cmp → List (List ℕ)
+texts_in s = ordered text_cmp (items s)

@@ -49,8 +49,8 @@ FactHeldLaw = (bytes : List ℕ) (f : Fact) → Contains (report_facts (value_in
 -- ---- bodies of a record
 
 -- a set of facts has those of its list
-abbrev pub ItemsLaw : Type 0
-ItemsLaw = (s : Facts) (f : Fact) → (contains s f ≡ true) ↔ Contains (items s) f
+abbrev pub SetItemsLaw : Type 0
+SetItemsLaw = (s : Facts) (f : Fact) → (contains s f ≡ true) ↔ Contains (items s) f
 
 -- a record's header bodies are those of its facts of a header
 abbrev pub HeaderBodiesLaw : Type 0

@@ -36,7 +36,7 @@ pub record IsSpelledSnapshot (contests : List Contest) (s : SnapshotFact) : Type
   pub moment : s.moment ≡ moment_of (data_of s.body)
   pub votes : s.votes ≡ sums_in contests (snapshot_of contests (data_of s.body)).contests
 
-pub record AreSpelled (contests : List Contest) (list : FactList) : Type 0 where
+pub record ListIsSpelled (contests : List Contest) (list : FactList) : Type 0 where
   pub devices : (d : DeviceFact) → Contains list.devices d → IsSpelledDevice d
   pub headers : (h : HeaderFact) → Contains list.headers h → IsSpelledHeader h
   pub snapshots : (s : SnapshotFact) → Contains list.snapshots s → IsSpelledSnapshot contests s

@@ -14,16 +14,16 @@ use Rattle.cvr_facts.specs.Sums.{counts, is_pending, votes_of, sums_of, sums_in,
 -- ---- positions
 
 -- no position both counts and is pending
-abbrev pub ApartLaw : Type 0
-ApartLaw = (p : Position) → counts p ≡ true → is_pending p ≡ false
+abbrev pub EitherLaw : Type 0
+EitherLaw = (p : Position) → counts p ≡ true → is_pending p ≡ false
 
 -- only a marked position is pending
 abbrev pub MarkedLaw : Type 0
 MarkedLaw = (p : Position) → is_pending p ≡ true → p.indication ≡ Yes
 
 -- without IsAllocable a position counts exactly where HasIndication is `yes`
-abbrev pub AbsentLaw : Type 0
-AbsentLaw = (p : Position) → p.allocation ≡ None → (counts p ≡ true) ↔ (p.indication ≡ Yes)
+abbrev pub UnsetLaw : Type 0
+UnsetLaw = (p : Position) → p.allocation ≡ None → (counts p ≡ true) ↔ (p.indication ≡ Yes)
 
 -- ---- sums
 
@@ -33,8 +33,8 @@ VotesLaw = (contests : List Contest) (vote : ContestVote) → ContestInRange con
     → sum (sums_of contests vote).votes + (sums_of contests vote).unassigned ≡ sum_by (votes_of counts) vote.selections
 
 -- the contests of a snapshot that is in range are in range
-abbrev pub InRangeLaw : Type 0
-InRangeLaw = (contests : List Contest) (s : Snapshot) → SnapshotInRange contests s → AreInRange contests s.contests
+abbrev pub SnapshotRangeLaw : Type 0
+SnapshotRangeLaw = (contests : List Contest) (s : Snapshot) → SnapshotInRange contests s → AreInRange contests s.contests
 
 -- a snapshot has the sums of each of its contests once
 abbrev pub EachOnceLaw : Type 0

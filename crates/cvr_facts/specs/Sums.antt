@@ -49,8 +49,8 @@ abbrev pub votes_of : (Position → Bool) → SelectionVote → ℕ
 votes_of sort s = votes_among sort s.positions
 
 -- whether the selection at this place is named
-abbrev pub names : ℕ → SelectionVote → Bool
-names place s = option_map_or (λ i. i == place) s.selection false
+abbrev pub names_place : ℕ → SelectionVote → Bool
+names_place place s = option_map_or (λ i. i == place) s.selection false
 
 -- whether no selection is named
 abbrev pub names_none : SelectionVote → Bool
@@ -64,7 +64,7 @@ places_of xs = range_with_len 0 (length xs)
 
 -- the votes of the selection at a place
 abbrev pub votes_for : ℕ → ContestVote → ℕ
-votes_for place vote = sum_by (votes_of counts) (filter (names place) vote.selections)
+votes_for place vote = sum_by (votes_of counts) (filter (names_place place) vote.selections)
 
 abbrev pub unassigned_in : ContestVote → ℕ
 unassigned_in vote = sum_by (votes_of counts) (filter names_none vote.selections)

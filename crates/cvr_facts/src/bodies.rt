@@ -4,7 +4,7 @@ ghost use Rattle.std.specs.List.Sorted.{IsStrictlySortedBy};
 ghost use Rattle.std.specs.Ordering.{eq_by_cmp};
 ghost use Rattle.std.specs.FinSet as set;
 ghost use Rattle.cvr_fact_types.specs.Facts.{text_cmp};
-ghost use Rattle.cvr_facts.specs.Sets.{in_order};
+ghost use Rattle.cvr_facts.specs.Sets.{texts_in};
 ghost use Rattle.cvr_facts.specs.Unions.{text_union_laws};
 
 use crate::join::Join;
@@ -56,7 +56,7 @@ impl BodySet {
     /// The body at a place, counted from 0 in byte order. Takes no memory.
     pub fn get(&self, place: usize) -> &Body
         requires { place < set.len self.now }
-        ensures { result.now ≡ slice_index_or (in_order self.now) place [] }
+        ensures { result.now ≡ slice_index_or (texts_in self.now) place [] }
     {
         &self.items[place]
     }

@@ -4,9 +4,9 @@ ghost use Rattle.std.specs.FinSet.{from_list};
 ghost use Rattle.cdf_types.specs.declared.report.Cvr.{Cvr};
 ghost use Rattle.cdf_typed.specs.Range.{SnapshotInRange, CvrInRange, ReportInRange};
 ghost use Rattle.cvr_fact_types.specs.Facts.{fact_cmp};
-ghost use Rattle.cvr_facts.specs.Lists.{name_of, told_device, told_header, told_snapshot, told_snapshots, facts_in, told_facts, Rises, IsTold, IsReportOf};
+ghost use Rattle.cvr_facts.specs.Lists.{name_of, told_device, told_header, told_snapshot, told_snapshots, facts_in, told_facts, ListsRise, AreFactsOf, IsReportOf};
 ghost use Rattle.cvr_facts.specs.Reports.{facts};
-ghost use Rattle.cvr_facts.specs.Stands.{AreSpelled};
+ghost use Rattle.cvr_facts.specs.Stands.{ListIsSpelled};
 
 use crate::kept::KeptFacts;
 use crate::list::{FactList, list_of};
@@ -26,10 +26,10 @@ use std::alloc::Global;
 pub fn facts_of(alloc: Global, definition: &Definition, report: &Report) -> Result<FactList, Memory>
     requires { ReportInRange definition.now.contests report.now }
     ensures facts { IfOk result (λ list. from_list {R = fact_cmp} (facts_in list) ≡ from_list (told_facts definition.now.contests report.now)) }
-    ensures once { IfOk result Rises }
-    ensures told { IfOk result (IsTold definition.now.contests report.now) }
+    ensures once { IfOk result ListsRise }
+    ensures told { IfOk result (AreFactsOf definition.now.contests report.now) }
     ensures file { IfOk result (λ list. (bytes : List ℕ) → IsReportOf definition.now bytes report.now → from_list (facts_in list) ≡ facts bytes) }
-    ensures spelled { IfOk result (λ list. (bytes : List ℕ) → IsReportOf definition.now bytes report.now → AreSpelled definition.now.contests list) }
+    ensures spelled { IfOk result (λ list. (bytes : List ℕ) → IsReportOf definition.now bytes report.now → ListIsSpelled definition.now.contests list) }
 {
     let devices = devices_in(alloc, report.devices.as_slice())?;
     let records = KeptFacts {

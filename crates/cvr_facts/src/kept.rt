@@ -7,9 +7,9 @@ ghost use Rattle.cdf_types.specs.declared.report.Snapshot.{Snapshot};
 ghost use Rattle.cdf_parts.specs.Places.{Contest};
 ghost use Rattle.cdf_typed.specs.Typed.{cvr_of, snapshot_of};
 ghost use Rattle.cdf_typed.specs.Range.{SnapshotInRange};
-ghost use Rattle.cvr_facts.specs.Lists.{IsKeptOf, told_device, told_header, told_under, facts_in, AreOfRecords, Rises};
+ghost use Rattle.cvr_facts.specs.Lists.{IsKeptOf, told_device, told_header, told_under, facts_in, AreOfRecords, ListsRise};
 ghost use Rattle.cvr_facts.specs.Reports.{facts};
-ghost use Rattle.cvr_facts.specs.Stands.{AreSpelled};
+ghost use Rattle.cvr_facts.specs.Stands.{ListIsSpelled};
 ghost use Rattle.cdf_definition.specs.Frame.{Frame};
 
 use crate::list::{FactList, list_of};
@@ -74,11 +74,11 @@ pub fn facts_of_kept(
     devices: Seq<ReportingDevice>,
     kept: KeptFacts,
 ) -> Result<FactList, Memory>
-    ensures once { IfOk result Rises }
+    ensures once { IfOk result ListsRise }
     ensures facts { IfOk result (λ list. (frame : Frame) (bytes : List ℕ)
         → IsKeptOf frame bytes devices kept → from_list (facts_in list) ≡ facts bytes) }
     ensures spelled { IfOk result (λ list. (frame : Frame) (bytes : List ℕ)
-        → IsKeptOf frame bytes devices kept → AreSpelled frame.contests list) }
+        → IsKeptOf frame bytes devices kept → ListIsSpelled frame.contests list) }
 {
     let devices = take_devices(alloc, devices.into_vec())?;
     Ok(list_of(devices, kept))

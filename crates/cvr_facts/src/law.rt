@@ -3,9 +3,9 @@ ghost use Rattle.std.specs.Prelude.{◌≡◌};
 ghost use Rattle.cvr_fact_types.specs.Facts.{name_cmp};
 ghost use Rattle.cvr_fact_types.specs.Orders.{device_cmp};
 ghost use Rattle.cvr_facts.specs.Laws.{ChoosingLaw, EqualLaw, RankLaw, UndatedLaw, EarlierLaw, BytesLaw, BodiesLaw, ExactLaw, CurrentLaw, OneCurrentLaw, MomentLaw, NoMomentLaw, JoiningLaw, SumsLaw};
-ghost use Rattle.cvr_facts.specs.SumLaws.{ApartLaw, MarkedLaw, AbsentLaw, VotesLaw, InRangeLaw, EachOnceLaw, InOrderLaw};
+ghost use Rattle.cvr_facts.specs.SumLaws.{EitherLaw, MarkedLaw, UnsetLaw, VotesLaw, SnapshotRangeLaw, EachOnceLaw, InOrderLaw};
 ghost use Rattle.cvr_facts.specs.Sources.{FactSourceLaw, DeviceListedLaw, HeaderListedLaw, SnapshotListedLaw, FactHeldLaw};
-ghost use Rattle.cvr_facts.specs.Sources.{ItemsLaw, HeaderBodiesLaw, SnapshotBodiesLaw, TextsInOrder, TextsAreExact, BodiesInOrder, BodiesAreExact};
+ghost use Rattle.cvr_facts.specs.Sources.{SetItemsLaw, HeaderBodiesLaw, SnapshotBodiesLaw, TextsInOrder, TextsAreExact, BodiesInOrder, BodiesAreExact};
 
 use cvr_fact_types::{DeviceFact, RecordName};
 
@@ -61,16 +61,16 @@ pub fn moments()
 /// No position both counts and is pending, and only a marked one is pending. Without IsAllocable a
 /// position counts exactly where it is marked.
 pub fn positions()
-    ensures apart { ApartLaw }
+    ensures apart { EitherLaw }
     ensures marked { MarkedLaw }
-    ensures absent { AbsentLaw }
+    ensures absent { UnsetLaw }
 {}
 
 /// The votes of a contest's selections and the unassigned ones add up to the votes of its counting
 /// positions. A snapshot has the sums of each of its contests once, in order of place.
 pub fn sums_add_up()
     ensures votes { VotesLaw }
-    ensures ranges { InRangeLaw }
+    ensures ranges { SnapshotRangeLaw }
     ensures once { EachOnceLaw }
     ensures order { InOrderLaw }
 {}
@@ -92,7 +92,7 @@ pub fn sources()
 
 /// The bodies of a record's headers and snapshots are those of its facts.
 pub fn bodies_of_records()
-    ensures items { ItemsLaw }
+    ensures items { SetItemsLaw }
     ensures headers { HeaderBodiesLaw }
     ensures snapshots { SnapshotBodiesLaw }
 {}

@@ -4,7 +4,7 @@ ghost use Rattle.std.specs.List.Sorted.{IsStrictlySortedBy};
 ghost use Rattle.std.specs.declared.cmp.Ordering.TheVariants.{Equal};
 ghost use Rattle.cdf_types.specs.declared.report.Report.{Report};
 ghost use Rattle.cdf_parts.specs.Places.{Contest};
-ghost use Rattle.cvr_facts.specs.Lists.{told_device, AreOfRecords, IsListOf, Rises};
+ghost use Rattle.cvr_facts.specs.Lists.{told_device, AreOfRecords, HasFactsOf, ListsRise};
 
 use crate::kept::KeptFacts;
 use cdf_types::Seq;
@@ -34,10 +34,10 @@ fn in_order<T: Ord + Drop>(mut facts: Vec<T>) -> Seq<T>
 
 // The facts of devices and records, each once and in order.
 pub(crate) fn list_of(devices: Vec<DeviceFact>, records: KeptFacts) -> FactList
-    ensures once { Rises result }
+    ensures once { ListsRise result }
     ensures list { (contests : List Contest) (report : Report)
         → devices.items ≡ map told_device report.devices
-        → AreOfRecords contests report.cvrs records → IsListOf contests report result }
+        → AreOfRecords contests report.cvrs records → HasFactsOf contests report result }
 {
     FactList {
         devices: in_order(devices),

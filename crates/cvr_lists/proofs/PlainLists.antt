@@ -11,7 +11,7 @@ use Rattle.cdf_definition.specs.Sound.{IsFrame}
 use Rattle.cvr_facts.specs.declared.list.FactList.{FactList}
 use Rattle.cvr_fact_types.specs.Facts.{Fact, Device, fact_cmp, fact_total, fact_exact}
 use Rattle.cvr_facts.specs.Lists.{fact_of_header, fact_of_snapshot, facts_in}
-use Rattle.cvr_facts.specs.Stands.{AreSpelled}
+use Rattle.cvr_facts.specs.Stands.{ListIsSpelled}
 use Rattle.cvr_facts.specs.Unions.{empty_union}
 use Rattle.cvr_facts.proofs.Lemmas.{none_listed, in_map, from_map}
 use Rattle.cvr_office.specs.declared.any_fact.AnyFact.{AnyFact}
@@ -67,7 +67,7 @@ map-all_of list =
     map-append fact_of (map any.Device list.devices) (map any.Header list.headers ++ map any.Snapshot list.snapshots)
     ∙ (λ i. map-map fact_of any.Device list.devices i ++ map-records list i)
 
-pub all_spelled : (contests : List Contest) (list : FactList) → AreSpelled contests list → (f : AnyFact) → Contains (all_of list) f → IsSpelled contests f
+pub all_spelled : (contests : List Contest) (list : FactList) → ListIsSpelled contests list → (f : AnyFact) → Contains (all_of list) f → IsSpelled contests f
 all_spelled contests list are f at =
     elim (Contains-append_cases (map any.Device list.devices) (map any.Header list.headers ++ map any.Snapshot list.snapshots) f at) [
       | inl a ↦ let found = from_map any.Device f list.devices a in subst (IsSpelled contests) found.2 tt

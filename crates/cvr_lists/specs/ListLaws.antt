@@ -58,7 +58,7 @@ abbrev pub AllOfLaw : Type 0
 AllOfLaw = (list : FactList) → map fact_of (all_of list) ≡ facts_in list
 
 abbrev pub AllSpelledLaw : Type 0
-AllSpelledLaw = (contests : List Contest) (list : FactList) → stands.AreSpelled contests list → (f : AnyFact) → Contains (all_of list) f → IsSpelled contests f
+AllSpelledLaw = (contests : List Contest) (list : FactList) → stands.ListIsSpelled contests list → (f : AnyFact) → Contains (all_of list) f → IsSpelled contests f
 
 -- ---- the run of a record
 

@@ -3,9 +3,9 @@ ghost use Rattle.std.specs.FinSet.{from_list};
 ghost use Rattle.cdf_parts.specs.Parts.{record_count};
 ghost use Rattle.cdf_form.specs.Reading.{IsMemory};
 ghost use Rattle.cdf_definition.specs.Acceptance.{Valid, first_refusal, value_in};
-ghost use Rattle.cvr_facts.specs.Lists.{facts_in, Rises};
+ghost use Rattle.cvr_facts.specs.Lists.{facts_in, ListsRise};
 ghost use Rattle.cvr_facts.specs.Reports.{facts};
-ghost use Rattle.cvr_facts.specs.Stands.{AreSpelled};
+ghost use Rattle.cvr_facts.specs.Stands.{ListIsSpelled};
 ghost use Rattle.cvr_office.specs.FileFacts.{FactsStandLaw, RecordsWholeLaw};
 
 use cdf_check::{Definition, check_file};
@@ -26,8 +26,8 @@ pub fn read_facts(
     ensures valid { OnOk result (Valid definition.now bytes.now) }
     ensures cvrs { IfOk result (λ p. p.0 ≡ record_count (value_in bytes.now)) }
     ensures facts { IfOk result (λ p. from_list (facts_in p.1) ≡ facts bytes.now) }
-    ensures once { IfOk result (λ p. Rises p.1) }
-    ensures spelled { IfOk result (λ p. AreSpelled definition.now.contests p.1) }
+    ensures once { IfOk result (λ p. ListsRise p.1) }
+    ensures spelled { IfOk result (λ p. ListIsSpelled definition.now.contests p.1) }
     ensures first { IfErr result (λ e. ¬ IsMemory e → first_refusal definition.now bytes.now ≡ Some e) }
 {
     let (devices, kept) = check_file(alloc, definition, bytes, &Facts)?;

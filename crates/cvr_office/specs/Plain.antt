@@ -12,7 +12,7 @@ use Rattle.cvr_facts.specs.declared.list.FactList.{FactList}
 use Rattle.cvr_fact_types.specs.Facts.{Facts, fact_cmp, coded_facts}
 use Rattle.cvr_facts.specs.Lists.{facts_in}
 use Rattle.cvr_facts.specs.Reports.{facts}
-use Rattle.cvr_facts.specs.Stands.{IsSpelledHeader, IsSpelledSnapshot, AreSpelled}
+use Rattle.cvr_facts.specs.Stands.{IsSpelledHeader, IsSpelledSnapshot, ListIsSpelled}
 use Rattle.cvr_office.specs.declared.any_fact.AnyFact.{AnyFact}
 use Rattle.cvr_office.specs.declared.any_fact.AnyFact.TheVariants as any
 use Rattle.cvr_office.specs.Place.{fact_of, any_cmp}
@@ -72,4 +72,4 @@ pub record IsPut (old more new : List AnyFact) : Type 0 where
 -- the facts that a list tells of a file are the file's, and spelled
 pub record IsTheFiles (frame : Frame) (bytes : List ℕ) (list : FactList) : Type 0 where
   pub file : from_list {R = fact_cmp} (facts_in list) ≡ facts bytes
-  pub spelled : AreSpelled frame.contests list
+  pub spelled : ListIsSpelled frame.contests list

@@ -15,7 +15,7 @@ use Rattle.cdf_check.specs.Rows as file
 use Rattle.cvr_fact_types.specs.Facts.{Fact, Device, Header, Snapshot, Facts, fact_cmp, fact_total, fact_exact}
 use Rattle.cvr_facts.specs.Choosing.{data_of}
 use Rattle.cvr_facts.specs.Reports.{report_facts, facts}
-use Rattle.cvr_facts.specs.Rows.{device_body, header_body}
+use Rattle.cvr_facts.specs.Rows.{device_body, header_text}
 use Rattle.cvr_facts.proofs.Lemmas.{from_list-append}
 use Rattle.cvr_office.specs.declared.event.Cause.{Cause}
 use Rattle.cvr_office.specs.declared.event.Event.{Event}
@@ -128,4 +128,4 @@ abbrev pub three_devices : List Fact
 three_devices = Device (codes "desk") (device_body (codes "desk")) ∷ Device (codes "s1") (device_body (codes "s1")) ∷ Device (codes "s2") (device_body (codes "s2")) ∷ []
 
 abbrev pub of_one_file : List Fact
-of_one_file = three_devices ++ Header (codes "s1") (codes "u1") (header_body (codes "p1")) ∷ Snapshot (codes "s1") (codes "u1") (codes "a") (file.snapshot (codes "original") (codes "")) ∷ []
+of_one_file = three_devices ++ Header (codes "s1") (codes "u1") (header_text (codes "p1")) ∷ Snapshot (codes "s1") (codes "u1") (codes "a") (file.snapshot (codes "original") (codes "")) ∷ []

@@ -3,13 +3,13 @@ use Rattle.cdf_node.specs.View.{view}
 use Rattle.serde_json.specs.Written.{has_float, compact_text}
 use Rattle.cdf_parts.specs.Parts.{id_of}
 use Rattle.cdf_parts.proofs.Laws.{whole_there}
-use Rattle.cdf_definition.specs.Named.{named, entries_of}
+use Rattle.cdf_definition.specs.Named.{named, map_entries}
 use Rattle.cdf_definition.proofs.ById.{by_id-put}
 use Rattle.cdf_definition.proofs.Gathered.{gathered_more}
 use Rattle.cdf_definition.proofs.gather.gather.Goals as goal
 
 pub loop-item-init : goal.loop-item-init
-loop-item-init c = ap entries_of c.new-texts.ensures.empty ∙ sym (by_id-put [])
+loop-item-init c = ap map_entries c.new-texts.ensures.empty ∙ sym (by_id-put [])
 
 pub loop-item-preserved : goal.loop-item-preserved
 loop-item-preserved c =

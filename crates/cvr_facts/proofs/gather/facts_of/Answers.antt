@@ -1,6 +1,6 @@
 use Rattle.std.proofs.Common.{map, ap, ◌∙◌}
 use Rattle.std.specs.List.{flat_map}
-use Rattle.cvr_facts.specs.Lists.{told_device, told_header, told_snapshots, IsListOf}
+use Rattle.cvr_facts.specs.Lists.{told_device, told_header, told_snapshots, HasFactsOf}
 use Rattle.cvr_facts.proofs.Told.{told_are}
 use Rattle.cvr_facts.proofs.Spelled.{spelled_are}
 use Rattle.cvr_facts.proofs.gather.facts_of.Goals as goal
@@ -8,7 +8,7 @@ use Rattle.cvr_facts.proofs.gather.facts_of.Goals as goal
 pub snapshots_in-requires : goal.snapshots_in-requires
 snapshots_in-requires c cvr h = c.requires cvr (rw c.as_slice-3.ensures at h)
 
-list : (c : goal.After-list_of) → IsListOf c.args.definition.now.contests c.args.report.now c.list_of.result
+list : (c : goal.After-list_of) → HasFactsOf c.args.definition.now.contests c.args.report.now c.list_of.result
 list c =
     c.list_of.ensures.list c.args.definition.now.contests c.args.report.now (c.in_ok-devices.ensures ∙ ap (map told_device) c.as_slice.ensures)
     (record {

@@ -2,7 +2,7 @@ use Rattle.std.proofs.Common.{ℕ, List, map, refl, ap, ◌∙◌}
 use Rattle.cdf_types.specs.declared.report.Report.{Report}
 use Rattle.cdf_definition.specs.Frame.{Frame}
 use Rattle.cdf_definition.specs.Acceptance.{report_in}
-use Rattle.cvr_facts.specs.Lists.{told_device, IsListOf, IsReportOf, IsKeptOf}
+use Rattle.cvr_facts.specs.Lists.{told_device, HasFactsOf, IsReportOf, IsKeptOf}
 use Rattle.cvr_facts.proofs.Told.{told_are}
 use Rattle.cvr_facts.proofs.Spelled.{spelled_are}
 use Rattle.cvr_facts.proofs.kept.facts_of_kept.Goals as goal
@@ -14,7 +14,7 @@ module _ (c : goal.After-list_of) (frame : Frame) (bytes : List ℕ) (h : IsKept
   of : IsReportOf frame bytes report
   of = record { accepted = h.accepted; report_is = refl }
 
-  list : IsListOf frame.contests report c.list_of.result
+  list : HasFactsOf frame.contests report c.list_of.result
   list =
       c.list_of.ensures.list frame.contests report
       (c.in_ok-devices.ensures ∙ ap (map told_device) (c.into_vec.ensures ∙ h.devices_are)) h.records
