@@ -58,7 +58,7 @@ names_none s = is_none s.selection
 
 -- ---- contests
 
--- the places in a list: 0, 1, and so on up to its length
+-- the places in a list: 0, 1, and so on, one for each of its items
 abbrev pub places_of : {X : Type 0} → List X → List ℕ
 places_of xs = range_with_len 0 (length xs)
 
