@@ -1,35 +1,29 @@
-//! Each call of the libraries that can answer want of memory, made where tools/refuse refuses it. A
-//! script builds what its call needs, prints its name and reads a byte: `c` in a copy of the program,
-//! which makes the call, reads again (`m` where memory was refused), prints what is wrong, and ends.
-//! Another byte, or none, and the next script follows.
+//! Calls of the libraries that can answer out of memory and that no command of `cvr` makes, made where
+//! tools/refuse refuses each allocation in turn. A script prints its name and reads a byte: `c` in a
+//! copy of the program, which makes the calls, reads again (`m` where memory was refused), prints what
+//! is wrong, and ends. At another byte, or none, it prints what the calls tell, and the next script
+//! follows. Behind them histories of offices are played.
 #![tactic(auto)]
 
-mod arena;
-mod changes;
+mod events;
+mod facts;
 mod files;
-mod lines;
-mod logs;
+mod histories;
 mod offices;
-mod playing;
-mod pulling;
-mod readings;
 mod records;
-mod running;
-mod same;
-mod table;
-mod tellings;
+mod requests;
+mod scripts;
 mod trying;
-mod words;
-mod writing;
+mod volumes;
 
-use std::process::ExitCode;
-use table::try_all;
-use trying::Ended;
+use files::Files;
+use histories::print_histories;
+use scripts::try_all;
 
-fn main(rt: HostRuntime) -> ExitCode {
-    if let Err(Ended::NotBuilt) = try_all(&rt) {
-        let _ = println!(rt; "wrong: a script isn't built");
-        return ExitCode::FAILURE;
+fn main(rt: HostRuntime) -> anyhow::Result<()> {
+    let files = Files::read(&rt)?;
+    if try_all(&rt, &files) {
+        print_histories(&rt)?;
     }
-    ExitCode::SUCCESS
+    Ok(())
 }

@@ -1,124 +1,105 @@
-use crate::files::{ADJUDICATED, SCAN, bytes_of, office_of, take};
-use crate::same::are_same_offices;
-use crate::trying::{Answer, Change, Ended, answer_of, try_change};
-use cdf_types::Memory;
-use cvr_collect::{Office, Receipt};
+use crate::files::Files;
+use cdf_check::Definition;
+use cdf_types::{Memory, ReadFault};
+use cvr_cli::{conflicts_text, currents_text};
+use cvr_collect::{JoinFault, Office};
 use std::alloc::Global;
 
-// The office of two files, or of these and more.
-fn office_with<O: Office + Drop>(rt: &HostRuntime, more: &[&str]) -> Result<O, Ended> {
-    let mut office: O = office_of(rt, &[SCAN, ADJUDICATED])?;
-    take(rt, &mut office, more)?;
+/// A definition.
+pub fn read_definition(alloc: Global, bytes: &[u8]) -> Result<Definition, ReadFault> {
+    Definition::read(alloc, bytes)
+}
+
+/// A new office beside a definition.
+pub fn new_office<O: Office>(alloc: Global, bytes: &[u8]) -> Result<O, ReadFault> {
+    let definition = read_definition(alloc, bytes)?;
+    Ok(O::new(alloc, definition)?)
+}
+
+// Has an office take in a file, and answers how many facts are new. A function of its own, so that no other proof has
+// to carry all that is said of `import`.
+fn import_once<O: Office>(office: &mut O, bytes: &[u8]) -> Result<usize, ReadFault> {
+    Ok(office.import(bytes)?.new_facts)
+}
+
+// The same, and where memory is refused once more: the office is then as it was.
+fn import<O: Office>(office: &mut O, bytes: &[u8]) -> Result<usize, ReadFault> {
+    match import_once(office, bytes) {
+        Err(ReadFault::Memory) => import_once(office, bytes),
+        imported => imported,
+    }
+}
+
+// Has an office take in what another holds, and answers how many facts are new.
+fn join_once<O: Office>(office: &mut O, other: &O) -> Result<usize, ReadFault> {
+    match office.join(other) {
+        Ok(new_facts) => Ok(new_facts),
+        Err(JoinFault::Memory) => Err(ReadFault::Memory),
+        Err(JoinFault::OtherDefinition) => Err(ReadFault::NotJson),
+    }
+}
+
+// The same, and where memory is refused once more.
+fn join<O: Office>(office: &mut O, other: &O) -> Result<usize, ReadFault> {
+    match join_once(office, other) {
+        Err(ReadFault::Memory) => join_once(office, other),
+        joined => joined,
+    }
+}
+
+// Has an office take in reports, and tells how many facts of each are new.
+fn take<O: Office>(
+    office: &mut O,
+    reports: &[Vec<u8>],
+    text: &mut String,
+) -> Result<(), ReadFault> {
+    for report in reports {
+        let new_facts = import(office, report.as_slice())?;
+        writeln!(text, "{new_facts} new facts")?;
+    }
+    Ok(())
+}
+
+/// Tells what an office answers: its counts of records, facts and most bodies of a name, current snapshots, conflicts
+/// and the tally.
+pub fn tell<O: Office>(alloc: Global, office: &O, text: &mut String) -> Result<(), Memory> {
+    let (records, facts) = (office.record_count(), office.fact_count());
+    writeln!(text, "{records} {facts} {}", office.greatest_count())?;
+    text.push_str(currents_text(alloc, office)?.as_str())?;
+    text.push_str(conflicts_text(alloc, &office.conflicts(alloc)?)?.as_str())?;
+    text.push_str(office.tally_text(alloc)?.as_str())?;
+    Ok(())
+}
+
+/// An office that took in the reports.
+pub fn office_of<O: Office + Drop>(alloc: Global, files: &Files) -> Result<O, ReadFault> {
+    let mut office: O = new_office(alloc, files.definition.as_slice())?;
+    let mut text = String::new(alloc);
+    take(&mut office, &files.reports, &mut text)?;
     Ok(office)
 }
 
-// An office of two files that imports a third, of one record.
-#[derive(Drop)]
-struct Importing<O> {
-    bytes: Vec<u8>,
-    office: O,
-    new_facts: usize,
+/// What an office tells that takes in the reports.
+pub fn told_imports<O: Office + Drop>(alloc: Global, files: &Files) -> Result<String, ReadFault> {
+    let mut text = String::new(alloc);
+    let mut office: O = new_office(alloc, files.definition.as_slice())?;
+    take(&mut office, &files.reports, &mut text)?;
+    tell(alloc, &office, &mut text)?;
+    Ok(text)
 }
 
-impl<O: Office + Drop> Importing<O> {
-    // Before the import of a file, which brings so many new facts, or after it.
-    fn new(
-        rt: &HostRuntime,
-        name: &str,
-        new_facts: usize,
-        is_done: bool,
-    ) -> Result<Importing<O>, Ended> {
-        let bytes = bytes_of(rt, name)?;
-        let office: O = if is_done {
-            office_with(rt, &[name])?
-        } else {
-            office_with(rt, &[])?
-        };
-        Ok(Importing {
-            bytes,
-            office,
-            new_facts,
-        })
-    }
-}
-
-impl<O: Office + Drop> Change for Importing<O> {
-    fn make(&mut self, _alloc: Global) -> Answer {
-        let wanted = Receipt {
-            cvrs: 1,
-            new_facts: self.new_facts,
-        };
-        answer_of(self.office.import(self.bytes.as_slice()), &wanted)
-    }
-
-    fn is_same(&self, alloc: Global, other: &Importing<O>) -> Result<bool, Memory> {
-        are_same_offices(alloc, &self.office, &other.office)
-    }
-}
-
-// An office of two files that joins another office.
-#[derive(Drop)]
-struct Joining<O> {
-    other: O,
-    office: O,
-    new_facts: usize,
-}
-
-impl<O: Office + Drop> Joining<O> {
-    // Before the join with an office of files, which brings so many new facts, or after it.
-    fn new(
-        rt: &HostRuntime,
-        names: &[&str],
-        new_facts: usize,
-        is_done: bool,
-    ) -> Result<Joining<O>, Ended> {
-        let other: O = office_of(rt, names)?;
-        let office: O = if is_done {
-            office_with(rt, names)?
-        } else {
-            office_with(rt, &[])?
-        };
-        Ok(Joining {
-            other,
-            office,
-            new_facts,
-        })
-    }
-}
-
-impl<O: Office + Drop> Change for Joining<O> {
-    fn make(&mut self, _alloc: Global) -> Answer {
-        answer_of(self.office.join(&self.other), &self.new_facts)
-    }
-
-    fn is_same(&self, alloc: Global, other: &Joining<O>) -> Result<bool, Memory> {
-        let is_same = are_same_offices(alloc, &self.office, &other.office)?;
-        Ok(is_same && are_same_offices(alloc, &self.other, &other.other)?)
-    }
-}
-
-/// Tries the import of a file, which brings so many new facts.
-pub fn try_import<O: Office + Drop>(
-    rt: &HostRuntime,
-    name: &str,
-    file: &str,
-    new_facts: usize,
-) -> Result<(), Ended> {
-    let before: Result<Importing<O>, Ended> = Importing::new(rt, file, new_facts, false);
-    let after: Result<Importing<O>, Ended> = Importing::new(rt, file, new_facts, true);
-    let change: Result<Importing<O>, Ended> = Importing::new(rt, file, new_facts, false);
-    try_change(rt, name, change, before, after)
-}
-
-/// Tries the join with an office of files, which brings so many new facts.
-pub fn try_join<O: Office + Drop>(
-    rt: &HostRuntime,
-    name: &str,
-    files: &[&str],
-    new_facts: usize,
-) -> Result<(), Ended> {
-    let before: Result<Joining<O>, Ended> = Joining::new(rt, files, new_facts, false);
-    let after: Result<Joining<O>, Ended> = Joining::new(rt, files, new_facts, true);
-    let change: Result<Joining<O>, Ended> = Joining::new(rt, files, new_facts, false);
-    try_change(rt, name, change, before, after)
+/// What an office tells that took in the first report, and takes in what one of all reports holds.
+pub fn told_join<O: Office + Drop>(alloc: Global, files: &Files) -> Result<String, ReadFault> {
+    let mut text = String::new(alloc);
+    let other: O = office_of(alloc, files)?;
+    let mut office: O = new_office(alloc, files.definition.as_slice())?;
+    take(
+        &mut office,
+        files.reports.get(..1).unwrap_or(&[]),
+        &mut text,
+    )?;
+    let new_facts = join(&mut office, &other)?;
+    writeln!(text, "{new_facts} new facts")?;
+    tell(alloc, &office, &mut text)?;
+    Ok(text)
 }

@@ -1,117 +1,71 @@
-use crate::files::{
-    ADJUDICATED, BATCHED, EVERY_KIND, OTHER_BODY, OTHER_DEVICE, OTHER_UNIT, SCAN, bytes_of,
-    definition, office_of, read_facts,
-};
-use crate::table::try_records;
-use crate::trying::Ended;
-use cdf_check::Definition;
-use cvr_collect::{CachedOffice, PlainOffice};
-use cvr_facts::{BodySet, DeviceFact, FactList, HeaderFact, SnapshotFact, VoteSums};
+use crate::files::Files;
+use crate::offices::office_of;
+use cdf_types::{Body, Memory, ReadFault};
+use cvr_collect::{Office, RecordFacts};
+use cvr_tally::{Row, RowKey, tally_text};
+use std::alloc::Global;
 
-/// The kinds of offices.
-#[derive(Clone, Copy)]
-pub enum Kind {
-    Plain,
-    Cached,
-}
-
-/// What the calls that change nothing read.
-#[derive(Drop)]
-pub struct Records<'a> {
-    /// The bytes of a file with every kind of position.
-    pub bytes: &'a [u8],
-    /// The definition.
-    pub definition: &'a Definition,
-    /// The bodies of its devices.
-    pub devices: &'a BodySet,
-    /// The facts of the file.
-    pub facts: &'a FactList,
-    /// The first device of the file, and its snapshot with the sums of the first contest.
-    pub device: &'a DeviceFact,
-    pub snapshot: &'a SnapshotFact,
-    pub sums: &'a VoteSums,
-    /// A header with unit and batch.
-    pub header: &'a HeaderFact,
-    /// An office of all other files, with conflicts of every kind. It has the record of the snapshot, and
-    /// that of the header.
-    pub office: &'a PlainOffice,
-    /// One that holds the same.
-    pub cached: &'a CachedOffice,
-}
-
-// The header of the file with a batch.
-fn header_of(rt: &HostRuntime, definition: &Definition) -> Result<HeaderFact, Ended> {
-    let bytes = bytes_of(rt, BATCHED)?;
-    let facts = read_facts(rt.alloc(), definition, bytes.as_slice())?;
-    Ok(first(facts.headers.as_slice())?.copy()?)
-}
-
-/// Builds what the scripts read, and tries them. It is built in parts, each in a function that holds few
-/// values: what is held at each way out of a function is what makes its proof long.
-pub fn try_new_records(rt: &HostRuntime) -> Result<(), Ended> {
-    let bytes = bytes_of(rt, EVERY_KIND)?;
-    let definition = definition(rt)?;
-    try_file(rt, bytes.as_slice(), &definition)
-}
-
-fn try_file(rt: &HostRuntime, bytes: &[u8], definition: &Definition) -> Result<(), Ended> {
-    let facts = read_facts(rt.alloc(), definition, bytes)?;
-    let header = header_of(rt, definition)?;
-    try_facts(rt, bytes, definition, &facts, &header)
-}
-
-fn try_facts(
-    rt: &HostRuntime,
-    bytes: &[u8],
-    definition: &Definition,
-    facts: &FactList,
-    header: &HeaderFact,
-) -> Result<(), Ended> {
-    let files = [
-        SCAN,
-        ADJUDICATED,
-        OTHER_BODY,
-        OTHER_UNIT,
-        OTHER_DEVICE,
-        BATCHED,
-    ];
-    let office: PlainOffice = office_of(rt, &files)?;
-    let cached: CachedOffice = office_of(rt, &files)?;
-    try_offices(rt, bytes, definition, facts, header, &office, &cached)
-}
-
-fn try_offices(
-    rt: &HostRuntime,
-    bytes: &[u8],
-    definition: &Definition,
-    facts: &FactList,
-    header: &HeaderFact,
-    office: &PlainOffice,
-    cached: &CachedOffice,
-) -> Result<(), Ended> {
-    let device = first(facts.devices.as_slice())?;
-    let snapshot = first(facts.snapshots.as_slice())?;
-    let sums = first(snapshot.votes.as_slice())?;
-    let devices = BodySet::new(rt.alloc(), definition.devices())?;
-    let records = Records {
-        bytes,
-        definition,
-        devices: &devices,
-        facts,
-        device,
-        snapshot,
-        sums,
-        header,
-        office,
-        cached,
-    };
-    try_records(rt, &records)
-}
-
-// The first item of a list, which has one.
-fn first<T>(items: &[T]) -> Result<&T, Ended> {
-    match items {
-        [one, ..] => Ok(one),
-        [] => Err(Ended::NotBuilt),
+// Tells the bodies of a record's headers, and each id with the number of its snapshots.
+fn tell_record(text: &mut String, record: &RecordFacts<'_>) -> Result<(), Memory> {
+    for header in record.headers.as_slice() {
+        writeln!(text, "{}", header.body)?;
     }
+    for under in record.ids.as_slice() {
+        writeln!(text, "{} {}", under.id, under.snapshots.len())?;
+    }
+    Ok(())
+}
+
+// Tells all facts of the first record of an office.
+fn tell_first<O: Office>(alloc: Global, office: &O, text: &mut String) -> Result<(), Memory> {
+    if let Some(key) = office.next_record(None) {
+        writeln!(text, "{} {}", key.device, key.unique)?;
+        if let Some(record) = office.record_facts(alloc, key)? {
+            tell_record(text, &record)?;
+        }
+    }
+    Ok(())
+}
+
+/// What is told of all facts of a record that has several headers, ids and bodies under one id.
+pub fn told_record<O: Office + Drop>(alloc: Global, files: &Files) -> Result<String, ReadFault> {
+    let office: O = office_of(alloc, files)?;
+    let mut text = String::new(alloc);
+    tell_first(alloc, &office, &mut text)?;
+    Ok(text)
+}
+
+// Tells the ballots of a row and its votes.
+fn tell_row(text: &mut String, row: &Row) -> Result<(), Memory> {
+    writeln!(text, "{} {:?}", row.ballots, row.votes.as_slice())?;
+    Ok(())
+}
+
+// Tells the row of the first contest in a unit, of no batch.
+fn tell_row_in<O: Office>(
+    alloc: Global,
+    office: &O,
+    unit: &str,
+    text: &mut String,
+) -> Result<(), Memory> {
+    let key = RowKey {
+        contest: 0,
+        unit: Some(Body::new(unit.to_string(alloc)?)),
+        batch: None,
+    };
+    match office.row(alloc, &key)? {
+        Some(row) => tell_row(text, &row)?,
+        None => writeln!(text, "no row in {unit}")?,
+    }
+    Ok(())
+}
+
+/// What is told of rows, and of the totals.
+pub fn told_rows<O: Office + Drop>(alloc: Global, files: &Files) -> Result<String, ReadFault> {
+    let office: O = office_of(alloc, files)?;
+    let mut text = String::new(alloc);
+    tell_row_in(alloc, &office, "p1", &mut text)?;
+    tell_row_in(alloc, &office, "p2", &mut text)?;
+    text.push_str(tally_text(alloc, &office.totals(alloc)?)?.as_str())?;
+    Ok(text)
 }

@@ -1,0 +1,132 @@
+use crate::files::Files;
+use crate::offices::read_definition;
+use cdf_check::{Definition, check_report};
+use cdf_types::{Body, Memory, ReadFault, Seq};
+use cvr_facts::{BodySet, FactList, Join, SnapshotFact, facts_of, join_both};
+use std::alloc::Global;
+
+// The facts of a report.
+fn facts_in(alloc: Global, definition: &Definition, bytes: &[u8]) -> Result<FactList, ReadFault> {
+    let report = check_report(alloc, definition, bytes)?;
+    Ok(facts_of(alloc, definition, &report)?)
+}
+
+// Tells a snapshot: its record, its id, its Type, and of each contest its place, overvotes, undervotes, write-ins, and
+// the votes that are pending, unassigned and of each selection.
+fn tell_snapshot(text: &mut String, snapshot: &SnapshotFact) -> Result<(), Memory> {
+    let key = &snapshot.key;
+    write!(
+        text,
+        "{} {} {} {}",
+        key.device,
+        key.unique,
+        snapshot.id,
+        snapshot.kind.text()
+    )?;
+    for sums in snapshot.votes.as_slice() {
+        let (over, under, write_ins) = (sums.overvotes, sums.undervotes, sums.write_ins);
+        write!(text, ", {}: {over} {under} {write_ins}", sums.contest)?;
+        write!(
+            text,
+            " {} {} {:?}",
+            sums.pending,
+            sums.unassigned,
+            sums.votes.as_slice()
+        )?;
+    }
+    text.push_str("\n")?;
+    Ok(())
+}
+
+// Tells the bodies of devices and headers, and each snapshot.
+fn tell_facts(text: &mut String, list: &FactList) -> Result<(), Memory> {
+    for device in list.devices.as_slice() {
+        writeln!(text, "{}", device.body)?;
+    }
+    for header in list.headers.as_slice() {
+        writeln!(text, "{}", header.body)?;
+    }
+    for snapshot in list.snapshots.as_slice() {
+        tell_snapshot(text, snapshot)?;
+    }
+    Ok(())
+}
+
+// Tells the facts of a report, or why it is refused.
+fn tell_report(
+    alloc: Global,
+    text: &mut String,
+    definition: &Definition,
+    bytes: &[u8],
+) -> Result<(), ReadFault> {
+    match facts_in(alloc, definition, bytes) {
+        Ok(list) => tell_facts(text, &list)?,
+        Err(ReadFault::Memory) => return Err(ReadFault::Memory),
+        Err(fault) => writeln!(text, "{fault}")?,
+    }
+    Ok(())
+}
+
+/// What is told of the facts of reports.
+pub fn told_facts(alloc: Global, files: &Files) -> Result<String, ReadFault> {
+    let definition = read_definition(alloc, files.definition.as_slice())?;
+    let mut text = String::new(alloc);
+    for report in &files.checked {
+        tell_report(alloc, &mut text, &definition, report.as_slice())?;
+    }
+    Ok(text)
+}
+
+// Tells faults of a path.
+fn tell_faults_at(text: &mut String, alloc: Global, path: &str) -> Result<(), Memory> {
+    let reference = ReadFault::Reference {
+        path: Body::new(path.to_string(alloc)?),
+    };
+    writeln!(text, "{reference}")?;
+    let disagrees = ReadFault::Disagrees {
+        path: Body::new(path.to_string(alloc)?),
+    };
+    writeln!(text, "{disagrees}")?;
+    Ok(())
+}
+
+/// How faults are printed that have another form.
+pub fn told_faults(alloc: Global) -> Result<String, ReadFault> {
+    let mut text = String::new(alloc);
+    tell_faults_at(&mut text, alloc, "/GpUnit/0")?;
+    for fault in &[ReadFault::TooLong, ReadFault::NotJson, ReadFault::Memory] {
+        writeln!(text, "{fault}")?;
+    }
+    Ok(text)
+}
+
+// The set of these texts.
+fn set_of(alloc: Global, texts: &[&str]) -> Result<BodySet, Memory> {
+    let mut bodies = Seq::empty(alloc);
+    for text in texts {
+        bodies.push(Body::new(text.to_string(alloc)?))?;
+    }
+    BodySet::new(alloc, bodies.as_slice())
+}
+
+// A set that takes in two others, and then a third.
+fn joined(alloc: Global) -> Result<BodySet, Memory> {
+    let mut set = set_of(alloc, &["b", "b"])?;
+    join_both(
+        &mut set,
+        &set_of(alloc, &["c", "a"])?,
+        &set_of(alloc, &["a"])?,
+    )?;
+    set.join(&set_of(alloc, &["d", "c"])?)?;
+    Ok(set)
+}
+
+/// The bodies of a joined set.
+pub fn told_sets(alloc: Global) -> Result<String, ReadFault> {
+    let set = joined(alloc)?;
+    let mut text = String::new(alloc);
+    for place in 0..set.len() {
+        writeln!(text, "{}", set.get(place))?;
+    }
+    Ok(text)
+}

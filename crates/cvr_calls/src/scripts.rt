@@ -1,0 +1,96 @@
+use crate::facts::{told_facts, told_faults, told_sets};
+use crate::files::Files;
+use crate::offices::{told_imports, told_join};
+use crate::records::{told_record, told_rows};
+use crate::requests::{told_run, told_work};
+use crate::trying::try_script;
+use cdf_types::ReadFault;
+use cvr_collect::{CachedOffice, PlainOffice};
+use std::alloc::Global;
+
+/// What a script calls.
+#[derive(Clone, Copy)]
+pub enum Script {
+    Facts,
+    Faults,
+    Sets,
+    Imports,
+    Join,
+    Record,
+    Rows,
+    CachedImports,
+    CachedJoin,
+    CachedRecord,
+    CachedRows,
+    Run(&'static [&'static str]),
+    Work(&'static [&'static str]),
+}
+
+impl Script {
+    /// What the calls tell, or out of memory. Another fault stands where they aren't right.
+    pub fn told(self, alloc: Global, files: &Files) -> Result<String, ReadFault> {
+        match self {
+            Script::Facts => told_facts(alloc, files),
+            Script::Faults => told_faults(alloc),
+            Script::Sets => told_sets(alloc),
+            Script::Imports => told_imports::<PlainOffice>(alloc, files),
+            Script::Join => told_join::<PlainOffice>(alloc, files),
+            Script::Record => told_record::<PlainOffice>(alloc, files),
+            Script::Rows => told_rows::<PlainOffice>(alloc, files),
+            Script::CachedImports => told_imports::<CachedOffice>(alloc, files),
+            Script::CachedJoin => told_join::<CachedOffice>(alloc, files),
+            Script::CachedRecord => told_record::<CachedOffice>(alloc, files),
+            Script::CachedRows => told_rows::<CachedOffice>(alloc, files),
+            Script::Run(words) => told_run(alloc, words, files),
+            Script::Work(words) => told_work(alloc, words, files),
+        }
+    }
+}
+
+// The scripts. Each public call that can answer out of memory, and that no command makes, stands in the name of one.
+static SCRIPTS: [(&str, Script); 16] = [
+    ("check_report, facts_of", Script::Facts),
+    ("ReadFault, as a sentence", Script::Faults),
+    ("BodySet::new, BodySet::join, join_both", Script::Sets),
+    (
+        "PlainOffice: new, import, conflicts, tally_text",
+        Script::Imports,
+    ),
+    ("PlainOffice: join", Script::Join),
+    ("PlainOffice: record_facts", Script::Record),
+    ("PlainOffice: row, totals", Script::Rows),
+    (
+        "CachedOffice: new, import, conflicts, tally_text",
+        Script::CachedImports,
+    ),
+    ("CachedOffice: join", Script::CachedJoin),
+    ("CachedOffice: record_facts", Script::CachedRecord),
+    ("CachedOffice: row, totals", Script::CachedRows),
+    (
+        "read_words, run: currents",
+        Script::Run(&["currents", "d", "a", "b"]),
+    ),
+    (
+        "read_words, run: drill",
+        Script::Run(&["drill", "d", "2", "1=a", "1>2", "2>3", "2=b"]),
+    ),
+    ("read_words, a wrong word", Script::Run(&["taly", "d"])),
+    (
+        "read_words, a bad step",
+        Script::Run(&["drill", "d", "2", "1=a", "x"]),
+    ),
+    (
+        "work, over MemoryFiles",
+        Script::Work(&["tally", "definition", "first", "second"]),
+    ),
+];
+
+/// Tries each script, up to the first in a copy, and answers whether this is no copy.
+pub fn try_all(rt: &HostRuntime, files: &Files) -> bool {
+    for (name, script) in &SCRIPTS {
+        if !try_script(rt, name, *script, files) {
+            return false;
+        }
+    }
+    true
+}
