@@ -12,7 +12,7 @@ ghost use Rattle.cvr_office.specs.Plain.{set_of, IsPut};
 ghost use Rattle.cvr_fact_types.specs.Facts.{Facts, fact_total, fact_exact};
 ghost use Rattle.cvr_facts.specs.Unions.{union_laws};
 ghost use Rattle.cvr_cached.specs.Contents.{header_in, current_in, pairs_of};
-ghost use Rattle.cvr_cached.specs.Cells.{Column, cell, cell_limit, shares, stands, is_row_of, AreFit};
+ghost use Rattle.cvr_cached.specs.Cells.{Column, cell, cell_limit, shares, has_row, is_row_of, AreFit};
 
 use crate::remembered::{
     current_place, header_fact_at, header_place, key_at, no_key, snapshot_at, votes_at,
@@ -104,8 +104,8 @@ impl RecordContent {
     pub(crate) fn open_rows(&mut self, totals: &mut Totals) -> Result<(), Memory>
         requires { AreFit totals.old.contests (pairs_of self.old) }
         ensures same { self.new ≡ self.old }
-        ensures here { OnOk result ((q : RowKey) → is_row_of self.old q ≡ true → stands totals.new.rows q ≡ true) }
-        ensures kept { (q : RowKey) → stands totals.old.rows q ≡ true → stands totals.new.rows q ≡ true }
+        ensures here { OnOk result ((q : RowKey) → is_row_of self.old q ≡ true → has_row totals.new.rows q ≡ true) }
+        ensures kept { (q : RowKey) → has_row totals.old.rows q ≡ true → has_row totals.new.rows q ≡ true }
         ensures cells { (q : RowKey) (j : Column) → cell totals.new.rows q j ≡ cell totals.old.rows q j }
         ensures others { (q : RowKey) → is_row_of self.old q ≡ false → get totals.new.rows q ≡ get totals.old.rows q }
         ensures closed { (q : RowKey) → row_closed (get totals.new.rows q) ≡ row_closed (get totals.old.rows q) }
@@ -140,11 +140,11 @@ impl RecordContent {
     // Takes no memory.
     pub(crate) fn add_votes(&mut self, totals: &mut Totals)
         requires fit { AreFit totals.old.contests (pairs_of self.old) }
-        requires open_at { (q : RowKey) → is_row_of self.old q ≡ true → stands totals.old.rows q ≡ true }
+        requires open_at { (q : RowKey) → is_row_of self.old q ≡ true → has_row totals.old.rows q ≡ true }
         requires room { (q : RowKey) (j : Column) → cell totals.old.rows q j + shares (pairs_of self.old) q j < cell_limit j }
         ensures same { self.new ≡ self.old }
         ensures cells { (q : RowKey) (j : Column) → cell totals.new.rows q j ≡ cell totals.old.rows q j + shares (pairs_of self.old) q j }
-        ensures stand { (q : RowKey) → stands totals.new.rows q ≡ stands totals.old.rows q }
+        ensures stand { (q : RowKey) → has_row totals.new.rows q ≡ has_row totals.old.rows q }
         ensures moves { totals.new.moves ≡ totals.old.moves + length (pairs_of self.old) }
         ensures contests { totals.new.contests ≡ totals.old.contests }
     {
@@ -161,7 +161,7 @@ impl RecordContent {
         requires enough { (q : RowKey) (j : Column) → shares (pairs_of self.old) q j ≤ cell totals.old.rows q j }
         ensures same { self.new ≡ self.old }
         ensures cells { (q : RowKey) (j : Column) → cell totals.new.rows q j + shares (pairs_of self.old) q j ≡ cell totals.old.rows q j }
-        ensures stand { (q : RowKey) → stands totals.new.rows q ≡ stands totals.old.rows q }
+        ensures stand { (q : RowKey) → has_row totals.new.rows q ≡ has_row totals.old.rows q }
         ensures moves { totals.new.moves ≡ totals.old.moves + length (pairs_of self.old) }
         ensures contests { totals.new.contests ≡ totals.old.contests }
     {

@@ -10,7 +10,7 @@ use Rattle.serde_json.specs.Data.{Data, Members, no_members, member}
 use Rattle.serde_json.specs.Written.{compact_text, members_text}
 use Rattle.cdf_parts.specs.Proper.{MembersAreWell}
 use Rattle.cvr_report.specs.Record.{front, back, some, IsCut}
-use Rattle.cvr_report.specs.Scan.{InString, after, is_before, IsPlain, start_of}
+use Rattle.cvr_report.specs.Scan.{InString, after, is_before, HasNoEscape, start_of}
 use Rattle.cvr_report.proofs.Names.{is_before-escape}
 use Rattle.cvr_report.proofs.Scanning.{member_pass}
 
@@ -100,7 +100,7 @@ no_text text from name at g l later ms h e =
     absurd (omega (arith, some_text w.0 w.1, ap length w.3, length-drop at text))
 
 here : (now later f : Bool) (text : List ℕ) (at : ℕ) (name : List ℕ) (rest b : Members) → (get_or text at 0 ≡ 125 → ⊥) → at < length text → drop at text ≡ members_text now rest → back name rest ≡ b
-    → (now || some (front name rest)) ≡ f → IsPlain name → is_before (drop (start_of text at) text) name ≡ false → drop at text ≡ members_text f b
+    → (now || some (front name rest)) ≡ f → HasNoEscape name → is_before (drop (start_of text at) text) name ≡ false → drop at text ≡ members_text f b
 here now later f text at name no_members b unclosed l e same flag plain stop = absurd (unclosed (closes now e))
   where
     closes : (now : Bool) → drop at text ≡ members_text now no_members → get_or text at 0 ≡ 125
@@ -111,7 +111,7 @@ here now later f text at name (member k d ms) b unclosed l e same flag plain sto
     let p = kept name k d ms above in
     e ∙ (λ i. members_text ((sym (or-false now) ∙ ap (λ m. now || some m) (sym p.0) ∙ flag) i) ((sym p.1 ∙ same) i))
 
-pub cut_at_name : (text : List ℕ) (from : ℕ) (name : List ℕ) (at : ℕ) → Goes text from name at → (get_or text at 0 ≡ 125 → ⊥) → at < length text → IsPlain name
+pub cut_at_name : (text : List ℕ) (from : ℕ) (name : List ℕ) (at : ℕ) → Goes text from name at → (get_or text at 0 ≡ 125 → ⊥) → at < length text → HasNoEscape name
     → is_before (drop (start_of text at) text) name ≡ false → IsCut text from name at
 cut_at_name text from name at g unclosed l plain stop later ms h e =
     let w = g later ms h e in
@@ -125,7 +125,7 @@ pub cut_past : (text : List ℕ) (from : ℕ) (name : List ℕ) (at : ℕ) → G
 cut_past text from name at g unclosed l later ms h e = let w = g later ms h e in absurd (past w.0 text at w.1 unclosed l w.3)
 
 next : (now f : Bool) (text : List ℕ) (at to : ℕ) (name : List ℕ) (rest b : Members) → MembersAreWell rest → (get_or text at 0 ≡ 125 → ⊥) → drop at text ≡ members_text now rest → back name rest ≡ b
-    → (now || some (front name rest)) ≡ f → IsPlain name → is_before (drop (start_of text at) text) name ≡ true → drop to text ≡ after InString 0 (drop (start_of text at) text)
+    → (now || some (front name rest)) ≡ f → HasNoEscape name → is_before (drop (start_of text at) text) name ≡ true → drop to text ≡ after InString 0 (drop (start_of text at) text)
     → (now : Bool) × (rest : Members) × MembersAreWell rest × (drop to text ≡ members_text now rest) × (back name rest ≡ b) × ((now || some (front name rest)) ≡ f)
 next now f text at to name no_members b h unclosed e same flag plain go skip = absurd (unclosed (heads text at 125 [] e).0)
 next now f text at to name (member k d ms) b h unclosed e same flag plain go skip =
@@ -140,7 +140,7 @@ next now f text at to name (member k d ms) b h unclosed e same flag plain go ski
       sym (or-true now) ∙ ap (λ m. now || some m) (sym p.0) ∙ flag,
     )
 
-pub goes_on : (text : List ℕ) (from : ℕ) (name : List ℕ) (at to : ℕ) → Goes text from name at → (get_or text at 0 ≡ 125 → ⊥) → IsPlain name
+pub goes_on : (text : List ℕ) (from : ℕ) (name : List ℕ) (at to : ℕ) → Goes text from name at → (get_or text at 0 ≡ 125 → ⊥) → HasNoEscape name
     → is_before (drop (start_of text at) text) name ≡ true → drop to text ≡ after InString 0 (drop (start_of text at) text) → Goes text from name to
 goes_on text from name at to g unclosed plain go skip later ms h e =
     let w = g later ms h e in

@@ -6,7 +6,7 @@ use Rattle.std.specs.Cmp.Lexicographic.{slice_cmp}
 use Rattle.std.specs.Ordering.{is_lt, ordering_then}
 use Rattle.json.specs.Print.{escape, escape_byte}
 use Rattle.json.proofs.Printed.Strings.{escape_byte_plain}
-use Rattle.cvr_report.specs.Scan.{is_before, before_escaped, IsPlain}
+use Rattle.cvr_report.specs.Scan.{is_before, before_escaped, HasNoEscape}
 use Rattle.cvr_report.proofs.Scanning.{Each, each_sound}
 
 abbrev decide : ℕ → ℕ → Bool → Bool
@@ -153,7 +153,7 @@ unfolding is_before
 no_more xs = refl
 
 -- the test answers whether the name is below
-pub is_before-escape : (k name r : List ℕ) → IsPlain name → is_before (escape k ++ 34 ∷ r) name ≡ is_lt (slice_cmp nat_cmp k name)
+pub is_before-escape : (k name r : List ℕ) → HasNoEscape name → is_before (escape k ++ 34 ∷ r) name ≡ is_lt (slice_cmp nat_cmp k name)
 is_before-escape [] [] r h = no_more (34 ∷ r)
 is_before-escape (x ∷ k) [] r h = no_more (escape (x ∷ k) ++ 34 ∷ r)
 is_before-escape [] (m ∷ name) r h = ended r m name

@@ -9,7 +9,7 @@ use Rattle.serde_json.specs.Find.{get_member}
 use Rattle.serde_json.specs.Written.{compact_text, items_text, members_text, comma_if}
 use Rattle.cdf_parts.specs.Proper.{Before, Below, MembersAreWell}
 use Rattle.cdf_parts.proofs.Lemmas.{Before-trans, after_is, equal_is, greater_is, Below-trans, append}
-use Rattle.cvr_report.specs.Record.{snapshots_name, current_name, record_of, IsHeader, front, back, some, inner, joined, texts_of, IsCut}
+use Rattle.cvr_report.specs.Record.{snapshots_name, current_name, cvr_object, IsHeader, front, back, some, inner, joined, texts_of, IsCut}
 use Rattle.cvr_report.proofs.Splitting.{put_twice, text-append}
 
 pub front_of : (xs p r : List ℕ) (n : ℕ) → n ≤ length xs → xs ≡ p ++ r → drop n xs ≡ r → take n xs ≡ p
@@ -82,7 +82,7 @@ placed_text a b x y f m r e =
 
 pub record_text : (ms : Members) (ds : Items) (current : List ℕ) → MembersAreWell ms → IsHeader ms
     → let f = front snapshots_name ms in let m = back snapshots_name ms in
-    compact_text (record_of ms ds current)
+    compact_text (cvr_object ms ds current)
     ≡ (123 ∷ inner false f) ++ (snapshots_lead ++ (joined false (texts_of ds) ++ (93 ∷ (inner true (front current_name m) ++ (codes ",\"CurrentSnapshotId\":" ++ (quoted current ++ members_text true (back current_name m)))))))
 record_text ms ds current well h =
     let f = front snapshots_name ms in

@@ -17,8 +17,8 @@ current_name = codes "CurrentSnapshotId"
 abbrev pub record_members : Members → Items → List ℕ → Members
 record_members header snapshots current = put snapshots_name (array snapshots) (put current_name (string current) header)
 
-abbrev pub record_of : Members → Items → List ℕ → Data
-record_of header snapshots current = object (record_members header snapshots current)
+abbrev pub cvr_object : Members → Items → List ℕ → Data
+cvr_object header snapshots current = object (record_members header snapshots current)
 
 -- what a header body's object is: neither member, and a class
 abbrev pub IsHeader : Members → Type 0

@@ -9,7 +9,7 @@ use Rattle.cdf_definition.specs.Frame.{Frame}
 use Rattle.cdf_definition.specs.Named.{texts_of}
 use Rattle.cvr_fact_types.specs.Facts.{Facts}
 use Rattle.cvr_facts.specs.Choosing.{data_of}
-use Rattle.cvr_report.specs.Record.{record_of}
+use Rattle.cvr_report.specs.Record.{cvr_object}
 use Rattle.cvr_report.specs.Head.{Head}
 use Rattle.cvr_report.specs.Page.{RecordPage, Page, page}
 
@@ -52,7 +52,7 @@ values_of bodies = items_of (map data_of bodies)
 
 -- the header with its snapshots and the id of the current one
 abbrev pub record_data : RecordPage → Data
-record_data p = record_of (members_in p.header) (values_of (map (λ s. s.body) p.snapshots)) p.current
+record_data p = cvr_object (members_in p.header) (values_of (map (λ s. s.body) p.snapshots)) p.current
 
 abbrev pub records_data : Page → Items
 records_data p = items_of (map record_data p.records)

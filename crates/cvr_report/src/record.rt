@@ -8,7 +8,7 @@ ghost use Rattle.cvr_fact_types.specs.declared.name.RecordName.{RecordName};
 ghost use Rattle.cvr_fact_types.specs.Facts.{Facts};
 ghost use Rattle.cvr_office.specs.Keeps.{Keeps};
 ghost use Rattle.cvr_office.specs.Readers.{AreFactsOf};
-ghost use Rattle.cvr_report.specs.Record.{IsHeader, record_of, texts_of, joined};
+ghost use Rattle.cvr_report.specs.Record.{IsHeader, cvr_object, texts_of, joined};
 ghost use Rattle.cvr_report.specs.Page.{shown_record};
 ghost use Rattle.cvr_report.specs.Volume.{record_data};
 ghost use Rattle.cvr_report.specs.Found.{HaveSnapshots, CanShow, shown_bodies};
@@ -72,7 +72,7 @@ fn push_record(
     requires some { HaveSnapshots ids.now }
     ensures { OnOk result ((ms : Members) (ds : Items) → MembersAreWell ms → IsHeader ms
         → header.now ≡ compact_text (object ms) → shown_bodies i ids.now ≡ texts_of ds
-        → out.new.items ≡ out.old.items ++ compact_text (record_of ms ds current.now)) }
+        → out.new.items ≡ out.old.items ++ compact_text (cvr_object ms ds current.now)) }
 {
     let text = header.as_str().as_bytes();
     let (front, rest) = text.split_at(cut(text, 1, b"CVRSnapshot"));

@@ -1,6 +1,6 @@
 // A pass over compact text.
 ghost use Rattle.std.specs.Prelude.{◌≡◌, ◌≢◌, ◌+◌, ◌<◌, ◌≤◌, ℕ, length, drop, slice_index};
-ghost use Rattle.cvr_report.specs.Scan.{Between, InString, next_depth, stops, after, is_before, before_escaped, start_of, IsPlain};
+ghost use Rattle.cvr_report.specs.Scan.{Between, InString, next_depth, stops, after, is_before, before_escaped, start_of, HasNoEscape};
 ghost use Rattle.cvr_report.specs.Record.{IsCut};
 
 // The depth of brackets behind a byte that stands between strings.
@@ -128,7 +128,7 @@ fn name_start(text: &[u8], at: usize) -> usize
 // whose members go on at `from`.
 pub(crate) fn cut(text: &[u8], from: usize, name: &[u8]) -> usize
     requires within { from ≤ length text.now }
-    requires plain { IsPlain name.now }
+    requires plain { HasNoEscape name.now }
     ensures cut { IsCut text.now from name.now result }
     ensures above { from ≤ result }
     ensures within { result ≤ length text.now }

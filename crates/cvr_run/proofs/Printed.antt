@@ -13,7 +13,7 @@ use Rattle.cvr_run.specs.Ends.{Ends}
 use Rattle.cvr_run.specs.Log.{Logs}
 use Rattle.cvr_run.specs.Merge.{merge_line}
 use Rattle.cvr_run.specs.Printing.{Prints, is_output, merge_part, end_line, print_status, status_after}
-use Rattle.cvr_run.specs.Told.{last_lines, CanEndAfter, Dues, Tells, TellsRun}
+use Rattle.cvr_run.specs.Told.{last_lines, CanEndAfter, Dues, LogsFirst, TellsRun}
 use Rattle.cvr_run.proofs.Telling.{appended_none, told_whole, wanted, cut_by_memory}
 
 -- want of memory before anything was printed
@@ -172,7 +172,7 @@ pub by_device : {T : Type 0} (result : Result T PrintFault) → IfErr result (λ
 by_device (Ok x) only is = is
 by_device (Err e) only is = device_is_not (sym only ∙ is)
 
-module _ (of : Dues) (n : ℕ) (r : Refusals) (b m a : Taken) (so_far : Tells of n r b m)
+module _ (of : Dues) (n : ℕ) (r : Refusals) (b m a : Taken) (so_far : LogsFirst of n r b m)
     (all : n ≡ length of.dues) (working : r.file_lacking ≡ false) where
   -- where memory was not refused for the text
   pub tells_whole : {T : Type 0} (before after : Taken) (result : Result T PrintFault) (fault : Option MergeFault) (text : List ℕ) (s : Status)

@@ -24,7 +24,7 @@ use Rattle.cvr_run.specs.Refusals.{is_memory, wants_memory, status_of, Due, no_d
 use Rattle.cvr_run.specs.Outcome.{bytes_of}
 use Rattle.cvr_run.specs.Log.{cause_line, memory_line, has_path_in, Logs}
 use Rattle.cvr_run.specs.Laws.{AloneOrEachLaw}
-use Rattle.cvr_run.specs.Told.{Telling, AsDue, Lacking, Unspelled, refusal_line, refusal_lines, told_line, told_lines, can_be, can_all, is_lacking, is_unspelled, is_short, file_dues, texts_of, dues_of, run_lines, last_lines, Dues, Tells, TellsRun, CanEndAfter, IsCutShort, IsRunCutShort, LogsSome}
+use Rattle.cvr_run.specs.Told.{Telling, AsDue, Lacking, Unspelled, refusal_line, refusal_lines, told_line, told_lines, can_be, can_all, is_lacking, is_unspelled, is_short, file_dues, texts_of, dues_of, run_lines, last_lines, Dues, LogsFirst, TellsRun, CanEndAfter, IsCutShort, IsRunCutShort, LogsSome}
 
 -- ---- logs, one after the other
 
@@ -109,7 +109,7 @@ on_err P (Err e) p = p
 -- ---- a run so far
 
 -- of none yet
-pub tells_none : (of : Dues) (b : Taken) (r : Refusals) → r.file_lacking ≡ false → r.path_unspelled ≡ false → Tells of 0 r b b
+pub tells_none : (of : Dues) (b : Taken) (r : Refusals) → r.file_lacking ≡ false → r.path_unspelled ≡ false → LogsFirst of 0 r b b
 tells_none of b r lacking unlogged = record {
   tellings = [];
   count = refl;
@@ -121,9 +121,9 @@ tells_none of b r lacking unlogged = record {
 
 module _ (of : Dues) (b m : Taken) where
   -- of one more, in this way
-  tells_more : (n : ℕ) (r s : Refusals) (a : Taken) (t : Telling) → Tells of n r b m → n < length of.texts → n < length of.dues
+  tells_more : (n : ℕ) (r s : Refusals) (a : Taken) (t : Telling) → LogsFirst of n r b m → n < length of.texts → n < length of.dues
       → can_be t (get_or of.dues n no_due) ≡ true → s.file_lacking ≡ (r.file_lacking || is_lacking t) → s.path_unspelled ≡ (r.path_unspelled || is_unspelled t)
-      → Logs m a (told_line t (get_or of.texts n []) (get_or of.dues n no_due)) → Tells of (n + 1) s b a
+      → Logs m a (told_line t (get_or of.texts n []) (get_or of.dues n no_due)) → LogsFirst of (n + 1) s b a
   tells_more n r s a t so_far lp lf can lacking unlogged logs =
       let ts = so_far.tellings in
       let count = so_far.count in
@@ -139,7 +139,7 @@ module _ (of : Dues) (b m : Taken) where
       }
 
   -- of one more that is accepted
-  pub tells_accepted : (n : ℕ) (r : Refusals) → Tells of n r b m → n < length of.texts → n < length of.dues → (get_or of.dues n no_due).cause ≡ None → Tells of (n + 1) r b m
+  pub tells_accepted : (n : ℕ) (r : Refusals) → LogsFirst of n r b m → n < length of.texts → n < length of.dues → (get_or of.dues n no_due).cause ≡ None → LogsFirst of (n + 1) r b m
   tells_accepted n r so_far lp lf none =
       tells_more n r r m AsDue so_far lp lf refl (sym (or-false r.file_lacking)) (sym (or-false r.path_unspelled))
       (subst (λ cause. Logs m m (refusal_line (get_or of.texts n []) cause)) (sym none) (logs_none m))
@@ -193,8 +193,8 @@ path_due : (due : Due) (cause : Cause) → IsDue due (Some cause) → has_path_i
 path_due due cause is path = ap (λ want. if want then due.want else due.cause) (sym (path_not_want cause path)) ∙ is
 
 pub tells_noted : (of : Dues) (b m a : Taken) (n : ℕ) (r s : Refusals) (what : List ℕ) (cause : Cause)
-    → Tells of n r b m → n < length of.texts → n < length of.dues → what ≡ get_or of.texts n [] → IsDue (get_or of.dues n no_due) (Some cause)
-    → s.file_lacking ≡ (r.file_lacking || wants_memory cause) → Noted r s m a what cause → Tells of (n + 1) s b a
+    → LogsFirst of n r b m → n < length of.texts → n < length of.dues → what ≡ get_or of.texts n [] → IsDue (get_or of.dues n no_due) (Some cause)
+    → s.file_lacking ≡ (r.file_lacking || wants_memory cause) → Noted r s m a what cause → LogsFirst of (n + 1) s b a
 tells_noted of b m a n r s what cause so_far lp lf named due lacking (inl (same, logs)) =
     let at = get_or of.dues n no_due in
     let want = wants_memory cause in
@@ -235,7 +235,7 @@ bool_false : (x : Bool) → (x ≡ true → ⊥) → x ≡ false
 bool_false true h = absurd (h refl)
 bool_false false h = refl
 
-module _ (of : Dues) (n : ℕ) (r : Refusals) (b m a : Taken) (so_far : Tells of n r b m) (fault : Option MergeFault) (d : Taken) where
+module _ (of : Dues) (n : ℕ) (r : Refusals) (b m a : Taken) (so_far : LogsFirst of n r b m) (fault : Option MergeFault) (d : Taken) where
   -- with `memory` after these lines, none lacking
   pub cut_by_memory : CanEndAfter of.by_file n of.dues → r.file_lacking ≡ false → d.failed ≡ false → Logs m a memory_line → LogsSome (IsCutShort of fault d.failed) b a
   cut_by_memory can working works logs = (
@@ -277,7 +277,7 @@ cut_at_once of b a fault whole logs =
     (memory_line, record { tellings = []; possible = refl; ends = inr (inr (subst (λ by. CanEndAfter by 0 of.dues) (sym whole) (inl refl), refl, refl, refl)) }, logs)
 
 -- with one lacking
-pub lacks : (of : Dues) (n : ℕ) (r : Refusals) (b m : Taken) → Tells of n r b m → n ≡ length of.dues → r.file_lacking ≡ true
+pub lacks : (of : Dues) (n : ℕ) (r : Refusals) (b m : Taken) → LogsFirst of n r b m → n ≡ length of.dues → r.file_lacking ≡ true
     → (fault : Option MergeFault) (failed : Bool) → LogsSome (IsCutShort of fault failed) b m
 lacks of n r b m so_far all lacking fault failed = (
   told_lines so_far.tellings of.texts of.dues,

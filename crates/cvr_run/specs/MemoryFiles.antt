@@ -23,7 +23,7 @@ opener_over files = record { at = found_at files; may_fail = can_fail_at files; 
 -- ---- as an example, three files: two at one path
 
 -- a file at a path, and which call of its reading fails
-pub record IsTold (file : MemoryFile) (path : List ℕ) (call : ℕ) : Type 0 where
+pub record IsFileAt (file : MemoryFile) (path : List ℕ) (call : ℕ) : Type 0 where
   pub stands : file.path.now ≡ path
   pub fails : file.fail_at ≡ call
 

@@ -143,7 +143,7 @@ pub record IsNext (of : Dues) (n : ℕ) (text : List ℕ) (due : Due) : Type 0 w
   pub due_is : get_or of.dues n no_due ≡ due
 
 -- a log that took the lines of the first n of them, and what a run then keeps of its refusals
-pub record Tells (of : Dues) (n : ℕ) (refusals : Refusals) (old new : Taken) : Type 0 where
+pub record LogsFirst (of : Dues) (n : ℕ) (refusals : Refusals) (old new : Taken) : Type 0 where
   pub tellings : List Telling
   pub count : length tellings ≡ n
   pub possible : can_all tellings of.dues ≡ true

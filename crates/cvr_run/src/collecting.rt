@@ -8,7 +8,7 @@ ghost use Rattle.cvr_run.specs.Accepted.{is_refused};
 ghost use Rattle.cvr_run.specs.Given.{files_bytes};
 ghost use Rattle.cvr_run.specs.Outcome.{accepted_facts, held};
 ghost use Rattle.cvr_run.specs.Refusals.{file_due};
-ghost use Rattle.cvr_run.specs.Told.{import_dues, Dues, IsNext, Tells};
+ghost use Rattle.cvr_run.specs.Told.{import_dues, Dues, IsNext, LogsFirst};
 
 use crate::given::Files;
 use crate::refusals::Refusals;
@@ -33,9 +33,9 @@ fn import_one<O: Office, L: Sink>(
         ≡ (refusals.old.any_refusal || is_refused (O.defined office.old) file.now) }
     ensures lacking { refusals.new.file_lacking ≡ false → refusals.old.file_lacking ≡ false }
     ensures log { (of : Dues) (n : ℕ) (start : Taken)
-        → Tells of n refusals.old start (L.taken log.old)
+        → LogsFirst of n refusals.old start (L.taken log.old)
         → IsNext of n path.now (file_due (first_refusal (O.defined office.old) file.now))
-        → Tells of (n + 1) refusals.new start (L.taken log.new) }
+        → LogsFirst of (n + 1) refusals.new start (L.taken log.new) }
 {
     if let Err(fault) = office.import(file) {
         refusals.note_file(alloc, log, path, fault);
@@ -57,7 +57,7 @@ fn import_all<O: Office, L: Sink>(
         (union_over (accepted_facts (O.defined office.old)) (files_bytes files.entry)) }
     ensures any_refusal { result.file_lacking ≡ false → result.any_refusal
         ≡ list_any (is_refused (O.defined office.old)) (files_bytes files.entry) }
-    ensures log { Tells (import_dues (O.defined office.old) paths.now (files_bytes files.entry))
+    ensures log { LogsFirst (import_dues (O.defined office.old) paths.now (files_bytes files.entry))
         (length (files_bytes files.entry)) result (L.taken log.old) (L.taken log.new) }
 {
     let mut refusals = Refusals::none();
@@ -87,7 +87,7 @@ pub fn collect<O: Office + Drop, L: Sink>(
     ensures any_refusal { IfOk result (λ r. r.1.file_lacking ≡ false
         → r.1.any_refusal ≡ list_any (is_refused definition) (files_bytes files.entry)) }
     ensures log { IfOk result
-        (λ r. Tells (import_dues definition paths.now (files_bytes files.entry))
+        (λ r. LogsFirst (import_dues definition paths.now (files_bytes files.entry))
         (length (files_bytes files.entry)) r.1 (L.taken log.old) (L.taken log.new)) }
     ensures unchanged { OnErr result (log.new ≡ log.old) }
 {

@@ -9,7 +9,7 @@ ghost use Rattle.cvr_run.specs.declared.merge.MergeFault.{MergeFault};
 ghost use Rattle.cvr_run.specs.Ends.{Ends};
 ghost use Rattle.cvr_run.specs.Outcome.{bytes_of};
 ghost use Rattle.cvr_run.specs.Refusals.{cause_in, is_refusal, is_want, AreDue, Due};
-ghost use Rattle.cvr_run.specs.Told.{drill_dues, Tells, TellsRun, IsCutShort, LogsSome};
+ghost use Rattle.cvr_run.specs.Told.{drill_dues, LogsFirst, TellsRun, IsCutShort, LogsSome};
 
 use crate::ending::{end_in_memory, end_with};
 use crate::offices::print_offices;
@@ -101,7 +101,7 @@ fn note_refused<L: Sink>(
     ensures any_refusal { result.any_refusal ≡ list_any is_refusal outcomes.now }
     ensures file_lacking { result.file_lacking ≡ list_any is_want outcomes.now }
     ensures log { (dues : List Due) → AreDue dues outcomes.now
-        → Tells (record { by_file = false; texts = step_texts steps.now; dues = dues })
+        → LogsFirst (record { by_file = false; texts = step_texts steps.now; dues = dues })
         (length outcomes.now) result (L.taken log.old) (L.taken log.new) }
 {
     let mut refusals = Refusals::none();
@@ -129,7 +129,7 @@ fn drill<O: Office + Drop, L: Sink>(
         → map O.held r.0.items ≡ drilled definition.now count (bytes_of files.now) steps.now) }
     ensures any_refusal { IfOk result (λ r. r.1.file_lacking ≡ false
         → r.1.any_refusal ≡ drill_refused definition.now count (bytes_of files.now) steps.now) }
-    ensures log { IfOk result (λ r. Tells
+    ensures log { IfOk result (λ r. LogsFirst
         (drill_dues definition.now count (bytes_of files.now) steps.now) (length steps.now) r.1
         (L.taken log.old) (L.taken log.new)) }
     ensures unchanged { OnErr result (log.new ≡ log.old) }
@@ -157,7 +157,7 @@ fn drill_all<O: Office + Drop, L: Sink>(
         r.1.any_refusal ≡ drill_refused definition.now count (bytes_of files.now) steps.now) }
     ensures whole { IfOk result (λ r. r.1.file_lacking ≡ false) }
     ensures status { IfErr result (λ s. s ≡ NoMemory) }
-    ensures log { IfOk result (λ r. Tells
+    ensures log { IfOk result (λ r. LogsFirst
         (drill_dues definition.now count (bytes_of files.now) steps.now) (length steps.now) r.1
         (L.taken log.old) (L.taken log.new)) }
     ensures cut_short { OnErr result ((fault : Option MergeFault) → LogsSome

@@ -1,7 +1,7 @@
 //! Worked examples: the whole text of each task over the facts of a few records.
 ghost use Rattle.std.specs.Prelude.{codes};
 ghost use Rattle.cvr_run.specs.declared.memory_files.MemoryFile.{MemoryFile};
-ghost use Rattle.cvr_run.specs.MemoryFiles.{IsTold, FailAsTold};
+ghost use Rattle.cvr_run.specs.MemoryFiles.{IsFileAt, FailAsTold};
 ghost use Rattle.cvr_run.specs.CutShort.{AtOnce, AfterOne, AfterAll, AfterLacking};
 ghost use Rattle.cvr_run.specs.Listed.{TallyListed};
 ghost use Rattle.cvr_run.specs.Opening.{FourAreShown};
@@ -36,8 +36,8 @@ pub fn merges()
 /// Worked example of files in memory: one that was told no call, one at another path that was told
 /// its fifth, and one at the first path again, told its sixth.
 pub fn files_fail_as_told()
-    ensures { (x y z : MemoryFile) → IsTold x (codes "a") 0 → IsTold y (codes "b") 5
-        → IsTold z (codes "a") 6 → FailAsTold x y z }
+    ensures { (x y z : MemoryFile) → IsFileAt x (codes "a") 0 → IsFileAt y (codes "b") 5
+        → IsFileAt z (codes "a") 6 → FailAsTold x y z }
 {}
 
 /// Worked examples of three files, the second one accepted: how the log ends where memory was

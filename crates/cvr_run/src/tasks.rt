@@ -10,7 +10,7 @@ ghost use Rattle.cvr_words.specs.declared.request.Task.TheVariants.{Check};
 ghost use Rattle.cvr_run.specs.declared.refusals.Refusals.{Refusals};
 ghost use Rattle.cvr_run.specs.declared.merge.MergeFault.{MergeFault};
 ghost use Rattle.cvr_run.specs.Ends.{Ends, Ran};
-ghost use Rattle.cvr_run.specs.Told.{file_dues, import_dues, task_dues, Tells, TellsRun};
+ghost use Rattle.cvr_run.specs.Told.{file_dues, import_dues, task_dues, LogsFirst, TellsRun};
 ghost use Rattle.cvr_run.specs.Told.{CanEndAfter, IsCutShort, LogsSome};
 
 use crate::check::push_count;
@@ -43,11 +43,11 @@ fn count_files<L: Sink>(
     ensures text { IfOk result (λ r. r.file_lacking ≡ false → string_bytes text.new
         ≡ string_bytes text.old ++ check_lines definition.now paths.now (bytes_of files.now)) }
     ensures log { IfOk result
-        (λ r. Tells (task_dues definition.now Check paths.now (bytes_of files.now))
+        (λ r. LogsFirst (task_dues definition.now Check paths.now (bytes_of files.now))
         (length files.now) r (L.taken log.old) (L.taken log.new)) }
     ensures cut_short { OnErr result ((n : ℕ) × (r : Refusals) × (r.file_lacking ≡ false)
         × CanEndAfter true n (file_dues definition.now (bytes_of files.now))
-        × Tells (task_dues definition.now Check paths.now (bytes_of files.now)) n r
+        × LogsFirst (task_dues definition.now Check paths.now (bytes_of files.now)) n r
         (L.taken log.old) (L.taken log.new)) }
 {
     let mut refusals = Refusals::none();
@@ -79,7 +79,7 @@ fn collect_all<O: Office + Drop, L: Sink>(
     ensures whole { IfOk result (λ r. r.1.file_lacking ≡ false) }
     ensures status { IfErr result (λ s. s ≡ NoMemory) }
     ensures log { IfOk result
-        (λ r. Tells (import_dues definition paths.now (files_bytes files.entry))
+        (λ r. LogsFirst (import_dues definition paths.now (files_bytes files.entry))
         (length (files_bytes files.entry)) r.1 (L.taken log.old) (L.taken log.new)) }
     ensures cut_short { OnErr result ((fault : Option MergeFault) → LogsSome
         (IsCutShort (import_dues definition paths.now (files_bytes files.entry)) fault false)

@@ -6,7 +6,7 @@ use Rattle.std.proofs.lemmas.Slice.Eq.{bytes_eq-Decides}
 use Rattle.clap.specs.Simple.{Shape, built_leaf, inherited, marked_built, on_top, with_leaf_noted}
 use Rattle.clap.specs.Walk.{Text, rows_after}
 use Rattle.cvr_words.specs.Line.{command_names, cvr_line, drill_line, files_line, merge_line}
-use Rattle.cvr_words.specs.Rows.{HasNumber, HasWord, IsWhole}
+use Rattle.cvr_words.specs.Rows.{HasNumber, HasWord, AreRowsOf}
 use Rattle.cvr_words.proofs.Lists.{Each}
 use Rattle.cvr_words.proofs.Whole.{IsPlainLevel, IsSound, has_number, has_word, standing, stands}
 
@@ -17,7 +17,7 @@ leaf s = built_leaf (inherited (on_top with_leaf_noted (on_top marked_built cvr_
 -- a command is named, and where its words meet no fault what has to stand stands
 pub record IsKnown (s : Shape) : Type 0 where
   pub named : Any (λ x. x ≡ s.name) command_names
-  pub whole : (words : List Text) → IsSound s words → IsWhole s.name (rows_after s.rules [] words)
+  pub whole : (words : List Text) → IsSound s words → AreRowsOf s.name (rows_after s.rules [] words)
 
 apart : (a b : Text) → bytes_eq a b ≡ false → a ≡ b → ⊥
 apart a b differ e = let bad : true ≡ false = sym ((bytes_eq-Decides a b).1 e) ∙ differ in cc

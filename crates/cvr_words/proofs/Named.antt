@@ -13,7 +13,7 @@ use Rattle.clap.specs.Kinds.{FailsBy, Kinds}
 use Rattle.clap.specs.declared.error.Error.{Error}
 use Rattle.clap.proofs.OnLiterals.{clap_on_literals}
 use Rattle.cvr_words.specs.Line.{command_names, cvr_line}
-use Rattle.cvr_words.specs.Rows.{IsWhole}
+use Rattle.cvr_words.specs.Rows.{AreRowsOf}
 use Rattle.cvr_words.proofs.Commands.{IsKnown, own, own_known}
 use Rattle.cvr_words.proofs.Faultless.{no_first, no_second}
 use Rattle.cvr_words.proofs.Lists.{IfFound, find_front, found}
@@ -31,7 +31,7 @@ simple_and_free = refl
 
 -- a command of the program, with what has to stand
 abbrev pub IsCommand : Text × List Row → Type 0
-IsCommand p = Any (λ x. x ≡ p.0) command_names × IsWhole p.0 p.1
+IsCommand p = Any (λ x. x ≡ p.0) command_names × AreRowsOf p.0 p.1
 
 subs_are : (built cvr_line).subs ≡ own ++ built_leaf help_shape ∷ []
 unfolding clap_on_literals

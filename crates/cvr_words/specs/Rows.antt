@@ -32,7 +32,7 @@ abbrev pub IsMergeWhole : List Row → Type 0
 IsMergeWhole rows = HasWord (codes "DATE") rows × HasWord (codes "DEVICE") rows
     × HasNumber (codes "VOLUME") 1 4294967295 rows
 
-pub record IsWhole (name : Text) (rows : List Row) : Type 0 where
+pub record AreRowsOf (name : Text) (rows : List Row) : Type 0 where
   pub def : HasWord (codes "DEF") rows
   pub merge : name ≡ codes "merge" → IsMergeWhole rows
   pub drill : name ≡ codes "drill" → HasNumber (codes "OFFICES") 1 64 rows

@@ -6,7 +6,7 @@ ghost use Rattle.cvr_words.specs.Fault.{IsDrillFault};
 ghost use Rattle.cvr_words.specs.Line.{command_names};
 ghost use Rattle.cvr_words.specs.Request.{Asks, IsTask};
 ghost use Rattle.cvr_words.specs.Steps.{IsBadStep, bad_place, paths_of, steps_of};
-ghost use Rattle.cvr_words.specs.Rows.{HasNumber, HasWord, IsMergeWhole, IsNumber, IsWhole, IsWord, words_in};
+ghost use Rattle.cvr_words.specs.Rows.{HasNumber, HasWord, IsMergeWhole, IsNumber, AreRowsOf, IsWord, words_in};
 
 use crate::fault::LineFault;
 use crate::request::{Request, Task};
@@ -141,7 +141,7 @@ pub(crate) fn request_of(
     matches: &ArgMatches<'_>,
 ) -> Result<Request, LineFault>
     requires named { Any (λ x. x ≡ name.now) command_names }
-    requires whole { IsWhole name.now (rows_of (found_of matches.now)) }
+    requires whole { AreRowsOf name.now (rows_of (found_of matches.now)) }
     ensures ok { IfOk result (λ r. Asks name.now (rows_of (found_of matches.now)) r) }
     ensures err { IfErr result (λ f. IsDrillFault name.now (rows_of (found_of matches.now)) f) }
 {

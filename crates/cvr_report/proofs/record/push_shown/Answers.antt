@@ -2,7 +2,7 @@ use Rattle.std.proofs.Common.{Bor, ◌≡◌, ◌++◌, List, map, Result, Ok, E
 use Rattle.serde_json.specs.Written.{compact_text}
 use Rattle.cvr_fact_types.specs.declared.header.HeaderFact.{HeaderFact}
 use Rattle.cvr_office.specs.Readers.{header_list}
-use Rattle.cvr_report.specs.Record.{record_of}
+use Rattle.cvr_report.specs.Record.{cvr_object}
 use Rattle.cvr_report.specs.Found.{shown_bodies}
 use Rattle.cvr_report.specs.Page.{Shown, shown, shown_snapshots, current_id}
 use Rattle.cvr_report.specs.Volume.{values_of, members_in}
@@ -30,4 +30,4 @@ returns c =
     let current : c.shown_current.result.now ≡ id = c.shown_current.ensures ∙ (ap (current_of i) ids ∙ current_is frame.contests s key r are i c.requires.number c.requires.some.shot) in
     let members = sym (ap members_in (sym body) ∙ kept.1.members) in
     let all = wrote kept.0 ds kept.1.well kept.1.header kept.1.text (ap (shown_bodies i) ids ∙ texts_are frame s keeps key r are i c.requires.number) in
-    all ∙ (λ j. c.args.out.now.items ++ compact_text (record_of (members j) ds (current j))))
+    all ∙ (λ j. c.args.out.now.items ++ compact_text (cvr_object (members j) ds (current j))))

@@ -8,7 +8,7 @@ use Rattle.cvr_words.specs.declared.request.Step.{Step}
 use Rattle.cvr_run.specs.Drill.{event_of, events_of, new_offices, step_dues}
 use Rattle.cvr_run.specs.Outcome.{bytes_of}
 use Rattle.cvr_run.specs.Refusals.{is_refusal, is_want, AreDue}
-use Rattle.cvr_run.specs.Told.{drill_dues, Tells}
+use Rattle.cvr_run.specs.Told.{drill_dues, LogsFirst}
 use Rattle.cvr_run.proofs.SameOffices.{of_one}
 use Rattle.cvr_run.proofs.Steps.{steps_due, drill_refused_is, drilled_is}
 use Rattle.cvr_run.proofs.drilling.drill.Goals as goal
@@ -49,7 +49,7 @@ returns g c =
           ∙ (ap (list_any is_refusal) c.as_slice-2.ensures.value
           ∙ drill_refused_is def n files steps rs count out (wants working));
       log =
-          subst (λ k. Tells (drill_dues def n files steps) k c.note_refused-refusals.result (g.L.Sink.taken c.args.log.now) (g.L.Sink.taken c.note_refused-refusals.new.log))
+          subst (λ k. LogsFirst (drill_dues def n files steps) k c.note_refused-refusals.result (g.L.Sink.taken c.args.log.now) (g.L.Sink.taken c.note_refused-refusals.new.log))
           (ap length c.as_slice-2.ensures.value ∙ all_steps)
           (told.log (step_dues def n files steps) (subst (AreDue (step_dues def n files steps)) (sym c.as_slice-2.ensures.value) (steps_due def n files steps rs count out)));
       unchanged = tt;

@@ -6,7 +6,7 @@ use Rattle.cvr_run.specs.declared.refusals.Refusals.{Refusals}
 use Rattle.cvr_office.specs.declared.event.Cause.TheVariants.{Read}
 use Rattle.cvr_run.specs.Outcome.{bytes_of}
 use Rattle.cvr_run.specs.Refusals.{file_due, IsDue}
-use Rattle.cvr_run.specs.Told.{file_dues, task_dues, Tells}
+use Rattle.cvr_run.specs.Told.{file_dues, task_dues, LogsFirst}
 use Rattle.cvr_words.specs.declared.request.Task.TheVariants.{Check}
 use Rattle.cvr_run.proofs.Telling.{on_err, tells_none, tells_noted, tells_accepted, read_due, due_at, dues_count}
 use Rattle.cvr_run.proofs.tasks.count_files.Goals as goal
@@ -33,7 +33,7 @@ loop-place-preserved g c =
     let within : n < length dues = omega (arith, dues_count definition c.args.files.now) in
     let here = due_at definition c.args.files.now n c.index-files-place.result lt c.index-files-place.is ∙ ap (λ file. file_due (first_refusal definition file)) (sym c.as_slice.ensures.value) in
     let named = c.as_str-path.ensures ∙ (c.index-paths-place.is ∙ get_or_default paths n c.index-paths-place.result [] also) in
-    let told = λ (r : Refusals) (l : g.row.L.Denot). Tells of (n + 1) r (g.L.Sink.taken c.args.log.now) (g.L.Sink.taken l) in
+    let told = λ (r : Refusals) (l : g.row.L.Denot). LogsFirst of (n + 1) r (g.L.Sink.taken c.args.log.now) (g.L.Sink.taken l) in
     elim c.match-count_records.branch [
       | in-Ok+else-not-refusals w ↦ record {
         any_refusal = grind (arith, common_steps);

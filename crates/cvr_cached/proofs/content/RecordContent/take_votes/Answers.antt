@@ -1,7 +1,7 @@
 use Rattle.std.proofs.Common.{◌∙◌, ap, sym, arith}
 use Rattle.cvr_office.specs.Adding.{key_for}
 use Rattle.cvr_cached.specs.Contents.{sums_in}
-use Rattle.cvr_cached.specs.Cells.{cell, stands}
+use Rattle.cvr_cached.specs.Cells.{cell, has_row}
 use Rattle.cvr_cached.proofs.CellSteps.{cell_minus, stands_minus, has_of, stands_of}
 use Rattle.cvr_cached.proofs.Pairs.{pair_at}
 use Rattle.cvr_cached.proofs.VoteLists.{shares_more, left, long_at}
@@ -39,7 +39,7 @@ loop-sums-preserved c =
         shares_more at q j,
         inv.cells q j,
       );
-      stand = λ q. ap (λ m. stands m q) c.take.ensures.rows ∙ (stands_minus m k v q ∙ inv.stand q);
+      stand = λ q. ap (λ m. has_row m q) c.take.ensures.rows ∙ (stands_minus m k v q ∙ inv.stand q);
       moves = omega (arith, c.take.ensures.moves, inv.moves);
       contests = c.take.ensures.contests ∙ inv.contests;
     }
