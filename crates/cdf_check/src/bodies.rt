@@ -1,14 +1,17 @@
 // Laws of the bodies of an accepted file. Each is the contract of a function that does nothing.
 ghost use Rattle.cdf_check.specs.Laws.{DevicesStandLaw, HeadersStandLaw, SnapshotsStandLaw};
-ghost use Rattle.cdf_check.specs.Utf8.{ReadUtf8Law, PartUtf8Law, PartHasUtf8Law, ProperUtf8Law, TextUtf8Law, BodiesUtf8Law};
-ghost use Rattle.cdf_check.specs.Wider.{MoreDevicesLaw, HeaderStaysLaw, SnapshotStaysLaw, ResolvedLaw, EachLaw};
+ghost use Rattle.cdf_check.specs.Utf8.{ReadUtf8Law, PartUtf8Law, PartHasUtf8Law, ProperUtf8Law};
+ghost use Rattle.cdf_check.specs.Utf8.{TextUtf8Law, BodiesUtf8Law};
+ghost use Rattle.cdf_check.specs.Wider.{MoreDevicesLaw, HeaderStaysLaw, SnapshotStaysLaw};
+ghost use Rattle.cdf_check.specs.Wider.{ResolvedLaw, EachLaw};
 
 /// Each device's body of an accepted file is read back as an object that would stand in a report.
 pub fn device_bodies_stand()
     ensures { DevicesStandLaw }
 {}
 
-/// So is each cast vote record without its snapshots, by the definition and the file's devices alone.
+/// So is each cast vote record without its snapshots, by the definition and the file's devices
+/// alone.
 pub fn header_bodies_stand()
     ensures { HeadersStandLaw }
 {}

@@ -1,7 +1,9 @@
-ghost use Rattle.cdf_check.specs.Defaults.{ReportIsReadLaw, NoDefaultLaw, InRangeLaw, RecordInRangeLaw};
+ghost use Rattle.cdf_check.specs.Defaults.{ReportIsReadLaw, NoDefaultLaw, InRangeLaw};
+ghost use Rattle.cdf_check.specs.Defaults.{RecordInRangeLaw};
 
-/// In an accepted file no default of the typed readers stands for a part that is demanded, or for one of
-/// another kind or out of range: what is demanded is there, and what is there is of its kind.
+/// In an accepted file no default of the typed readers stands for a part that is demanded, or for
+/// one of another kind or out of range: what is demanded is there, and what is there is of its
+/// kind.
 pub fn no_default_occurs()
     ensures { NoDefaultLaw }
 {}

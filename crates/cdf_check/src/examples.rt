@@ -1,9 +1,14 @@
-// Worked examples of references, of agreement and of equal definitions. Each is the contract of a function that does nothing.
+// Worked examples of references, of agreement and of equal definitions. Each is the contract of a
+// function that does nothing.
 ghost use Rattle.cdf_check.specs.Examples.{Plain, NotAllOfIt, OneByteMore, LongestFile, AllUnknown};
-ghost use Rattle.cdf_check.specs.Examples.{GeneratingDevice, CreatingDevice, ElectionScope, BallotStyleUnit, PartyOfCandidate, PartyOfSelection, PartyOfRecord};
-ghost use Rattle.cdf_check.specs.Examples.{CandidateOfSelection, ElectionOfRecord, CurrentSnapshot, ContestOfRecord, SelectionOfContest};
+ghost use Rattle.cdf_check.specs.Examples.{GeneratingDevice, CreatingDevice, ElectionScope};
+ghost use Rattle.cdf_check.specs.Examples.{BallotStyleUnit, PartyOfCandidate, PartyOfSelection};
+ghost use Rattle.cdf_check.specs.Examples.{PartyOfRecord};
+ghost use Rattle.cdf_check.specs.Examples.{CandidateOfSelection, ElectionOfRecord, CurrentSnapshot};
+ghost use Rattle.cdf_check.specs.Examples.{ContestOfRecord, SelectionOfContest};
 ghost use Rattle.cdf_check.specs.Examples.{OtherElection, OtherUnit, OtherParty, OtherDevice};
-ghost use Rattle.cdf_check.specs.Examples.{SameWithOtherDevice, SameWithOtherRecord, OtherByElection, OtherByUnit, OtherByParty};
+ghost use Rattle.cdf_check.specs.Examples.{SameWithOtherDevice, SameWithOtherRecord};
+ghost use Rattle.cdf_check.specs.Examples.{OtherByElection, OtherByUnit, OtherByParty};
 
 /// A report that has each reference is accepted; where all name nothing, all are told in order.
 pub fn reports()
@@ -30,7 +35,8 @@ pub fn named_objects()
     ensures candidate { CandidateOfSelection }
 {}
 
-/// Each reference to an Election, a snapshot, a contest or a selection, with the id of another object.
+/// Each reference to an Election, a snapshot, a contest or a selection, with the id of another
+/// object.
 pub fn named_parts()
     ensures election { ElectionOfRecord }
     ensures current { CurrentSnapshot }

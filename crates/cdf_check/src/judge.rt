@@ -1,4 +1,5 @@
-ghost use Rattle.std.specs.Prelude.{◌≡◌, ◌↔◌, [], codes, false, None, IfOk, IfErr, IsTrue, OnOk, option_map};
+ghost use Rattle.std.specs.Prelude.{◌≡◌, ◌↔◌, [], codes, false, None, IfOk, IfErr, IsTrue, OnOk};
+ghost use Rattle.std.specs.Prelude.{option_map};
 ghost use Rattle.serde_json.specs.Data.{Data};
 ghost use Rattle.serde_json.specs.Find.{get};
 ghost use Rattle.serde_json.specs.Read.{read as read_data};
@@ -10,7 +11,8 @@ ghost use Rattle.cdf_parts.specs.Parts.{array_at};
 ghost use Rattle.cdf_typed.specs.Typed.{report_of};
 ghost use Rattle.cdf_definition.specs.Agreement.{disagreements};
 ghost use Rattle.cdf_definition.specs.Sound.{IsSound};
-ghost use Rattle.cdf_check.specs.Seen.{IsSeen, first_of_file, form_refusal, is_array, Accepts, IsJudged};
+ghost use Rattle.cdf_check.specs.Seen.{IsSeen, first_of_file, form_refusal, is_array, Accepts};
+ghost use Rattle.cdf_check.specs.Seen.{IsJudged};
 
 use crate::fractions::file_fraction;
 use crate::seen::Seen;
@@ -26,8 +28,8 @@ use cdf_typed::read_report;
 use cdf_types::{Body, Memory, ReadFault, ReportingDevice, Rule, Seq};
 use std::alloc::Global;
 
-// Looks for the first fault of a file whose numbers are whole in its records, by what is left beside
-// these and their first fault of form.
+// Looks for the first fault of a file whose numbers are whole in its records, by what is left
+// beside these and their first fault of form.
 fn first_fault<'a>(
     alloc: Global,
     left: &Node<'a>,
@@ -97,8 +99,8 @@ fn stands(alloc: Global, definition: &Definition, left: &Node<'_>) -> Result<boo
     }
 }
 
-// Whether a file is accepted, whose records were seen so. What is left is checked once, and not for its
-// first fault, which is of interest only where the file is refused.
+// Whether a file is accepted, whose records were seen so. What is left is checked once, and not for
+// its first fault, which is of interest only where the file is refused.
 fn is_accepted<T>(
     alloc: Global,
     definition: &Definition,
@@ -144,8 +146,8 @@ fn has_records(value: &Node<'_>) -> bool
     }
 }
 
-/// The reporting devices of a file, of whose records that was seen, and beside which this is left; and
-/// what is kept of its records.
+/// The reporting devices of a file, of whose records that was seen, and beside which this is left;
+/// and what is kept of its records.
 ///
 /// # Errors
 /// As `check_report`.
@@ -159,7 +161,8 @@ pub(crate) fn judge<K: Keep>(
 ) -> Result<(Seq<ReportingDevice>, K::Kept), ReadFault>
 where
     K::Kept: Drop,
-    requires { IsFolded (IsSeen (K.keeps keep.now definition.now.contests) definition.now) text.now (codes "CVR")
+    requires { IsFolded (IsSeen (K.keeps keep.now definition.now.contests) definition.now) text.now
+        (codes "CVR")
         (view left.now) seen }
     ensures { (d : Data) → read_data text.now ≡ Some d
         → IsJudged (K.keeps keep.now definition.now.contests) definition.now d result }

@@ -14,9 +14,9 @@ use cdf_types::{ReadFault, Report, ReportingDevice, Seq};
 use json::Scratch;
 use std::alloc::Global;
 
-/// The reporting devices of a file that is accepted beside a definition, in order, and what is kept of its
-/// records. The file is read once, with no more than a record's tree at a time; where it is refused for a
-/// reference or an object that isn't the definition's, it is read twice.
+/// The reporting devices of a file that is accepted beside a definition, in order, and what is kept
+/// of its records. The file is read once, with no more than a record's tree at a time; where it is
+/// refused for a reference or an object that isn't the definition's, it is read twice.
 ///
 /// # Errors
 /// As `check_report`.
@@ -29,11 +29,13 @@ pub fn check_file<K: Keep>(
 where
     K::Kept: Drop,
     ensures valid { OnOk result (Valid definition.now bytes.now) }
-    ensures devices { IfOk result (λ p. p.0 ≡ (report_in definition.now.contests bytes.now).devices) }
+    ensures devices { IfOk result
+        (λ p. p.0 ≡ (report_in definition.now.contests bytes.now).devices) }
     ensures kept { IfOk result
         (λ p. K.keeps keep.now definition.now.contests
         (report_in definition.now.contests bytes.now).cvrs p.1) }
-    ensures first { IfErr result (λ e. ¬ IsMemory e → first_refusal definition.now bytes.now ≡ Some e) }
+    ensures first { IfErr result
+        (λ e. ¬ IsMemory e → first_refusal definition.now bytes.now ≡ Some e) }
 {
     let text = file_text(bytes)?;
     let bump = Bump::new(alloc);
@@ -47,7 +49,8 @@ where
 }
 
 /// The typed report of a file that is accepted beside a definition: its records in order, contests
-/// and selections told by their places in the definition, each in range. It is read as by `check_file`.
+/// and selections told by their places in the definition, each in range. It is read as by
+/// `check_file`.
 ///
 /// # Errors
 /// As `Definition::read`; else `Disagrees` at the first Election, GpUnit or Party, in this order,
@@ -60,7 +63,8 @@ pub fn check_report(
     ensures valid { OnOk result (Valid definition.now bytes.now) }
     ensures report { IfOk result (λ r. r ≡ report_in definition.now.contests bytes.now) }
     ensures range { IfOk result (λ r. ReportInRange definition.now.contests r) }
-    ensures first { IfErr result (λ e. ¬ IsMemory e → first_refusal definition.now bytes.now ≡ Some e) }
+    ensures first { IfErr result
+        (λ e. ¬ IsMemory e → first_refusal definition.now bytes.now ≡ Some e) }
 {
     definition.made_of_a_report();
     let (devices, cvrs) = check_file(alloc, definition, bytes, &Typed)?;

@@ -1,5 +1,7 @@
-ghost use Rattle.cdf_check.specs.Rows.{OneDefinition, OneFile, FirstFault, FractionFirst, FractionalVotes, EscapedPath, RepeatedSnapshot};
-ghost use Rattle.cdf_check.specs.Rows.{OtherSelection, UnknownContest, UnknownCurrent, OtherElection, OtherUnit, ReferenceFirst};
+ghost use Rattle.cdf_check.specs.Rows.{OneDefinition, OneFile, FirstFault, FractionFirst};
+ghost use Rattle.cdf_check.specs.Rows.{FractionalVotes, EscapedPath, RepeatedSnapshot};
+ghost use Rattle.cdf_check.specs.Rows.{OtherSelection, UnknownContest, UnknownCurrent};
+ghost use Rattle.cdf_check.specs.Rows.{OtherElection, OtherUnit, ReferenceFirst};
 
 /// Worked examples: a small report, and files that differ from it in a place.
 pub fn worked_rows()

@@ -1,4 +1,5 @@
-ghost use Rattle.std.specs.Prelude.{◌≡◌, ◌<◌, ◌^◌, ◌∷◌, ◌++◌, [], false, length, IfOk, List, None, OnOk, option_map};
+ghost use Rattle.std.specs.Prelude.{◌≡◌, ◌<◌, ◌^◌, ◌∷◌, ◌++◌, [], false, length, IfOk, List, None};
+ghost use Rattle.std.specs.Prelude.{OnOk, option_map};
 ghost use Rattle.serde_json.specs.Data.{Data};
 ghost use Rattle.serde_json.specs.Written.{has_float};
 ghost use Rattle.cdf_node.specs.View.{view};
@@ -56,7 +57,8 @@ impl<K: Keep> Drop for Looks<'_, K> {
     }
 }
 
-// A record's first fault of form, from the array of the records, and whether its numbers need a look.
+// A record's first fault of form, from the array of the records, and whether its numbers need a
+// look.
 fn form_in(
     alloc: Global,
     place: usize,
@@ -85,7 +87,8 @@ fn fraction_in(
 ) -> Result<Option<Body>, AllocError>
     requires { look ≡ false → has_float (view cvr.now) ≡ false }
     ensures { IfOk result (λ path. path
-        ≡ option_map (λ f. in_file (deeper (at_item place) f)) (first (float_faults (view cvr.now)))) }
+        ≡ option_map (λ f. in_file (deeper (at_item place) f))
+        (first (float_faults (view cvr.now)))) }
 {
     if !look {
         return Ok(None);
@@ -115,7 +118,8 @@ where
     requires few { place < 2 ^ 63 }
     ensures { OnOk result ((ds : List Data) → place ≡ length ds
         → AreKept (K.keeps keep.now definition.now.contests) definition.now ds kept.old
-        → AreKept (K.keeps keep.now definition.now.contests) definition.now (ds ++ view cvr.now ∷ []) kept.new) }
+        → AreKept (K.keeps keep.now definition.now.contests) definition.now
+        (ds ++ view cvr.now ∷ []) kept.new) }
 {
     if !kept.settled {
         return Ok(());
@@ -137,7 +141,8 @@ where
 {
     type Kept = Seen<K::Kept>;
 
-    ghost keeps = { λ s ds seen. IsSeen (K.keeps s.keep.now s.definition.now.contests) s.definition.now ds seen };
+    ghost keeps = { λ s ds seen.
+        IsSeen (K.keeps s.keep.now s.definition.now.contests) s.definition.now ds seen };
 
     fn none(&self, alloc: Global) -> Seen<K::Kept> {
         Seen {

@@ -32,7 +32,8 @@ fn unnamed_in(
     cvr: &Node<'_>,
 ) -> Result<Option<Path<'static>>, AllocError>
     ensures { IfOk result (λ found. option_map path_of found
-        ≡ option_map (λ p. at_item place ∷ p) (first (in_cvr (scope_view scope.now) (view cvr.now)))) }
+        ≡ option_map (λ p. at_item place ∷ p)
+        (first (in_cvr (scope_view scope.now) (view cvr.now)))) }
 {
     match InCvr(scope).look(alloc, cvr)? {
         None => Ok(None),
@@ -66,7 +67,8 @@ impl Fold for Names<'_> {
 
 // The refusal for a text of a record that names nothing.
 fn fault_at(alloc: Global, path: Path<'static>) -> Result<ReadFault, Memory>
-    ensures { IfOk result (λ e. e ≡ Reference (path_text (at_member (codes "CVR") ∷ path_of path.entry))) }
+    ensures { IfOk result
+        (λ e. e ≡ Reference (path_text (at_member (codes "CVR") ∷ path_of path.entry))) }
 {
     Ok(ReadFault::Reference {
         path: pointer(alloc, &path.under(Step::Member("CVR"))?)?,
@@ -89,9 +91,9 @@ fn value_fault(
     }
 }
 
-/// Why a file is refused that has no fault of numbers or form: for the first text that names nothing, or
-/// else for the first object that isn't the definition's. The file is read again: what can be named is
-/// known only once it has been read.
+/// Why a file is refused that has no fault of numbers or form: for the first text that names
+/// nothing, or else for the first object that isn't the definition's. The file is read again: what
+/// can be named is known only once it has been read.
 ///
 /// # Errors
 /// `Memory` where a growth was refused.

@@ -24,13 +24,26 @@ impl Model for Definition {
 
     ghost Value = { Frame };
 
-    ghost view = { λ a. record { elections = a.elections; units = a.units; parties = a.parties; devices = a.devices; contests = a.contests } };
+    ghost view = { λ a. record {
+      elections = a.elections;
+      units = a.units;
+      parties = a.parties;
+      devices = a.devices;
+      contests = a.contests;
+    } };
 
-    ghost invariant = { λ a. IsFrame (record { elections = a.elections; units = a.units; parties = a.parties; devices = a.devices; contests = a.contests }) };
+    ghost invariant = { λ a. IsFrame (record {
+      elections = a.elections;
+      units = a.units;
+      parties = a.parties;
+      devices = a.devices;
+      contests = a.contests;
+    }) };
 }
 
 impl Definition {
-    ghost use Rattle.std.specs.Prelude.{◌≡◌, ◌<◌, length, slice_index_or, IfOk, [], ◌∷◌, bytes_eq, IsTrue, ◌↔◌};
+    ghost use Rattle.std.specs.Prelude.{◌≡◌, ◌<◌, length, slice_index_or, IfOk, [], ◌∷◌, bytes_eq};
+    ghost use Rattle.std.specs.Prelude.{IsTrue, ◌↔◌};
     ghost use Rattle.std.specs.List.{list_any};
     ghost use Rattle.cdf_node.specs.View.{view};
     ghost use Rattle.cdf_parts.specs.Places.{place_in, contest_ids, selections_at};

@@ -23,8 +23,8 @@ pub trait Keep {
     fn none(&self, alloc: Global) -> Self::Kept
         ensures { (contests : List Contest) → keeps self.now contests [] result };
 
-    /// Keeps the next record, which stands at this place in its array. It has no fault of numbers or
-    /// form, and its contests and selections are among these.
+    /// Keeps the next record, which stands at this place in its array. It has no fault of numbers
+    /// or form, and its contests and selections are among these.
     ///
     /// # Errors
     /// `Memory` where a growth was refused.
@@ -42,5 +42,6 @@ pub trait Keep {
         requires few { place < 2 ^ 63 }
         ensures { OnOk result ((cs : List Cvr) → place ≡ length cs
             → keeps self.now contests.now cs kept.old
-            → keeps self.now contests.now (cs ++ cvr_of contests.now (view cvr.now) ∷ []) kept.new) };
+            → keeps self.now contests.now (cs ++ cvr_of contests.now (view cvr.now) ∷ [])
+            kept.new) };
 }

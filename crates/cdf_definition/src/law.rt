@@ -1,5 +1,8 @@
-ghost use Rattle.cdf_definition.specs.Laws.{ByIdLaw, TwoOfOneId, ReferencesLaw, RecordLaw, SnapshotLaw, AgreementLaw, SoundLaw, ValueLaw, SoundFileLaw, ValidFileLaw, OneElectionLaw, KeptLaw};
-ghost use Rattle.cdf_definition.specs.Depths.{ReportRowLaw, HasIdLaw, WasReadLaw, ReportIsProperLaw, ListedIsProperLaw};
+ghost use Rattle.cdf_definition.specs.Laws.{ByIdLaw, TwoOfOneId, ReferencesLaw, RecordLaw};
+ghost use Rattle.cdf_definition.specs.Laws.{SnapshotLaw, AgreementLaw, SoundLaw, ValueLaw};
+ghost use Rattle.cdf_definition.specs.Laws.{SoundFileLaw, ValidFileLaw, OneElectionLaw, KeptLaw};
+ghost use Rattle.cdf_definition.specs.Depths.{ReportRowLaw, HasIdLaw, WasReadLaw};
+ghost use Rattle.cdf_definition.specs.Depths.{ReportIsProperLaw, ListedIsProperLaw};
 
 /// Entries by their ids rise strictly by id, and beside each id stands the text of the last entry
 /// that has it. Worked example: two of three entries have one id.

@@ -1,5 +1,5 @@
-//! The election definition (NIST SP 1500-103): what is kept of a report, what its texts have to name,
-//! and whether a value is accepted beside it.
+//! The election definition (NIST SP 1500-103): what is kept of a report, what its texts have to
+//! name, and whether a value is accepted beside it.
 #![tactic(auto)]
 
 mod agreement;

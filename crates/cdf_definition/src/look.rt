@@ -23,7 +23,8 @@ pub trait Look {
     /// # Errors
     /// `Memory` where a growth was refused.
     fn look(&self, alloc: Global, value: &Node<'_>) -> Result<Option<Path<'static>>, Memory>
-        ensures { IfOk result (λ o. option_map path_of o ≡ first (missing self.now (view value.now))) };
+        ensures { IfOk result
+            (λ o. option_map path_of o ≡ first (missing self.now (view value.now))) };
 }
 
 /// The first such path among the items of the array under a name.
@@ -82,7 +83,8 @@ pub fn look_at_one(
     name: &'static str,
     value: &Node<'_>,
 ) -> Result<Option<Path<'static>>, Memory>
-    ensures { IfOk result (λ o. option_map path_of o ≡ first (one ids.now name.now (view value.now))) }
+    ensures { IfOk result
+        (λ o. option_map path_of o ≡ first (one ids.now name.now (view value.now))) }
 {
     match value.get(name) {
         None => Ok(None),
@@ -103,7 +105,8 @@ pub fn look_at_many(
     name: &'static str,
     value: &Node<'_>,
 ) -> Result<Option<Path<'static>>, Memory>
-    ensures { IfOk result (λ o. option_map path_of o ≡ first (many ids.now name.now (view value.now))) }
+    ensures { IfOk result
+        (λ o. option_map path_of o ≡ first (many ids.now name.now (view value.now))) }
 {
     look_in_each(alloc, &Reference(ids), name, value)
 }

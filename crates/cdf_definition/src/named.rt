@@ -32,7 +32,8 @@ impl Named {
     ghost use Rattle.cdf_node.specs.View.{view};
     ghost use Rattle.serde_json.specs.Written.{has_float};
     ghost use Rattle.cdf_parts.specs.Kept.{bytes_of};
-    ghost use Rattle.cdf_definition.specs.Named.{named, by_id, map_entries, ids_of, texts_of, text_of};
+    ghost use Rattle.cdf_definition.specs.Named.{named, by_id, map_entries, ids_of, texts_of};
+    ghost use Rattle.cdf_definition.specs.Named.{text_of};
 
     /// The texts of objects, in byte order of their ids; of several with one id the last.
     ///

@@ -54,10 +54,10 @@ impl Definition {
     ///
     /// # Errors
     /// The first of these that applies, and no definition: `TooLong` above 67,108,864 bytes;
-    /// `NotJson` where the file is no JSON text as `serde_json` reads it (RFC 8259; at most 127 deep);
-    /// `Schema` with rule `NotWhole` at the first number that isn't a whole one; `Schema` at the first
-    /// fault of form; `Reference` at the first text that names nothing in the file. `Memory` in place of
-    /// any answer where a growth was refused.
+    /// `NotJson` where the file is no JSON text as `serde_json` reads it (RFC 8259; at most 127
+    /// deep); `Schema` with rule `NotWhole` at the first number that isn't a whole one; `Schema` at
+    /// the first fault of form; `Reference` at the first text that names nothing in the file.
+    /// `Memory` in place of any answer where a growth was refused.
     pub fn read(alloc: Global, bytes: &[u8]) -> Result<Definition, ReadFault>
         ensures sound { OnOk result (Sound bytes.now) }
         ensures frame { IfOk result (λ def. def ≡ frame_in bytes.now) }

@@ -6,7 +6,10 @@ ghost use Rattle.cdf_parts.specs.Parts.{ids_at, id_of};
 ghost use Rattle.cdf_form.specs.Found.{path_of};
 ghost use Rattle.cdf_definition.specs.Paths.{first, each};
 ghost use Rattle.cdf_definition.specs.Scoped.{scope_view, contests_alone};
-ghost use Rattle.cdf_definition.specs.References.{in_selection_vote, in_votes, in_contest_vote, in_snapshot, in_cvr, in_selection, in_contest, in_candidate, in_election, in_report, one, missing};
+ghost use Rattle.cdf_definition.specs.References.{in_selection_vote, in_votes, in_contest_vote};
+ghost use Rattle.cdf_definition.specs.References.{in_snapshot, in_cvr, in_selection, in_contest};
+ghost use Rattle.cdf_definition.specs.References.{in_candidate, in_election, in_report, one};
+ghost use Rattle.cdf_definition.specs.References.{missing};
 
 use crate::look::{Look, look_at_many, look_at_one, look_in_each};
 use crate::scope::Scope;
@@ -121,7 +124,8 @@ pub fn look_in_snapshots(
     cvr: &Node<'_>,
 ) -> Result<Option<Path<'static>>, Memory>
     ensures { IfOk result (λ o. option_map path_of o
-        ≡ first (each (in_snapshot (contests_alone contests.now)) (codes "CVRSnapshot") (view cvr.now))) }
+        ≡ first (each (in_snapshot (contests_alone contests.now)) (codes "CVRSnapshot")
+        (view cvr.now))) }
 {
     look_in_each(alloc, &InSnapshot(contests), "CVRSnapshot", cvr)
 }
@@ -132,7 +136,8 @@ pub fn look_in_snapshots(
 /// `Memory` where a growth was refused.
 pub fn look_at_current(alloc: Global, cvr: &Node<'_>) -> Result<Option<Path<'static>>, Memory>
     ensures { IfOk result (λ o. option_map path_of o
-        ≡ first (one (ids_at (codes "CVRSnapshot") (view cvr.now)) (codes "CurrentSnapshotId") (view cvr.now))) }
+        ≡ first (one (ids_at (codes "CVRSnapshot") (view cvr.now)) (codes "CurrentSnapshotId")
+        (view cvr.now))) }
 {
     match cvr.get("CurrentSnapshotId") {
         None => Ok(None),

@@ -1,13 +1,27 @@
-// Worked examples of the form, worked out from the rules. Each is the contract of a function that does nothing.
-ghost use Rattle.cdf_form.specs.FormExamples.{SmallReport, OneContest, UnlistedMember, OtherOffset, GreatestCount, IdOfTwoClasses};
+// Worked examples of the form, worked out from the rules. Each is the contract of a function that
+// does nothing.
+ghost use Rattle.cdf_form.specs.FormExamples.{SmallReport, OneContest, UnlistedMember, OtherOffset};
+ghost use Rattle.cdf_form.specs.FormExamples.{GreatestCount, IdOfTwoClasses};
 ghost use Rattle.cdf_form.specs.FormExamples.{NotObject, MissingMember, MissingClass, WrongClass};
-ghost use Rattle.cdf_form.specs.FormExamples.{WrongKind, NotListed, EmptyText, NotMoment, NamedZone};
-ghost use Rattle.cdf_form.specs.FormExamples.{CountTooGreat, CountBelowZero, Fractional, NotWhole, NegativeZero};
-ghost use Rattle.cdf_form.specs.FormExamples.{TooFew, TooMany, OneElection, SomeSnapshot, MostPositions, MostContestSelections};
+ghost use Rattle.cdf_form.specs.FormExamples.{WrongKind, NotListed, EmptyText, NotMoment};
+ghost use Rattle.cdf_form.specs.FormExamples.{NamedZone};
+ghost use Rattle.cdf_form.specs.FormExamples.{CountTooGreat, CountBelowZero, Fractional, NotWhole};
+ghost use Rattle.cdf_form.specs.FormExamples.{NegativeZero};
+ghost use Rattle.cdf_form.specs.FormExamples.{TooFew, TooMany, OneElection, SomeSnapshot};
+ghost use Rattle.cdf_form.specs.FormExamples.{MostPositions, MostContestSelections};
 ghost use Rattle.cdf_form.specs.FormExamples.{RepeatedId, RepeatedContest};
-ghost use Rattle.cdf_form.specs.TableExamples.{AnswersCastVoteRecordReport, AnswersElection, AnswersCandidate, AnswersGpUnit, AnswersParty, AnswersReportingDevice};
-ghost use Rattle.cdf_form.specs.TableExamples.{AnswersCvr, AnswersCvrSnapshot, AnswersAnnotation, AnswersCvrContest, AnswersCvrContestSelection, AnswersSelectionPosition, AnswersCvrWriteIn};
-ghost use Rattle.cdf_form.specs.TableExamples.{AnswersBallotMeasureContest, AnswersCandidateContest, AnswersContest, AnswersPartyContest, AnswersRetentionContest, AnswersBallotMeasureSelection, AnswersCandidateSelection, AnswersContestSelection, AnswersPartySelection};
+ghost use Rattle.cdf_form.specs.TableExamples.{AnswersCastVoteRecordReport, AnswersElection};
+ghost use Rattle.cdf_form.specs.TableExamples.{AnswersCandidate, AnswersGpUnit, AnswersParty};
+ghost use Rattle.cdf_form.specs.TableExamples.{AnswersReportingDevice};
+ghost use Rattle.cdf_form.specs.TableExamples.{AnswersCvr, AnswersCvrSnapshot, AnswersAnnotation};
+ghost use Rattle.cdf_form.specs.TableExamples.{AnswersCvrContest, AnswersCvrContestSelection};
+ghost use Rattle.cdf_form.specs.TableExamples.{AnswersSelectionPosition, AnswersCvrWriteIn};
+ghost use Rattle.cdf_form.specs.TableExamples.{AnswersBallotMeasureContest};
+ghost use Rattle.cdf_form.specs.TableExamples.{AnswersCandidateContest, AnswersContest};
+ghost use Rattle.cdf_form.specs.TableExamples.{AnswersPartyContest, AnswersRetentionContest};
+ghost use Rattle.cdf_form.specs.TableExamples.{AnswersBallotMeasureSelection};
+ghost use Rattle.cdf_form.specs.TableExamples.{AnswersCandidateSelection, AnswersContestSelection};
+ghost use Rattle.cdf_form.specs.TableExamples.{AnswersPartySelection};
 ghost use Rattle.cdf_form.specs.TableExamples.{OwnTexts, OtherList, Repeats};
 
 /// Reports without a fault.

@@ -86,7 +86,8 @@ fn find_in_items<'t>(alloc: Global, items: &[Node<'t>]) -> Result<(), Stop<'t>>
 #[cycle(floats)]
 fn find_in_members<'t>(alloc: Global, members: &[(&'t str, Node<'t>)]) -> Result<(), Stop<'t>>
     ensures none { OnOk result (first (members_floats (members_view members.now)) ≡ None) }
-    ensures fault { IfErr result (λ s. Tells s (first (members_floats (members_view members.now)))) }
+    ensures fault { IfErr result
+        (λ s. Tells s (first (members_floats (members_view members.now)))) }
 {
     for member in members {
         match find_float(alloc, &member.1) {

@@ -2,15 +2,20 @@ ghost use Rattle.std.specs.Prelude.{◌≡◌, ◌^◌};
 ghost use Rattle.cdf_types.specs.Mark.{indication_text, allocation_text};
 ghost use Rattle.cdf_types.specs.ReportKind.{report_kind_text};
 ghost use Rattle.cdf_types.specs.SnapshotKind.{snapshot_kind_text};
-ghost use Rattle.cdf_types.specs.Status.{cvr_status_text, contest_status_text, selection_status_text, position_status_text};
+ghost use Rattle.cdf_types.specs.Status.{cvr_status_text, contest_status_text};
+ghost use Rattle.cdf_types.specs.Status.{selection_status_text, position_status_text};
 ghost use Rattle.cdf_types.specs.VoteVariation.{vote_variation_text};
 ghost use Rattle.cdf_form.specs.declared.table.Listing.TheVariants as listing;
 ghost use Rattle.cdf_form.specs.Listings.{HasTextsOf};
 ghost use Rattle.cdf_form.specs.Reading.{max_file};
 ghost use Rattle.cdf_form.specs.Records.{RecordsFirstLaw, RecordsApartLaw};
-ghost use Rattle.cdf_form.specs.Laws.{FormLaw, TablesInOrder, WholeLaw, NoFloatFaults, WholeDocument};
-ghost use Rattle.cdf_form.specs.ByRow.{HasClassLaw, OnlyClassLaw, RowLaw, ObjectLaw, TextLaw, MayBeTextLaw, MustBeTextLaw, MustBeFoundLaw, MustHaveFormLaw};
-ghost use Rattle.cdf_form.specs.ByRow.{MomentFormLaw, ListedFormLaw, CountFormLaw, ArrayLaw, ItemsLaw, FewLaw, SomeLaw, ApartLaw};
+ghost use Rattle.cdf_form.specs.Laws.{FormLaw, TablesInOrder, WholeLaw, NoFloatFaults};
+ghost use Rattle.cdf_form.specs.Laws.{WholeDocument};
+ghost use Rattle.cdf_form.specs.ByRow.{HasClassLaw, OnlyClassLaw, RowLaw, ObjectLaw, TextLaw};
+ghost use Rattle.cdf_form.specs.ByRow.{MayBeTextLaw, MustBeTextLaw, MustBeFoundLaw};
+ghost use Rattle.cdf_form.specs.ByRow.{MustHaveFormLaw};
+ghost use Rattle.cdf_form.specs.ByRow.{MomentFormLaw, ListedFormLaw, CountFormLaw, ArrayLaw};
+ghost use Rattle.cdf_form.specs.ByRow.{ItemsLaw, FewLaw, SomeLaw, ApartLaw};
 
 /// A value has no fault exactly where it has the form of its kind.
 pub fn form_law()
@@ -29,8 +34,8 @@ pub fn whole_law()
     ensures document { WholeDocument }
 {}
 
-/// Records stand first in a report's table: where all else that the table says of its records holds,
-/// the first fault of one of them is the first of the report's form.
+/// Records stand first in a report's table: where all else that the table says of its records
+/// holds, the first fault of one of them is the first of the report's form.
 pub fn records_first()
     ensures { RecordsFirstLaw }
 {}

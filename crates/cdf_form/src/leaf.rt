@@ -3,7 +3,8 @@ ghost use Rattle.std.specs.List.{list_any};
 ghost use Rattle.serde_json.specs.View.{number_view};
 ghost use Rattle.cdf_node.specs.View.{view};
 ghost use Rattle.cdf_form.specs.Tables.{listed_in};
-ghost use Rattle.cdf_form.specs.Form.{first, leaf_faults, here, is_moment, is_count, IsPlain, find_class, class_in};
+ghost use Rattle.cdf_form.specs.Form.{first, leaf_faults, here, is_moment, is_count, IsPlain};
+ghost use Rattle.cdf_form.specs.Form.{find_class, class_in};
 ghost use Rattle.cdf_form.specs.Found.{Tells};
 
 use crate::found::{Step, Stop};

@@ -9,7 +9,8 @@ use itoa::Buffer;
 use std::alloc::{AllocError, Global};
 
 fn push_char(text: &mut String, c: char) -> Result<(), AllocError>
-    ensures { OnOk result (string_bytes text.new ≡ string_bytes text.old ++ escape (encode_utf8 c)) }
+    ensures { OnOk result
+        (string_bytes text.new ≡ string_bytes text.old ++ escape (encode_utf8 c)) }
 {
     match c {
         '~' => text.push_str("~0"),
@@ -28,7 +29,8 @@ fn push_escaped(text: &mut String, name: &str) -> Result<(), AllocError>
 }
 
 fn push_step(text: &mut String, step: Step<'_>) -> Result<(), AllocError>
-    ensures { OnOk result (string_bytes text.new ≡ string_bytes text.old ++ step_text (step_of step.entry)) }
+    ensures { OnOk result
+        (string_bytes text.new ≡ string_bytes text.old ++ step_text (step_of step.entry)) }
 {
     text.push_str("/")?;
     match step {

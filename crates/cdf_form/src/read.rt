@@ -29,8 +29,8 @@ pub fn document_fault<'t>(alloc: Global, value: &Node<'t>) -> Result<(), Stop<'t
     walk(alloc, value, report, Key::Free)
 }
 
-/// Looks for the first fault of the form of a cast vote record by itself (class CVR). Where there is
-/// none, tells whether a number that isn't whole stands in it.
+/// Looks for the first fault of the form of a cast vote record by itself (class CVR). Where there
+/// is none, tells whether a number that isn't whole stands in it.
 ///
 /// # Errors
 /// `Fault` at the first fault of form; `Memory` where a growth was refused.

@@ -1,7 +1,8 @@
 ghost use Rattle.std.specs.Prelude.{◌≡◌, map};
 ghost use Rattle.cdf_form.specs.Tables.{table, entries_of, type_text, classes_of, listed_in};
 
-/// A class of the Cast Vote Records Common Data Format (NIST SP 1500-103), under the standard's name.
+/// A class of the Cast Vote Records Common Data Format (NIST SP 1500-103), under the standard's
+/// name.
 #[derive(Clone, Copy, PartialEq, Eq)]
 pub enum Class {
     CastVoteRecordReport,

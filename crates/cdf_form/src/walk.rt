@@ -1,7 +1,9 @@
 ghost use Rattle.std.specs.Prelude.{◌≡◌, option_map, IfOk, IfErr, OnOk, [], List, ℕ, None, Some};
 ghost use Rattle.cdf_node.specs.View.{view, items_view};
 ghost use Rattle.cdf_form.specs.declared.table.Key.TheVariants.{Free};
-ghost use Rattle.cdf_form.specs.Form.{first, faults, here, items_faults, length_faults, repeat_faults, row_faults, rows_faults, member_look, key_text, mark_of, add_text};
+ghost use Rattle.cdf_form.specs.Form.{first, faults, here, items_faults, length_faults};
+ghost use Rattle.cdf_form.specs.Form.{repeat_faults, row_faults, rows_faults, member_look};
+ghost use Rattle.cdf_form.specs.Form.{key_text, mark_of, add_text};
 ghost use Rattle.cdf_form.specs.Found.{Tells};
 ghost use Rattle.cdf_form.specs.Seen.{HasTexts};
 ghost use Rattle.cdf_form.specs.Tables.{entry_of, entries_of};

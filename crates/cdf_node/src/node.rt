@@ -1,7 +1,9 @@
-ghost use Rattle.std.specs.Prelude.{◌≡◌, false, is_some, option_map, option_and_then, unwrap_or, string_bytes, IfOk, OnOk};
+ghost use Rattle.std.specs.Prelude.{◌≡◌, false, is_some, option_map, option_and_then, unwrap_or};
+ghost use Rattle.std.specs.Prelude.{string_bytes, IfOk, OnOk};
 ghost use Rattle.json.specs.Lex.{tokens};
 ghost use Rattle.json.specs.Print.{print};
-ghost use Rattle.serde_json.specs.Find.{get, as_bool, as_number, as_u64, as_str, as_array, as_object, is_float};
+ghost use Rattle.serde_json.specs.Find.{get, as_bool, as_number, as_u64, as_str, as_array};
+ghost use Rattle.serde_json.specs.Find.{as_object, is_float};
 ghost use Rattle.serde_json.specs.Written.{has_float, compact_text, IsInOrder};
 ghost use Rattle.cdf_node.specs.View.{view, number_view, items_view, members_view};
 ghost use Rattle.cdf_node.specs.Written.{WritesValue};

@@ -29,8 +29,8 @@ fn read_whole<'t, 'a: 't>(
 // How deep serde_json lets arrays and objects nest.
 const MAX_DEPTH: usize = 127;
 
-/// The value that a text is, as serde_json reads it; None where it reads none. It stands in the arena,
-/// with texts of `text` and of `scratch`, which grows to the text's length.
+/// The value that a text is, as serde_json reads it; None where it reads none. It stands in the
+/// arena, with texts of `text` and of `scratch`, which grows to the text's length.
 ///
 /// # Errors
 /// An `AllocError` where a growth was refused.

@@ -1,11 +1,18 @@
-// Laws of JSON data and its compact text (RFC 8259). Each is the contract of a function that does nothing.
-ghost use Rattle.cdf_parts.specs.TextLaws.{ReadIsWellLaw, ReadIsShallowLaw, ReadIsProperLaw, ReadsBackLaw, ReadAgainLaw, OneTextLaw};
-ghost use Rattle.cdf_parts.specs.MemberLaws.{GoneLaw, OthersStayLaw, AbsentLaw, FoundLaw, OthersKeptLaw};
-ghost use Rattle.cdf_parts.specs.MemberLaws.{TakenOutLaw, PutBackLaw, WithoutIsWellLaw, WithoutIsWholeLaw, WithoutIsProperLaw, PutIsProperLaw};
-ghost use Rattle.cdf_parts.specs.PartLaws.{MemberIsProperLaw, ItemIsProperLaw, ArrayIsProperLaw, PartIsProperLaw, DeeperIsProperLaw};
-ghost use Rattle.cdf_parts.specs.PartLaws.{ArrayListLaw, PartOfPartLaw, ListedIsPartLaw, PartIsShorterLaw, ItemsAreShorterLaw};
+// Laws of JSON data and its compact text (RFC 8259). Each is the contract of a function that does
+// nothing.
+ghost use Rattle.cdf_parts.specs.TextLaws.{ReadIsWellLaw, ReadIsShallowLaw, ReadIsProperLaw};
+ghost use Rattle.cdf_parts.specs.TextLaws.{ReadsBackLaw, ReadAgainLaw, OneTextLaw};
+ghost use Rattle.cdf_parts.specs.MemberLaws.{GoneLaw, OthersStayLaw, AbsentLaw, FoundLaw};
+ghost use Rattle.cdf_parts.specs.MemberLaws.{OthersKeptLaw};
+ghost use Rattle.cdf_parts.specs.MemberLaws.{TakenOutLaw, PutBackLaw, WithoutIsWellLaw};
+ghost use Rattle.cdf_parts.specs.MemberLaws.{WithoutIsWholeLaw, WithoutIsProperLaw, PutIsProperLaw};
+ghost use Rattle.cdf_parts.specs.PartLaws.{MemberIsProperLaw, ItemIsProperLaw, ArrayIsProperLaw};
+ghost use Rattle.cdf_parts.specs.PartLaws.{PartIsProperLaw, DeeperIsProperLaw};
+ghost use Rattle.cdf_parts.specs.PartLaws.{ArrayListLaw, PartOfPartLaw, ListedIsPartLaw};
+ghost use Rattle.cdf_parts.specs.PartLaws.{PartIsShorterLaw, ItemsAreShorterLaw};
 ghost use Rattle.cdf_parts.specs.PartLaws.{PartReadsBackLaw, ListedReadsBackLaw};
-ghost use Rattle.cdf_parts.specs.TextExamples.{ReportExample, SpellingExample, PartExample, RemovingExample};
+ghost use Rattle.cdf_parts.specs.TextExamples.{ReportExample, SpellingExample, PartExample};
+ghost use Rattle.cdf_parts.specs.TextExamples.{RemovingExample};
 ghost use Rattle.cdf_parts.specs.TextExamples.{UnorderedExample, RepeatedExample, FloatExample};
 
 /// What is read is well, and nests at most 127 deep; with no float it is proper.
@@ -68,8 +75,8 @@ pub fn array_is_proper()
     ensures items { ArrayListLaw }
 {}
 
-/// A part of a part is a part, as an item of an array under a name is, and none has a longer text than the whole;
-/// an array has no more items than its text has bytes.
+/// A part of a part is a part, as an item of an array under a name is, and none has a longer text
+/// than the whole; an array has no more items than its text has bytes.
 pub fn part_of_part()
     ensures part { PartOfPartLaw }
     ensures listed { ListedIsPartLaw }

@@ -1,11 +1,13 @@
-ghost use Rattle.std.specs.Prelude.{◌≡◌, ◌<◌, ◌≤◌, ◌∷◌, ◌++◌, ◌^◌, [], length, List, Err, None, Some, IfOk, OnOk, MatchOption, if◌then◌else◌};
+ghost use Rattle.std.specs.Prelude.{◌≡◌, ◌<◌, ◌≤◌, ◌∷◌, ◌++◌, ◌^◌, [], length, List, Err, None};
+ghost use Rattle.std.specs.Prelude.{Some, IfOk, OnOk, MatchOption, if◌then◌else◌};
 ghost use Rattle.json.specs.Token as spec;
 ghost use Rattle.serde_json.specs.Data.{Data, Members, array, object};
 ghost use Rattle.serde_json.specs.Find.{get_member};
 ghost use Rattle.serde_json.specs.Read.{read as read_data};
 ghost use Rattle.cdf_node.specs.Next.{next_value, next_last};
 ghost use Rattle.cdf_node.specs.View.{view, items_of, members_view};
-ghost use Rattle.cdf_pull.specs.Fold.{items_in, emptied, emptied_at, items_found, items_under, left_beside, IsOrdered, IsFolded, most_tokens};
+ghost use Rattle.cdf_pull.specs.Fold.{items_in, emptied, emptied_at, items_found, items_under};
+ghost use Rattle.cdf_pull.specs.Fold.{left_beside, IsOrdered, IsFolded, most_tokens};
 
 use bumpalo::Bump;
 use cdf_node::{Node, Stop, in_order, read, read_array, read_object, scalar};
@@ -38,8 +40,8 @@ pub trait Fold {
             → keeps self.now (ds ++ view item.entry ∷ []) kept.new) };
 }
 
-// What is kept of the items of the array whose first bracket was read, each of which is taken, and its
-// memory given back, before the next one is read.
+// What is kept of the items of the array whose first bracket was read, each of which is taken, and
+// its memory given back, before the next one is read.
 #[tactic(auto, using(cdf_node::proofs::Lemmas::array_flat, cdf_node::proofs::Lemmas::array_shorter))]
 fn fold_items<F: Fold>(
     alloc: Global,
@@ -137,8 +139,8 @@ where
     }
 }
 
-// The members of the object whose first brace was read, that under the name emptied, and what is kept
-// of its items.
+// The members of the object whose first brace was read, that under the name emptied, and what is
+// kept of its items.
 #[tactic(auto, using(cdf_node::proofs::Lemmas::object_flat))]
 fn read_members<'t, 'a: 't, F: Fold>(
     alloc: Global,
@@ -171,7 +173,8 @@ where
     Ok((in_order(bump, found)?, kept))
 }
 
-// The next value, with the array under the name of an object emptied, and what is kept of its items.
+// The next value, with the array under the name of an object emptied, and what is kept of its
+// items.
 #[tactic(auto, using(cdf_node::proofs::Lemmas::next_value_nothing))]
 fn read_beside<'t, 'a: 't, F: Fold>(
     alloc: Global,
@@ -234,11 +237,11 @@ where
 // How deep serde_json lets arrays and objects nest.
 const MAX_DEPTH: usize = 127;
 
-/// What a text is as serde_json reads it, but for the items of the array under a name of its object,
-/// and what a fold keeps of those items, which were handed to it one by one. Of two members of one
-/// name the last counts, and what isn't there has no items. None where serde_json reads no value.
-/// What is left stands in the arena, with texts of `text` and of `scratch`, which grows to the text's
-/// length; an item is gone once it was taken.
+/// What a text is as serde_json reads it, but for the items of the array under a name of its
+/// object, and what a fold keeps of those items, which were handed to it one by one. Of two members
+/// of one name the last counts, and what isn't there has no items. None where serde_json reads no
+/// value. What is left stands in the arena, with texts of `text` and of `scratch`, which grows to
+/// the text's length; an item is gone once it was taken.
 ///
 /// # Errors
 /// An `AllocError` where a growth was refused.

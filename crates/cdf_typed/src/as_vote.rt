@@ -6,7 +6,8 @@ ghost use Rattle.cdf_types.specs.declared.report.SelectionVote.{SelectionVote};
 ghost use Rattle.cdf_types.specs.declared.report.ContestVote.{ContestVote};
 ghost use Rattle.cdf_parts.specs.Parts.{text_at};
 ghost use Rattle.cdf_parts.specs.Places.{Texts, Contest, selections_of};
-ghost use Rattle.cdf_typed.specs.Typed.{position_of, selection_place, selection_vote_of, contest_vote_of};
+ghost use Rattle.cdf_typed.specs.Typed.{position_of, selection_place, selection_vote_of};
+ghost use Rattle.cdf_typed.specs.Typed.{contest_vote_of};
 
 use crate::listed::{allocation_named, count_at, indication_named};
 use cdf_node::Node;
@@ -61,7 +62,8 @@ pub trait AsContestVote {
 
     /// Votes not made, 0 where absent. Takes no memory.
     fn undervotes(&self) -> u64
-        ensures { (contests : List Contest) → result ≡ (contest_vote contests self.now).undervotes };
+        ensures { (contests : List Contest) → result
+            ≡ (contest_vote contests self.now).undervotes };
 
     /// Write-ins, 0 where absent. Takes no memory.
     fn write_ins(&self) -> u64
@@ -171,7 +173,8 @@ impl<'t> AsContestVote for Node<'t> {
 
     ghost contest_vote = { λ contests v. contest_vote_of contests (view v) };
 
-    ghost selection_ids = { λ contests v. selections_of contests (text_at (codes "ContestId") (view v)) };
+    ghost selection_ids = { λ contests v.
+        selections_of contests (text_at (codes "ContestId") (view v)) };
 
     fn contest(&self, contests: &Contests) -> usize {
         contests.ids().find(text_at("ContestId", self)).unwrap_or(0)

@@ -4,7 +4,8 @@ ghost use Rattle.serde_json.specs.Written.{has_float, compact_text};
 ghost use Rattle.cdf_node.specs.View.{view, members_view};
 ghost use Rattle.cdf_parts.specs.Removing.{without};
 ghost use Rattle.cdf_typed.specs.Instants.{later};
-ghost use Rattle.cdf_typed.specs.Typed.{kind_of, instant_in, moment_of, snapshot_of, header_of, cvr_of, device_of, report_of};
+ghost use Rattle.cdf_typed.specs.Typed.{kind_of, instant_in, moment_of, snapshot_of, header_of};
+ghost use Rattle.cdf_typed.specs.Typed.{cvr_of, device_of, report_of};
 
 use crate::listed::kind_named;
 use crate::votes::read_contests;
@@ -37,7 +38,8 @@ pub fn own_text_in(alloc: Global, text: Option<&str>) -> Result<Option<Body>, Me
     }
 }
 
-/// The compact text of a value. It has no room for more: such texts are most of what a report holds.
+/// The compact text of a value. It has no room for more: such texts are most of what a report
+/// holds.
 ///
 /// # Errors
 /// `Memory` where a growth was refused.

@@ -9,8 +9,8 @@ use thiserror::Error;
 #[error("the device failed")]
 pub struct DeviceFault;
 
-/// Where bytes come from. Contracts see what is left: the bytes, if it shows them, whether a read has
-/// failed, and whether one can fail.
+/// Where bytes come from. Contracts see what is left: the bytes, if it shows them, whether a read
+/// has failed, and whether one can fail.
 pub trait Source {
     ghost left: { Self → Left };
 
@@ -35,8 +35,8 @@ pub trait Source {
         ensures { result ≡ (left self.now).failed };
 }
 
-/// Where bytes go. Contracts see what it has taken: the bytes, if it shows them, and whether a write
-/// has failed.
+/// Where bytes go. Contracts see what it has taken: the bytes, if it shows them, and whether a
+/// write has failed.
 pub trait Sink {
     ghost taken: { Self → Taken };
 
@@ -74,7 +74,8 @@ pub fn write_all<W: Sink>(out: &mut W, bytes: &[u8]) -> Result<(), DeviceFault>
     ensures ok { OnOk result (Appends (W.taken out.old) (W.taken out.new) bytes.now) }
     ensures working { OnOk result ((W.taken out.new).failed ≡ false) }
     ensures failed { OnErr result ((W.taken out.new).failed ≡ true) }
-    ensures front { OnErr result (AppendsProperPrefix (W.taken out.old) (W.taken out.new) bytes.now) }
+    ensures front { OnErr result
+        (AppendsProperPrefix (W.taken out.old) (W.taken out.new) bytes.now) }
 {
     let mut rest = bytes;
     'pieces: while !rest.is_empty() {

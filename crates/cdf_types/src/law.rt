@@ -6,7 +6,8 @@ ghost use Rattle.cdf_types.specs.Mark.{indication_text, allocation_text};
 ghost use Rattle.cdf_types.specs.MemorySource.{can_fail, told_call};
 ghost use Rattle.cdf_types.specs.ReportKind.{report_kind_text};
 ghost use Rattle.cdf_types.specs.SnapshotKind.{snapshot_kind_text, snapshot_kind_rank};
-ghost use Rattle.cdf_types.specs.Status.{cvr_status_text, contest_status_text, selection_status_text, position_status_text};
+ghost use Rattle.cdf_types.specs.Status.{cvr_status_text, contest_status_text};
+ghost use Rattle.cdf_types.specs.Status.{selection_status_text, position_status_text};
 ghost use Rattle.cdf_types.specs.VoteVariation.{vote_variation_text};
 
 use crate::moment::Moment;
@@ -36,7 +37,8 @@ pub fn moments_are_ordered_by_time()
     ensures { (a b : ℤ) → ⟦<Moment as Ord>⟧.cmp a b ≡ int_cmp a b }
 {}
 
-/// Worked examples of sources in memory: one that was told no call can't fail, and one that was told its next call, or its fourth, can.
+/// Worked examples of sources in memory: one that was told no call can't fail, and one that was
+/// told its next call, or its fourth, can.
 pub fn sources_fail_as_told()
     ensures none { can_fail (told_call 0) ≡ false }
     ensures next { can_fail (told_call 1) ≡ true }

@@ -1,4 +1,5 @@
-ghost use Rattle.std.specs.Prelude.{◌≡◌, ◌<◌, ◌≤◌, ◌++◌, [], Some, true, false, length, take, IfOk, OnErr, IsErr};
+ghost use Rattle.std.specs.Prelude.{◌≡◌, ◌<◌, ◌≤◌, ◌++◌, [], Some, true, false, length, take, IfOk};
+ghost use Rattle.std.specs.Prelude.{OnErr, IsErr};
 ghost use Rattle.cdf_types.specs.Device.{count, fails_write};
 ghost use Rattle.cdf_types.specs.MemorySink.{IsTaken};
 
@@ -62,8 +63,8 @@ impl MemorySink {
 impl Sink for MemorySink {
     ghost taken = { λ s. record { bytes = Some s.taken; failed = s.has_failed } };
 
-    /// Takes as many bytes as there are and one call allows, except at the call that `new` was told,
-    /// which fails. Grows by them.
+    /// Takes as many bytes as there are and one call allows, except at the call that `new` was
+    /// told, which fails. Grows by them.
     ///
     /// # Errors
     /// `DeviceFault` at that call, and where the growth is refused. The sink has then failed, and

@@ -58,8 +58,8 @@ impl Source for MemorySource<'_> {
       can_fail = can_fail s;
     } };
 
-    /// Gives as many bytes as the buffer, one call and the rest allow, except at the call that `new`
-    /// was told, which fails. Takes no memory.
+    /// Gives as many bytes as the buffer, one call and the rest allow, except at the call that
+    /// `new` was told, which fails. Takes no memory.
     ///
     /// # Errors
     /// `DeviceFault` exactly at that call. The source has then failed, and nothing else changed.

@@ -1,5 +1,6 @@
 ghost use Rattle.std.specs.Prelude.{◌≡◌, ◌↔◌, Some};
-ghost use Rattle.cdf_types.specs.Status.{cvr_status_text, contest_status_text, selection_status_text, position_status_text};
+ghost use Rattle.cdf_types.specs.Status.{cvr_status_text, contest_status_text};
+ghost use Rattle.cdf_types.specs.Status.{selection_status_text, position_status_text};
 
 /// What is known of a whole record (NIST SP 1500-103, enumeration CVRStatus).
 #[derive(Clone, Copy, Debug, PartialEq, Eq)]

@@ -29,7 +29,10 @@ impl Model for CachedOffice {
 
     ghost coded = { coded_holding };
 
-    ghost view = { λ a. record { content = content a.definition (facts_of a.store); moves = a.store.totals.moves } };
+    ghost view = { λ a. record {
+      content = content a.definition (facts_of a.store);
+      moves = a.store.totals.moves;
+    } };
 
     ghost invariant = { λ a. IsCached a.definition a.store };
 }
@@ -41,10 +44,11 @@ impl CachedOffice {
     ghost use Rattle.cvr_tally.specs.declared.key.RowKey.{RowKey};
     ghost use Rattle.cvr_office.specs.Tallied.{rows, total_limit, IsBelow};
 
-    /// The running totals: the rows of the tally, which no import or join makes anew. Each number is
-    /// below 2^118. Takes no memory.
+    /// The running totals: the rows of the tally, which no import or join makes anew. Each number
+    /// is below 2^118. Takes no memory.
     pub fn kept(&self) -> &Totals
-        ensures rows { result.now.rows ≡ rows self.now.content.frame.contests self.now.content.facts }
+        ensures rows { result.now.rows
+            ≡ rows self.now.content.frame.contests self.now.content.facts }
         ensures contests { result.now.contests ≡ self.now.content.frame.contests }
         ensures below { (q : RowKey) → IfSome (get result.now.rows q) (IsBelow total_limit) }
         ensures moves { result.now.moves ≡ self.now.moves }
@@ -55,7 +59,8 @@ impl CachedOffice {
 }
 
 impl Office for CachedOffice {
-    ghost use Rattle.std.specs.Prelude.{◌≡◌, ◌≤◌, ◌+◌, ◌*◌, ◌⊎◌, OnOk, OnErr, IfOk, IfErr, length, Some};
+    ghost use Rattle.std.specs.Prelude.{◌≡◌, ◌≤◌, ◌+◌, ◌*◌, ◌⊎◌, OnOk, OnErr, IfOk, IfErr, length};
+    ghost use Rattle.std.specs.Prelude.{Some};
     ghost use Rattle.std.specs.FinSet.{union};
     ghost use Rattle.cdf_parts.specs.Parts.{record_count};
     ghost use Rattle.cdf_form.specs.Reading.{IsMemory};
@@ -90,17 +95,22 @@ impl Office for CachedOffice {
     }
 
     fn import(&mut self, bytes: &[u8]) -> Result<Receipt, ReadFault>
-        ensures content { OnOk result (self.new.content.facts ≡ union self.old.content.facts (facts bytes.now)) }
+        ensures content { OnOk result
+            (self.new.content.facts ≡ union self.old.content.facts (facts bytes.now)) }
         ensures valid { OnOk result (Valid self.old.content.frame bytes.now) }
         ensures cvrs { IfOk result (λ r. r.cvrs ≡ record_count (value_in bytes.now)) }
-        ensures new_facts { IfOk result (λ r. r.new_facts ≡ growth self.old.content.facts (facts bytes.now)) }
-        ensures first { IfErr result (λ e. ¬ IsMemory e → first_refusal self.old.content.frame bytes.now ≡ Some e) }
+        ensures new_facts { IfOk result
+            (λ r. r.new_facts ≡ growth self.old.content.facts (facts bytes.now)) }
+        ensures first { IfErr result
+            (λ e. ¬ IsMemory e → first_refusal self.old.content.frame bytes.now ≡ Some e) }
         ensures unchanged { OnErr result (self.new.content.facts ≡ self.old.content.facts) }
         ensures definition { self.new.content.frame ≡ self.old.content.frame }
         ensures moves { OnOk result (self.new.moves ≡ self.old.moves
             + moved self.old.content.frame.contests self.old.content.facts self.new.content.facts) }
         ensures moves_rise { self.old.moves ≤ self.new.moves }
-        ensures moves_few { IfOk result (λ r. self.new.moves ≤ self.old.moves + 2 * length self.old.content.frame.contests * r.new_facts) }
+        ensures moves_few { IfOk result
+            (λ r. self.new.moves ≤ self.old.moves
+            + 2 * length self.old.content.frame.contests * r.new_facts) }
         ensures moves_stay { OnErr result (self.new.moves ≡ self.old.moves) }
     {
         let store = &self.store;
@@ -114,17 +124,23 @@ impl Office for CachedOffice {
     }
 
     fn join(&mut self, other: &Self) -> Result<usize, JoinFault>
-        ensures content { OnOk result (self.new.content.facts ≡ union self.old.content.facts other.now.content.facts) }
+        ensures content { OnOk result
+            (self.new.content.facts ≡ union self.old.content.facts other.now.content.facts) }
         ensures same { OnOk result (IsSame self.old.content.frame other.now.content.frame) }
-        ensures new_facts { IfOk result (λ n. n ≡ growth self.old.content.facts other.now.content.facts) }
-        ensures fault { IfErr result (λ e. ((e ≡ join_fault.OtherDefinition) × ¬ IsSame self.old.content.frame other.now.content.frame)
+        ensures new_facts { IfOk result
+            (λ n. n ≡ growth self.old.content.facts other.now.content.facts) }
+        ensures fault { IfErr result
+            (λ e. ((e ≡ join_fault.OtherDefinition)
+            × ¬ IsSame self.old.content.frame other.now.content.frame)
             ⊎ ((e ≡ join_fault.Memory) × IsSame self.old.content.frame other.now.content.frame)) }
         ensures unchanged { OnErr result (self.new.content.facts ≡ self.old.content.facts) }
         ensures definition { self.new.content.frame ≡ self.old.content.frame }
         ensures moves { OnOk result (self.new.moves ≡ self.old.moves
             + moved self.old.content.frame.contests self.old.content.facts self.new.content.facts) }
         ensures moves_rise { self.old.moves ≤ self.new.moves }
-        ensures moves_few { IfOk result (λ n. self.new.moves ≤ self.old.moves + 2 * length self.old.content.frame.contests * n) }
+        ensures moves_few { IfOk result
+            (λ n. self.new.moves ≤ self.old.moves
+            + 2 * length self.old.content.frame.contests * n) }
         ensures moves_stay { OnErr result (self.new.moves ≡ self.old.moves) }
     {
         if !self.definition.same(&other.definition) {

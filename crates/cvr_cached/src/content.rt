@@ -1,4 +1,5 @@
-ghost use Rattle.std.specs.Prelude.{◌≡◌, ◌<◌, ◌≤◌, ◌+◌, ℕ, OnOk, OnErr, IfOk, [], true, false, if◌then◌else◌, option_map, length};
+ghost use Rattle.std.specs.Prelude.{◌≡◌, ◌<◌, ◌≤◌, ◌+◌, ℕ, OnOk, OnErr, IfOk, [], true, false};
+ghost use Rattle.std.specs.Prelude.{if◌then◌else◌, option_map, length};
 ghost use Rattle.std.specs.FinMap.{get};
 ghost use Rattle.std.specs.FinSet.{empty, len, union};
 ghost use Rattle.std.specs.Ordering.{eq_by_cmp};
@@ -12,7 +13,8 @@ ghost use Rattle.cvr_office.specs.Plain.{set_of, IsPut};
 ghost use Rattle.cvr_fact_types.specs.Facts.{Facts, fact_total, fact_exact};
 ghost use Rattle.cvr_facts.specs.Unions.{union_laws};
 ghost use Rattle.cvr_cached.specs.Contents.{header_in, current_in, pairs_of};
-ghost use Rattle.cvr_cached.specs.Cells.{Column, cell, cell_limit, shares, has_row, is_row_of, AreFit};
+ghost use Rattle.cvr_cached.specs.Cells.{Column, cell, cell_limit, shares, has_row, is_row_of};
+ghost use Rattle.cvr_cached.specs.Cells.{AreFit};
 
 use crate::remembered::{
     current_place, header_fact_at, header_place, key_at, no_key, snapshot_at, votes_at,
@@ -104,11 +106,16 @@ impl RecordContent {
     pub(crate) fn open_rows(&mut self, totals: &mut Totals) -> Result<(), Memory>
         requires { AreFit totals.old.contests (pairs_of self.old) }
         ensures same { self.new ≡ self.old }
-        ensures here { OnOk result ((q : RowKey) → is_row_of self.old q ≡ true → has_row totals.new.rows q ≡ true) }
-        ensures kept { (q : RowKey) → has_row totals.old.rows q ≡ true → has_row totals.new.rows q ≡ true }
-        ensures cells { (q : RowKey) (j : Column) → cell totals.new.rows q j ≡ cell totals.old.rows q j }
-        ensures others { (q : RowKey) → is_row_of self.old q ≡ false → get totals.new.rows q ≡ get totals.old.rows q }
-        ensures closed { (q : RowKey) → row_closed (get totals.new.rows q) ≡ row_closed (get totals.old.rows q) }
+        ensures here { OnOk result
+            ((q : RowKey) → is_row_of self.old q ≡ true → has_row totals.new.rows q ≡ true) }
+        ensures kept { (q : RowKey) → has_row totals.old.rows q ≡ true → has_row totals.new.rows q
+            ≡ true }
+        ensures cells { (q : RowKey) (j : Column) → cell totals.new.rows q j
+            ≡ cell totals.old.rows q j }
+        ensures others { (q : RowKey) → is_row_of self.old q ≡ false → get totals.new.rows q
+            ≡ get totals.old.rows q }
+        ensures closed { (q : RowKey) → row_closed (get totals.new.rows q)
+            ≡ row_closed (get totals.old.rows q) }
         ensures moves { totals.new.moves ≡ totals.old.moves }
         ensures contests { totals.new.contests ≡ totals.old.contests }
     {
@@ -125,7 +132,9 @@ impl RecordContent {
     // Removes those of its rows that have no ballots. Takes no memory.
     pub(crate) fn close_rows(&mut self, totals: &mut Totals)
         ensures same { self.new ≡ self.old }
-        ensures rows { (q : RowKey) → get totals.new.rows q ≡ (if is_row_of self.old q then row_closed (get totals.old.rows q) else get totals.old.rows q) }
+        ensures rows { (q : RowKey) → get totals.new.rows q
+            ≡ (if is_row_of self.old q then row_closed (get totals.old.rows q)
+            else get totals.old.rows q) }
         ensures moves { totals.new.moves ≡ totals.old.moves }
         ensures contests { totals.new.contests ≡ totals.old.contests }
     {
@@ -140,10 +149,13 @@ impl RecordContent {
     // Takes no memory.
     pub(crate) fn add_votes(&mut self, totals: &mut Totals)
         requires fit { AreFit totals.old.contests (pairs_of self.old) }
-        requires open_at { (q : RowKey) → is_row_of self.old q ≡ true → has_row totals.old.rows q ≡ true }
-        requires room { (q : RowKey) (j : Column) → cell totals.old.rows q j + shares (pairs_of self.old) q j < cell_limit j }
+        requires open_at { (q : RowKey) → is_row_of self.old q ≡ true → has_row totals.old.rows q
+            ≡ true }
+        requires room { (q : RowKey) (j : Column) → cell totals.old.rows q j
+            + shares (pairs_of self.old) q j < cell_limit j }
         ensures same { self.new ≡ self.old }
-        ensures cells { (q : RowKey) (j : Column) → cell totals.new.rows q j ≡ cell totals.old.rows q j + shares (pairs_of self.old) q j }
+        ensures cells { (q : RowKey) (j : Column) → cell totals.new.rows q j
+            ≡ cell totals.old.rows q j + shares (pairs_of self.old) q j }
         ensures stand { (q : RowKey) → has_row totals.new.rows q ≡ has_row totals.old.rows q }
         ensures moves { totals.new.moves ≡ totals.old.moves + length (pairs_of self.old) }
         ensures contests { totals.new.contests ≡ totals.old.contests }
@@ -158,9 +170,11 @@ impl RecordContent {
     // Takes its sums out of its rows. Takes no memory.
     pub(crate) fn take_votes(&mut self, totals: &mut Totals)
         requires fit { AreFit totals.old.contests (pairs_of self.old) }
-        requires enough { (q : RowKey) (j : Column) → shares (pairs_of self.old) q j ≤ cell totals.old.rows q j }
+        requires enough { (q : RowKey) (j : Column) → shares (pairs_of self.old) q j
+            ≤ cell totals.old.rows q j }
         ensures same { self.new ≡ self.old }
-        ensures cells { (q : RowKey) (j : Column) → cell totals.new.rows q j + shares (pairs_of self.old) q j ≡ cell totals.old.rows q j }
+        ensures cells { (q : RowKey) (j : Column) → cell totals.new.rows q j
+            + shares (pairs_of self.old) q j ≡ cell totals.old.rows q j }
         ensures stand { (q : RowKey) → has_row totals.new.rows q ≡ has_row totals.old.rows q }
         ensures moves { totals.new.moves ≡ totals.old.moves + length (pairs_of self.old) }
         ensures contests { totals.new.contests ≡ totals.old.contests }
@@ -173,8 +187,8 @@ impl RecordContent {
     }
 }
 
-// The set that a content holds is that of its facts. `put` tells besides that each of them, with its
-// fields, comes from one of the two.
+// The set that a content holds is that of its facts. `put` tells besides that each of them, with
+// its fields, comes from one of the two.
 impl Join for RecordContent {
     ghost Set = { Facts };
 

@@ -24,7 +24,8 @@ pub(crate) fn next_over<'a>(
     records: &'a BTreeMap<RecordName, RecordContent>,
     after: Option<&RecordName>,
 ) -> Option<&'a RecordName>
-    ensures { option_map (λ k. k.now) result ≡ next name_cmp (keys_of records.now.entries) (option_map (λ k. k.now) after.entry) }
+    ensures { option_map (λ k. k.now) result
+        ≡ next name_cmp (keys_of records.now.entries) (option_map (λ k. k.now) after.entry) }
 {
     match after {
         Some(name) => next_above(records, name),
@@ -37,7 +38,8 @@ fn next_above<'a>(
     records: &'a BTreeMap<RecordName, RecordContent>,
     name: &RecordName,
 ) -> Option<&'a RecordName>
-    ensures { option_map (λ k. k.now) result ≡ next name_cmp (keys_of records.now.entries) (Some name.now) }
+    ensures { option_map (λ k. k.now) result
+        ≡ next name_cmp (keys_of records.now.entries) (Some name.now) }
 {
     match records
         .range((Bound::Excluded(name), Bound::Unbounded))
@@ -65,7 +67,9 @@ pub(crate) fn conflicts_over(
     records: &BTreeMap<RecordName, RecordContent>,
 ) -> Result<ConflictList, Memory>
     requires { IsStrictlySortedBy any_cmp devices.now }
-    ensures { IfOk result (λ list. list ≡ conflicts (set_of devices.now) ++ flat_map (λ e. conflicts (set_of e.1)) records.now.entries) }
+    ensures { IfOk result
+        (λ list. list ≡ conflicts (set_of devices.now)
+        ++ flat_map (λ e. conflicts (set_of e.1)) records.now.entries) }
 {
     let mut list = conflicts_in(alloc, devices)?.into_vec();
     for (_, content) in records.iter() {
@@ -80,7 +84,9 @@ pub(crate) fn greatest_count_over(
     records: &BTreeMap<RecordName, RecordContent>,
 ) -> usize
     requires { IsStrictlySortedBy any_cmp devices.now }
-    ensures { result ≡ most (greatest_count (set_of devices.now) ∷ map (λ e. greatest_count (set_of e.1)) records.now.entries) }
+    ensures { result ≡ most
+        (greatest_count (set_of devices.now)
+        ∷ map (λ e. greatest_count (set_of e.1)) records.now.entries) }
 {
     let mut greatest = greatest_count_in(devices);
     for (_, content) in records.iter() {

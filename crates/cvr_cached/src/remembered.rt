@@ -1,7 +1,8 @@
 // What a content remembers of its facts: where its header and its current snapshot stand, and a key
 // of its rows.
 ghost use Rattle.std.specs.Prelude.{◌≡◌, ◌<◌, ◌+◌, IfOk, None, option_map, drop, length};
-ghost use Rattle.cvr_cached.specs.Contents.{header_at, current_at, header_in, current_in, sums_in, IsKeyOf};
+ghost use Rattle.cvr_cached.specs.Contents.{header_at, current_at, header_in, current_in, sums_in};
+ghost use Rattle.cvr_cached.specs.Contents.{IsKeyOf};
 
 use cdf_types::Memory;
 use cvr_facts::{HeaderFact, SnapshotFact, VoteSums, choice_cmp};

@@ -1,5 +1,7 @@
 //! Laws of volumes that are passed on as files, in place of exchanges.
-ghost use Rattle.cvr_exchange.specs.Laws.{ValidLaw, ValidForSameLaw, NothingAddedLaw, AllVolumesLaw, AnyOrderLaw, AcceptedLaw, ImportsLaw, AmongLaw, AllAmongLaw, ByFilesLaw, SameFilesLaw};
+ghost use Rattle.cvr_exchange.specs.Laws.{ValidLaw, ValidForSameLaw, NothingAddedLaw};
+ghost use Rattle.cvr_exchange.specs.Laws.{AllVolumesLaw, AnyOrderLaw, AcceptedLaw, ImportsLaw};
+ghost use Rattle.cvr_exchange.specs.Laws.{AmongLaw, AllAmongLaw, ByFilesLaw, SameFilesLaw};
 
 use cvr_office::Office;
 
@@ -20,8 +22,8 @@ pub fn all_volumes()
 
 /// The import of a volume into an office of the same definition is accepted, want of memory aside.
 /// Imports of all volumes leave each office with what an exchange would. Where volumes arrive among
-/// other events, the office holds at the end what it held before them and the facts of these volumes:
-/// of all volumes, all that the giver held when it wrote them.
+/// other events, the office holds at the end what it held before them and the facts of these
+/// volumes: of all volumes, all that the giver held when it wrote them.
 pub fn imports()
     ensures accepted { AcceptedLaw }
     ensures exchange { ImportsLaw }
@@ -36,8 +38,8 @@ pub fn by_files()
 
 /// New offices of one definition pass each other volumes as files, and play any other events,
 /// refused ones among them. Then two of them that the same files would have reached by exchanges
-/// hold and answer the same, and make the same volumes. Files are the same where their values are, as
-/// `serde_json` reads them.
+/// hold and answer the same, and make the same volumes. Files are the same where their values are,
+/// as `serde_json` reads them.
 pub fn same_files<O: Office>()
     ensures alike { SameFilesLaw O.held O.defined }
 {}

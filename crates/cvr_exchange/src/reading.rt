@@ -17,9 +17,13 @@ use cvr_report::Heading;
 pub fn can_be_read<O: Office>(office: &O, heading: &Heading, i: usize)
     requires number { 0 < i }
     requires device { is_device_of (O.defined office.now) heading.now.device ≡ true }
-    ensures valid { length (volume (O.defined office.now) heading.now (O.held office.now) i) ≤ max_file
-        → Valid (O.defined office.now) (volume (O.defined office.now) heading.now (O.held office.now) i) }
-    ensures none_added { (f : Fact) → contains (facts (volume (O.defined office.now) heading.now (O.held office.now) i)) f ≡ true
+    ensures valid { length (volume (O.defined office.now) heading.now (O.held office.now) i)
+        ≤ max_file
+        → Valid (O.defined office.now)
+        (volume (O.defined office.now) heading.now (O.held office.now) i) }
+    ensures none_added { (f : Fact)
+        → contains (facts (volume (O.defined office.now) heading.now (O.held office.now) i)) f
+        ≡ true
         → contains (O.held office.now) f ≡ true }
 {
     let _definition = office.definition();

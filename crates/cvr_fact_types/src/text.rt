@@ -53,7 +53,9 @@ pub fn push_quoted(alloc: Global, out: &mut Vec<u8>, text: &str) -> Result<(), M
 /// `Memory` where a growth was refused. The text is then as it was, or lacks the space alone.
 pub fn push_word(alloc: Global, text: &mut String, name: &str) -> Result<(), Memory>
     ensures ok { OnOk result (string_bytes text.new ≡ string_bytes text.old ++ word name.now) }
-    ensures err { OnErr result ((string_bytes text.new ≡ string_bytes text.old) ⊎ (string_bytes text.new ≡ string_bytes text.old ++ quoted name.now)) }
+    ensures err { OnErr result
+        ((string_bytes text.new ≡ string_bytes text.old)
+        ⊎ (string_bytes text.new ≡ string_bytes text.old ++ quoted name.now)) }
 {
     text.push_str(quoted(alloc, name)?.as_str())?;
     text.push_str(" ")?;

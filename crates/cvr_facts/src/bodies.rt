@@ -98,7 +98,8 @@ fn copies(alloc: Global, bodies: &[Body]) -> Result<Vec<Body>, Memory>
 // Copies of those of theirs that aren't among mine.
 fn missing(alloc: Global, mine: &[Body], theirs: &[Body]) -> Result<Vec<Body>, Memory>
     requires { IsStrictlySortedBy text_cmp mine.now }
-    ensures { IfOk result (λ v. v.items ≡ filter (λ x. not (list_any (eq_by_cmp text_cmp x) mine.now)) theirs.now) }
+    ensures { IfOk result
+        (λ v. v.items ≡ filter (λ x. not (list_any (eq_by_cmp text_cmp x) mine.now)) theirs.now) }
 {
     let mut more = Vec::new(alloc);
     for body in theirs {
@@ -112,7 +113,8 @@ fn missing(alloc: Global, mine: &[Body], theirs: &[Body]) -> Result<Vec<Body>, M
 // Puts bodies in byte order, each once. Takes no memory.
 fn put_in_order(bodies: &mut Vec<Body>)
     ensures sorted { IsStrictlySortedBy text_cmp bodies.new.items }
-    ensures members { set.from_list {R = text_cmp} bodies.new.items ≡ set.from_list bodies.old.items }
+    ensures members { set.from_list {R = text_cmp} bodies.new.items
+        ≡ set.from_list bodies.old.items }
 {
     bodies.sort_unstable();
     bodies.dedup();

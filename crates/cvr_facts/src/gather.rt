@@ -4,7 +4,9 @@ ghost use Rattle.std.specs.FinSet.{from_list};
 ghost use Rattle.cdf_types.specs.declared.report.Cvr.{Cvr};
 ghost use Rattle.cdf_typed.specs.Range.{SnapshotInRange, CvrInRange, ReportInRange};
 ghost use Rattle.cvr_fact_types.specs.Facts.{fact_cmp};
-ghost use Rattle.cvr_facts.specs.Lists.{name_of, told_device, told_header, told_snapshot, told_snapshots, facts_in, told_facts, ListsRise, AreFactsOf, IsReportOf};
+ghost use Rattle.cvr_facts.specs.Lists.{name_of, told_device, told_header, told_snapshot};
+ghost use Rattle.cvr_facts.specs.Lists.{told_snapshots, facts_in, told_facts, ListsRise};
+ghost use Rattle.cvr_facts.specs.Lists.{AreFactsOf, IsReportOf};
 ghost use Rattle.cvr_facts.specs.Reports.{facts};
 ghost use Rattle.cvr_facts.specs.Stands.{ListIsSpelled};
 
@@ -25,11 +27,17 @@ use std::alloc::Global;
 /// `Memory` where a growth was refused.
 pub fn facts_of(alloc: Global, definition: &Definition, report: &Report) -> Result<FactList, Memory>
     requires { ReportInRange definition.now.contests report.now }
-    ensures facts { IfOk result (λ list. from_list {R = fact_cmp} (facts_in list) ≡ from_list (told_facts definition.now.contests report.now)) }
+    ensures facts { IfOk result
+        (λ list. from_list {R = fact_cmp} (facts_in list)
+        ≡ from_list (told_facts definition.now.contests report.now)) }
     ensures once { IfOk result ListsRise }
     ensures told { IfOk result (AreFactsOf definition.now.contests report.now) }
-    ensures file { IfOk result (λ list. (bytes : List ℕ) → IsReportOf definition.now bytes report.now → from_list (facts_in list) ≡ facts bytes) }
-    ensures spelled { IfOk result (λ list. (bytes : List ℕ) → IsReportOf definition.now bytes report.now → ListIsSpelled definition.now.contests list) }
+    ensures file { IfOk result
+        (λ list. (bytes : List ℕ) → IsReportOf definition.now bytes report.now
+        → from_list (facts_in list) ≡ facts bytes) }
+    ensures spelled { IfOk result
+        (λ list. (bytes : List ℕ) → IsReportOf definition.now bytes report.now
+        → ListIsSpelled definition.now.contests list) }
 {
     let devices = devices_in(alloc, report.devices.as_slice())?;
     let records = KeptFacts {
@@ -100,7 +108,8 @@ fn snapshots_in(
     cvrs: &[Cvr],
 ) -> Result<Vec<SnapshotFact>, Memory>
     requires { (cvr : Cvr) → Contains cvrs.now cvr → CvrInRange definition.now.contests cvr }
-    ensures { IfOk result (λ facts. facts.items ≡ flat_map (told_snapshots definition.now.contests) cvrs.now) }
+    ensures { IfOk result
+        (λ facts. facts.items ≡ flat_map (told_snapshots definition.now.contests) cvrs.now) }
 {
     let mut facts = Vec::new(alloc);
     for cvr in cvrs {
@@ -117,7 +126,8 @@ fn add_snapshots(
     facts: &mut Vec<SnapshotFact>,
 ) -> Result<(), Memory>
     requires { CvrInRange definition.now.contests cvr.now }
-    ensures { OnOk result (facts.new.items ≡ facts.old.items ++ told_snapshots definition.now.contests cvr.now) }
+    ensures { OnOk result
+        (facts.new.items ≡ facts.old.items ++ told_snapshots definition.now.contests cvr.now) }
 {
     for snapshot in cvr.snapshots.as_slice() {
         facts.push(snapshot_of(alloc, definition, cvr, snapshot)?)?;
@@ -133,7 +143,8 @@ fn snapshot_of(
     snapshot: &Snapshot,
 ) -> Result<SnapshotFact, Memory>
     requires { SnapshotInRange definition.now.contests snapshot.now }
-    ensures { IfOk result (λ fact. fact ≡ told_snapshot definition.now.contests cvr.now snapshot.now) }
+    ensures { IfOk result
+        (λ fact. fact ≡ told_snapshot definition.now.contests cvr.now snapshot.now) }
 {
     Ok(SnapshotFact {
         key: name_of(cvr)?,

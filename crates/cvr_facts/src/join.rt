@@ -3,8 +3,8 @@ ghost use Rattle.cvr_facts.specs.Sets.{JoinLaws};
 
 use cdf_types::Memory;
 
-/// What holds a set and takes in the members of another. Contracts may see more of it than that set,
-/// as a list in order: of joining they are told the set.
+/// What holds a set and takes in the members of another. Contracts may see more of it than that
+/// set, as a list in order: of joining they are told the set.
 pub trait Join {
     ghost Set: { Type 0 };
 
@@ -34,8 +34,11 @@ pub trait Join {
 /// # Errors
 /// `Memory` where a growth was refused; the set then holds what it held, or that and the first's.
 pub fn join_both<J: Join>(set: &mut J, one: &J, other: &J) -> Result<(), Memory>
-    ensures ok { OnOk result (J.held set.new ≡ J.joined (J.held set.old) (J.joined (J.held one.now) (J.held other.now))) }
-    ensures err { OnErr result ((set.new ≡ set.old) ⊎ (J.held set.new ≡ J.joined (J.held set.old) (J.held one.now))) }
+    ensures ok { OnOk result
+        (J.held set.new ≡ J.joined (J.held set.old)
+        (J.joined (J.held one.now) (J.held other.now))) }
+    ensures err { OnErr result
+        ((set.new ≡ set.old) ⊎ (J.held set.new ≡ J.joined (J.held set.old) (J.held one.now))) }
 {
     set.join(one)?;
     set.join(other)?;

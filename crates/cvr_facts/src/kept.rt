@@ -7,7 +7,8 @@ ghost use Rattle.cdf_types.specs.declared.report.Snapshot.{Snapshot};
 ghost use Rattle.cdf_parts.specs.Places.{Contest};
 ghost use Rattle.cdf_typed.specs.Typed.{cvr_of, snapshot_of};
 ghost use Rattle.cdf_typed.specs.Range.{SnapshotInRange};
-ghost use Rattle.cvr_facts.specs.Lists.{IsKeptOf, told_device, told_header, told_under, facts_in, AreOfRecords, ListsRise};
+ghost use Rattle.cvr_facts.specs.Lists.{IsKeptOf, told_device, told_header, told_under, facts_in};
+ghost use Rattle.cvr_facts.specs.Lists.{AreOfRecords, ListsRise};
 ghost use Rattle.cvr_facts.specs.Reports.{facts};
 ghost use Rattle.cvr_facts.specs.Stands.{ListIsSpelled};
 ghost use Rattle.cdf_definition.specs.Frame.{Frame};
@@ -64,8 +65,8 @@ impl Keep for Facts {
     }
 }
 
-/// The facts of a file that was accepted beside a definition, as `facts_of` gives them of its report: of
-/// its devices, and of its records as they were kept.
+/// The facts of a file that was accepted beside a definition, as `facts_of` gives them of its
+/// report: of its devices, and of its records as they were kept.
 ///
 /// # Errors
 /// `Memory` where a growth was refused.
@@ -133,10 +134,12 @@ fn add_snapshots(
     facts: &mut Vec<SnapshotFact>,
 ) -> Result<(), Memory>
     requires whole { list_any has_float (map view snapshots.now) ≡ false }
-    requires range { (s : Snapshot) → Contains (map (snapshot_of contests.now) (map view snapshots.now)) s
+    requires range { (s : Snapshot)
+        → Contains (map (snapshot_of contests.now) (map view snapshots.now)) s
         → SnapshotInRange contests.now s }
     ensures { OnOk result (facts.new.items ≡ facts.old.items
-        ++ map (told_under contests.now key.now) (map (snapshot_of contests.now) (map view snapshots.now))) }
+        ++ map (told_under contests.now key.now)
+        (map (snapshot_of contests.now) (map view snapshots.now))) }
 {
     for snapshot in snapshots {
         facts.push(snapshot_in(alloc, contests, key, snapshot)?)?;

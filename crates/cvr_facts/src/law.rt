@@ -2,10 +2,16 @@
 ghost use Rattle.std.specs.Prelude.{◌≡◌};
 ghost use Rattle.cvr_fact_types.specs.Facts.{name_cmp};
 ghost use Rattle.cvr_fact_types.specs.Orders.{device_cmp};
-ghost use Rattle.cvr_facts.specs.Laws.{ChoosingLaw, EqualLaw, RankLaw, UndatedLaw, EarlierLaw, BytesLaw, BodiesLaw, ExactLaw, CurrentLaw, OneCurrentLaw, MomentLaw, NoMomentLaw, JoiningLaw, SumsLaw};
-ghost use Rattle.cvr_facts.specs.SumLaws.{EitherLaw, MarkedLaw, UnsetLaw, VotesLaw, SnapshotRangeLaw, EachOnceLaw, InOrderLaw};
-ghost use Rattle.cvr_facts.specs.Sources.{FactSourceLaw, DeviceListedLaw, HeaderListedLaw, SnapshotListedLaw, FactHeldLaw};
-ghost use Rattle.cvr_facts.specs.Sources.{SetItemsLaw, HeaderBodiesLaw, SnapshotBodiesLaw, TextsInOrder, TextsAreExact, BodiesInOrder, BodiesAreExact};
+ghost use Rattle.cvr_facts.specs.Laws.{ChoosingLaw, EqualLaw, RankLaw, UndatedLaw, EarlierLaw};
+ghost use Rattle.cvr_facts.specs.Laws.{BytesLaw, BodiesLaw, ExactLaw, CurrentLaw, OneCurrentLaw};
+ghost use Rattle.cvr_facts.specs.Laws.{MomentLaw, NoMomentLaw, JoiningLaw, SumsLaw};
+ghost use Rattle.cvr_facts.specs.SumLaws.{EitherLaw, MarkedLaw, UnsetLaw, VotesLaw};
+ghost use Rattle.cvr_facts.specs.SumLaws.{SnapshotRangeLaw, EachOnceLaw, InOrderLaw};
+ghost use Rattle.cvr_facts.specs.Sources.{FactSourceLaw, DeviceListedLaw, HeaderListedLaw};
+ghost use Rattle.cvr_facts.specs.Sources.{SnapshotListedLaw, FactHeldLaw};
+ghost use Rattle.cvr_facts.specs.Sources.{SetItemsLaw, HeaderBodiesLaw, SnapshotBodiesLaw};
+ghost use Rattle.cvr_facts.specs.Sources.{TextsInOrder, TextsAreExact, BodiesInOrder};
+ghost use Rattle.cvr_facts.specs.Sources.{BodiesAreExact};
 
 use cvr_fact_types::{DeviceFact, RecordName};
 
@@ -23,8 +29,8 @@ pub fn names_are_ordered_by_bytes()
 
 /// The order of choosing is a total order of snapshots, and that of their bodies. A lower rank is
 /// less; of one kind, no moment is less than any, and an earlier moment is less; of one kind and
-/// moment, bodies go by their bytes. Two are equal in it where rank, moment and body are, and so two
-/// of one record only where they are the same.
+/// moment, bodies go by their bytes. Two are equal in it where rank, moment and body are, and so
+/// two of one record only where they are the same.
 pub fn choosing()
     ensures total { ChoosingLaw }
     ensures rank { RankLaw }

@@ -25,7 +25,8 @@ pub struct FactList {
 fn in_order<T: Ord + Drop>(mut facts: Vec<T>) -> Seq<T>
     ensures once { IsStrictlySortedBy T.cmp result }
     ensures told { (fact : T) → Contains result fact → Contains facts.items fact }
-    ensures kept { (fact : T) → Contains facts.items fact → Any (λ other. T.cmp fact other ≡ Equal) result }
+    ensures kept { (fact : T) → Contains facts.items fact
+        → Any (λ other. T.cmp fact other ≡ Equal) result }
 {
     facts.sort_unstable();
     facts.dedup();

@@ -1,5 +1,8 @@
-ghost use Rattle.cvr_facts.specs.Rows.{FactsOfFile, FactsToldOfReport, HeaderOfReport, SnapshotOfReport, NumbersOfReport, FactsOfTwoCvrs, OtherSpelling, OrderOfChoosing};
-ghost use Rattle.cvr_facts.specs.Rows.{Instants, SameInstant, Adjudicated, DatedReading, FileCallsAnotherCurrent, OneIdTwoBodies, UnitMoves};
+ghost use Rattle.cvr_facts.specs.Rows.{FactsOfFile, FactsToldOfReport, HeaderOfReport};
+ghost use Rattle.cvr_facts.specs.Rows.{SnapshotOfReport, NumbersOfReport, FactsOfTwoCvrs};
+ghost use Rattle.cvr_facts.specs.Rows.{OtherSpelling, OrderOfChoosing};
+ghost use Rattle.cvr_facts.specs.Rows.{Instants, SameInstant, Adjudicated, DatedReading};
+ghost use Rattle.cvr_facts.specs.Rows.{FileCallsAnotherCurrent, OneIdTwoBodies, UnitMoves};
 
 /// Worked examples: files of one election, and the facts, sums, headers and current snapshots that
 /// they give.

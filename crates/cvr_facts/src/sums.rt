@@ -1,7 +1,8 @@
 ghost use Rattle.std.specs.Prelude.{◌≡◌, ◌<◌, IfOk, cond, map};
 ghost use Rattle.std.specs.List.{sum_by};
 ghost use Rattle.cdf_typed.specs.Range.{ContestInRange};
-ghost use Rattle.cvr_facts.specs.Sums.{counts, is_pending, votes_among, sums_of, sums_in, sum_limit, AreInRange};
+ghost use Rattle.cvr_facts.specs.Sums.{counts, is_pending, votes_among, sums_of, sums_in};
+ghost use Rattle.cvr_facts.specs.Sums.{sum_limit, AreInRange};
 
 use cdf_parts::contests::Contests;
 use cdf_typed::{AsContestVote, AsPosition, AsSelectionVote};

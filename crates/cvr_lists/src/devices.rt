@@ -15,7 +15,8 @@ use cvr_office::any_fact::AnyFact;
 // The least device id above the given one, or the least of all. Takes no memory.
 pub fn next_device_in<'a>(facts: &'a [AnyFact], after: Option<&str>) -> Option<&'a str>
     requires { IsStrictlySortedBy any_cmp facts.now }
-    ensures { option_map (λ i. i.now) result ≡ next text_cmp (devices (set_of facts.now)) (option_map (λ i. i.now) after.entry) }
+    ensures { option_map (λ i. i.now) result
+        ≡ next text_cmp (devices (set_of facts.now)) (option_map (λ i. i.now) after.entry) }
 {
     let place = facts.partition_point(|fact| is_up_to(fact, after));
     device_id(facts.get(place)?)
@@ -42,7 +43,8 @@ pub fn device_body_in<'a>(facts: &'a [AnyFact], id: &str, k: usize) -> Option<&'
 // The facts of a device, which stand side by side.
 fn devices_under<'a>(facts: &'a [AnyFact], id: &str) -> &'a [AnyFact]
     requires { IsStrictlySortedBy any_cmp facts.now }
-    ensures { map (λ f. body_of (fact_of f)) result.now ≡ bodies_under (set_of facts.now) (name.Device id.now) }
+    ensures { map (λ f. body_of (fact_of f)) result.now
+        ≡ bodies_under (set_of facts.now) (name.Device id.now) }
 {
     let start = facts.partition_point(|fact| is_below(fact, id));
     let rest = &facts[start..];
@@ -62,7 +64,8 @@ fn device_id(fact: &AnyFact) -> Option<&str>
 
 // Whether the fact is a device with an id below this one.
 fn is_below(fact: &AnyFact, id: &str) -> bool
-    ensures { result ≡ option_map_or (λ i. is_lt (text_cmp i id.now)) (device_in (fact_of fact.now)) false }
+    ensures { result ≡ option_map_or (λ i. is_lt (text_cmp i id.now))
+        (device_in (fact_of fact.now)) false }
 {
     match fact {
         AnyFact::Device(device) => device.id.as_str() < id,
@@ -72,7 +75,9 @@ fn is_below(fact: &AnyFact, id: &str) -> bool
 
 // Whether the fact is a device with an id that is not above the given one.
 fn is_up_to(fact: &AnyFact, id: Option<&str>) -> bool
-    ensures { result ≡ option_map_or (λ i. is_le (option_cmp text_cmp (Some i) (option_map (λ i. i.now) id.entry))) (device_in (fact_of fact.now)) false }
+    ensures { result ≡ option_map_or
+        (λ i. is_le (option_cmp text_cmp (Some i) (option_map (λ i. i.now) id.entry)))
+        (device_in (fact_of fact.now)) false }
 {
     match fact {
         AnyFact::Device(device) => Some(device.id.as_str()) <= id,

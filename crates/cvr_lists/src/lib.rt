@@ -1,5 +1,5 @@
-//! What an office holds as a list of facts in order: those of a file, of a record, of a device and of
-//! a name in it.
+//! What an office holds as a list of facts in order: those of a file, of a record, of a device and
+//! of a name in it.
 #![tactic(auto)]
 
 pub mod conflicts;

@@ -1,7 +1,11 @@
 //! Laws of lists of facts in order, which offices keep.
-ghost use Rattle.cvr_lists.specs.ListLaws.{SameListsLaw, PutGrowthLaw, SpelledPutLaw, StartSetLaw, PlainStartLaw, AllOfLaw, AllSpelledLaw};
-ghost use Rattle.cvr_lists.specs.ListLaws.{LastHeaderLaw, GreatestSnapshotLaw, IdsRiseLaw, RecordsRiseLaw, NoRunLaw, WholeRunLaw, NamedLaw, ConflictRunsLaw, GreatestRunLaw};
-ghost use Rattle.cvr_lists.specs.SumLaws.{CurrentSumsLaw, SnapshotSumsLaw, SumsAtLaw, RowMoreLaw, AddedLaw, NoHeaderLaw, NoCurrentLaw};
+ghost use Rattle.cvr_lists.specs.ListLaws.{SameListsLaw, PutGrowthLaw, SpelledPutLaw, StartSetLaw};
+ghost use Rattle.cvr_lists.specs.ListLaws.{PlainStartLaw, AllOfLaw, AllSpelledLaw};
+ghost use Rattle.cvr_lists.specs.ListLaws.{LastHeaderLaw, GreatestSnapshotLaw, IdsRiseLaw};
+ghost use Rattle.cvr_lists.specs.ListLaws.{RecordsRiseLaw, NoRunLaw, WholeRunLaw, NamedLaw};
+ghost use Rattle.cvr_lists.specs.ListLaws.{ConflictRunsLaw, GreatestRunLaw};
+ghost use Rattle.cvr_lists.specs.SumLaws.{CurrentSumsLaw, SnapshotSumsLaw, SumsAtLaw, RowMoreLaw};
+ghost use Rattle.cvr_lists.specs.SumLaws.{AddedLaw, NoHeaderLaw, NoCurrentLaw};
 
 /// Lists with one set tell the same facts. A list grows by the facts that were not in it, and what
 /// is spelled stays so.

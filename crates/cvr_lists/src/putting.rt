@@ -31,8 +31,8 @@ pub fn put_in(facts: &mut Vec<AnyFact>, more: Vec<AnyFact>) -> Result<usize, Mem
     Ok(facts.len() - before)
 }
 
-// Puts facts behind those of a list. An empty list becomes theirs, with no more room than they have:
-// most records are told once, so that room for others would mostly stay unused.
+// Puts facts behind those of a list. An empty list becomes theirs, with no more room than they
+// have: most records are told once, so that room for others would mostly stay unused.
 fn put_behind(facts: &mut Vec<AnyFact>, mut more: Vec<AnyFact>) -> Result<(), Memory>
     ensures items { OnOk result (facts.new.items ≡ facts.old.items ++ more.items) }
     ensures unchanged { OnErr result (facts.new.items ≡ facts.old.items) }
@@ -47,7 +47,8 @@ fn put_behind(facts: &mut Vec<AnyFact>, mut more: Vec<AnyFact>) -> Result<(), Me
 
 // The devices of a definition.
 pub fn own_devices(alloc: Global, definition: &Definition) -> Result<Vec<AnyFact>, Memory>
-    ensures { IfOk result (λ facts. map fact_of facts.items ≡ map (λ e. Device e.0 e.1) definition.now.devices) }
+    ensures { IfOk result
+        (λ facts. map fact_of facts.items ≡ map (λ e. Device e.0 e.1) definition.now.devices) }
 {
     let bodies = definition.devices();
     let mut facts = Vec::with_capacity(alloc, bodies.len())?;
@@ -76,7 +77,8 @@ pub fn of_records(
     headers: Seq<HeaderFact>,
     snapshots: Seq<SnapshotFact>,
 ) -> Result<Vec<AnyFact>, Memory>
-    ensures { IfOk result (λ facts. facts.items ≡ map any.Header headers ++ map any.Snapshot snapshots) }
+    ensures { IfOk result
+        (λ facts. facts.items ≡ map any.Header headers ++ map any.Snapshot snapshots) }
 {
     let mut facts = of_headers(alloc, headers)?;
     facts.append(&mut of_snapshots(alloc, snapshots)?)?;

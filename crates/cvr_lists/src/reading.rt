@@ -13,8 +13,9 @@ use cdf_types::ReadFault;
 use cvr_facts::{FactList, Facts, facts_of_kept};
 use std::alloc::Global;
 
-/// The number of cast vote records of a file that is accepted beside a definition, and its facts, as
-/// `facts_of` gives them of its report. They are made as the file is read, and no typed record of it.
+/// The number of cast vote records of a file that is accepted beside a definition, and its facts,
+/// as `facts_of` gives them of its report. They are made as the file is read, and no typed record
+/// of it.
 ///
 /// # Errors
 /// As `check_report`.
@@ -28,7 +29,8 @@ pub fn read_facts(
     ensures facts { IfOk result (λ p. from_list (facts_in p.1) ≡ facts bytes.now) }
     ensures once { IfOk result (λ p. ListsRise p.1) }
     ensures spelled { IfOk result (λ p. ListIsSpelled definition.now.contests p.1) }
-    ensures first { IfErr result (λ e. ¬ IsMemory e → first_refusal definition.now bytes.now ≡ Some e) }
+    ensures first { IfErr result
+        (λ e. ¬ IsMemory e → first_refusal definition.now bytes.now ≡ Some e) }
 {
     let (devices, kept) = check_file(alloc, definition, bytes, &Facts)?;
     let cvrs = kept.headers.len();

@@ -24,7 +24,9 @@ pub fn record_facts_in<'a>(
     key: &RecordName,
 ) -> Result<Option<RecordFacts<'a>>, Memory>
     requires { IsStrictlySortedBy any_cmp facts.now }
-    ensures { IfOk result (λ found. (contests : List Contest) → AreSpelled contests facts.now → AreRecordFacts contests (set_of facts.now) key.now found) }
+    ensures { IfOk result
+        (λ found. (contests : List Contest) → AreSpelled contests facts.now
+        → AreRecordFacts contests (set_of facts.now) key.now found) }
 {
     let run = run_of(facts, key);
     if run.is_empty() {
@@ -102,7 +104,8 @@ fn under<'a>(run: &'a [AnyFact], id: &str) -> &'a [AnyFact]
 
 // The snapshots among these facts, the greatest first by the order of choosing.
 fn falling(alloc: Global, facts: &[AnyFact]) -> Result<Vec<&SnapshotFact>, Memory>
-    ensures { IfOk result (λ found. IsFalling (snapshots facts.now) (map (λ s. s.now) found.items)) }
+    ensures { IfOk result
+        (λ found. IsFalling (snapshots facts.now) (map (λ s. s.now) found.items)) }
 {
     let mut snapshots = snapshots_in(alloc, facts)?;
     snapshots.sort_unstable_by(|one, other| choice_cmp(one, other));

@@ -1,4 +1,5 @@
-ghost use Rattle.std.specs.Prelude.{◌≡◌, List, OnOk, IfOk, take, drop, option_map, None, false, not, length};
+ghost use Rattle.std.specs.Prelude.{◌≡◌, List, OnOk, IfOk, take, drop, option_map, None, false};
+ghost use Rattle.std.specs.Prelude.{not, length};
 ghost use Rattle.cdf_parts.specs.Places.{Contest};
 ghost use Rattle.std.specs.List.{last_or, filter, Contains};
 ghost use Rattle.std.specs.List.Sorted.{IsStrictlySortedBy};
@@ -11,7 +12,8 @@ ghost use Rattle.cvr_office.specs.Names.{record_of, records};
 ghost use Rattle.cvr_office.specs.Place.{fact_of, any_cmp};
 ghost use Rattle.cvr_office.specs.Plain.{set_of};
 ghost use Rattle.cvr_office.specs.Readers.{next, IsHeader, IsCurrent};
-ghost use Rattle.cvr_office.specs.Runs.{record_order, is_of, first_record, run, headers, snapshots, chosen, IsChosen, AreSpelled};
+ghost use Rattle.cvr_office.specs.Runs.{record_order, is_of, first_record, run, headers, snapshots};
+ghost use Rattle.cvr_office.specs.Runs.{chosen, IsChosen, AreSpelled};
 
 use cdf_types::Memory;
 use cvr_facts::{HeaderFact, RecordName, SnapshotFact, choice_cmp};
@@ -26,7 +28,8 @@ pub fn next_record_in<'a>(
     after: Option<&RecordName>,
 ) -> Option<&'a RecordName>
     requires { IsStrictlySortedBy any_cmp facts.now }
-    ensures { option_map (λ k. k.now) result ≡ next name_cmp (records (set_of facts.now)) (option_map (λ k. k.now) after.entry) }
+    ensures { option_map (λ k. k.now) result
+        ≡ next name_cmp (records (set_of facts.now)) (option_map (λ k. k.now) after.entry) }
 {
     let place = facts.partition_point(|fact| record_name(fact) <= after);
     record_name(facts.get(place)?)
@@ -96,9 +99,11 @@ pub fn take_run(
     key: &RecordName,
 ) -> Result<Vec<AnyFact>, Memory>
     requires rises { IsStrictlySortedBy any_cmp facts.old.items }
-    requires least { (x : AnyFact) → Contains facts.old.items x → is_lt (record_order key.now x) ≡ false }
+    requires least { (x : AnyFact) → Contains facts.old.items x → is_lt (record_order key.now x)
+        ≡ false }
     ensures run { IfOk result (λ taken. taken.items ≡ run key.now facts.old.items) }
-    ensures rest { OnOk result (facts.new.items ≡ filter (λ x. not (is_of key.now x)) facts.old.items) }
+    ensures rest { OnOk result
+        (facts.new.items ≡ filter (λ x. not (is_of key.now x)) facts.old.items) }
 {
     let count = facts.partition_point(|fact| record_order(fact, key).is_eq());
     take_front(alloc, facts, count)
@@ -146,7 +151,8 @@ fn last_header(run: &[AnyFact]) -> Option<&HeaderFact>
 // The current snapshot of a record: the greatest of its run by the order of choosing.
 pub fn current_in<'a>(facts: &'a [AnyFact], key: &RecordName) -> Option<&'a SnapshotFact>
     requires { IsStrictlySortedBy any_cmp facts.now }
-    ensures { (contests : List Contest) → AreSpelled contests facts.now → IsCurrent contests (set_of facts.now) key.now (option_map (λ s. s.now) result) }
+    ensures { (contests : List Contest) → AreSpelled contests facts.now
+        → IsCurrent contests (set_of facts.now) key.now (option_map (λ s. s.now) result) }
 {
     greatest_snapshot(run_of(facts, key))
 }

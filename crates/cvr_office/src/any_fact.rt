@@ -1,6 +1,7 @@
 ghost use Rattle.std.specs.Prelude.{◌≡◌, IfOk, refl};
 ghost use Rattle.std.specs.Ordering.{as_partial_cmp, eq_by_cmp};
-ghost use Rattle.std.specs.Cmp.{partial_equiv_from_equiv, partial_order_from_total, eq_by_cmp_equiv};
+ghost use Rattle.std.specs.Cmp.{partial_equiv_from_equiv, partial_order_from_total};
+ghost use Rattle.std.specs.Cmp.{eq_by_cmp_equiv};
 ghost use Rattle.cvr_office.specs.Place.{any_cmp, any_total};
 
 use cdf_types::Memory;

@@ -1,5 +1,6 @@
 //! Worked examples: facts of a few records, their conflicts and their tally, whole and in parts.
-ghost use Rattle.cvr_office.specs.Examples.{ConflictsOfMixed, TallyOfFour, SpelledTwice, OtherFiles};
+ghost use Rattle.cvr_office.specs.Examples.{ConflictsOfMixed, TallyOfFour, SpelledTwice};
+ghost use Rattle.cvr_office.specs.Examples.{OtherFiles};
 ghost use Rattle.cvr_office.specs.PartExamples.{RowsOfFirst, RowsOfSecond, RowsOfBoth, SumsOfRows};
 
 /// The conflicts among facts of two records and three devices, and the whole text of the tally of

@@ -1,16 +1,24 @@
 //! Laws of offices: what they keep, how files reach them, and which hold and answer the same.
 ghost use Rattle.cvr_office.specs.Reach.{ReachLaw};
 ghost use Rattle.cvr_fact_types.specs.Facts.{text_cmp, name_cmp};
-ghost use Rattle.cvr_office.specs.Under.{HeaderUnderLaw, SnapshotUnderLaw, IdUnderLaw, KnownDeviceLaw, DeviceKnownLaw, IncludesLaw};
-ghost use Rattle.cvr_office.specs.Under.{RecordsInOrder, RecordsAreExact, NamesInOrder, NamesAreExact};
+ghost use Rattle.cvr_office.specs.Under.{HeaderUnderLaw, SnapshotUnderLaw, IdUnderLaw};
+ghost use Rattle.cvr_office.specs.Under.{KnownDeviceLaw, DeviceKnownLaw, IncludesLaw};
+ghost use Rattle.cvr_office.specs.Under.{RecordsInOrder, RecordsAreExact, NamesInOrder};
+ghost use Rattle.cvr_office.specs.Under.{NamesAreExact};
 ghost use Rattle.cvr_office.specs.Own.{OwnAgreesLaw, SameAgreesLaw, EntryLaw};
 ghost use Rattle.cvr_office.specs.Names.{record_of, records, device_in, devices};
-ghost use Rattle.cvr_office.specs.Laws.{StartLaw, ImportLaw, JoinLaw, ListedLaw, NextLaw, NoNextLaw, RowsLaw, BallotsLaw};
-ghost use Rattle.cvr_office.specs.Alike.{SameFilesLaw, SameContentLaw, SameDefinitionLaw, SamePlacesLaw, SameStartLaw, NoEventLaw, AnswerAlikeLaw, SameOfficesLaw, NewOfficeLaw};
-ghost use Rattle.cvr_office.specs.Lasting.{HeldLastsLaw, ImportLastsLaw, ExchangeLastsLaw, PlayedLastsLaw};
+ghost use Rattle.cvr_office.specs.Laws.{StartLaw, ImportLaw, JoinLaw, ListedLaw, NextLaw};
+ghost use Rattle.cvr_office.specs.Laws.{NoNextLaw, RowsLaw, BallotsLaw};
+ghost use Rattle.cvr_office.specs.Alike.{SameFilesLaw, SameContentLaw, SameDefinitionLaw};
+ghost use Rattle.cvr_office.specs.Alike.{SamePlacesLaw, SameStartLaw, NoEventLaw, AnswerAlikeLaw};
+ghost use Rattle.cvr_office.specs.Alike.{SameOfficesLaw, NewOfficeLaw};
+ghost use Rattle.cvr_office.specs.Lasting.{HeldLastsLaw, ImportLastsLaw, ExchangeLastsLaw};
+ghost use Rattle.cvr_office.specs.Lasting.{PlayedLastsLaw};
 ghost use Rattle.cvr_office.specs.Counting.{GrowthLaw, ConflictsLaw, AddUpLaw};
-ghost use Rattle.cvr_office.specs.Parts.{RowsOfPartsLaw, CurrentsOfPartsLaw, HeadersOfPartsLaw, RecordsOfPartsLaw, RecordsRiseLaw};
-ghost use Rattle.cvr_office.specs.Parts.{RowsOfManyLaw, CurrentsOfManyLaw, HeadersOfManyLaw, RecordsOfManyLaw};
+ghost use Rattle.cvr_office.specs.Parts.{RowsOfPartsLaw, CurrentsOfPartsLaw, HeadersOfPartsLaw};
+ghost use Rattle.cvr_office.specs.Parts.{RecordsOfPartsLaw, RecordsRiseLaw};
+ghost use Rattle.cvr_office.specs.Parts.{RowsOfManyLaw, CurrentsOfManyLaw, HeadersOfManyLaw};
+ghost use Rattle.cvr_office.specs.Parts.{RecordsOfManyLaw};
 
 use crate::office::Office;
 
@@ -20,9 +28,9 @@ pub fn reach()
     ensures { ReachLaw }
 {}
 
-/// Nothing that an office holds is ever missing afterwards: whatever events follow, it holds what it
-/// held; from an accepted import on it holds the facts of the file; from an accepted exchange on it
-/// holds what the other office held.
+/// Nothing that an office holds is ever missing afterwards: whatever events follow, it holds what
+/// it held; from an accepted import on it holds the facts of the file; from an accepted exchange on
+/// it holds what the other office held.
 pub fn nothing_is_lost<O: Office>()
     ensures held { HeldLastsLaw }
     ensures imported { ImportLastsLaw }
@@ -67,8 +75,8 @@ pub fn keeping()
     ensures join { JoinLaw }
 {}
 
-/// A report agrees with the definition that is made of it, and with any that is the same but for its
-/// devices; each entry of a definition is that of an object.
+/// A report agrees with the definition that is made of it, and with any that is the same but for
+/// its devices; each entry of a definition is that of an object.
 pub fn own_definitions()
     ensures own { OwnAgreesLaw }
     ensures same { SameAgreesLaw }

@@ -1,4 +1,5 @@
-ghost use Rattle.std.specs.Prelude.{◌≡◌, ◌+◌, ℕ, List, IsTrue, ◌↔◌, ◌⊎◌, OnOk, OnErr, IfOk, IfErr, map, length, Option, None, Some, option_map, string_bytes};
+ghost use Rattle.std.specs.Prelude.{◌≡◌, ◌+◌, ℕ, List, IsTrue, ◌↔◌, ◌⊎◌, OnOk, OnErr, IfOk, IfErr};
+ghost use Rattle.std.specs.Prelude.{map, length, Option, None, Some, option_map, string_bytes};
 ghost use Rattle.std.specs.FinMap.{get};
 ghost use Rattle.std.specs.FinSet.{union, len};
 ghost use Rattle.std.specs.Option.{IfSome};
@@ -14,7 +15,8 @@ ghost use Rattle.cvr_office.specs.Names.{records, devices, count_under, conflict
 ghost use Rattle.cvr_office.specs.declared.conflict.ConflictName.TheVariants as name;
 ghost use Rattle.cvr_office.specs.declared.fault.JoinFault.TheVariants as join_fault;
 ghost use Rattle.cvr_office.specs.Keeps.{starting, Keeps};
-ghost use Rattle.cvr_office.specs.Readers.{next, numbered, growth, device_list, IsHeader, IsCurrent, AreRecordFacts};
+ghost use Rattle.cvr_office.specs.Readers.{next, numbered, growth, device_list, IsHeader};
+ghost use Rattle.cvr_office.specs.Readers.{IsCurrent, AreRecordFacts};
 ghost use Rattle.cvr_office.specs.Tallied.{row, rows, tally, total_limit, IsBelow};
 
 use crate::conflict::ConflictList;
@@ -64,8 +66,10 @@ pub trait Office {
         ensures content { OnOk result (held self.new ≡ union (held self.old) (facts bytes.now)) }
         ensures valid { OnOk result (Valid (defined self.old) bytes.now) }
         ensures cvrs { IfOk result (λ r. r.cvrs ≡ record_count (value_in bytes.now)) }
-        ensures new_facts { IfOk result (λ r. r.new_facts ≡ growth (held self.old) (facts bytes.now)) }
-        ensures first { IfErr result (λ e. ¬ IsMemory e → first_refusal (defined self.old) bytes.now ≡ Some e) }
+        ensures new_facts { IfOk result
+            (λ r. r.new_facts ≡ growth (held self.old) (facts bytes.now)) }
+        ensures first { IfErr result
+            (λ e. ¬ IsMemory e → first_refusal (defined self.old) bytes.now ≡ Some e) }
         ensures unchanged { OnErr result (held self.new ≡ held self.old) }
         ensures definition { defined self.new ≡ defined self.old };
 
@@ -78,7 +82,9 @@ pub trait Office {
         ensures content { OnOk result (held self.new ≡ union (held self.old) (held other.now)) }
         ensures same { OnOk result (IsSame (defined self.old) (defined other.now)) }
         ensures new_facts { IfOk result (λ n. n ≡ growth (held self.old) (held other.now)) }
-        ensures fault { IfErr result (λ e. ((e ≡ join_fault.OtherDefinition) × ¬ IsSame (defined self.old) (defined other.now))
+        ensures fault { IfErr result
+            (λ e. ((e ≡ join_fault.OtherDefinition)
+            × ¬ IsSame (defined self.old) (defined other.now))
             ⊎ ((e ≡ join_fault.Memory) × IsSame (defined self.old) (defined other.now))) }
         ensures unchanged { OnErr result (held self.new ≡ held self.old) }
         ensures definition { defined self.new ≡ defined self.old };
@@ -86,12 +92,14 @@ pub trait Office {
     /// Whether both have the same definition (devices aside) and hold the same facts. Takes no
     /// memory.
     fn same(&self, other: &Self) -> bool
-        ensures { IsTrue result ↔ (IsSame (defined self.now) (defined other.now) × (held self.now ≡ held other.now)) };
+        ensures { IsTrue result ↔
+            (IsSame (defined self.now) (defined other.now) × (held self.now ≡ held other.now)) };
 
     /// The current snapshot of a record: the greatest by Type, then by its latest annotation, then
     /// by bytes. None where there is no such record. Takes no memory.
     fn current(&self, key: &RecordName) -> Option<&SnapshotFact>
-        ensures { IsCurrent (defined self.now).contests (held self.now) key.now (option_map (λ s. s.now) result) };
+        ensures { IsCurrent (defined self.now).contests (held self.now) key.now
+            (option_map (λ s. s.now) result) };
 
     /// The header of a record: the greatest by bytes. None where there is no such record. Takes no
     /// memory.
@@ -107,15 +115,18 @@ pub trait Office {
         alloc: Global,
         key: &RecordName,
     ) -> Result<Option<RecordFacts<'_>>, Memory>
-        ensures { IfOk result (AreRecordFacts (defined self.now).contests (held self.now) key.now) };
+        ensures { IfOk result
+            (AreRecordFacts (defined self.now).contests (held self.now) key.now) };
 
     /// The least record name above the given one, or the least of all. Takes no memory.
     fn next_record(&self, after: Option<&RecordName>) -> Option<&RecordName>
-        ensures { option_map (λ k. k.now) result ≡ next name_cmp (records (held self.now)) (option_map (λ k. k.now) after.entry) };
+        ensures { option_map (λ k. k.now) result
+            ≡ next name_cmp (records (held self.now)) (option_map (λ k. k.now) after.entry) };
 
     /// The least device id above the given one, or the least of all. Takes no memory.
     fn next_device(&self, after: Option<&str>) -> Option<&str>
-        ensures { option_map (λ i. i.now) result ≡ next text_cmp (devices (held self.now)) (option_map (λ i. i.now) after.entry) };
+        ensures { option_map (λ i. i.now) result
+            ≡ next text_cmp (devices (held self.now)) (option_map (λ i. i.now) after.entry) };
 
     /// How many bodies the device with this id has, 0 where there is none. Takes no memory.
     fn device_count(&self, id: &str) -> usize
@@ -124,7 +135,8 @@ pub trait Office {
     /// Body number `k` of the device with this id, from 1, greatest first by bytes. None for 0 and
     /// above their number. Takes no memory.
     fn device_body(&self, id: &str, k: usize) -> Option<&Body>
-        ensures { option_map (λ b. b.now) result ≡ numbered (device_list (held self.now) id.now) k };
+        ensures { option_map (λ b. b.now) result
+            ≡ numbered (device_list (held self.now) id.now) k };
 
     /// The names with two bodies or more, in order.
     ///
@@ -140,7 +152,8 @@ pub trait Office {
     /// # Errors
     /// `Memory` where a growth was refused.
     fn row(&self, alloc: Global, key: &RowKey) -> Result<Option<Row>, Memory>
-        ensures row { IfOk result (λ found. found ≡ row (defined self.now).contests (held self.now) key.now) }
+        ensures row { IfOk result
+            (λ found. found ≡ row (defined self.now).contests (held self.now) key.now) }
         ensures below { IfOk result (λ found. IfSome found (IsBelow total_limit)) };
 
     /// The rows of the tally, each that has a ballot. Each number is below 2^118.
@@ -148,16 +161,19 @@ pub trait Office {
     /// # Errors
     /// `Memory` where a growth was refused.
     fn totals(&self, alloc: Global) -> Result<Totals, Memory>
-        ensures rows { IfOk result (λ t. t.rows ≡ rows (defined self.now).contests (held self.now)) }
+        ensures rows { IfOk result
+            (λ t. t.rows ≡ rows (defined self.now).contests (held self.now)) }
         ensures contests { IfOk result (λ t. t.contests ≡ (defined self.now).contests) }
-        ensures below { IfOk result (λ t. (q : RowKey) → IfSome (get t.rows q) (IsBelow total_limit)) };
+        ensures below { IfOk result
+            (λ t. (q : RowKey) → IfSome (get t.rows q) (IsBelow total_limit)) };
 
     /// The lines of the tally: those of its rows.
     ///
     /// # Errors
     /// `Memory` where a growth was refused.
     fn tally_text(&self, alloc: Global) -> Result<String, Memory>
-        ensures { IfOk result (λ text. string_bytes text ≡ tally (defined self.now).contests (held self.now)) };
+        ensures { IfOk result
+            (λ text. string_bytes text ≡ tally (defined self.now).contests (held self.now)) };
 
     /// How many records it has. Takes no memory.
     fn record_count(&self) -> usize

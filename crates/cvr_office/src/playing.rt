@@ -8,7 +8,8 @@ ghost use Rattle.cvr_office.specs.declared.fault.JoinFault.TheVariants as join_f
 ghost use Rattle.cvr_office.specs.Readers.{growth};
 ghost use Rattle.cvr_office.specs.Reach.{content, history};
 ghost use Rattle.cvr_office.specs.Alike.{AreNewOfOne, AreAlikeByFiles};
-ghost use Rattle.cvr_office.specs.Outcomes.{IsOutcome, IsImportOutcome, IsExchangeOutcome, AreOutcomes, contents_after, held_after, due};
+ghost use Rattle.cvr_office.specs.Outcomes.{IsOutcome, IsImportOutcome, IsExchangeOutcome};
+ghost use Rattle.cvr_office.specs.Outcomes.{AreOutcomes, contents_after, held_after, due};
 
 use crate::event::{Cause, Event, Outcome};
 use crate::office::Office;
@@ -20,8 +21,9 @@ use std::alloc::Global;
 ///
 /// Where the offices were new and of one definition (devices included), any two that the same files
 /// have reached hold the same facts afterwards, whatever the events, and have the same current
-/// snapshots with their votes, headers, conflicts and rows, and the same text of the tally. Files are
-/// the same where their values are, as `serde_json` reads them, wherever they stand in the list.
+/// snapshots with their votes, headers, conflicts and rows, and the same text of the tally. Files
+/// are the same where their values are, as `serde_json` reads them, wherever they stand in the
+/// list.
 ///
 /// # Errors
 /// `Memory` where there was no room for the outcomes. No event has then happened.
@@ -31,11 +33,14 @@ pub fn play<O: Office>(
     files: &[Vec<u8>],
     events: &[Event],
 ) -> Result<Vec<Outcome>, Memory>
-    ensures content { IfOk result (λ outcomes. (o : ℕ) → o < length offices.old → get_or (map O.held offices.new) o empty
-        ≡ content (map O.held offices.old) (map (λ f. f.items) files.now) (history events.now outcomes.items) o) }
+    ensures content { IfOk result
+        (λ outcomes. (o : ℕ) → o < length offices.old → get_or (map O.held offices.new) o empty
+        ≡ content (map O.held offices.old) (map (λ f. f.items) files.now)
+        (history events.now outcomes.items) o) }
     ensures count { IfOk result (λ outcomes. length outcomes.items ≡ length events.now) }
     ensures outcomes { IfOk result (λ outcomes.
-        AreOutcomes (map O.held offices.old) (map O.defined offices.old) (map (λ f. f.items) files.now) (history events.now outcomes.items)) }
+        AreOutcomes (map O.held offices.old) (map O.defined offices.old)
+        (map (λ f. f.items) files.now) (history events.now outcomes.items)) }
     ensures definitions { map O.defined offices.new ≡ map O.defined offices.old }
     ensures same_files { IfOk result (λ outcomes. AreNewOfOne O.held O.defined offices.old
         → AreAlikeByFiles O.held O.defined (map (λ f. f.items) files.now)
@@ -52,9 +57,11 @@ pub fn play<O: Office>(
 
 // One event.
 fn happen<O: Office>(offices: &mut [O], files: &[Vec<u8>], event: Event) -> Outcome
-    ensures contents { map O.held offices.new ≡ contents_after (map (λ f. f.items) files.now) event result (map O.held offices.old) }
+    ensures contents { map O.held offices.new
+        ≡ contents_after (map (λ f. f.items) files.now) event result (map O.held offices.old) }
     ensures definitions { map O.defined offices.new ≡ map O.defined offices.old }
-    ensures outcome { IsOutcome (map O.defined offices.old) (map (λ f. f.items) files.now) (λ o. get_or (map O.held offices.old) o empty) event result }
+    ensures outcome { IsOutcome (map O.defined offices.old) (map (λ f. f.items) files.now)
+        (λ o. get_or (map O.held offices.old) o empty) event result }
 {
     match event {
         Event::Import { office, file } => import_at(offices, files, office, file),
@@ -64,9 +71,12 @@ fn happen<O: Office>(offices: &mut [O], files: &[Vec<u8>], event: Event) -> Outc
 
 // An import, if the office and the file are there.
 fn import_at<O: Office>(offices: &mut [O], files: &[Vec<u8>], office: usize, file: usize) -> Outcome
-    ensures contents { map O.held offices.new ≡ contents_after (map (λ f. f.items) files.now) (Event.Import office file) result (map O.held offices.old) }
+    ensures contents { map O.held offices.new
+        ≡ contents_after (map (λ f. f.items) files.now) (Event.Import office file) result
+        (map O.held offices.old) }
     ensures definitions { map O.defined offices.new ≡ map O.defined offices.old }
-    ensures outcome { IsImportOutcome (map O.defined offices.old) (map (λ f. f.items) files.now) (λ o. get_or (map O.held offices.old) o empty) office file result }
+    ensures outcome { IsImportOutcome (map O.defined offices.old) (map (λ f. f.items) files.now)
+        (λ o. get_or (map O.held offices.old) o empty) office file result }
 {
     if office >= offices.len() {
         return Outcome::Refused(Cause::NoOffice);
@@ -79,9 +89,11 @@ fn import_at<O: Office>(offices: &mut [O], files: &[Vec<u8>], office: usize, fil
 
 // An exchange, if both offices are there. Nothing passes between an office and itself.
 fn exchange<O: Office>(offices: &mut [O], from: usize, to: usize) -> Outcome
-    ensures contents { map O.held offices.new ≡ contents_after [] (Event.Exchange from to) result (map O.held offices.old) }
+    ensures contents { map O.held offices.new
+        ≡ contents_after [] (Event.Exchange from to) result (map O.held offices.old) }
     ensures definitions { map O.defined offices.new ≡ map O.defined offices.old }
-    ensures outcome { IsExchangeOutcome (map O.defined offices.old) (λ o. get_or (map O.held offices.old) o empty) from to result }
+    ensures outcome { IsExchangeOutcome (map O.defined offices.old)
+        (λ o. get_or (map O.held offices.old) o empty) from to result }
 {
     if from >= offices.len() || to >= offices.len() {
         return Outcome::Refused(Cause::NoOffice);
@@ -97,9 +109,11 @@ fn join_apart<O: Office>(offices: &mut [O], from: usize, to: usize) -> Outcome
     requires from { from < length offices.old }
     requires to { to < length offices.old }
     requires apart { from ≢ to }
-    ensures contents { map O.held offices.new ≡ contents_after [] (Event.Exchange from to) result (map O.held offices.old) }
+    ensures contents { map O.held offices.new
+        ≡ contents_after [] (Event.Exchange from to) result (map O.held offices.old) }
     ensures definitions { map O.defined offices.new ≡ map O.defined offices.old }
-    ensures outcome { IsExchangeOutcome (map O.defined offices.old) (λ o. get_or (map O.held offices.old) o empty) from to result }
+    ensures outcome { IsExchangeOutcome (map O.defined offices.old)
+        (λ o. get_or (map O.held offices.old) o empty) from to result }
 {
     if from < to {
         let (front, back) = offices.split_at_mut(to);
@@ -113,7 +127,10 @@ fn join_apart<O: Office>(offices: &mut [O], from: usize, to: usize) -> Outcome
 // The import of a file, as an outcome.
 fn import_into<O: Office>(office: &mut O, bytes: &[u8]) -> Outcome
     ensures content { O.held office.new ≡ held_after result (O.held office.old) (facts bytes.now) }
-    ensures outcome { (result ≡ due (first_refusal (O.defined office.old) bytes.now) (growth (O.held office.old) (facts bytes.now))) ⊎ (result ≡ Outcome.Refused (Cause.Read read.Memory)) }
+    ensures outcome { (result
+        ≡ due (first_refusal (O.defined office.old) bytes.now)
+        (growth (O.held office.old) (facts bytes.now)))
+        ⊎ (result ≡ Outcome.Refused (Cause.Read read.Memory)) }
     ensures definition { O.defined office.new ≡ O.defined office.old }
 {
     match office.import(bytes) {
@@ -125,8 +142,11 @@ fn import_into<O: Office>(office: &mut O, bytes: &[u8]) -> Outcome
 // The join of another office's facts, as an outcome.
 fn join_into<O: Office>(office: &mut O, other: &O) -> Outcome
     ensures content { O.held office.new ≡ held_after result (O.held office.old) (O.held other.now) }
-    ensures other { ¬ IsSame (O.defined office.old) (O.defined other.now) → result ≡ Outcome.Refused (Cause.Join join_fault.OtherDefinition) }
-    ensures same { IsSame (O.defined office.old) (O.defined other.now) → (result ≡ Outcome.Accepted (growth (O.held office.old) (O.held other.now))) ⊎ (result ≡ Outcome.Refused (Cause.Join join_fault.Memory)) }
+    ensures other { ¬ IsSame (O.defined office.old) (O.defined other.now) → result
+        ≡ Outcome.Refused (Cause.Join join_fault.OtherDefinition) }
+    ensures same { IsSame (O.defined office.old) (O.defined other.now)
+        → (result ≡ Outcome.Accepted (growth (O.held office.old) (O.held other.now)))
+        ⊎ (result ≡ Outcome.Refused (Cause.Join join_fault.Memory)) }
     ensures definition { O.defined office.new ≡ O.defined office.old }
 {
     match office.join(other) {

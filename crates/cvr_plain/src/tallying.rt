@@ -7,7 +7,8 @@ ghost use Rattle.cvr_office.specs.Place.{any_cmp};
 ghost use Rattle.cvr_office.specs.Plain.{set_of, IsPlain};
 ghost use Rattle.cvr_office.specs.Runs.{AreSpelled};
 ghost use Rattle.cvr_office.specs.Tallied.{row, rows, tally, total_limit, IsBelow};
-ghost use Rattle.cvr_office.specs.Adding.{AreSums, CurrentsAreSums, key_for, sums_for, added, row_with, HaveRoom};
+ghost use Rattle.cvr_office.specs.Adding.{AreSums, CurrentsAreSums, key_for, sums_for, added};
+ghost use Rattle.cvr_office.specs.Adding.{row_with, HaveRoom};
 
 use cdf_check::Definition;
 use cdf_types::Memory;
@@ -44,7 +45,8 @@ pub(crate) fn tally_in(
     facts: &[AnyFact],
 ) -> Result<String, Memory>
     requires { IsPlain definition.now facts.now }
-    ensures { IfOk result (λ text. string_bytes text ≡ tally definition.now.contests (set_of facts.now)) }
+    ensures { IfOk result
+        (λ text. string_bytes text ≡ tally definition.now.contests (set_of facts.now)) }
 {
     let totals = totals_in(alloc, definition, facts)?;
     tally_text(alloc, &totals)
@@ -58,7 +60,8 @@ pub(crate) fn row_in(
     key: &RowKey,
 ) -> Result<Option<Row>, Memory>
     requires { IsPlain definition.now facts.now }
-    ensures row { IfOk result (λ found. found ≡ row definition.now.contests (set_of facts.now) key.now) }
+    ensures row { IfOk result
+        (λ found. found ≡ row definition.now.contests (set_of facts.now) key.now) }
     ensures below { IfOk result (λ found. IfSome found (IsBelow total_limit)) }
 {
     let totals = totals_in(alloc, definition, facts)?;
@@ -75,7 +78,8 @@ fn add_record(totals: &mut Totals, facts: &[AnyFact], name: &RecordName) -> Resu
     requires sums { CurrentsAreSums totals.old.contests (set_of facts.now) }
     requires room { HaveRoom totals.old.rows }
     ensures rows { OnOk result ((q : RowKey) → get totals.new.rows q
-        ≡ row_with totals.old.contests q (get totals.old.rows q) (added totals.old.contests (set_of facts.now) q name.now)) }
+        ≡ row_with totals.old.contests q (get totals.old.rows q)
+        (added totals.old.contests (set_of facts.now) q name.now)) }
     ensures contests { OnOk result (totals.new.contests ≡ totals.old.contests) }
 {
     let Some(header) = header_in(facts, name) else {
@@ -92,7 +96,8 @@ fn add_sums(totals: &mut Totals, header: &HeaderFact, votes: &[VoteSums]) -> Res
     requires sums { AreSums totals.old.contests votes.now }
     requires room { HaveRoom totals.old.rows }
     ensures rows { OnOk result ((q : RowKey) → get totals.new.rows q
-        ≡ row_with totals.old.contests q (get totals.old.rows q) (sums_for header.now.unit header.now.batch q votes.now)) }
+        ≡ row_with totals.old.contests q (get totals.old.rows q)
+        (sums_for header.now.unit header.now.batch q votes.now)) }
     ensures contests { OnOk result (totals.new.contests ≡ totals.old.contests) }
 {
     for sums in votes {

@@ -47,7 +47,8 @@ impl Model for Heading {
 
     ghost view = { λ h. record { date = string_bytes h.date; device = string_bytes h.device } };
 
-    ghost invariant = { λ h. IsHeading (record { date = string_bytes h.date; device = string_bytes h.device }) };
+    ghost invariant = { λ h.
+        IsHeading (record { date = string_bytes h.date; device = string_bytes h.device }) };
 }
 
 impl Heading {
@@ -59,8 +60,8 @@ impl Heading {
     /// zone in brackets.
     ///
     /// # Errors
-    /// `NotMoment` exactly where the date is none, then `NoDevice` exactly where the definition lists
-    /// no such device; else `Memory` where a growth was refused.
+    /// `NotMoment` exactly where the date is none, then `NoDevice` exactly where the definition
+    /// lists no such device; else `Memory` where a growth was refused.
     pub fn new(
         alloc: Global,
         definition: &Definition,

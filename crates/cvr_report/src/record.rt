@@ -97,7 +97,9 @@ pub(crate) fn push_shown(
 ) -> Result<(), Memory>
     requires number { 0 < i }
     requires some { CanShow found.now }
-    ensures { OnOk result ((frame : Frame) (s : Facts) (key : RecordName) → Keeps frame s → AreFactsOf frame.contests s key found.now
+    ensures { OnOk result
+        ((frame : Frame) (s : Facts) (key : RecordName) → Keeps frame s
+        → AreFactsOf frame.contests s key found.now
         → out.new.items ≡ out.old.items ++ compact_text (record_data (shown_record s i key))) }
 {
     let header = shown_header(found.headers.as_slice(), i);

@@ -63,7 +63,8 @@ pub(crate) fn shown_snapshot<'a>(under: &IdFacts<'a>, i: usize) -> &'a SnapshotF
 fn greatest_shown<'a>(ids: &[IdFacts<'a>], i: usize) -> Option<Pick<'a>>
     requires number { 0 < i }
     requires some { HaveSnapshots ids.now }
-    ensures { option_map (λ p. (p.id.now, p.fact.now)) result ≡ greatest (on (λ p. p.1) fact_choice) (picks i ids.now) }
+    ensures { option_map (λ p. (p.id.now, p.fact.now)) result
+        ≡ greatest (on (λ p. p.1) fact_choice) (picks i ids.now) }
 {
     let mut best: Option<Pick<'a>> = None;
     let mut at = ids.len();
@@ -87,7 +88,8 @@ fn greatest_shown<'a>(ids: &[IdFacts<'a>], i: usize) -> Option<Pick<'a>>
 pub(crate) fn shown_current<'a>(ids: &[IdFacts<'a>], i: usize) -> &'a str
     requires number { 0 < i }
     requires some { HaveSnapshots ids.now }
-    ensures { result.now ≡ option_map_or (λ p. p.0) (greatest (on (λ p. p.1) fact_choice) (picks i ids.now)) [] }
+    ensures { result.now
+        ≡ option_map_or (λ p. p.0) (greatest (on (λ p. p.1) fact_choice) (picks i ids.now)) [] }
 {
     match greatest_shown(ids, i) {
         Some(pick) => pick.id,

@@ -1,5 +1,6 @@
 // A volume, written piece by piece.
-ghost use Rattle.std.specs.Prelude.{◌≡◌, ◌<◌, ◌≤◌, ◌++◌, OnOk, OnErr, IfOk, IfErr, false, true, is_some};
+ghost use Rattle.std.specs.Prelude.{◌≡◌, ◌<◌, ◌≤◌, ◌++◌, OnOk, OnErr, IfOk, IfErr, false, true};
+ghost use Rattle.std.specs.Prelude.{is_some};
 ghost use Rattle.std.specs.List.{Contains};
 ghost use Rattle.serde_json.specs.Written.{comma_if};
 ghost use Rattle.cdf_types.specs.Device.{Appends, AppendsProperPrefix};
@@ -11,7 +12,8 @@ ghost use Rattle.cvr_report.specs.Head.{is_device_of};
 ghost use Rattle.cvr_report.specs.Page.{volumes, shown};
 ghost use Rattle.cvr_report.specs.Volume.{volume};
 ghost use Rattle.cvr_report.specs.Writes.{Writes, WritesOrLess, is_device, list_text, record_piece};
-ghost use Rattle.cvr_report.specs.Pieces.{head_text, middle_text, end_text, party_text, record_text, record_texts, device_texts};
+ghost use Rattle.cvr_report.specs.Pieces.{head_text, middle_text, end_text, party_text};
+ghost use Rattle.cvr_report.specs.Pieces.{record_text, record_texts, device_texts};
 
 use crate::fault::WriteFault;
 use crate::heading::Heading;
@@ -57,7 +59,8 @@ fn write_record<O: Office, W: Sink>(
     requires listed { Contains (records (O.held office.now)) key.now }
     requires keeps { Keeps (O.defined office.now) (O.held office.now) }
     ensures stands { IfOk result (λ b. b ≡ is_some (record_text (O.held office.now) i key.now)) }
-    ensures written { Writes (W.taken out.old) (W.taken out.new) result (record_piece later (record_text (O.held office.now) i key.now)) }
+    ensures written { Writes (W.taken out.old) (W.taken out.new) result
+        (record_piece later (record_text (O.held office.now) i key.now)) }
 {
     let Some(found) = office.record_facts(alloc, key)? else {
         return Ok(false);
@@ -84,7 +87,8 @@ fn write_records<O: Office, W: Sink>(
     requires working { (W.taken out.old).failed ≡ false }
     requires number { 0 < i }
     requires keeps { Keeps (O.defined office.now) (O.held office.now) }
-    ensures { Writes (W.taken out.old) (W.taken out.new) result (list_text false (record_texts (O.held office.now) i (records (O.held office.now)))) }
+    ensures { Writes (W.taken out.old) (W.taken out.new) result
+        (list_text false (record_texts (O.held office.now) i (records (O.held office.now)))) }
 {
     let mut later = false;
     let mut next = office.next_record(None);
@@ -106,7 +110,8 @@ fn write_device<O: Office, W: Sink>(
     out: &mut W,
 ) -> Result<(), WriteFault>
     requires working { (W.taken out.old).failed ≡ false }
-    ensures { Writes (W.taken out.old) (W.taken out.new) result (comma_if later ++ shown i (device_list (O.held office.now) id.now)) }
+    ensures { Writes (W.taken out.old) (W.taken out.new) result
+        (comma_if later ++ shown i (device_list (O.held office.now) id.now)) }
 {
     let lead = if later { "," } else { "" };
     write_piece(out, lead.as_bytes())?;
@@ -119,7 +124,8 @@ fn write_device<O: Office, W: Sink>(
 // Writes the bodies of devices that volume `i` shows.
 fn write_devices<O: Office, W: Sink>(office: &O, i: usize, out: &mut W) -> Result<(), WriteFault>
     requires working { (W.taken out.old).failed ≡ false }
-    ensures { Writes (W.taken out.old) (W.taken out.new) result (joined false (device_texts (O.held office.now) i (devices (O.held office.now)))) }
+    ensures { Writes (W.taken out.old) (W.taken out.new) result
+        (joined false (device_texts (O.held office.now) i (devices (O.held office.now)))) }
 {
     let mut later = false;
     let mut next = office.next_device(None);
@@ -138,7 +144,9 @@ fn push_middle(
     definition: &Definition,
     heading: &Heading,
 ) -> Result<(), Memory>
-    ensures { OnOk result (buffer.new.items ≡ buffer.old.items ++ middle_text definition.now heading.now.date heading.now.device) }
+    ensures { OnOk result
+        (buffer.new.items ≡ buffer.old.items
+        ++ middle_text definition.now heading.now.date heading.now.device) }
 {
     buffer.extend_from_slice(b",\"Election\":[")?;
     buffer.extend_from_slice(definition.election().as_str().as_bytes())?;
@@ -171,8 +179,8 @@ fn push_parties(buffer: &mut Vec<u8>, parties: &[Body]) -> Result<(), Memory>
 /// CastVoteRecordReport), piece by piece and one record at a time.
 ///
 /// # Errors
-/// `Device` exactly where the output has failed; `Memory` where a growth was refused. The output has
-/// then taken a prefix of the volume, and not all of it.
+/// `Device` exactly where the output has failed; `Memory` where a growth was refused. The output
+/// has then taken a prefix of the volume, and not all of it.
 pub fn write_volume<O: Office, W: Sink>(
     alloc: Global,
     office: &O,

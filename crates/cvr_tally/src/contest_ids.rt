@@ -15,7 +15,8 @@ pub(crate) struct ContestIds {
 
 // The ids of the contests of a definition, in order.
 pub(crate) fn contest_ids(alloc: Global, definition: &Definition) -> Result<Vec<ContestIds>, Memory>
-    ensures { IfOk result (λ ids. map (λ c. (c.id, c.selections)) ids.items ≡ definition.now.contests) }
+    ensures { IfOk result
+        (λ ids. map (λ c. (c.id, c.selections)) ids.items ≡ definition.now.contests) }
 {
     let mut ids = Vec::with_capacity(alloc, definition.contest_count())?;
     for contest in 0..definition.contest_count() {
@@ -27,8 +28,10 @@ pub(crate) fn contest_ids(alloc: Global, definition: &Definition) -> Result<Vec<
 // The ids of the contest at a place.
 fn ids_of(alloc: Global, definition: &Definition, contest: usize) -> Result<ContestIds, Memory>
     requires { contest < length definition.now.contests }
-    ensures id { IfOk result (λ c. c.id ≡ slice_index_or (contest_ids definition.now.contests) contest []) }
-    ensures selections { IfOk result (λ c. c.selections ≡ selections_at definition.now.contests contest) }
+    ensures id { IfOk result
+        (λ c. c.id ≡ slice_index_or (contest_ids definition.now.contests) contest []) }
+    ensures selections { IfOk result
+        (λ c. c.selections ≡ selections_at definition.now.contests contest) }
 {
     Ok(ContestIds {
         id: body_of(alloc, definition.contest(contest))?,

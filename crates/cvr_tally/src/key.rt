@@ -23,7 +23,12 @@ impl RowKey {
     /// # Errors
     /// `Memory` where a growth was refused.
     pub fn under(header: &HeaderFact, contest: usize) -> Result<RowKey, Memory>
-        ensures { IfOk result (λ k. k ≡ record { contest = contest; unit = header.now.unit; batch = header.now.batch }) }
+        ensures { IfOk result
+            (λ k. k ≡ record {
+              contest = contest;
+              unit = header.now.unit;
+              batch = header.now.batch;
+            }) }
     {
         Ok(RowKey {
             contest,

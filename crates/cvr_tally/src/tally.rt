@@ -1,7 +1,8 @@
 ghost use Rattle.std.specs.Prelude.{◌≡◌, ◌<◌, ◌++◌, OnOk, IfOk, length, decimal, string_bytes};
 ghost use Rattle.std.specs.List.{flat_map, zip};
 ghost use Rattle.cvr_tally.specs.Contests.{contests_of};
-ghost use Rattle.cvr_tally.specs.Text.{part, number, numbers, selection, key_words, row_line, tally_text};
+ghost use Rattle.cvr_tally.specs.Text.{part, number, numbers, selection, key_words, row_line};
+ghost use Rattle.cvr_tally.specs.Text.{tally_text};
 
 use crate::contest_ids::ContestIds;
 use crate::key::RowKey;
@@ -31,7 +32,9 @@ fn push_key(
     key: &RowKey,
 ) -> Result<(), Memory>
     requires { key.now.contest < length contests.now }
-    ensures { OnOk result (string_bytes text.new ≡ string_bytes text.old ++ key_words (contests_of contests.now) key.now) }
+    ensures { OnOk result
+        (string_bytes text.new ≡ string_bytes text.old
+        ++ key_words (contests_of contests.now) key.now) }
 {
     push_word(alloc, text, contests[key.contest].id.as_str())?;
     push_part(alloc, text, &key.unit)?;
@@ -72,7 +75,8 @@ fn push_numbers(text: &mut String, row: &Row) -> Result<(), Memory>
 
 // Adds the id of a selection, and its votes.
 fn push_selection(alloc: Global, text: &mut String, id: &Body, votes: u128) -> Result<(), Memory>
-    ensures { OnOk result (string_bytes text.new ≡ string_bytes text.old ++ selection (id.now, votes)) }
+    ensures { OnOk result
+        (string_bytes text.new ≡ string_bytes text.old ++ selection (id.now, votes)) }
 {
     text.push_str(" ")?;
     text.push_str(quoted(alloc, id.as_str())?.as_str())?;
@@ -87,7 +91,9 @@ fn push_selections(
     ids: &[Body],
     votes: &[u128],
 ) -> Result<(), Memory>
-    ensures { OnOk result (string_bytes text.new ≡ string_bytes text.old ++ flat_map selection (zip ids.now votes.now)) }
+    ensures { OnOk result
+        (string_bytes text.new ≡ string_bytes text.old
+        ++ flat_map selection (zip ids.now votes.now)) }
 {
     for (id, count) in ids.iter().zip(votes) {
         push_selection(alloc, text, id, *count)?;
@@ -104,7 +110,9 @@ fn push_row(
     row: &Row,
 ) -> Result<(), Memory>
     requires { key.now.contest < length contests.now }
-    ensures { OnOk result (string_bytes text.new ≡ string_bytes text.old ++ row_line (contests_of contests.now) (key.now, row.now)) }
+    ensures { OnOk result
+        (string_bytes text.new ≡ string_bytes text.old
+        ++ row_line (contests_of contests.now) (key.now, row.now)) }
 {
     let ids = contests[key.contest].selections.as_slice();
     push_key(alloc, text, contests, key)?;
@@ -114,13 +122,14 @@ fn push_row(
     Ok(())
 }
 
-/// A line for each row of a tally, in order of key: its contest, unit and batch, its numbers, and the
-/// votes of each selection of the contest (NIST SP 1500-103, class CVRContest).
+/// A line for each row of a tally, in order of key: its contest, unit and batch, its numbers, and
+/// the votes of each selection of the contest (NIST SP 1500-103, class CVRContest).
 ///
 /// # Errors
 /// `Memory` where a growth was refused.
 pub fn tally_text(alloc: Global, totals: &Totals) -> Result<String, Memory>
-    ensures { IfOk result (λ text. string_bytes text ≡ tally_text totals.now.contests totals.now.rows) }
+    ensures { IfOk result
+        (λ text. string_bytes text ≡ tally_text totals.now.contests totals.now.rows) }
 {
     let contests = totals.contests();
     let mut text = String::new(alloc);

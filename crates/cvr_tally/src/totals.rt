@@ -9,7 +9,8 @@ ghost use Rattle.cvr_tally.specs.declared.key.RowKey.{RowKey};
 ghost use Rattle.cvr_tally.specs.declared.row.Row.{Row};
 ghost use Rattle.cvr_tally.specs.Keys.{key_cmp};
 ghost use Rattle.cvr_tally.specs.Contests.{contests_of};
-ghost use Rattle.cvr_tally.specs.Rows.{IsTotals, HasRoom, HasSums, zero_row, row_plus, row_minus, row_closed, rows_plus, rows_minus, rows_opened, rows_closed};
+ghost use Rattle.cvr_tally.specs.Rows.{IsTotals, HasRoom, HasSums, zero_row, row_plus, row_minus};
+ghost use Rattle.cvr_tally.specs.Rows.{row_closed, rows_plus, rows_minus, rows_opened, rows_closed};
 
 use crate::changes::{add_to, take_from};
 use crate::contest_ids::{ContestIds, contest_ids, copy_ids};
@@ -41,9 +42,17 @@ impl Model for Totals {
 
     ghost coded = { coded_totals };
 
-    ghost view = { λ a. record { contests = map (λ c. (c.id, c.selections)) a.contests.items; rows = from_entries a.rows.entries; moves = a.moves } };
+    ghost view = { λ a. record {
+      contests = map (λ c. (c.id, c.selections)) a.contests.items;
+      rows = from_entries a.rows.entries;
+      moves = a.moves;
+    } };
 
-    ghost invariant = { λ a. IsTotals (record { contests = map (λ c. (c.id, c.selections)) a.contests.items; rows = from_entries a.rows.entries; moves = a.moves }) };
+    ghost invariant = { λ a. IsTotals (record {
+      contests = map (λ c. (c.id, c.selections)) a.contests.items;
+      rows = from_entries a.rows.entries;
+      moves = a.moves;
+    }) };
 }
 
 impl Totals {
@@ -52,7 +61,8 @@ impl Totals {
     /// # Errors
     /// `Memory` where a growth was refused.
     pub fn new(alloc: Global, definition: &Definition) -> Result<Totals, Memory>
-        ensures { IfOk result (λ t. t ≡ record { contests = definition.now.contests; rows = rows.empty; moves = 0 }) }
+        ensures { IfOk result
+            (λ t. t ≡ record { contests = definition.now.contests; rows = rows.empty; moves = 0 }) }
     {
         Ok(Totals {
             contests: contest_ids(alloc, definition)?,
@@ -66,7 +76,8 @@ impl Totals {
     /// # Errors
     /// `Memory` where a growth was refused.
     pub fn copy(&self, alloc: Global) -> Result<Totals, Memory>
-        ensures { IfOk result (λ t. t ≡ record { contests = self.now.contests; rows = self.now.rows; moves = 0 }) }
+        ensures { IfOk result
+            (λ t. t ≡ record { contests = self.now.contests; rows = self.now.rows; moves = 0 }) }
     {
         let moves = Moves::new();
         Ok(Totals {
@@ -82,7 +93,8 @@ impl Totals {
     /// `Memory` where a growth was refused; nothing has then changed.
     pub fn open_row(&mut self, key: &RowKey) -> Result<(), Memory>
         requires { key.now.contest < length self.old.contests }
-        ensures ok { OnOk result (self.new.rows ≡ rows_opened self.old.contests self.old.rows key.now) }
+        ensures ok { OnOk result
+            (self.new.rows ≡ rows_opened self.old.contests self.old.rows key.now) }
         ensures err { OnErr result (self.new.rows ≡ self.old.rows) }
         ensures moves { self.new.moves ≡ self.old.moves }
         ensures contests { self.new.contests ≡ self.old.contests }
@@ -98,7 +110,8 @@ impl Totals {
     /// Adds the sums of one ballot to an open row. Takes no memory.
     pub fn add(&mut self, key: &RowKey, sums: &VoteSums)
         requires open { IsSome (rows.get self.old.rows key.now) }
-        requires votes { length sums.now.votes ≡ length (selections_at self.old.contests key.now.contest) }
+        requires votes { length sums.now.votes
+            ≡ length (selections_at self.old.contests key.now.contest) }
         requires room { IfSome (rows.get self.old.rows key.now) (λ r. HasRoom r sums.now) }
         ensures rows { self.new.rows ≡ rows_plus self.old.rows key.now sums.now }
         ensures moves { self.new.moves ≡ self.old.moves + 1 }
@@ -112,7 +125,8 @@ impl Totals {
     /// Takes the sums of one ballot out of an open row. Takes no memory.
     pub fn take(&mut self, key: &RowKey, sums: &VoteSums)
         requires open { IsSome (rows.get self.old.rows key.now) }
-        requires votes { length sums.now.votes ≡ length (selections_at self.old.contests key.now.contest) }
+        requires votes { length sums.now.votes
+            ≡ length (selections_at self.old.contests key.now.contest) }
         requires has { IfSome (rows.get self.old.rows key.now) (λ r. HasSums r sums.now) }
         ensures rows { self.new.rows ≡ rows_minus self.old.rows key.now sums.now }
         ensures moves { self.new.moves ≡ self.old.moves + 1 }
@@ -132,8 +146,8 @@ impl Totals {
         close_at(&mut self.rows, key);
     }
 
-    /// Does nothing, and tells contracts that each row is one of a contest of the definition, with a
-    /// number for each of its selections.
+    /// Does nothing, and tells contracts that each row is one of a contest of the definition, with
+    /// a number for each of its selections.
     pub fn are_whole(&self)
         ensures { IsTotals self.now }
     {
@@ -171,8 +185,11 @@ fn open_at(
     key: &RowKey,
     selections: usize,
 ) -> Result<(), Memory>
-    ensures here { OnOk result (get key_cmp rows.new key.now ≡ Some (unwrap_or (get key_cmp rows.old key.now) (zero_row selections))) }
-    ensures others { (q : RowKey) → is_eq (key_cmp key.now q) ≡ false → get key_cmp rows.new q ≡ get key_cmp rows.old q }
+    ensures here { OnOk result
+        (get key_cmp rows.new key.now
+        ≡ Some (unwrap_or (get key_cmp rows.old key.now) (zero_row selections))) }
+    ensures others { (q : RowKey) → is_eq (key_cmp key.now q) ≡ false → get key_cmp rows.new q
+        ≡ get key_cmp rows.old q }
     ensures err { OnErr result ((q : RowKey) → get key_cmp rows.new q ≡ get key_cmp rows.old q) }
 {
     if rows.contains_key(key) {
@@ -186,10 +203,13 @@ fn open_at(
 
 // Adds the sums to the row of a key.
 fn add_at(rows: &mut BTreeMap<RowKey, Row>, key: &RowKey, sums: &VoteSums)
-    requires long { IfSome (get key_cmp rows.old key.now) (λ r. length sums.now.votes ≡ length r.votes) }
+    requires long { IfSome (get key_cmp rows.old key.now)
+        (λ r. length sums.now.votes ≡ length r.votes) }
     requires room { IfSome (get key_cmp rows.old key.now) (λ r. HasRoom r sums.now) }
-    ensures here { get key_cmp rows.new key.now ≡ option_map (λ r. row_plus r sums.now) (get key_cmp rows.old key.now) }
-    ensures others { (q : RowKey) → is_eq (key_cmp key.now q) ≡ false → get key_cmp rows.new q ≡ get key_cmp rows.old q }
+    ensures here { get key_cmp rows.new key.now
+        ≡ option_map (λ r. row_plus r sums.now) (get key_cmp rows.old key.now) }
+    ensures others { (q : RowKey) → is_eq (key_cmp key.now q) ≡ false → get key_cmp rows.new q
+        ≡ get key_cmp rows.old q }
 {
     if let Some(row) = rows.get_mut(key) {
         add_to(row, sums);
@@ -198,10 +218,13 @@ fn add_at(rows: &mut BTreeMap<RowKey, Row>, key: &RowKey, sums: &VoteSums)
 
 // Takes the sums out of the row of a key.
 fn take_at(rows: &mut BTreeMap<RowKey, Row>, key: &RowKey, sums: &VoteSums)
-    requires long { IfSome (get key_cmp rows.old key.now) (λ r. length sums.now.votes ≡ length r.votes) }
+    requires long { IfSome (get key_cmp rows.old key.now)
+        (λ r. length sums.now.votes ≡ length r.votes) }
     requires has { IfSome (get key_cmp rows.old key.now) (λ r. HasSums r sums.now) }
-    ensures here { get key_cmp rows.new key.now ≡ option_map (λ r. row_minus r sums.now) (get key_cmp rows.old key.now) }
-    ensures others { (q : RowKey) → is_eq (key_cmp key.now q) ≡ false → get key_cmp rows.new q ≡ get key_cmp rows.old q }
+    ensures here { get key_cmp rows.new key.now
+        ≡ option_map (λ r. row_minus r sums.now) (get key_cmp rows.old key.now) }
+    ensures others { (q : RowKey) → is_eq (key_cmp key.now q) ≡ false → get key_cmp rows.new q
+        ≡ get key_cmp rows.old q }
 {
     if let Some(row) = rows.get_mut(key) {
         take_from(row, sums);
@@ -211,7 +234,8 @@ fn take_at(rows: &mut BTreeMap<RowKey, Row>, key: &RowKey, sums: &VoteSums)
 // Removes the row of a key where it has no ballots.
 fn close_at(rows: &mut BTreeMap<RowKey, Row>, key: &RowKey)
     ensures here { get key_cmp rows.new key.now ≡ row_closed (get key_cmp rows.old key.now) }
-    ensures others { (q : RowKey) → is_eq (key_cmp key.now q) ≡ false → get key_cmp rows.new q ≡ get key_cmp rows.old q }
+    ensures others { (q : RowKey) → is_eq (key_cmp key.now q) ≡ false → get key_cmp rows.new q
+        ≡ get key_cmp rows.old q }
 {
     let empty = match rows.get(key) {
         Some(row) => row.ballots == 0,

@@ -1,5 +1,6 @@
 //! Worked examples: texts of steps, and what they ask for.
-ghost use Rattle.cvr_words.specs.Examples.{ExchangeTexts, FirstBadStep, ImportTexts, NoExchanges, NoSteps, PathsOfFour, StepsOfFour};
+ghost use Rattle.cvr_words.specs.Examples.{ExchangeTexts, FirstBadStep, ImportTexts, NoExchanges};
+ghost use Rattle.cvr_words.specs.Examples.{NoSteps, PathsOfFour, StepsOfFour};
 
 /// Texts that are steps, texts that are none, and the steps and paths of four texts.
 pub fn worked_examples()

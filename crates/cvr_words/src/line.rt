@@ -1,6 +1,7 @@
 ghost use Rattle.std.specs.Prelude.{◌≡◌, IfOk, false, codes};
 ghost use Rattle.clap.specs.Words.{app_of, new_app, rule_of};
-ghost use Rattle.cvr_words.specs.Line.{bare_line, cvr_line, drill_line, files_line, merge_line, needed, numbered, several};
+ghost use Rattle.cvr_words.specs.Line.{bare_line, cvr_line, drill_line, files_line, merge_line};
+ghost use Rattle.cvr_words.specs.Line.{needed, numbered, several};
 
 use clap::{Arg, ArgAction, Command};
 use std::alloc::{AllocError, Global};

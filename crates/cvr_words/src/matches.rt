@@ -6,7 +6,8 @@ ghost use Rattle.cvr_words.specs.Fault.{IsDrillFault};
 ghost use Rattle.cvr_words.specs.Line.{command_names};
 ghost use Rattle.cvr_words.specs.Request.{Asks, IsTask};
 ghost use Rattle.cvr_words.specs.Steps.{IsBadStep, bad_place, paths_of, steps_of};
-ghost use Rattle.cvr_words.specs.Rows.{HasNumber, HasWord, IsMergeWhole, IsNumber, AreRowsOf, IsWord, words_in};
+ghost use Rattle.cvr_words.specs.Rows.{HasNumber, HasWord, IsMergeWhole, IsNumber, AreRowsOf};
+ghost use Rattle.cvr_words.specs.Rows.{IsWord, words_in};
 
 use crate::fault::LineFault;
 use crate::request::{Request, Task};
@@ -54,10 +55,14 @@ fn words_at(alloc: Global, matches: &ArgMatches<'_>, id: &str) -> Result<Seq<Bod
 
 // The steps of a drill.
 fn steps_at(alloc: Global, matches: &ArgMatches<'_>) -> Result<Steps, LineFault>
-    ensures formed { IfOk result (λ r. bad_place (words_in (codes "STEP") (rows_of (found_of matches.now))) ≡ None) }
-    ensures steps { IfOk result (λ r. r.steps ≡ steps_of 0 (words_in (codes "STEP") (rows_of (found_of matches.now)))) }
-    ensures paths { IfOk result (λ r. r.paths ≡ paths_of (words_in (codes "STEP") (rows_of (found_of matches.now)))) }
-    ensures err { IfErr result (λ f. IsBadStep (words_in (codes "STEP") (rows_of (found_of matches.now))) f) }
+    ensures formed { IfOk result
+        (λ r. bad_place (words_in (codes "STEP") (rows_of (found_of matches.now))) ≡ None) }
+    ensures steps { IfOk result
+        (λ r. r.steps ≡ steps_of 0 (words_in (codes "STEP") (rows_of (found_of matches.now)))) }
+    ensures paths { IfOk result
+        (λ r. r.paths ≡ paths_of (words_in (codes "STEP") (rows_of (found_of matches.now)))) }
+    ensures err { IfErr result
+        (λ f. IsBadStep (words_in (codes "STEP") (rows_of (found_of matches.now))) f) }
 {
     read_steps(alloc, matches.get_strs("STEP").unwrap_or(&[]))
 }
@@ -67,7 +72,8 @@ fn files_request(alloc: Global, task: Task, matches: &ArgMatches<'_>) -> Result<
     requires { HasWord (codes "DEF") (rows_of (found_of matches.now)) }
     ensures task { IfOk result (λ r. r.task ≡ task) }
     ensures def { IfOk result (λ r. IsWord (codes "DEF") (rows_of (found_of matches.now)) r.def) }
-    ensures paths { IfOk result (λ r. r.paths ≡ words_in (codes "FILE") (rows_of (found_of matches.now))) }
+    ensures paths { IfOk result
+        (λ r. r.paths ≡ words_in (codes "FILE") (rows_of (found_of matches.now))) }
 {
     Ok(Request {
         task,
@@ -88,7 +94,8 @@ fn volume_number(matches: &ArgMatches<'_>) -> u32
 
 fn volume_of(matches: &ArgMatches<'_>) -> NonZeroU32
     requires { HasNumber (codes "VOLUME") 1 4294967295 (rows_of (found_of matches.now)) }
-    ensures { IsNumber (codes "VOLUME") 1 4294967295 (rows_of (found_of matches.now)) (non_zero_u32_get result) }
+    ensures { IsNumber (codes "VOLUME") 1 4294967295 (rows_of (found_of matches.now))
+        (non_zero_u32_get result) }
 {
     match NonZeroU32::new(volume_number(matches)) {
         Some(volume) => volume,
@@ -121,7 +128,8 @@ fn drill_request(alloc: Global, matches: &ArgMatches<'_>) -> Result<Request, Lin
     requires def { HasWord (codes "DEF") (rows_of (found_of matches.now)) }
     requires offices { HasNumber (codes "OFFICES") 1 64 (rows_of (found_of matches.now)) }
     ensures ok { IfOk result (λ r. Asks (codes "drill") (rows_of (found_of matches.now)) r) }
-    ensures err { IfErr result (λ f. IsDrillFault (codes "drill") (rows_of (found_of matches.now)) f) }
+    ensures err { IfErr result
+        (λ f. IsDrillFault (codes "drill") (rows_of (found_of matches.now)) f) }
 {
     let read = steps_at(alloc, matches)?;
     Ok(Request {

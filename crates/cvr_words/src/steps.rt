@@ -1,6 +1,7 @@
 ghost use Rattle.std.specs.Prelude.{◌≡◌, ◌∷◌, ◌++◌, [], IfErr, IfOk, None, OnOk, length, map};
 ghost use Rattle.cvr_words.specs.Step.{path_in};
-ghost use Rattle.cvr_words.specs.Steps.{act_at, bad_place, form_of, paths_of, step_at, steps_of, IsBadStep};
+ghost use Rattle.cvr_words.specs.Steps.{act_at, bad_place, form_of, paths_of, step_at, steps_of};
+ghost use Rattle.cvr_words.specs.Steps.{IsBadStep};
 ghost use Rattle.cvr_words.specs.declared.fault.LineFault.TheVariants.{BadStep};
 
 use crate::fault::LineFault;
@@ -37,7 +38,8 @@ fn add_step(
     text: &str,
     form: Form<'_>,
 ) -> Result<(), Memory>
-    ensures steps { OnOk result (steps.new ≡ steps.old ++ step_at (length paths.old) text.now (form_of form.entry) ∷ []) }
+    ensures steps { OnOk result
+        (steps.new ≡ steps.old ++ step_at (length paths.old) text.now (form_of form.entry) ∷ []) }
     ensures paths { OnOk result (paths.new ≡ paths.old ++ path_in (form_of form.entry)) }
 {
     let act = act_of(form, paths.as_slice().len());
