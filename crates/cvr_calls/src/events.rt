@@ -39,10 +39,11 @@ fn name_of(cause: &Cause) -> &'static str {
 
 // Tells the number of new facts, or the refusal.
 fn tell_outcome(text: &mut String, outcome: &Outcome) -> Result<(), Memory> {
-    match outcome {
-        Outcome::Accepted(count) => write!(text, "{count} ")?,
-        Outcome::Refused(cause) => write!(text, "{} ", name_of(cause))?,
-    }
+    let told = match outcome {
+        Outcome::Accepted(count) => write!(text, "{count} "),
+        Outcome::Refused(cause) => write!(text, "{} ", name_of(cause)),
+    };
+    told?;
     Ok(())
 }
 

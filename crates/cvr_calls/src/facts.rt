@@ -1,13 +1,23 @@
+ghost use Rattle.std.specs.Prelude.{IfOk};
+ghost use Rattle.cdf_typed.specs.Range.{ReportInRange};
+
 use crate::files::Files;
 use crate::offices::read_definition;
 use cdf_check::{Definition, check_report};
-use cdf_types::{Body, Memory, ReadFault, Seq};
+use cdf_types::{Body, Memory, ReadFault, Report, Seq};
 use cvr_facts::{BodySet, FactList, Join, SnapshotFact, facts_of, join_both};
 use std::alloc::Global;
 
+// The typed report of a file, of which only what `facts_of` needs is handed on.
+fn report_of(alloc: Global, definition: &Definition, bytes: &[u8]) -> Result<Report, ReadFault>
+    ensures { IfOk result (λ r. ReportInRange definition.now.contests r) }
+{
+    check_report(alloc, definition, bytes)
+}
+
 // The facts of a report.
 fn facts_in(alloc: Global, definition: &Definition, bytes: &[u8]) -> Result<FactList, ReadFault> {
-    let report = check_report(alloc, definition, bytes)?;
+    let report = report_of(alloc, definition, bytes)?;
     Ok(facts_of(alloc, definition, &report)?)
 }
 
