@@ -166,13 +166,14 @@ fn print_outcome(rt: &HostRuntime, outcome: &Outcome) -> anyhow::Result<()> {
     Ok(())
 }
 
-// Plays the events. A refused event changes nothing, and the next one follows.
+// Plays events. A refused event changes nothing, and the next one follows.
 fn played(
     alloc: Global,
     offices: &mut [PlainOffice],
     files: &[Vec<u8>],
+    events: &[Event],
 ) -> Result<Vec<Outcome>, Memory> {
-    play(alloc, offices, files, &EVENTS)
+    play(alloc, offices, files, events)
 }
 
 // Plays the events, and prints what became of each.
@@ -181,7 +182,7 @@ fn print_events(
     offices: &mut [PlainOffice],
     files: &[Vec<u8>],
 ) -> anyhow::Result<()> {
-    let outcomes = played(rt.alloc(), offices, files)?;
+    let outcomes = played(rt.alloc(), offices, files, &EVENTS)?;
     for outcome in outcomes.iter() {
         print_outcome(rt, outcome)?;
     }
