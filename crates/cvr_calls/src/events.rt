@@ -9,7 +9,8 @@ fn places_in(word: &str, sign: char) -> Option<(usize, usize)> {
     Some((one.parse().ok()?, other.parse().ok()?))
 }
 
-// The event of a word: office 1 imports file 2 by `1=2`, office 2 takes in what office 1 holds by `1>2`.
+// The event of a word: office 1 imports file 2 by `1=2`, office 2 takes in what office 1 holds by
+// `1>2`.
 fn event_of(word: &str) -> Option<Event> {
     if let Some((office, file)) = places_in(word, '=') {
         return Some(Event::Import { office, file });
@@ -63,7 +64,8 @@ fn tell_counts<O: Office>(text: &mut String, offices: &[O], office: &O) -> Resul
     Ok(())
 }
 
-// Plays events. A function of its own, so that no other proof has to carry all that is said of `play`.
+// Plays events. A function of its own, so that no other proof has to carry all that is said of
+// `play`.
 fn played<O: Office>(
     alloc: Global,
     offices: &mut [O],

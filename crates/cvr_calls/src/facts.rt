@@ -21,8 +21,8 @@ fn facts_in(alloc: Global, definition: &Definition, bytes: &[u8]) -> Result<Fact
     Ok(facts_of(alloc, definition, &report)?)
 }
 
-// Tells a snapshot: its record, its id, its Type, and of each contest its place, overvotes, undervotes, write-ins, and
-// the votes that are pending, unassigned and of each selection.
+// Tells a snapshot: its record, its id, its Type, and of each contest its place, overvotes,
+// undervotes, write-ins, and the votes that are pending, unassigned and of each selection.
 fn tell_snapshot(text: &mut String, snapshot: &SnapshotFact) -> Result<(), Memory> {
     let key = &snapshot.key;
     write!(

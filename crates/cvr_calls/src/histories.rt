@@ -69,8 +69,8 @@ fn volumes_at<O: Office>(
     volumes_of(alloc, offices.get(place).ok_or(ReadFault::NotJson)?)
 }
 
-// Plays a step, `0: 1=2 1>0` with volumes of the first office as files, or `1=2 1>0` with the reports; and tells what
-// became of it.
+// Plays a step, `0: 1=2 1>0` with volumes of the first office as files, or `1=2 1>0` with the
+// reports; and tells what became of it.
 fn tell_step<O: Office>(
     alloc: Global,
     pool: &Pool,
@@ -122,7 +122,8 @@ fn told_by_both(alloc: Global, pool: &Pool, history: &str) -> Result<String, Rea
     Ok(text)
 }
 
-/// Plays histories, and prints what offices tell of each. In the file they have an empty line between them.
+/// Plays histories, and prints what offices tell of each. In the file they have an empty line
+/// between them.
 pub fn print_histories(rt: &HostRuntime) -> anyhow::Result<()> {
     let pool = Pool::read(rt)?;
     let text = fs::read_to_string(rt, "histories.txt")?;

@@ -16,8 +16,8 @@ pub fn new_office<O: Office>(alloc: Global, bytes: &[u8]) -> Result<O, ReadFault
     Ok(O::new(alloc, definition)?)
 }
 
-// Has an office take in a file, and answers how many facts are new. A function of its own, so that no other proof has
-// to carry all that is said of `import`.
+// Has an office take in a file, and answers how many facts are new. A function of its own, so that
+// no other proof has to carry all that is said of `import`.
 fn import_once<O: Office>(office: &mut O, bytes: &[u8]) -> Result<usize, ReadFault> {
     Ok(office.import(bytes)?.new_facts)
 }
@@ -60,8 +60,8 @@ fn take<O: Office>(
     Ok(())
 }
 
-/// Tells what an office answers: its counts of records, facts and most bodies of a name, current snapshots, conflicts
-/// and the tally.
+/// Tells what an office answers: its counts of records, facts and most bodies of a name, current
+/// snapshots, conflicts and the tally.
 pub fn tell<O: Office>(alloc: Global, office: &O, text: &mut String) -> Result<(), Memory> {
     let (records, facts) = (office.record_count(), office.fact_count());
     writeln!(text, "{records} {facts} {}", office.greatest_count())?;

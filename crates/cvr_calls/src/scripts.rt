@@ -47,7 +47,8 @@ impl Script {
     }
 }
 
-// The scripts. Each public call that can answer out of memory, and that no command makes, stands in the name of one.
+// The scripts. Each public call that can answer out of memory, and that no command makes, stands in
+// the name of one.
 static SCRIPTS: [(&str, Script); 16] = [
     ("check_report, facts_of", Script::Facts),
     ("ReadFault, as a sentence", Script::Faults),

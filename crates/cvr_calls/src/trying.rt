@@ -20,8 +20,8 @@ fn is_told(told: &Result<String, ReadFault>, wanted: &str) -> bool {
     }
 }
 
-// Makes the calls of a copy, and answers whether they told what they tell where nothing is refused, or answered out
-// of memory where it was, and told it when made again.
+// Makes the calls of a copy, and answers whether they told what they tell where nothing is refused,
+// or answered out of memory where it was, and told it when made again.
 fn is_right(rt: &HostRuntime, script: Script, files: &Files, wanted: &str) -> bool {
     let told = script.told(rt.alloc(), files);
     let was_refused = next_byte(rt) == b'm';

@@ -1,5 +1,5 @@
-//! What a program that uses the libraries calls first, in the order in which it needs it. It reads a
-//! definition and reports that lie where it runs, and prints what the calls answer.
+//! What a program that uses the libraries calls first, in the order in which it needs it. It reads
+//! a definition and reports that lie where it runs, and prints what the calls answer.
 #![tactic(auto)]
 
 ghost use Rattle.std.specs.Prelude.{◌≡◌, ◌<◌, ◌≤◌, true};
@@ -24,8 +24,8 @@ static REPORTS: [&str; 4] = [
     "damaged.json",
 ];
 
-// What happens between two offices: each takes in one report, then each takes in what the other holds. The
-// last two events are refused: a damaged report, and an office that isn't there.
+// What happens between two offices: each takes in one report, then each takes in what the other
+// holds. The last two events are refused: a damaged report, and an office that isn't there.
 static EVENTS: [Event; 6] = [
     Event::Import { office: 0, file: 0 },
     Event::Import { office: 1, file: 1 },
@@ -58,7 +58,8 @@ fn read_definition(rt: &HostRuntime) -> anyhow::Result<Definition> {
     Ok(Definition::read(rt.alloc(), bytes.as_slice())?)
 }
 
-// Prints a fault of a file as the log of `cvr` has it: the code, the path and the number of the rule.
+// Prints a fault of a file as the log of `cvr` has it: the code, the path and the number of the
+// rule.
 fn print_fault(rt: &HostRuntime, name: &str, fault: &ReadFault) -> anyhow::Result<()> {
     match fault {
         ReadFault::TooLong => println!(rt; "{name}: E1")?,
@@ -71,8 +72,9 @@ fn print_fault(rt: &HostRuntime, name: &str, fault: &ReadFault) -> anyhow::Resul
     Ok(())
 }
 
-// The facts of a report. `check_report` answers what an accepted report has, as types, or its first fault;
-// of that `facts_of` makes the facts, each once: devices, headers of records, and their snapshots.
+// The facts of a report. `check_report` answers what an accepted report has, as types, or its first
+// fault; of that `facts_of` makes the facts, each once: devices, headers of records, and their
+// snapshots.
 fn facts_in(alloc: Global, definition: &Definition, bytes: &[u8]) -> Result<FactList, ReadFault> {
     let report = check_report(alloc, definition, bytes)?;
     Ok(facts_of(alloc, definition, &report)?)
@@ -116,8 +118,8 @@ fn import(
     Ok(())
 }
 
-// A new office, which holds the devices of its definition. Offices that are to exchange what they hold
-// have the same definition.
+// A new office, which holds the devices of its definition. Offices that are to exchange what they
+// hold have the same definition.
 fn new_office(rt: &HostRuntime, definition: &Definition) -> anyhow::Result<PlainOffice> {
     let alloc = rt.alloc();
     Ok(PlainOffice::new(alloc, definition.copy(alloc)?)?)
@@ -146,7 +148,8 @@ fn conflicts_of(alloc: Global, office: &PlainOffice) -> Result<String, Memory> {
     conflicts_text(alloc, &office.conflicts(alloc)?)
 }
 
-// Prints what an office tells. `current`, `row`, `record_facts` and others tell it of one record, or one row.
+// Prints what an office tells. `current`, `row`, `record_facts` and others tell it of one record,
+// or one row.
 fn print_texts(rt: &HostRuntime, office: &PlainOffice) -> anyhow::Result<()> {
     print!(rt; "{}", currents_text(rt.alloc(), office)?)?;
     print!(rt; "{}", tally_of(rt.alloc(), office)?)?;
@@ -216,8 +219,8 @@ fn write<O: Office>(
     Ok(volume)
 }
 
-// Writes the volumes of an office, which show all that it holds, and has another office take them in as
-// files. One volume is enough where nothing has two texts.
+// Writes the volumes of an office, which show all that it holds, and has another office take them
+// in as files. One volume is enough where nothing has two texts.
 fn pass_on(rt: &HostRuntime, giver: &PlainOffice, taker: &mut PlainOffice) -> anyhow::Result<()> {
     let heading = Heading::new(rt.alloc(), giver.definition(), DATE, DEVICE)?;
     for i in 1..=volumes(giver) {
@@ -250,8 +253,8 @@ fn show(rt: &HostRuntime, definition: &Definition) -> anyhow::Result<()> {
     exchange(rt, definition, files.as_slice())
 }
 
-// What is held at each way out of a function makes its proof long. So each function here holds little, and
-// hands it on.
+// What is held at each way out of a function makes its proof long. So each function here holds
+// little, and hands it on.
 fn main(rt: HostRuntime) -> anyhow::Result<()> {
     let definition = read_definition(&rt)?;
     show(&rt, &definition)
