@@ -7,7 +7,7 @@ ghost use Rattle.cvr_run.specs.Ends.{Ran};
 ghost use Rattle.cvr_run.specs.Explained.{AsksCode, Explains};
 ghost use Rattle.cvr_run.specs.Job.{Job};
 ghost use Rattle.cvr_run.specs.Listed.{AnswersListed, AsksListed, IsGivenEither, ListedRequest};
-ghost use Rattle.cvr_run.specs.Opening.{Opens};
+ghost use Rattle.cvr_run.specs.Opening.{Opens, SaysTheSame};
 ghost use Rattle.cvr_run.specs.Outcome.{bytes_of, IsWhole};
 ghost use Rattle.cvr_run.specs.OwnWords.{AsksVersion, PrintsOwn, version_text};
 ghost use Rattle.cvr_run.specs.declared.status.Status.TheVariants.{CommandLine};
@@ -67,6 +67,7 @@ pub fn work<O: Open, W: Sink, L: Sink>(
         (record { out = W.taken out.new; log = L.taken log.new }) }
     ensures asked { (request : Request) → IsRequest (named (map string_bytes words.now)) request
         → result ≢ CommandLine }
+    ensures says { SaysTheSame (O.state opener.old) (O.state opener.new) }
 {
     cvr_run::work::<CachedOffice, O, W, L>(alloc, opener, words, out, log)
 }
@@ -111,6 +112,7 @@ pub fn respond<O: Open, W: Sink, L: Sink>(
         (record { out = W.taken out.new; log = L.taken log.new }) }
     ensures asked { (request : Request) → IsRequest (named (map string_bytes words.now)) request
         → result ≢ CommandLine }
+    ensures says { SaysTheSame (O.state opener.old) (O.state opener.new) }
     ensures unopened { AsksVersion (map string_bytes words.now)
         ⊎ ((name : List ℕ) × AsksCode (map string_bytes words.now) name)
         → Opens (O.state opener.old) (O.state opener.new) [] }

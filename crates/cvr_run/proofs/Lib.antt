@@ -21,6 +21,7 @@ pub mod HeldSteps
 pub mod HeldBytes
 pub mod Opened
 pub mod OpenerExamples
+pub mod SaysTheSame
 pub mod ListedPaths
 pub mod ListWords
 pub mod Known

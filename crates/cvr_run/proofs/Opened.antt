@@ -8,7 +8,7 @@ use Rattle.cvr_run.specs.declared.status.Status.{Status}
 use Rattle.cvr_run.specs.declared.status.Status.TheVariants.{Memory}
 use Rattle.cvr_run.specs.File.{held_bytes, is_device}
 use Rattle.cvr_run.specs.Log.{memory_line}
-use Rattle.cvr_run.specs.Opening.{At, Unknown, Absent, Has, Opener, has_file, opened_more, IsOpened, IsRead, AreRead, FailedAt, Opens}
+use Rattle.cvr_run.specs.Opening.{At, Unknown, Absent, Has, Opener, has_file, opened_more, IsOpened, IsRead, AreRead, FailedAt, Opens, SaysTheSame}
 use Rattle.cvr_run.specs.Outcome.{bytes_of}
 use Rattle.cvr_run.specs.Worked.{unread_status, unread_line, Stop, Unread, NoRoom, CanStop, Stops}
 
@@ -98,12 +98,10 @@ opens_one_more old between new paths n path lt named first then =
     let more : take (n + 1) paths ≡ take n paths ++ path ∷ [] = take_more paths n [] lt ∙ ap (λ p. take n paths ++ p ∷ []) (sym named) in
     subst (Opens old new) (sym more) (opens_both old between new (take n paths) (path ∷ []) first then)
 
--- what it says of paths stays
-pub same_at : (old new : Opener) (paths : List (List ℕ)) → Opens old new paths → new.at ≡ old.at
-same_at old new paths opens = ap (λ (o : Opener). o.at) opens
-
-pub same_faults : (old new : Opener) (paths : List (List ℕ)) → Opens old new paths → new.may_fail ≡ old.may_fail
-same_faults old new paths opens = ap (λ (o : Opener). o.may_fail) opens
+-- whatever was opened
+pub opens_same : (old new : Opener) (paths : List (List ℕ)) → Opens old new paths → SaysTheSame old new
+opens_same old new paths opens =
+    record { at = ap (λ (o : Opener). o.at) opens; may_fail = ap (λ (o : Opener). o.may_fail) opens }
 
 -- ---- a run that stops
 

@@ -60,6 +60,11 @@ opened_more opener paths =
 abbrev pub Opens : Opener → Opener → List (List ℕ) → Type 0
 Opens old new paths = new ≡ opened_more old paths
 
+-- what an opener says of paths, and which readings may fail, is as it was
+pub record SaysTheSame (old new : Opener) : Type 0 where
+  pub at : new.at ≡ old.at
+  pub may_fail : new.may_fail ≡ old.may_fail
+
 -- ---- an example
 
 -- an opener that showed `a` and `b`, and was to open `c` and `a` more, shows the four in this order, and

@@ -7,6 +7,7 @@ ghost use Rattle.cvr_run.specs.Answered.{bad_step_line, Answers, IsGiven, TellsW
 ghost use Rattle.cvr_run.specs.Ends.{Ran};
 ghost use Rattle.cvr_run.specs.Job.{Job};
 ghost use Rattle.cvr_run.specs.Log.{Logs};
+ghost use Rattle.cvr_run.specs.Opening.{SaysTheSame};
 ghost use Rattle.cvr_run.specs.Outcome.{IsWhole};
 
 use crate::ending::{end_in_memory, end_with};
@@ -86,6 +87,7 @@ pub fn work<C: Office + Drop, O: Open, W: Sink, L: Sink>(
         (record { out = W.taken out.new; log = L.taken log.new }) }
     ensures asked { (request : Request) → IsRequest (named (map string_bytes words.now)) request
         → result ≢ CommandLine }
+    ensures says { SaysTheSame (O.state opener.old) (O.state opener.new) }
 {
     match read_line(alloc, words) {
         Ok(request) => run_request::<C, O, W, L>(alloc, opener, &request, out, log),

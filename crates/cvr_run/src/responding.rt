@@ -9,7 +9,7 @@ ghost use Rattle.cvr_run.specs.Explained.{AsksCode, Explains};
 ghost use Rattle.cvr_run.specs.Job.{Job};
 ghost use Rattle.cvr_run.specs.Listed.{AnswersListed, AsksListed, IsBefore, IsGivenEither};
 ghost use Rattle.cvr_run.specs.Listed.{ListedRequest, list_words};
-ghost use Rattle.cvr_run.specs.Opening.{Opens};
+ghost use Rattle.cvr_run.specs.Opening.{Opens, SaysTheSame};
 ghost use Rattle.cvr_run.specs.Outcome.{IsWhole};
 ghost use Rattle.cvr_run.specs.OwnWords.{AsksVersion, PrintsOwn, version_text};
 
@@ -58,6 +58,7 @@ fn respond_listed<C: Office + Drop, O: Open, W: Sink, L: Sink>(
         (record { out = W.taken out.new; log = L.taken log.new }) }
     ensures asked { (request : Request) → IsRequest (named (map string_bytes words.now)) request
         → result ≢ CommandLine }
+    ensures says { SaysTheSame (O.state opener.old) (O.state opener.new) }
 {
     match listed_request(alloc, words, listing) {
         Ok(Some(request)) => {
@@ -117,6 +118,7 @@ pub fn respond<C: Office + Drop, O: Open, W: Sink, L: Sink>(
         (record { out = W.taken out.new; log = L.taken log.new }) }
     ensures asked { (request : Request) → IsRequest (named (map string_bytes words.now)) request
         → result ≢ CommandLine }
+    ensures says { SaysTheSame (O.state opener.old) (O.state opener.new) }
     ensures unopened { AsksVersion (map string_bytes words.now)
         ⊎ ((name : List ℕ) × AsksCode (map string_bytes words.now) name)
         → Opens (O.state opener.old) (O.state opener.new) [] }

@@ -1,8 +1,9 @@
-use Rattle.std.proofs.Common.{inl, inr, map, string_bytes}
+use Rattle.std.proofs.Common.{inl, inr, map, string_bytes, refl}
 use Rattle.cvr_words.specs.Line.{named}
 use Rattle.cvr_words.proofs.Laws.{one_request}
 use Rattle.cvr_run.proofs.Unasked.{told_memory, not_asked, not_command_line}
 use Rattle.cvr_run.proofs.Opened.{opens_none}
+use Rattle.cvr_run.proofs.SaysTheSame.{does_same}
 use Rattle.cvr_run.proofs.answering.work.Goals as goal
 
 pub returns-in-Ok : goal.returns-in-Ok
@@ -14,6 +15,7 @@ returns-in-Ok g c =
       answers = inl (c.in-Ok.request, asked, told.does);
       given = λ job given whole. told.given job (one_request words job.request c.in-Ok.request given.asked asked) given.there whole;
       asked = λ r is. told.no_words;
+      says = does_same _ _ _ _ _ told.does;
     }
 
 pub returns-in-Err : goal.returns-in-Err
@@ -28,4 +30,5 @@ returns-in-Err g c =
       answers = inr (fault, is, opens_none (g.O.Open.state c.args.opener.now), told);
       given = λ job given whole. absurd (not_asked words job.request fault answer failed given.asked is told.status whole);
       asked = λ r asks. not_command_line answer (told_memory words r fault answer failed asks is told.status);
+      says = record { at = refl; may_fail = refl };
     }

@@ -7,7 +7,7 @@ use Rattle.cvr_run.specs.Listed.{HasNoList, ListedRequest}
 use Rattle.cvr_run.specs.Opening.{AreAt}
 use Rattle.cvr_run.specs.Told.{LogsSome}
 use Rattle.cvr_run.proofs.ListWords.{listed_done, no_list_ends, request_known}
-use Rattle.cvr_run.proofs.Opened.{same_at}
+use Rattle.cvr_run.proofs.Opened.{opens_same}
 use Rattle.cvr_run.proofs.listed.run_listed.Goals as goal
 
 pub returns-in-Ok : goal.returns-in-Ok
@@ -28,7 +28,7 @@ returns-in-Ok g c =
       does = listed_done asked answer (record { opener = old; out = before; log = b }) new unchanged place c.in-Ok.paths between c.place_of.ensures found.paths found.opens
           (subst (λ l. Does request answer (record { opener = between; out = before; log = g.L.Sink.taken l }) new unchanged) found.quiet told.does);
       given = λ job lists whole.
-          let there = subst (λ at. AreAt at (job.request.def ∷ job.request.paths) (job.def ∷ job.files)) (sym (same_at old between (place ∷ []) found.opens)) lists.there in
+          let there = subst (λ at. AreAt at (job.request.def ∷ job.request.paths) (job.def ∷ job.files)) (sym (opens_same old between (place ∷ []) found.opens).at) lists.there in
           subst (λ l. Ran job answer (record { out = before; log = g.L.Sink.taken l }) (record { out = new.out; log = new.log })) found.quiet
           (told.given job (request_known old.at asked job place c.in-Ok.paths c.place_of.ensures found.paths lists) there whole);
     }

@@ -8,7 +8,7 @@ use Rattle.cvr_run.specs.Opening.{Absent, AreRead, FailedAt, IsRead}
 use Rattle.cvr_run.specs.Outcome.{bytes_of}
 use Rattle.cvr_run.specs.Told.{LogsSome}
 use Rattle.cvr_run.specs.Worked.{unread_status, unread_line, Stops}
-use Rattle.cvr_run.proofs.Opened.{at_err, opens_both, opens_one_more, read_one_more, same_at, same_faults, stops_at, stops_full}
+use Rattle.cvr_run.proofs.Opened.{at_err, opens_both, opens_one_more, opens_same, read_one_more, stops_at, stops_full}
 use Rattle.cvr_run.proofs.opening.read_all.Goals as goal
 
 pub returns-in_err-file-clause-stops : goal.returns-in_err-file-clause-stops
@@ -26,10 +26,10 @@ returns-in_err-file-clause-stops g c =
     let was = c.loop-path.invariant in
     let told = c.in_err-file.ensures in
     let logs = subst (λ l. Logs (g.L.Sink.taken l) a (unread_line path cause)) was.quiet told.told in
-    let at = same_at old between (take n paths) was.opens in
+    let at = (opens_same old between (take n paths) was.opens).at in
     let device =
     subst (λ files. is_device cause ≡ true → FailedAt (files path) (old.may_fail path)) at
-    (subst (λ may. is_device cause ≡ true → FailedAt (between.at path) (may path)) (same_faults old between (take n paths) was.opens) told.device) in
+    (subst (λ may. is_device cause ≡ true → FailedAt (between.at path) (may path)) (opens_same old between (take n paths) was.opens).may_fail told.device) in
     let absent = subst (λ files. files path ≡ Absent → cause ≡ Device) at told.absent in
     let those = opens_both old between new (take n paths) (path ∷ []) was.opens told.opens in
     at_err c.from_residual.result (λ s. s ≡ unread_status cause) (λ s. LogsSome (Stops old new paths s) b a) c.from_residual.ensures.1
@@ -53,7 +53,7 @@ returns-then-is_err-clause-stops g c =
     let logs = subst (λ l. Logs (g.L.Sink.taken l) a memory_line) (told.quiet ∙ was.quiet) c.say_memory.ensures in
     let path = c.as_str.result.now in
     let file = c.in_ok-file.file.items in
-    let here = subst (λ files. IsRead (files path) file) (same_at old between (take n paths) was.opens) told.bytes in
+    let here = subst (λ files. IsRead (files path) file) (opens_same old between (take n paths) was.opens).at told.bytes in
     let those = opens_both old between new (take n paths) (path ∷ []) was.opens told.opens in
     (memory_line, stops_full old new paths NoMemory n path (bytes_of c.loop-path.files.items) file c.loop-path-test.true named was.read here those refl, logs)
 
@@ -75,7 +75,7 @@ loop-path-preserved g c =
       read =
           subst (λ fs. AreRead old.at (take (n + 1) paths) (bytes_of fs)) (sym pushed)
           (read_one_more old.at paths n path files file c.loop-path-test.true named was.read
-          (subst (λ at. IsRead (at path) file.items) (same_at old between (take n paths) was.opens) told.bytes));
+          (subst (λ at. IsRead (at path) file.items) (opens_same old between (take n paths) was.opens).at told.bytes));
       count = ap length pushed ∙ (length_push files file ∙ ap (λ k. k + 1) was.count);
       quiet = told.quiet ∙ was.quiet;
       opens = opens_one_more old between new paths n path c.loop-path-test.true named was.opens told.opens;

@@ -5,6 +5,7 @@ use Rattle.cvr_run.specs.Listed.{AnswersListed, ListedRequest}
 use Rattle.cvr_run.proofs.Known.{not_whole}
 use Rattle.cvr_run.proofs.ListWords.{given_lists, one_listed, only_paths}
 use Rattle.cvr_run.proofs.Opened.{opens_none}
+use Rattle.cvr_run.proofs.SaysTheSame.{does_listed_same}
 use Rattle.cvr_run.proofs.Unasked.{not_command_line, quiet_told}
 use Rattle.cvr_run.proofs.responding.respond_listed.Goals as goal
 
@@ -22,6 +23,7 @@ returns-in-Ok-Some g c =
       works = λ none. absurd (none asked asks);
       given = λ job given whole. told.given job (given_lists old.opener.at words asked job asks given) whole;
       asked = λ r is. absurd (asks.free r is);
+      says = does_listed_same asked c.run_listed.result old new unchanged told.does;
     }
 
 pub returns-in-Ok-None : goal.returns-in-Ok-None
@@ -34,6 +36,7 @@ returns-in-Ok-None g c =
       works = λ _. told.answers;
       given = λ job given whole. told.given job (only_paths (g.O.Open.state c.args.opener.now).at words job none given) whole;
       asked = told.asked;
+      says = told.says;
     }
 
 pub returns-in-Err : goal.returns-in-Err
@@ -48,4 +51,5 @@ returns-in-Err g c =
       works = λ none. inr (Memory, tt, unopened, tells);
       given = λ job given whole. absurd (not_whole answer (inr is) whole);
       asked = λ r asks. not_command_line answer is;
+      says = record { at = refl; may_fail = refl };
     }
