@@ -10,7 +10,7 @@ What becomes of files that were damaged on their way, and of runs whose devices 
   the fault is told, of each command, of help and of refused words. devices.c, which cc builds on the spot and LD_PRELOAD lays
   beside the program, is the device.
 - The program is killed at each such call of its output, and from outside while it writes a long volume to a file: what
-  stands is a front of the volume, and `check` refuses each proper one as no JSON.
+  stands is a prefix of the volume, and `check` refuses each proper one as no JSON.
 
 The texts are those of tests/rows/printed.py, help and refused words those of the rows. The last line is `damage: N right, M wrong`; the status is 0 only where M is 0
 and N is not."""

@@ -19,7 +19,8 @@ use Rattle.cdf_form.specs.declared.table.Kind.TheVariants.{One, Array}
 use Rattle.cdf_form.specs.Tables.{Entry, table, any, classes_of}
 use Rattle.cdf_form.specs.Form.{find_class}
 use Rattle.cdf_form.specs.HasForm.{HasForm, class, items, IsRow}
-use Rattle.cdf_parts.specs.Parts.{array_at, list_of}
+use Rattle.cdf_node.specs.Items.{list_of}
+use Rattle.cdf_parts.specs.Parts.{array_at}
 use Rattle.cdf_parts.proofs.Laws.{list_of-items_of}
 use Rattle.cdf_form.proofs.Lemmas.{class_of_group}
 use Rattle.cdf_definition.specs.References.{scope_of}

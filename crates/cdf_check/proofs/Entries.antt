@@ -8,7 +8,7 @@ use Rattle.std.proofs.lemmas.Map.Keys.{IsDistinct-from_sorted, IsDistinct-IsPerm
 use Rattle.std.proofs.lemmas.Map.Text.{is_eq-slice_cmp}
 use Rattle.std.proofs.lemmas.Map.Views.{Contains-from_lookup, lookup-from_Contains}
 use Rattle.std.proofs.lemmas.Slice.Eq.{bytes_eq-Decides}
-use Rattle.cdf_definition.specs.Named.{Entry, ids_of, text_of, by_id}
+use Rattle.cdf_definition.specs.Named.{IdText, ids_of, text_of, by_id}
 use Rattle.cdf_definition.proofs.Laws.{by_id_law}
 
 abbrev pub IsAmong : {X : Type 0} → List X → X → Type 0
@@ -31,25 +31,25 @@ from_among (y ∷ ys) x (inr a) = let c = from_among ys x a in (suc c.0, omega (
 -- ---- entries by their ids
 
 -- no id stands at two entries
-abbrev pub AreAlone : List Entry → Type 0
+abbrev pub AreAlone : List IdText → Type 0
 AreAlone es = IsDistinct bytes_eq (ids_of es)
 
-alone_by_id : (es : List Entry) → AreAlone (by_id es)
+alone_by_id : (es : List IdText) → AreAlone (by_id es)
 alone_by_id es =
     subst (λ eq. IsDistinct eq (ids_of (by_id es))) (λ i k l. is_eq-slice_cmp k l i)
     (IsDistinct-from_sorted (slice_cmp nat_cmp) (ids_of (by_id es)) (by_id_law es).rises)
 
-alone_reversed : (es : List Entry) → AreAlone es → AreAlone (reverse es)
+alone_reversed : (es : List IdText) → AreAlone es → AreAlone (reverse es)
 alone_reversed es alone =
     IsDistinct-IsPermutation bytes_eq nat_list_eq_equiv.symm (ids_of es) (ids_of (reverse es))
-    (IsPermutation-map (λ (e : Entry). e.0) es (reverse es) (IsPermutation-reverse es)) alone
+    (IsPermutation-map (λ (e : IdText). e.0) es (reverse es) (IsPermutation-reverse es)) alone
 
 -- what stands in one list stands in another with the same text beside each id
-same_texts : (es fs : List Entry) → AreAlone es → ((id : List ℕ) → text_of es id ≡ text_of fs id) → (x : Entry) → Contains es x → Contains fs x
+same_texts : (es fs : List IdText) → AreAlone es → ((id : List ℕ) → text_of es id ≡ text_of fs id) → (x : IdText) → Contains es x → Contains fs x
 same_texts es fs alone same x at =
     Contains-from_lookup (λ k l. (bytes_eq-Decides k l).0) x.0 x.1 fs (sym (same x.0) ∙ lookup-from_Contains nat_list_eq_equiv x.0 x.1 es alone at)
 
-pub same_by_id : (es : List Entry) → AreAlone es → (x : Entry) → Contains (by_id es) x ↔ Contains es x
+pub same_by_id : (es : List IdText) → AreAlone es → (x : IdText) → Contains (by_id es) x ↔ Contains es x
 same_by_id es alone x =
     let texts = (by_id_law es).texts in (
       (λ at. Contains-permutation _ _ x (IsPermutation-sym _ _ (IsPermutation-reverse es)) (same_texts (by_id es) (reverse es) (alone_by_id es) texts x at)),

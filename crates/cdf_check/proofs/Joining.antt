@@ -21,7 +21,7 @@ use Rattle.cdf_definition.specs.Sound.{IsSound, IsFrame, WasRead}
 use Rattle.cdf_definition.specs.Acceptance.{IsReport}
 use Rattle.cdf_check.specs.Wider.{Includes}
 use Rattle.cdf_check.specs.Apart.{with_records}
-use Rattle.cdf_check.specs.Within.{device_of, lists, parties_of, unit_of, AreNamed, ListsNamed}
+use Rattle.cdf_check.specs.Within.{named_device, lists, named_parties, named_unit, AreNamed, ListsNamed}
 use Rattle.cdf_definition.specs.Naming.{NamesOwn}
 use Rattle.cdf_check.proofs.NamedTexts.{listed_all, listed_at, many_listed, one_listed}
 use Rattle.cdf_definition.proofs.Laws.{sound}
@@ -35,7 +35,7 @@ use Rattle.cdf_check.proofs.Apart.{array_stays, agrees_apart}
 
 -- all that it names is there, where it names the definition's or its own and the rest is there
 resolved : (frame : Frame) (scope : Scope) (cvr : Data) → frame.contests ≡ scope.contests → ids_of frame.elections ≡ scope.elections → NamesOwn frame cvr
-    → lists scope.devices (device_of cvr) ≡ true → lists scope.units (unit_of cvr) ≡ true → lists scope.parties (parties_of cvr) ≡ true → in_cvr scope cvr ≡ []
+    → lists scope.devices (named_device cvr) ≡ true → lists scope.units (named_unit cvr) ≡ true → lists scope.parties (named_parties cvr) ≡ true → in_cvr scope cvr ≡ []
 resolved frame scope cvr contests elections names device unit parties =
     parts_cvr scope cvr record {
       unit = (one_listed scope.units (codes "BallotStyleUnitId") cvr).1 unit;
@@ -68,16 +68,16 @@ module _ (left : Data) (ds : List Data) (names : RecordNames) (named : AreNamed 
   pub all_resolved : (frame : Frame) → frame.contests ≡ scope.contests → ids_of frame.elections ≡ scope.elections → All (NamesOwn frame) ds → ListsNamed left names → (d : Data) → Contains ds d → in_cvr scope d ≡ []
   all_resolved frame contests elections all listed d at =
       resolved frame scope d contests elections (All-contains (NamesOwn frame) ds d all at)
-      (listed_at device_of scope.devices ds names.devices named.devices listed.devices d at)
-      (listed_at unit_of scope.units ds names.units named.units listed.units d at)
-      (listed_at parties_of scope.parties ds names.parties named.parties listed.parties d at)
+      (listed_at named_device scope.devices ds names.devices named.devices listed.devices d at)
+      (listed_at named_unit scope.units ds names.units named.units listed.units d at)
+      (listed_at named_parties scope.parties ds names.parties named.parties listed.parties d at)
 
   -- what records name is listed where all of it is there
   pub all_listed : ((d : Data) → Contains ds d → in_cvr scope d ≡ []) → ListsNamed left names
   all_listed none = record {
-    devices = listed_all device_of scope.devices ds names.devices named.devices (λ e at. (one_listed scope.devices (codes "CreatingDeviceId") e).0 (cvr_parts scope e (none e at)).device);
-    units = listed_all unit_of scope.units ds names.units named.units (λ e at. (one_listed scope.units (codes "BallotStyleUnitId") e).0 (cvr_parts scope e (none e at)).unit);
-    parties = listed_all parties_of scope.parties ds names.parties named.parties (λ e at. (many_listed scope.parties e).0 (cvr_parts scope e (none e at)).parties);
+    devices = listed_all named_device scope.devices ds names.devices named.devices (λ e at. (one_listed scope.devices (codes "CreatingDeviceId") e).0 (cvr_parts scope e (none e at)).device);
+    units = listed_all named_unit scope.units ds names.units named.units (λ e at. (one_listed scope.units (codes "BallotStyleUnitId") e).0 (cvr_parts scope e (none e at)).unit);
+    parties = listed_all named_parties scope.parties ds names.parties named.parties (λ e at. (many_listed scope.parties e).0 (cvr_parts scope e (none e at)).parties);
   }
 
 -- ---- the election is the definition's

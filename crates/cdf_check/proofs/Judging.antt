@@ -1,46 +1,43 @@
 -- The answer for a file, by what was seen of its records and by what is left beside them.
-use Rattle.std.proofs.Common.{◌≡◌, ◌≤◌, inl, inr, ◌+◌, ℕ, List, [], ◌∷◌, ◌++◌, length, Contains, true, false, Result, Ok, Err, Option, Some, None, IsSome, option_map, codes, refl, sym, ap, subst, ◌∙◌}
+use Rattle.std.proofs.Common.{◌≡◌, inl, inr, ◌+◌, ℕ, List, [], ◌∷◌, ◌++◌, Contains, true, false, Result, Ok, Err, Option, Some, None, IsSome, option_map, codes, refl, sym, ap, subst, ◌∙◌}
 use Rattle.std.specs.Prelude.{option_and_then, unwrap_or, IfOk, IfErr, OnOk}
-use Rattle.std.specs.Str.{IsUtf8, is_utf8}
-use Rattle.std.proofs.lemmas.Bool.{false_from_ne_true}
-use Rattle.std.proofs.lemmas.Str.{is_utf8-from_IsUtf8, IsUtf8-from_is_utf8}
 use Rattle.std.specs.Option.{option_or}
 use Rattle.serde_json.specs.Data.{Data, array, object, Items, no_items, Members}
 use Rattle.serde_json.specs.Find.{as_array, get, get_member}
 use Rattle.serde_json.specs.Read.{read}
 use Rattle.cdf_node.specs.View.{items_of}
 use Rattle.serde_json.specs.Written.{has_float}
-use Rattle.cdf_pull.specs.Fold.{list_of, items_found, items_under, left_beside, filled, IsFolded}
+use Rattle.cdf_pull.specs.Fold.{items_found, items_under, left_beside, filled, IsFolded}
 use Rattle.cdf_pull.specs.Laws.{IsBeside}
 use Rattle.cdf_pull.proofs.Laws.{beside}
 use Rattle.cdf_types.specs.declared.fault.ReadFault.{ReadFault}
-use Rattle.cdf_types.specs.declared.fault.ReadFault.TheVariants.{Reference, Disagrees, NotJson}
+use Rattle.cdf_types.specs.declared.fault.ReadFault.TheVariants.{Reference, Disagrees}
 use Rattle.cdf_types.specs.declared.report.Cvr.{Cvr}
 use Rattle.cdf_types.specs.declared.report.Report.{Report}
 use Rattle.cdf_types.specs.declared.report.ReportingDevice.{ReportingDevice}
 use Rattle.cdf_form.specs.declared.found.Path.{Path as Found}
 use Rattle.cdf_form.specs.Form as form
-use Rattle.cdf_form.specs.Form.{Fault, at_member, deeper}
+use Rattle.cdf_form.specs.Form.{Fault, at_member, deeper, first}
 use Rattle.cdf_form.specs.Found.{fault_of, path_of}
-use Rattle.cdf_parts.specs.Parts as parts
+use Rattle.cdf_node.specs.Items.{list_of}
 use Rattle.cdf_parts.specs.Parts.{array_at}
 use Rattle.cdf_form.specs.Path.{path_text}
-use Rattle.cdf_form.specs.Reading.{document_faults, refusal_of, IsMemory, value_of, max_file}
+use Rattle.cdf_form.specs.Reading.{document_faults, refusal_of, IsMemory}
 use Rattle.cdf_form.proofs.Laws.{whole_document}
 use Rattle.cdf_typed.specs.Typed.{report_of}
 use Rattle.cdf_typed.specs.Range.{ReportInRange}
 use Rattle.cdf_check.specs.declared.seen.Kept.{Kept}
 use Rattle.cdf_check.specs.declared.seen.Seen.{Seen}
-use Rattle.cdf_definition.specs.Paths.{Path, first, below, places, each}
+use Rattle.cdf_definition.specs.Paths.{Path, below, below_each, each}
 use Rattle.cdf_definition.specs.References.{Scope, scope_of, many, in_cvr, in_election, in_report, missing}
 use Rattle.cdf_definition.specs.Frame.{Frame}
 use Rattle.cdf_definition.specs.Agreement.{disagreements, Agrees}
-use Rattle.cdf_definition.specs.Acceptance.{Holds, IsReport, value_refusal, first_refusal, of_file, report_in, Valid}
+use Rattle.cdf_definition.specs.Acceptance.{Holds, IsReport, value_refusal, first_refusal, report_in, Valid}
 use Rattle.cdf_definition.specs.Sound.{IsFrame}
 use Rattle.cdf_check.specs.Apart.{with_records}
 use Rattle.cdf_check.specs.Seen.{Accepts, AreKept, IsUnnamed, IsJudged, HasForms, IsSeen, form_refusal, first_of_file, is_array, Settles, Refuses, IsRefusedFor}
 use Rattle.cdf_check.proofs.Apart.{records, typed_apart, array_stays, found_records, records_there, scope_stays}
-use Rattle.cdf_definition.proofs.Lemmas.{either, file_holds, is_short}
+use Rattle.cdf_definition.proofs.Lemmas.{either, file_holds}
 use Rattle.cdf_definition.proofs.Laws.{valid_file, value_law}
 use Rattle.cdf_definition.proofs.Laws.{agreement}
 use Rattle.cdf_definition.proofs.Lemmas.{at_head, at_tail}
@@ -65,7 +62,7 @@ abbrev of_rest : Members → List Path
 of_rest ms = each (in_election (own ms)) (codes "Election") (object ms) ++ many (own ms).devices (codes "ReportGeneratingDeviceIds") (object ms)
 
 module _ (ds : List Data) (ms : Members) where
-  missing_whole : IsSome (get_member records ms) → missing (with_records ds ms) ≡ below (at_member records) (places (in_cvr (own ms)) ds 0) ++ of_rest ms
+  missing_whole : IsSome (get_member records ms) → missing (with_records ds ms) ≡ below (at_member records) (below_each (in_cvr (own ms)) ds 0) ++ of_rest ms
   missing_whole some =
       ap (λ s. in_report s (with_records ds ms)) (scope_stays ds ms)
       ∙ rw (records_there ds ms some, array_stays (items_of ds) ms (codes "Election") refl, array_stays (items_of ds) ms (codes "ReportGeneratingDeviceIds") refl)
@@ -73,7 +70,7 @@ module _ (ds : List Data) (ms : Members) where
   missing_left : IsSome (get_member records ms) → filled records no_items ms ≡ ms → missing (object ms) ≡ of_rest ms
   missing_left some emptied =
       let none : array_at records (object ms) ≡ [] = subst (λ xs. array_at records (object xs) ≡ []) emptied (records_there [] ms some) in
-      ap (λ xs. below (at_member records) (places (in_cvr (own ms)) xs 0) ++ of_rest ms) none
+      ap (λ xs. below (at_member records) (below_each (in_cvr (own ms)) xs 0) ++ of_rest ms) none
 
   agreement_stays : (frame : Frame) → disagreements frame (with_records ds ms) ≡ disagreements frame (object ms)
   agreement_stays frame = cc (array_stays (items_of ds) ms (codes "Election") refl, array_stays (items_of ds) ms (codes "GpUnit") refl, array_stays (items_of ds) ms (codes "Party") refl)
@@ -98,7 +95,7 @@ list_again : (ds : List Data) → list_of (items_of ds) ≡ ds
 list_again [] = refl
 list_again (d ∷ ds) = ap (λ es. d ∷ es) (list_again ds)
 
-absent_none : (scope : Scope) (ds : List Data) (i : ℕ) → ((d : Data) → Contains ds d → in_cvr scope d ≡ []) → first (places (in_cvr scope) ds i) ≡ None
+absent_none : (scope : Scope) (ds : List Data) (i : ℕ) → ((d : Data) → Contains ds d → in_cvr scope d ≡ []) → first (below_each (in_cvr scope) ds i) ≡ None
 absent_none scope [] i none = refl
 absent_none scope (d ∷ ds) i none =
     rw (none d (at_head d ds)) (absent_none scope ds (i + 1) (λ e at. none e (at_tail d e ds at)))
@@ -117,16 +114,16 @@ module _ (frame : Frame) (text : List ℕ) (left : Data) (h : HasForms text left
   the_value d is = let whole = h.whole in cc
 
   -- what the records name, and what is left
-  refusal_own : value_refusal frame all ≡ refusal_with frame (first (places (in_cvr (own ms)) ds 0)) (object ms)
+  refusal_own : value_refusal frame all ≡ refusal_with frame (first (below_each (in_cvr (own ms)) ds 0)) (object ms)
   refusal_own =
       rw (h.sound, h.rest, missing_whole ds ms h.some, missing_left ds ms h.some h.emptied, agreement_stays ds ms frame)
-      (records_first (places (in_cvr (own ms)) ds 0) (of_rest ms) (option_map (λ p. Disagrees (path_text p)) (first (disagreements frame (object ms)))))
+      (records_first (below_each (in_cvr (own ms)) ds 0) (of_rest ms) (option_map (λ p. Disagrees (path_text p)) (first (disagreements frame (object ms)))))
 
   refused_by : {scope : Scope} {again : Data} (found : Option Found) → scope ≡ scope_of left → IsFolded (IsUnnamed scope) text records again found → value_refusal frame all ≡ refusal_with frame (option_map path_of found) left
   refused_by found is n =
       let listed : items_under records n.0 ≡ ds = rw (← the_value n.0 n.1) (ap items_found (found_records (items_of ds) ms h.some) ∙ list_again ds) in
-      let told : option_map path_of found ≡ first (places (in_cvr (scope_of left)) ds 0) = n.3 ∙ cc in
-      refusal_own ∙ ap (λ d. refusal_with frame (first (places (in_cvr (scope_of d)) ds 0)) d) (sym h.left_is) ∙ ap (λ o. refusal_with frame o left) (sym told)
+      let told : option_map path_of found ≡ first (below_each (in_cvr (scope_of left)) ds 0) = n.3 ∙ cc in
+      refusal_own ∙ ap (λ d. refusal_with frame (first (below_each (in_cvr (scope_of d)) ds 0)) d) (sym h.left_is) ∙ ap (λ o. refusal_with frame o left) (sym told)
 
   -- a record names what isn't there
   pub unnamed_first : {scope : Scope} {again : Data} (found : Found) → scope ≡ scope_of left → IsFolded (IsUnnamed scope) text records again (Some found)
@@ -198,7 +195,7 @@ array_of : (o : Option Data) → is_array o ≡ true → (es : Items) × (o ≡ 
 array_of (Some (array es)) e = (es, refl)
 array_of _ e = absurd (cc)
 
-none_at : (o : Option Data) → is_array o ≡ false → unwrap_or (option_map parts.list_of (option_and_then as_array o)) [] ≡ []
+none_at : (o : Option Data) → is_array o ≡ false → unwrap_or (option_map list_of (option_and_then as_array o)) [] ≡ []
 none_at None e = refl
 none_at (Some (array es)) e = absurd (cc)
 none_at (Some d) e = refl

@@ -15,7 +15,7 @@ use Rattle.cdf_form.specs.Form.{key_text}
 use Rattle.cdf_parts.specs.Parts.{array_at, id_of, the_election}
 use Rattle.cdf_form.specs.ByRow.{AllClasses, find_row, HasRow, ListApart}
 use Rattle.cdf_form.proofs.Laws.{row_of, items_have_form, items_are_apart}
-use Rattle.cdf_definition.specs.Named.{Entry, named, ids_of}
+use Rattle.cdf_definition.specs.Named.{IdText, named, ids_of}
 use Rattle.cdf_definition.specs.Frame.{entries_at}
 use Rattle.cdf_definition.specs.Acceptance.{IsReport}
 use Rattle.cdf_check.specs.Laws.{IsListOf, ListsLaw, AreFoundByIds, PlacesLaw}
@@ -132,7 +132,7 @@ devices_row = required (codes "ReportingDevice") (Array (leaf.Object group.Repor
 abbrev selections_row : tables.Entry
 selections_row = optional (codes "ContestSelection") (Array (leaf.Object group.ContestSelections) 0 any key.Id)
 
-alone_one : (e : Entry) → AreAlone (e ∷ [])
+alone_one : (e : IdText) → AreAlone (e ∷ [])
 unfolding IsDistinct
 alone_one e = (tt, tt)
 

@@ -20,9 +20,9 @@ use Rattle.cdf_parts.specs.Kept.{bytes_of}
 use Rattle.cdf_parts.specs.Parts.{array_at, text_in}
 use Rattle.cdf_parts.specs.Places.{Texts}
 use Rattle.cdf_form.proofs.Lemmas.{and-left, and-right}
-use Rattle.cdf_definition.specs.Paths.{Path, below, itself_unless, places}
+use Rattle.cdf_definition.specs.Paths.{Path, below, itself_unless, below_each}
 use Rattle.cdf_definition.specs.References.{unknown, one, many}
-use Rattle.cdf_check.specs.Within.{lists, parties_of, SameTexts}
+use Rattle.cdf_check.specs.Within.{lists, named_parties, SameTexts}
 use Rattle.cdf_definition.proofs.Lemmas.{inner}
 
 -- ---- texts, each once
@@ -109,17 +109,17 @@ listed_one ids s (Some x) ps texts h = known (list_any (bytes_eq x) ids)
     known true = h
     known false = ((λ e. cc), λ e. cc)
 
-listed_by : (ids : Texts) (es : List Data) (i : ℕ) → (places (λ e. unknown ids (as_str e)) es i ≡ []) ↔ (lists ids (filter_map as_str es) ≡ true)
+listed_by : (ids : Texts) (es : List Data) (i : ℕ) → (below_each (λ e. unknown ids (as_str e)) es i ≡ []) ↔ (lists ids (filter_map as_str es) ≡ true)
 listed_by ids [] i = ((λ _. refl), λ _. refl)
-listed_by ids (e ∷ es) i = listed_one ids (at_item i) (as_str e) (places (λ x. unknown ids (as_str x)) es (i + 1)) (filter_map as_str es) (listed_by ids es (i + 1))
+listed_by ids (e ∷ es) i = listed_one ids (at_item i) (as_str e) (below_each (λ x. unknown ids (as_str x)) es (i + 1)) (filter_map as_str es) (listed_by ids es (i + 1))
 
 -- a text under a name is there where it is listed
 pub one_listed : (ids : Texts) (name : List ℕ) (cvr : Data) → (one ids name cvr ≡ []) ↔ (lists ids (cons_option (text_in name cvr) []) ≡ true)
 one_listed ids name cvr = subst (λ ps. (ps ≡ []) ↔ (lists ids (cons_option (text_in name cvr) []) ≡ true)) (append-nil _) (listed_one ids (at_member name) (text_in name cvr) [] [] ((λ _. refl), λ _. refl))
 
 -- a record's parties are there where each text among its PartyIds is listed
-pub many_listed : (ids : Texts) (cvr : Data) → (many ids (codes "PartyIds") cvr ≡ []) ↔ (lists ids (parties_of cvr) ≡ true)
-many_listed ids cvr = inner (at_member (codes "PartyIds")) (places (λ e. unknown ids (as_str e)) (array_at (codes "PartyIds") cvr) 0) (listed_by ids (array_at (codes "PartyIds") cvr) 0)
+pub many_listed : (ids : Texts) (cvr : Data) → (many ids (codes "PartyIds") cvr ≡ []) ↔ (lists ids (named_parties cvr) ≡ true)
+many_listed ids cvr = inner (at_member (codes "PartyIds")) (below_each (λ e. unknown ids (as_str e)) (array_at (codes "PartyIds") cvr) 0) (listed_by ids (array_at (codes "PartyIds") cvr) 0)
 
 -- ---- those that records name
 

@@ -20,7 +20,7 @@ use Rattle.cdf_form.specs.declared.found.Path.{Path as Found}
 use Rattle.cdf_check.specs.declared.seen.Kept.{Kept}
 use Rattle.cdf_check.specs.declared.seen.Seen.{Seen}
 use Rattle.cdf_definition.specs.Paths as paths
-use Rattle.cdf_definition.specs.Paths.{Path, below, places}
+use Rattle.cdf_definition.specs.Paths.{Path, below, below_each}
 use Rattle.cdf_definition.specs.Frame.{Frame}
 use Rattle.cdf_check.specs.Within.{AreNamed}
 use Rattle.cdf_definition.specs.Naming.{NamesOwn}
@@ -59,9 +59,9 @@ module _ (ds : List Data) (d : Data) (place : ℕ) (at : place ≡ length ds) wh
       let all = gathered-append (λ i e. under (at_item i) (cvr_faults e)) (λ es i. items_faults (items_of es) (leaf.Object group.Cvrs) key.Free i []) (λ i. refl) (λ e es i. refl) ds d 0 place (omega (arith, at)) in
       rw all (first_next (cvrs_faults (items_of ds)) (cvr_faults d) (at_item place))
 
-  pub place_next : (f : Data → List Path) → paths.first (places f (ds ++ d ∷ []) 0) ≡ option_or (paths.first (places f ds 0)) (option_map (λ p. at_item place ∷ p) (paths.first (f d)))
+  pub place_next : (f : Data → List Path) → first (below_each f (ds ++ d ∷ []) 0) ≡ option_or (first (below_each f ds 0)) (option_map (λ p. at_item place ∷ p) (first (f d)))
   place_next f =
-      let all = gathered-append (λ i e. below (at_item i) (f e)) (places f) (λ i. refl) (λ e es i. refl) ds d 0 place (omega (arith, at)) in
+      let all = gathered-append (λ i e. below (at_item i) (f e)) (below_each f) (λ i. refl) (λ e es i. refl) ds d 0 place (omega (arith, at)) in
       rw (all, first_or, first_below)
 
 pub whole_first : (d : Data) → first (float_faults d) ≡ None → has_float d ≡ false
@@ -106,6 +106,6 @@ module _ {T : Type 0} (keeps : List Cvr → T → Type 0) (frame : Frame) (ds : 
       record { few = omega (arith, n, at, short); form = cc (h.form, form_next ds d place at); kept = kept }
 
 -- where the first path wasn't found, there is none
-pub no_path : (o : Option Found) (ps : List paths.Path) → option_map path_of o ≡ paths.first ps → o ≡ None → ps ≡ []
+pub no_path : (o : Option Found) (ps : List paths.Path) → option_map path_of o ≡ first ps → o ≡ None → ps ≡ []
 no_path o [] told none = refl
 no_path o (p ∷ ps) told none = cc

@@ -15,7 +15,7 @@ use Rattle.cdf_parts.specs.Parts.{array_at, the_election}
 use Rattle.cdf_parts.specs.Places.{contest_of}
 use Rattle.cdf_parts.specs.Proper.{IsProper}
 use Rattle.cdf_parts.proofs.Laws.{part_proper, listed_part, same_text}
-use Rattle.cdf_definition.specs.Named.{Entry, named, ids_of, texts_of, by_id}
+use Rattle.cdf_definition.specs.Named.{IdText, named, ids_of, texts_of, by_id}
 use Rattle.cdf_definition.specs.Frame.{Frame, frame_of, entries_at, IsSame}
 use Rattle.cdf_definition.specs.Sound.{IsSound, IsFrame, WasRead}
 use Rattle.cdf_definition.specs.Acceptance.{IsReport}
@@ -31,30 +31,30 @@ use Rattle.cdf_definition.proofs.Laws.{sound}
 -- ---- entries by their texts
 
 -- an entry of some object that is proper
-abbrev IsSpelled : Entry → Type 0
+abbrev IsSpelled : IdText → Type 0
 IsSpelled e = (d : Data) × IsProper max_depth d × (named d ≡ e)
 
-spelled_once : (x y : Entry) → IsSpelled x → IsSpelled y → x.1 ≡ y.1 → x ≡ y
+spelled_once : (x y : IdText) → IsSpelled x → IsSpelled y → x.1 ≡ y.1 → x ≡ y
 spelled_once x y p q same =
     let text = ap (λ e. e.1) p.2 ∙ same ∙ sym (ap (λ e. e.1) q.2) in
     sym p.2 ∙ ap named (same_text p.0 q.0 p.1.well p.1.whole p.1.shallow q.1.well q.1.whole q.1.shallow text) ∙ q.2
 
-abbrev AreSpelled : List Entry → Type 0
-AreSpelled es = (e : Entry) → IsAmong es e → IsSpelled e
+abbrev AreSpelled : List IdText → Type 0
+AreSpelled es = (e : IdText) → IsAmong es e → IsSpelled e
 
-text_among : (es : List Entry) (e : Entry) → IsAmong es e → IsAmong (texts_of es) e.1
+text_among : (es : List IdText) (e : IdText) → IsAmong es e → IsAmong (texts_of es) e.1
 text_among [] e a = absurd a
 text_among (x ∷ es) e (inl is) = inl (ap (λ z. z.1) is)
 text_among (x ∷ es) e (inr a) = inr (text_among es e a)
 
-of_text : (es : List Entry) (text : List ℕ) → IsAmong (texts_of es) text → (e : Entry) × IsAmong es e × (e.1 ≡ text)
+of_text : (es : List IdText) (text : List ℕ) → IsAmong (texts_of es) text → (e : IdText) × IsAmong es e × (e.1 ≡ text)
 of_text [] text a = absurd a
 of_text (x ∷ es) text (inl is) = (x, inl refl, is)
 of_text (x ∷ es) text (inr a) = let m = of_text es text a in (m.0, inr m.1, m.2)
 
 -- an entry is also where its text is
-within : (es fs : List Entry) → AreSpelled es → AreSpelled fs → ((text : List ℕ) → Contains (texts_of es) text → Contains (texts_of fs) text)
-    → (e : Entry) → IsAmong es e → IsAmong fs e
+within : (es fs : List IdText) → AreSpelled es → AreSpelled fs → ((text : List ℕ) → Contains (texts_of es) text → Contains (texts_of fs) text)
+    → (e : IdText) → IsAmong es e → IsAmong fs e
 within es fs p q there e a =
     let text = among_from (texts_of fs) e.1 (there e.1 (from_among (texts_of es) e.1 (text_among es e a))) in
     let m = of_text fs e.1 text in
@@ -65,14 +65,14 @@ within es fs p q there e a =
 abbrev order : List ℕ → List ℕ → Ordering
 order = slice_cmp nat_cmp
 
-abbrev Rises : List Entry → Type 0
+abbrev Rises : List IdText → Type 0
 Rises es = IsStrictlySortedBy order (ids_of es)
 
 -- each id comes after this one
-abbrev Under : List ℕ → List Entry → Type 0
+abbrev Under : List ℕ → List IdText → Type 0
 Under k es = AllByRecursion (λ i. order k i ≡ Less) (ids_of es)
 
-under : (k : List ℕ) (es : List Entry) (e : Entry) → Under k es → IsAmong es e → order k e.0 ≡ Less
+under : (k : List ℕ) (es : List IdText) (e : IdText) → Under k es → IsAmong es e → order k e.0 ≡ Less
 under k [] e h a = absurd a
 under k (x ∷ es) e h (inl is) = subst (λ z. order k z.0 ≡ Less) is h.0
 under k (x ∷ es) e h (inr a) = under k es e h.1 a
@@ -80,17 +80,17 @@ under k (x ∷ es) e h (inr a) = under k es e h.1 a
 not_below_itself : (k : List ℕ) → order k k ≡ Less → ⊥
 not_below_itself k h = let both : Less ≡ Equal = sym h ∙ tied_itself nat_list_cmp_total k in Prim.cc both
 
-same_heads : (x y : Entry) (xs ys : List Entry) → Under x.0 xs → Under y.0 ys → IsAmong (y ∷ ys) x → IsAmong (x ∷ xs) y → x ≡ y
+same_heads : (x y : IdText) (xs ys : List IdText) → Under x.0 xs → Under y.0 ys → IsAmong (y ∷ ys) x → IsAmong (x ∷ xs) y → x ≡ y
 same_heads x y xs ys h k (inl is) b = sym is
 same_heads x y xs ys h k (inr a) (inl is) = is
 same_heads x y xs ys h k (inr a) (inr b) = absurd (not_below_itself x.0 (nat_list_cmp_total.trans x.0 y.0 x.0 (under x.0 xs y h b) (under y.0 ys x k a)))
 
-in_tail : (x y e : Entry) (xs ys : List Entry) → Under x.0 xs → x ≡ y → IsAmong xs e → IsAmong (y ∷ ys) e → IsAmong ys e
+in_tail : (x y e : IdText) (xs ys : List IdText) → Under x.0 xs → x ≡ y → IsAmong xs e → IsAmong (y ∷ ys) e → IsAmong ys e
 in_tail x y e xs ys h is a (inl first) = absurd (not_below_itself x.0 (subst (λ z. order x.0 z.0 ≡ Less) (sym first ∙ sym is) (under x.0 xs e h a)))
 in_tail x y e xs ys h is a (inr b) = b
 
 -- with the same entries they are one list
-same_lists : (xs ys : List Entry) → Rises xs → Rises ys → ((e : Entry) → IsAmong xs e → IsAmong ys e) → ((e : Entry) → IsAmong ys e → IsAmong xs e) → xs ≡ ys
+same_lists : (xs ys : List IdText) → Rises xs → Rises ys → ((e : IdText) → IsAmong xs e → IsAmong ys e) → ((e : IdText) → IsAmong ys e → IsAmong xs e) → xs ≡ ys
 unfolding IsStrictlySortedBy
 same_lists [] [] h k there back = refl
 same_lists [] (y ∷ ys) h k there back = absurd (back y (inl refl))
@@ -102,7 +102,7 @@ same_lists (x ∷ xs) (y ∷ ys) h k there back =
 
 -- ---- two reports that were read
 
-source : (ds : List Data) (e : Entry) → IsAmong (map named ds) e → (d : Data) × IsAmong ds d × (named d ≡ e)
+source : (ds : List Data) (e : IdText) → IsAmong (map named ds) e → (d : Data) × IsAmong ds d × (named d ≡ e)
 source [] e a = absurd a
 source (d ∷ ds) e (inl is) = (d, inl refl, is)
 source (d ∷ ds) e (inr a) = let m = source ds e a in (m.0, inr m.1, m.2)
@@ -175,7 +175,7 @@ same_devices f g p q same =
 
 -- ---- the laws
 
-texts_same : (es fs : List Entry) → texts_of es ≡ texts_of fs → HaveSameTexts es fs
+texts_same : (es fs : List IdText) → texts_of es ≡ texts_of fs → HaveSameTexts es fs
 texts_same es fs is text = (subst (λ ts. Contains ts text) is, subst (λ ts. Contains ts text) (sym is))
 
 agree : (f g : Frame) → IsSame f g → AgreeInTexts f g

@@ -1,6 +1,6 @@
 -- References that name something still do where more can be named.
 use Rattle.std.proofs.Common.{◌≡◌, ℕ, List, [], ◌∷◌, ◌++◌, map, Contains}
-use Rattle.std.proofs.Common.{Bool, true, false, cond, ◌||◌, bytes_eq, Option, Some, None, codes, true≢false}
+use Rattle.std.proofs.Common.{Bool, true, false, cond, ◌||◌, bytes_eq, Option, Some, None, codes}
 use Rattle.std.proofs.Common.{refl, sym, ap, ◌∙◌, subst}
 use Rattle.std.proofs.lemmas.Slice.Eq.{bytes_eq-Decides}
 use Rattle.std.specs.List.{list_any}
@@ -9,12 +9,13 @@ use Rattle.serde_json.specs.Data.{Data}
 use Rattle.serde_json.specs.Find.{get, as_str, as_array}
 use Rattle.serde_json.specs.Written.{compact_text}
 use Rattle.cdf_form.specs.Form.{at_member}
-use Rattle.cdf_parts.specs.Parts.{array_at, ids_at, id_of, list_of, text_at, text_in}
+use Rattle.cdf_node.specs.Items.{list_of}
+use Rattle.cdf_parts.specs.Parts.{array_at, ids_at, id_of, text_at, text_in}
 use Rattle.cdf_parts.specs.Places.{Texts, Contest, contest_ids, selections_of}
-use Rattle.cdf_definition.specs.Paths.{Path, below, itself_unless, places, each}
+use Rattle.cdf_definition.specs.Paths.{Path, below, itself_unless, below_each, each}
 use Rattle.cdf_definition.specs.References.{Scope, scope_of, unknown, one, many}
 use Rattle.cdf_definition.specs.References.{in_selection_vote, in_contest_vote, in_snapshot, in_cvr}
-use Rattle.cdf_definition.specs.Named.{Entry, ids_of, text_of}
+use Rattle.cdf_definition.specs.Named.{IdText, ids_of, text_of}
 use Rattle.cdf_definition.specs.Frame.{Frame, scope_in}
 use Rattle.cdf_definition.specs.Agreement.{Agrees}
 use Rattle.cdf_definition.specs.Bodies.{IsInHeader}
@@ -106,10 +107,10 @@ kept_one ids name d h same e = ap (λ o. below (at_member name) (unknown ids (op
 
 kept_many : (ids : Texts) (name : List ℕ) (d h : Data) → get name h ≡ get name d → many ids name d ≡ [] → many ids name h ≡ []
 kept_many ids name d h same e =
-    ap (λ o. below (at_member name) (places (λ x. unknown ids (as_str x)) (array_in o) 0)) same ∙ e
+    ap (λ o. below (at_member name) (below_each (λ x. unknown ids (as_str x)) (array_in o) 0)) same ∙ e
 
 none_each : (f : Data → List Path) (name : List ℕ) (h : Data) → get name h ≡ None → each f name h ≡ []
-none_each f name h none = ap (λ o. below (at_member name) (places f (array_in o) 0)) none
+none_each f name h none = ap (λ o. below (at_member name) (below_each f (array_in o) 0)) none
 
 none_one : (ids : Texts) (name : List ℕ) (h : Data) → get name h ≡ None → one ids name h ≡ []
 none_one ids name h none = ap (λ o. below (at_member name) (unknown ids (option_and_then as_str o))) none
@@ -139,13 +140,13 @@ listed_at true text found rest later h e = refl
 listed_at false text found rest later h e = h e
 
 -- an id that has a text is one of the ids
-pub text_listed : (entries : List Entry) (id text : List ℕ) → text_of entries id ≡ Some text
+pub text_listed : (entries : List IdText) (id text : List ℕ) → text_of entries id ≡ Some text
     → list_any (bytes_eq id) (ids_of entries) ≡ true
 text_listed [] id text e = absurd (cc)
 text_listed (x ∷ xs) id text e =
     listed_at (bytes_eq id x.0) x.1 text (text_of xs id) (list_any (bytes_eq id) (ids_of xs)) (text_listed xs id text) e
 
-covers_at : (entries : List Entry) (d : Data) (ds : List Data) (s : List ℕ) (b : Bool) → bytes_eq s (id_of d) ≡ b
+covers_at : (entries : List IdText) (d : Data) (ds : List Data) (s : List ℕ) (b : Bool) → bytes_eq s (id_of d) ≡ b
     → list_any (bytes_eq (id_of d)) (ids_of entries) ≡ true
     → (list_any (bytes_eq s) (map id_of ds) ≡ true → list_any (bytes_eq s) (ids_of entries) ≡ true)
     → (b || list_any (bytes_eq s) (map id_of ds)) ≡ true → list_any (bytes_eq s) (ids_of entries) ≡ true
@@ -153,7 +154,7 @@ covers_at entries d ds s true is here rest e =
     subst (λ x. list_any (bytes_eq x) (ids_of entries) ≡ true) (sym ((bytes_eq-Decides s (id_of d)).0 is)) here
 covers_at entries d ds s false is here rest e = rest e
 
-pub covers : (entries : List Entry) (ds : List Data)
+pub covers : (entries : List IdText) (ds : List Data)
     → ((e : Data) → Contains ds e → text_of entries (id_of e) ≡ Some (compact_text e)) → Includes (map id_of ds) (ids_of entries)
 covers entries [] h s e = absurd (cc)
 covers entries (d ∷ ds) h s e =

@@ -12,14 +12,14 @@ use Rattle.cdf_definition.specs.Acceptance.{first_unsound, first_refusal, frame_
 -- ---- the report
 
 -- the text that stands at a member, from the member's name with its class and the text of the plain report
-abbrev pub Text : Type 0
-Text = List ℕ → List ℕ → List ℕ
+abbrev pub TextAt : Type 0
+TextAt = List ℕ → List ℕ → List ℕ
 
-abbrev pub plain : Text
+abbrev pub plain : TextAt
 plain member text = text
 
 -- the plain text, but for one member
-abbrev pub but : List ℕ → List ℕ → Text
+abbrev pub but : List ℕ → List ℕ → TextAt
 but changed other member text = if bytes_eq member changed then other else text
 
 -- an object's id and class, with the text of its other members
@@ -27,19 +27,19 @@ abbrev pub object : List ℕ → List ℕ → List ℕ → List ℕ
 object id class more = codes "{\"@id\":\"" ++ id ++ codes "\",\"@type\":\"CVR." ++ class ++ codes "\"" ++ more ++ codes "}"
 
 -- a member whose text may be changed
-abbrev pub member : Text → List ℕ → List ℕ → List ℕ → List ℕ
+abbrev pub member : TextAt → List ℕ → List ℕ → List ℕ → List ℕ
 member at class name text = codes ",\"" ++ name ++ codes "\":\"" ++ at (class ++ codes "." ++ name) text ++ codes "\""
 
 -- one whose value is an array of a text that stays, and of one that may be changed
-abbrev pub members : Text → List ℕ → List ℕ → List ℕ → List ℕ
+abbrev pub members : TextAt → List ℕ → List ℕ → List ℕ → List ℕ
 members at class name text = codes ",\"" ++ name ++ codes "\":[\"" ++ text ++ codes "\",\"" ++ at (class ++ codes "." ++ name) text ++ codes "\"]"
 
 -- Ann, a candidate of the Greens
-abbrev pub candidate : Text → List ℕ
+abbrev pub candidate : TextAt → List ℕ
 candidate at = object (codes "ann") (codes "Candidate") (member at (codes "Candidate") (codes "PartyId") (codes "green"))
 
 -- a contest for mayor with Ann, and one for the council with the Greens
-abbrev pub contests : Text → List ℕ
+abbrev pub contests : TextAt → List ℕ
 contests at =
     object (codes "mayor") (codes "CandidateContest") (codes ",\"ContestSelection\":[" ++
     object (codes "for-ann") (codes "CandidateSelection") (members at (codes "CandidateSelection") (codes "CandidateIds") (codes "ann")) ++ codes "]") ++
@@ -47,13 +47,13 @@ contests at =
     object (codes "council") (codes "PartyContest") (codes ",\"ContestSelection\":[" ++
     object (codes "for-green") (codes "PartySelection") (members at (codes "PartySelection") (codes "PartyIds") (codes "green")) ++ codes "]")
 
-abbrev pub election : Text → List ℕ
+abbrev pub election : TextAt → List ℕ
 election at =
     object (codes "e") (codes "Election") (codes ",\"Candidate\":[" ++ candidate at ++ codes "],\"Contest\":[" ++ contests at ++ codes "]" ++
     member at (codes "Election") (codes "ElectionScopeId") (codes "p1") ++ member at (codes "Election") (codes "Name") (codes "fall"))
 
 -- a mark for Ann
-abbrev pub snapshot : Text → List ℕ → List ℕ
+abbrev pub snapshot : TextAt → List ℕ → List ℕ
 snapshot at id =
     object id (codes "CVRSnapshot") (codes ",\"CVRContest\":[{\"@type\":\"CVR.CVRContest\",\"CVRContestSelection\":[{\"@type\":\"CVR.CVRContestSelection\"" ++
     member at (codes "CVRContestSelection") (codes "ContestSelectionId") (codes "for-ann") ++
@@ -61,24 +61,24 @@ snapshot at id =
     member at (codes "CVRContest") (codes "ContestId") (codes "mayor") ++ codes "}],\"Type\":\"original\"")
 
 -- a cast vote record with one snapshot
-abbrev pub cvr : Text → List ℕ → List ℕ
+abbrev pub cvr : TextAt → List ℕ → List ℕ
 cvr at id =
     codes "{\"@type\":\"CVR.CVR\"" ++ member at (codes "CVR") (codes "BallotStyleUnitId") (codes "p1") ++ codes ",\"CVRSnapshot\":[" ++ snapshot at id ++ codes "]" ++
     member at (codes "CVR") (codes "CreatingDeviceId") (codes "s1") ++ member at (codes "CVR") (codes "CurrentSnapshotId") id ++
     member at (codes "CVR") (codes "BatchId") (codes "b1") ++ member at (codes "CVR") (codes "ElectionId") (codes "e") ++ members at (codes "CVR") (codes "PartyIds") (codes "green") ++ codes ",\"UniqueId\":\"" ++ id ++ codes "\"}"
 
 -- a precinct, whose ReportingDeviceIds are kept unread
-abbrev pub unit : Text → List ℕ
+abbrev pub unit : TextAt → List ℕ
 unit at = object (codes "p1") (codes "GpUnit") (member at (codes "GpUnit") (codes "Name") (codes "hill") ++ codes ",\"ReportingDeviceIds\":[\"none\"]")
 
-abbrev pub party : Text → List ℕ
+abbrev pub party : TextAt → List ℕ
 party at = object (codes "green") (codes "Party") (member at (codes "Party") (codes "Name") (codes "Greens"))
 
-abbrev pub device : Text → List ℕ
+abbrev pub device : TextAt → List ℕ
 device at = object (codes "s1") (codes "ReportingDevice") (member at (codes "ReportingDevice") (codes "Model") (codes "M1"))
 
 -- a report of two records, the second of which stays as it is
-abbrev pub report : Text → List ℕ
+abbrev pub report : TextAt → List ℕ
 report at =
     codes "{\"@type\":\"CVR.CastVoteRecordReport\",\"CVR\":[" ++ cvr at (codes "a") ++ codes "," ++ cvr plain (codes "b") ++ codes "],\"Election\":[" ++ election at ++
     codes "],\"GeneratedDate\":\"2024-11-05T20:00:00Z\",\"GpUnit\":[" ++ unit at ++ codes "],\"Party\":[" ++ party at ++ codes "]" ++

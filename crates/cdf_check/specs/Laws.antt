@@ -10,7 +10,7 @@ use Rattle.serde_json.specs.Written.{compact_text}
 use Rattle.cdf_parts.specs.Parts.{array_at, ids_at, id_of, text_at, the_election}
 use Rattle.cdf_parts.specs.Places.{place_in, contest_of}
 use Rattle.cdf_typed.specs.Typed.{header_of}
-use Rattle.cdf_definition.specs.Named.{Entry, named, ids_of}
+use Rattle.cdf_definition.specs.Named.{IdText, named, ids_of}
 use Rattle.cdf_definition.specs.Frame.{Frame, entries_at, scope_in}
 use Rattle.cdf_definition.specs.Sound.{IsFrame}
 use Rattle.cdf_definition.specs.Acceptance.{IsReport, Valid, value_in}
@@ -24,9 +24,9 @@ SameElectionLaw = (frame : Frame) (bytes : List ℕ) → IsFrame frame → Valid
     → frame.contests ≡ map contest_of (array_at (codes "Contest") (the_election (value_in bytes)))
 
 -- the list has the objects of the array under a name, and rises strictly by id
-pub record IsListOf (entries : List Entry) (name : List ℕ) (d : Data) : Type 0 where
+pub record IsListOf (entries : List IdText) (name : List ℕ) (d : Data) : Type 0 where
   pub rises : IsStrictlySortedBy (slice_cmp nat_cmp) (ids_of entries)
-  pub members : (e : Entry) → Contains entries e ↔ Contains (map named (array_at name d)) e
+  pub members : (e : IdText) → Contains entries e ↔ Contains (map named (array_at name d)) e
 
 -- so do the lists of a definition
 abbrev pub ListsLaw : Type 0

@@ -4,7 +4,7 @@ use Rattle.cdf_types.specs.declared.fault.ReadFault.{ReadFault}
 use Rattle.cdf_types.specs.declared.fault.ReadFault.TheVariants.{Schema, Reference, Disagrees}
 use Rattle.cdf_types.specs.declared.rule.Rule.TheVariants.{Missing, Fractional, RepeatedId, NotWhole}
 use Rattle.cdf_definition.specs.Acceptance.{first_unsound, first_refusal, frame_in}
-pub use Rattle.cdf_definition.specs.Sample.{election, units, devices, report_with, report, definition_file}
+pub use Rattle.cdf_definition.specs.Sample.{election, units, devices_text, report_with, report, definition_file}
 
 -- ---- the report's parts
 
@@ -97,8 +97,8 @@ other_unit_and_election_file =
 -- ---- the answers
 
 -- what is told of a file beside the definition
-abbrev pub Tells : List ℕ → Option ReadFault → Type 0
-Tells bytes fault = first_refusal (frame_in definition_file) bytes ≡ fault
+abbrev pub RefusedFor : List ℕ → Option ReadFault → Type 0
+RefusedFor bytes fault = first_refusal (frame_in definition_file) bytes ≡ fault
 
 -- the first contest selection of a file
 abbrev pub selection_path : List ℕ
@@ -109,46 +109,46 @@ abbrev pub OneDefinition : Type 0
 OneDefinition = first_unsound one_file ≡ None
 
 abbrev pub OneFile : Type 0
-OneFile = Tells one_file None
+OneFile = RefusedFor one_file None
 
 -- the first fault is told, and not the later one
 abbrev pub FirstFault : Type 0
-FirstFault = Tells two_faults_file (Some (Schema (codes "/CVR/0/UniqueId") Missing))
+FirstFault = RefusedFor two_faults_file (Some (Schema (codes "/CVR/0/UniqueId") Missing))
 
 -- the number that isn't whole comes before every other fault
 abbrev pub FractionFirst : Type 0
-FractionFirst = Tells fraction_file (Some (Schema (codes "/Extra") NotWhole))
+FractionFirst = RefusedFor fraction_file (Some (Schema (codes "/Extra") NotWhole))
 
 -- fractional votes are refused, whatever their text
 abbrev pub FractionalVotes : Type 0
-FractionalVotes = Tells fractional_votes_file (Some (Schema (selection_path ++ codes "SelectionPosition/0/FractionalVotes") Fractional))
+FractionalVotes = RefusedFor fractional_votes_file (Some (Schema (selection_path ++ codes "SelectionPosition/0/FractionalVotes") Fractional))
 
 -- the path spells `/` and `~` of a name as `~1` and `~0`
 abbrev pub EscapedPath : Type 0
-EscapedPath = Tells escaped_file (Some (Schema (codes "/a~1b~0") NotWhole))
+EscapedPath = RefusedFor escaped_file (Some (Schema (codes "/a~1b~0") NotWhole))
 
 -- the fault stands at the later id
 abbrev pub RepeatedSnapshot : Type 0
-RepeatedSnapshot = Tells repeated_id_file (Some (Schema (codes "/CVR/0/CVRSnapshot/1/@id") RepeatedId))
+RepeatedSnapshot = RefusedFor repeated_id_file (Some (Schema (codes "/CVR/0/CVRSnapshot/1/@id") RepeatedId))
 
 -- a selection has to be one of the contest that it stands in
 abbrev pub OtherSelection : Type 0
-OtherSelection = Tells other_selection_file (Some (Reference (selection_path ++ codes "ContestSelectionId")))
+OtherSelection = RefusedFor other_selection_file (Some (Reference (selection_path ++ codes "ContestSelectionId")))
 
 -- an unknown contest is itself the fault, and the selections under it are not
 abbrev pub UnknownContest : Type 0
-UnknownContest = Tells unknown_contest_file (Some (Reference (codes "/CVR/0/CVRSnapshot/0/CVRContest/0/ContestId")))
+UnknownContest = RefusedFor unknown_contest_file (Some (Reference (codes "/CVR/0/CVRSnapshot/0/CVRContest/0/ContestId")))
 
 abbrev pub UnknownCurrent : Type 0
-UnknownCurrent = Tells unknown_current_file (Some (Reference (codes "/CVR/0/CurrentSnapshotId")))
+UnknownCurrent = RefusedFor unknown_current_file (Some (Reference (codes "/CVR/0/CurrentSnapshotId")))
 
 -- each object has to be the definition's
 abbrev pub OtherElection : Type 0
-OtherElection = Tells other_election_file (Some (Disagrees (codes "/Election/0")))
+OtherElection = RefusedFor other_election_file (Some (Disagrees (codes "/Election/0")))
 
 abbrev pub OtherUnit : Type 0
-OtherUnit = Tells other_unit_file (Some (Disagrees (codes "/GpUnit/0")))
+OtherUnit = RefusedFor other_unit_file (Some (Disagrees (codes "/GpUnit/0")))
 
 -- a reference is told before a disagreement
 abbrev pub ReferenceFirst : Type 0
-ReferenceFirst = Tells other_unit_and_election_file (Some (Reference (codes "/CVR/0/ElectionId")))
+ReferenceFirst = RefusedFor other_unit_and_election_file (Some (Reference (codes "/CVR/0/ElectionId")))

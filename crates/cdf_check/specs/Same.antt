@@ -1,12 +1,12 @@
 -- When two definitions are the same, by the sets of their texts, and what they then share. (This project's own.)
 use Rattle.std.specs.Prelude.{◌≡◌, ◌↔◌, ℕ, List}
 use Rattle.std.specs.List.{Contains}
-use Rattle.cdf_definition.specs.Named.{Entry, texts_of}
+use Rattle.cdf_definition.specs.Named.{IdText, texts_of}
 use Rattle.cdf_definition.specs.Frame.{Frame, IsSame}
 use Rattle.cdf_definition.specs.Sound.{IsFrame}
 
 -- the two lists have the same texts, in any order
-abbrev pub HaveSameTexts : List Entry → List Entry → Type 0
+abbrev pub HaveSameTexts : List IdText → List IdText → Type 0
 HaveSameTexts es fs = (text : List ℕ) → Contains (texts_of es) text ↔ Contains (texts_of fs) text
 
 -- they agree in the texts of Election, GpUnits and Parties

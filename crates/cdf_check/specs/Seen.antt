@@ -25,8 +25,7 @@ use Rattle.cdf_form.specs.Records.{cvrs_faults}
 use Rattle.cdf_typed.specs.Typed.{cvr_of, report_of}
 use Rattle.cdf_check.specs.declared.seen.Kept.{Kept}
 use Rattle.cdf_check.specs.declared.seen.Seen.{Seen}
-use Rattle.cdf_definition.specs.Paths as paths
-use Rattle.cdf_definition.specs.Paths.{places}
+use Rattle.cdf_definition.specs.Paths.{below_each}
 use Rattle.cdf_definition.specs.References.{Scope, in_cvr}
 use Rattle.cdf_definition.specs.Frame.{Frame}
 use Rattle.cdf_definition.specs.Sound.{IsSound}
@@ -87,7 +86,7 @@ pub record IsSeen {T : Type 0} (keeps : List Cvr → T → Type 0) (frame : Fram
 
 -- this is the first text of records that names nothing, from their array
 abbrev pub IsUnnamed : Scope → List Data → Option Found → Type 0
-IsUnnamed scope ds found = option_map path_of found ≡ paths.first (places (in_cvr scope) ds 0)
+IsUnnamed scope ds found = option_map path_of found ≡ first (below_each (in_cvr scope) ds 0)
 
 -- ---- the answer
 

@@ -6,18 +6,16 @@ use Rattle.serde_json.specs.Find.{as_str}
 use Rattle.cdf_parts.specs.Parts.{array_at, ids_at, text_in}
 use Rattle.cdf_parts.specs.Places.{Texts}
 use Rattle.cdf_check.specs.declared.record_names.RecordNames.{RecordNames}
-use Rattle.cdf_definition.specs.Paths.{each}
-use Rattle.cdf_definition.specs.References.{one}
 
 -- the device, the unit and the parties that a record names
-abbrev pub device_of : Data → Texts
-device_of cvr = cons_option (text_in (codes "CreatingDeviceId") cvr) []
+abbrev pub named_device : Data → Texts
+named_device cvr = cons_option (text_in (codes "CreatingDeviceId") cvr) []
 
-abbrev pub unit_of : Data → Texts
-unit_of cvr = cons_option (text_in (codes "BallotStyleUnitId") cvr) []
+abbrev pub named_unit : Data → Texts
+named_unit cvr = cons_option (text_in (codes "BallotStyleUnitId") cvr) []
 
-abbrev pub parties_of : Data → Texts
-parties_of cvr = filter_map as_str (array_at (codes "PartyIds") cvr)
+abbrev pub named_parties : Data → Texts
+named_parties cvr = filter_map as_str (array_at (codes "PartyIds") cvr)
 
 -- the same texts, in any order and any number
 abbrev pub SameTexts : Texts → Texts → Type 0
@@ -25,9 +23,9 @@ SameTexts xs ys = (s : List ℕ) → list_any (bytes_eq s) xs ≡ list_any (byte
 
 -- these are the devices, units and parties that the records name
 pub record AreNamed (ds : List Data) (names : RecordNames) : Type 0 where
-  pub devices : SameTexts names.devices (flat_map device_of ds)
-  pub units : SameTexts names.units (flat_map unit_of ds)
-  pub parties : SameTexts names.parties (flat_map parties_of ds)
+  pub devices : SameTexts names.devices (flat_map named_device ds)
+  pub units : SameTexts names.units (flat_map named_unit ds)
+  pub parties : SameTexts names.parties (flat_map named_parties ds)
 
 -- each of the texts is one of the ids
 abbrev pub lists : Texts → Texts → Bool

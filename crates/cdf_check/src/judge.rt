@@ -6,7 +6,7 @@ ghost use Rattle.serde_json.specs.Read.{read as read_data};
 ghost use Rattle.cdf_node.specs.View.{view};
 ghost use Rattle.serde_json.specs.Written.{has_float};
 ghost use Rattle.cdf_pull.specs.Fold.{IsFolded};
-ghost use Rattle.cdf_form.specs.Found.{Tells, fault_of};
+ghost use Rattle.cdf_form.specs.Found.{StopsAt, fault_of};
 ghost use Rattle.cdf_parts.specs.Parts.{array_at};
 ghost use Rattle.cdf_typed.specs.Typed.{report_of};
 ghost use Rattle.cdf_definition.specs.Agreement.{disagreements};
@@ -38,7 +38,7 @@ fn first_fault<'a>(
     ensures none { OnOk result
         (first_of_file (view left.now) (option_map fault_of of_records.entry) ≡ None) }
     ensures fault { IfErr result (λ s.
-        Tells s (first_of_file (view left.now) (option_map fault_of of_records.entry))) }
+        StopsAt s (first_of_file (view left.now) (option_map fault_of of_records.entry))) }
 {
     find_float(alloc, left)?;
     class_of(alloc, Group::Reports, left)?;

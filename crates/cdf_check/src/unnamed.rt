@@ -1,10 +1,9 @@
 ghost use Rattle.std.specs.Prelude.{◌≡◌, ◌∷◌, None, Some, IfOk, option_map, codes};
 ghost use Rattle.cdf_node.specs.View.{view};
 ghost use Rattle.cdf_types.specs.declared.fault.ReadFault.TheVariants.{Reference};
-ghost use Rattle.cdf_form.specs.Form.{at_member, at_item};
+ghost use Rattle.cdf_form.specs.Form.{at_member, at_item, first};
 ghost use Rattle.cdf_form.specs.Path.{path_text};
 ghost use Rattle.cdf_form.specs.Found.{path_of};
-ghost use Rattle.cdf_definition.specs.Paths.{first};
 ghost use Rattle.cdf_definition.specs.References.{in_cvr};
 ghost use Rattle.cdf_definition.specs.Scoped.{scope_view};
 ghost use Rattle.cdf_definition.specs.Acceptance.{value_refusal};

@@ -6,11 +6,11 @@ use Rattle.std.proofs.lemmas.Bool.Decides.{nat_tests}
 use Rattle.serde_json.specs.Data.{Data}
 use Rattle.cdf_types.specs.declared.fault.ReadFault.{ReadFault}
 use Rattle.cdf_types.specs.declared.fault.ReadFault.TheVariants.{TooLong, Reference, Disagrees}
-use Rattle.cdf_form.specs.Form.{Fault}
+use Rattle.cdf_form.specs.Form.{Fault, first}
 use Rattle.cdf_form.specs.Form as form
 use Rattle.cdf_form.specs.Path.{path_text}
 use Rattle.cdf_form.specs.Reading.{value_of, max_file, document_faults, refusal_of}
-use Rattle.cdf_definition.specs.Paths.{Path, first}
+use Rattle.cdf_definition.specs.Paths.{Path}
 use Rattle.cdf_definition.specs.References.{missing}
 use Rattle.cdf_definition.specs.Agreement.{disagreements, Agrees}
 use Rattle.cdf_definition.specs.Frame.{Frame}

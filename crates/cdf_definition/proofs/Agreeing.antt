@@ -5,7 +5,7 @@ use Rattle.serde_json.specs.Data.{Data}
 use Rattle.serde_json.specs.Written.{compact_text}
 use Rattle.cdf_parts.specs.Parts.{id_of}
 use Rattle.cdf_definition.specs.Paths.{each}
-use Rattle.cdf_definition.specs.Named.{Entry, text_of}
+use Rattle.cdf_definition.specs.Named.{IdText, text_of}
 use Rattle.cdf_definition.specs.Agreement.{differing, AreListed}
 use Rattle.cdf_definition.specs.Laws.{AgreementLaw}
 use Rattle.cdf_definition.proofs.Empty.{two, unless_nil, nil_unless, all_items}
@@ -17,12 +17,12 @@ own_text s (Some t) = (
   λ e. let same : t ≡ s = cc in (bytes_eq-Decides s t).1 (sym same),
 )
 
-object_law : (entries : List Entry) (e : Data) → (differing entries e ≡ []) ↔ (text_of entries (id_of e) ≡ Some (compact_text e))
+object_law : (entries : List IdText) (e : Data) → (differing entries e ≡ []) ↔ (text_of entries (id_of e) ≡ Some (compact_text e))
 object_law entries e =
     let h = own_text (compact_text e) (text_of entries (id_of e)) in
     ((λ n. h.0 (unless_nil _ n)), λ is. nil_unless _ (h.1 is))
 
-list_law : (entries : List Entry) (name : List ℕ) (d : Data) → (each (differing entries) name d ≡ []) ↔ AreListed entries name d
+list_law : (entries : List IdText) (name : List ℕ) (d : Data) → (each (differing entries) name d ≡ []) ↔ AreListed entries name d
 list_law entries = all_items (differing entries) (λ e. text_of entries (id_of e) ≡ Some (compact_text e)) (object_law entries)
 
 pub agreement : AgreementLaw

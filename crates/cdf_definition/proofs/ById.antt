@@ -12,7 +12,7 @@ use Rattle.std.proofs.lemmas.List.{reverse-append}
 use Rattle.std.proofs.lemmas.Map.Text.{is_eq-slice_cmp}
 use Rattle.serde_json.specs.Data.{Data}
 use Rattle.cdf_parts.specs.Parts.{array_at}
-use Rattle.cdf_definition.specs.Named.{Entry, named, by_id, text_of}
+use Rattle.cdf_definition.specs.Named.{IdText, named, by_id, text_of}
 use Rattle.cdf_definition.specs.Frame.{Frame, frame_of}
 use Rattle.cdf_definition.specs.Laws.{ByIdLaw}
 
@@ -46,7 +46,7 @@ module _ {K X : Type 0} (R : K → K → Ordering) where
 abbrev order : List ℕ → List ℕ → Ordering
 order = slice_cmp nat_cmp
 
-found : (es : List Entry) (id : List ℕ) → text_of es id ≡ find order id es
+found : (es : List IdText) (id : List ℕ) → text_of es id ≡ find order id es
 found [] id = refl
 found (e ∷ es) id = λ i. cond (sym (is_eq-slice_cmp id e.0) i) (Some e.1) (found es id i)
 
@@ -58,31 +58,31 @@ by_id_law es = record {
       ∙ get-from_entries nat_list_cmp_total (reverse es) id ∙ sym (found (reverse es) id);
 }
 
-pub by_id-push : (es : List Entry) (e : Entry) → by_id (es ++ e ∷ []) ≡ put order e.0 e.1 (by_id es)
+pub by_id-push : (es : List IdText) (e : IdText) → by_id (es ++ e ∷ []) ≡ put order e.0 e.1 (by_id es)
 by_id-push es e =
     ap (λ l. entries (from_entries {R = order} l)) (reverse-append es (e ∷ []))
     ∙ entries-insert nat_list_cmp_total (from_entries {R = order} (reverse es)) e.0 e.1
 
 -- ---- put in one after another, as they are computed
 
-abbrev pub put_all : List Entry → List Entry → List Entry
+abbrev pub put_all : List IdText → List IdText → List IdText
 put_all done [] = done
 put_all done (e ∷ es) = put_all (put order e.0 e.1 done) es
 
-no_entries : (es : List Entry) → length es ≡ 0 → es ≡ []
+no_entries : (es : List IdText) → length es ≡ 0 → es ≡ []
 no_entries [] none = refl
 no_entries (e ∷ es) none = absurd (omega arith)
 
-put_behind : (es done : List Entry) → entries (from_entries {R = order} (reverse_aux es done)) ≡ put_all (entries (from_entries {R = order} done)) es
+put_behind : (es done : List IdText) → entries (from_entries {R = order} (reverse_aux es done)) ≡ put_all (entries (from_entries {R = order} done)) es
 put_behind [] done = refl
 put_behind (e ∷ es) done =
     put_behind es (e ∷ done) ∙ ap (λ l. put_all l es) (entries-insert nat_list_cmp_total (from_entries {R = order} done) e.0 e.1)
 
-pub by_id-put : (es : List Entry) → by_id es ≡ put_all [] es
+pub by_id-put : (es : List IdText) → by_id es ≡ put_all [] es
 by_id-put es =
     put_behind es [] ∙ ap (λ l. put_all l es) (no_entries (entries empty) (sym (len-entries empty) ∙ len-empty order (List ℕ)))
 
-abbrev put_at : List ℕ → Data → List Entry
+abbrev put_at : List ℕ → Data → List IdText
 put_at name d = put_all [] (map named (array_at name d))
 
 -- a frame whose lists compute

@@ -5,7 +5,8 @@ use Rattle.std.specs.Str.{is_utf8}
 use Rattle.serde_json.specs.Data.{Data, null, boolean, number, string, array, object, Items, no_items, item}
 use Rattle.serde_json.specs.Find.{get, get_item, as_array}
 use Rattle.serde_json.specs.Read.{read}
-use Rattle.cdf_parts.specs.Parts.{list_of, array_at}
+use Rattle.cdf_node.specs.Items.{list_of}
+use Rattle.cdf_parts.specs.Parts.{array_at}
 use Rattle.cdf_parts.specs.Proper.{IsProper}
 use Rattle.cdf_form.specs.Reading.{value_of}
 use Rattle.cdf_parts.proofs.Laws.{member_proper, item_proper, proper_read}

@@ -3,7 +3,7 @@ use Rattle.std.proofs.Common.{◌≡◌, ◌↔◌, ◌<◌, ℕ, zero, suc, ◌
 use Rattle.serde_json.specs.Data.{Data}
 use Rattle.cdf_form.specs.Form.{Step, at_member, at_item}
 use Rattle.cdf_parts.specs.Parts.{array_at}
-use Rattle.cdf_definition.specs.Paths.{Path, below, itself_unless, places, each}
+use Rattle.cdf_definition.specs.Paths.{Path, below, itself_unless, below_each, each}
 use Rattle.cdf_definition.specs.Resolves.{Each}
 
 -- ---- lists
@@ -47,20 +47,20 @@ pub at_tail : (d e : Data) (ds : List Data) → Contains ds e → Contains (d �
 at_tail d e ds c = (suc c.0, omega (arith, c.1), c.2)
 
 module _ (f : Data → List Path) (P : Data → Type 0) (told : (e : Data) → (f e ≡ []) ↔ P e) where
-  items_nil : (ds : List Data) (i j : ℕ) (e : Data) → places f ds i ≡ [] → j < length ds → slice_index_or ds j e ≡ e → P e
+  items_nil : (ds : List Data) (i j : ℕ) (e : Data) → below_each f ds i ≡ [] → j < length ds → slice_index_or ds j e ≡ e → P e
   items_nil [] i j e h lt is = absurd (omega arith)
   items_nil (d ∷ ds) i zero e h lt is = subst P is ((told d).0 (below_nil (at_item i) (f d) (left_nil _ _ h)))
   items_nil (d ∷ ds) i (suc j) e h lt is = items_nil ds (i + 1) j e (right_nil _ _ h) (omega arith) is
 
-  nil_items : (ds : List Data) (i : ℕ) → ((e : Data) → Contains ds e → P e) → places f ds i ≡ []
+  nil_items : (ds : List Data) (i : ℕ) → ((e : Data) → Contains ds e → P e) → below_each f ds i ≡ []
   nil_items [] i h = refl
   nil_items (d ∷ ds) i h =
-      both_nil (below (at_item i) (f d)) (places f ds (i + 1))
+      both_nil (below (at_item i) (f d)) (below_each f ds (i + 1))
       (ap (below (at_item i)) ((told d).1 (h d (at_head d ds))))
       (nil_items ds (i + 1) (λ e c. h e (at_tail d e ds c)))
 
   -- no item has a path where each has what its own paths tell
   pub all_items : (name : List ℕ) (d : Data) → (each f name d ≡ []) ↔ Each P name d
   all_items name d =
-      inner (at_member name) (places f (array_at name d) 0)
+      inner (at_member name) (below_each f (array_at name d) 0)
       ((λ h e c. items_nil (array_at name d) 0 c.0 e h c.1 c.2), nil_items (array_at name d) 0)

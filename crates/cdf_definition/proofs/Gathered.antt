@@ -13,7 +13,7 @@ use Rattle.cdf_node.specs.declared.node.Node.{Node}
 use Rattle.cdf_parts.specs.Places.{Texts, place_in}
 use Rattle.cdf_parts.specs.Kept.{bytes_of}
 use Rattle.cdf_parts.proofs.Lemmas.{length-bytes_of}
-use Rattle.cdf_definition.specs.Named.{Entry, named, by_id, map_entries, ids_of, texts_of, text_of}
+use Rattle.cdf_definition.specs.Named.{IdText, named, by_id, map_entries, ids_of, texts_of, text_of}
 use Rattle.cdf_definition.proofs.ById.{by_id-push}
 
 -- ---- gathering
@@ -37,7 +37,7 @@ gathered_more es fs k v vs i x h e is n =
     let now : map_entries fs ≡ put (slice_cmp nat_cmp) (string_bytes k) v (map_entries es) = rw is (entries_of-insert_entry es k v) in
     let more : map named (map view (take (i + 1) vs)) ≡ map named (map view (take i vs)) ++ named (view (get_or vs i x)) ∷ [] = rw (take_more vs i x h, map-append view (take i vs), map-append named (map view (take i vs))) in
     now ∙ ap (put (slice_cmp nat_cmp) (string_bytes k) v) e
-    ∙ ap (λ (m : Entry). put (slice_cmp nat_cmp) m.0 m.1 (by_id (map named (map view (take i vs))))) n
+    ∙ ap (λ (m : IdText). put (slice_cmp nat_cmp) m.0 m.1 (by_id (map named (map view (take i vs))))) n
     ∙ sym (ap by_id more ∙ by_id-push (map named (map view (take i vs))) (named (view (get_or vs i x))))
 
 -- ---- pairs
@@ -59,7 +59,7 @@ texts_of-zip [] (y ∷ texts) e = absurd (omega arith)
 texts_of-zip (x ∷ ids) [] e = absurd (omega arith)
 texts_of-zip (x ∷ ids) (y ∷ texts) e = ap (λ zs. y ∷ zs) (texts_of-zip ids texts (omega arith))
 
-pub pairs_more : (ids : List (String Global)) (texts : Texts) (id : String Global) (text : List ℕ) (rest more : List Held) (all : List Entry) → length ids ≡ length texts → zip (bytes_of ids) texts ++ map_entries rest ≡ all
+pub pairs_more : (ids : List (String Global)) (texts : Texts) (id : String Global) (text : List ℕ) (rest more : List Held) (all : List IdText) → length ids ≡ length texts → zip (bytes_of ids) texts ++ map_entries rest ≡ all
     → rest ≡ (id, text) ∷ more → zip (bytes_of (ids ++ id ∷ [])) (texts ++ text ∷ []) ++ map_entries more ≡ all
 pairs_more ids texts id text rest more all e is step =
     let same : length (bytes_of ids) ≡ length texts = length-bytes_of ids ∙ e in

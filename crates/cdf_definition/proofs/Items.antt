@@ -1,8 +1,8 @@
 -- The first of lists of paths.
 use Rattle.std.proofs.Common.{◌≡◌, List, [], ◌∷◌, ◌++◌, option_map, refl}
 use Rattle.std.specs.Option.{option_or}
-use Rattle.cdf_form.specs.Form.{Step}
-use Rattle.cdf_definition.specs.Paths.{Path, first, below}
+use Rattle.cdf_form.specs.Form.{Step, first}
+use Rattle.cdf_definition.specs.Paths.{Path, below}
 
 -- that of two lists
 pub first_or : (xs ys : List Path) → first (xs ++ ys) ≡ option_or (first xs) (first ys)

@@ -15,7 +15,7 @@ use Rattle.cdf_form.specs.Path.{path_text}
 use Rattle.cdf_form.specs.Reading.{value_of, max_file, document_faults, refusal_of}
 use Rattle.cdf_parts.specs.Places.{Contest}
 use Rattle.cdf_typed.specs.Typed.{report_of}
-use Rattle.cdf_definition.specs.Paths.{first}
+use Rattle.cdf_form.specs.Form.{first}
 use Rattle.cdf_definition.specs.References.{missing}
 use Rattle.cdf_definition.specs.Resolves.{Resolves}
 use Rattle.cdf_definition.specs.Frame.{Frame, frame_of}

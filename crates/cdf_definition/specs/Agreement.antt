@@ -5,14 +5,14 @@ use Rattle.serde_json.specs.Data.{Data}
 use Rattle.serde_json.specs.Written.{compact_text}
 use Rattle.cdf_parts.specs.Parts.{array_at, id_of}
 use Rattle.cdf_definition.specs.Paths.{Path, itself_unless, each}
-use Rattle.cdf_definition.specs.Named.{Entry, text_of}
+use Rattle.cdf_definition.specs.Named.{IdText, text_of}
 use Rattle.cdf_definition.specs.Frame.{Frame}
 
 -- whether an object has the text that stands beside its id
-abbrev pub agrees : List Entry → Data → Bool
+abbrev pub agrees : List IdText → Data → Bool
 agrees entries d = unwrap_or (option_map (bytes_eq (compact_text d)) (text_of entries (id_of d))) false
 
-abbrev pub differing : List Entry → Data → List Path
+abbrev pub differing : List IdText → Data → List Path
 differing entries d = itself_unless (agrees entries d)
 
 -- the paths of the objects that are not the definition's, in the order of Election, GpUnit, Party, by place
@@ -24,7 +24,7 @@ disagreements frame d = each (differing frame.elections) (codes "Election") d
 -- ---- the same with no paths and no order
 
 -- each object in the array under a name has the text that stands beside its id
-abbrev pub AreListed : List Entry → List ℕ → Data → Type 0
+abbrev pub AreListed : List IdText → List ℕ → Data → Type 0
 AreListed entries name d = (e : Data) → Contains (array_at name d) e → text_of entries (id_of e) ≡ Some (compact_text e)
 
 pub record Agrees (frame : Frame) (d : Data) : Type 0 where

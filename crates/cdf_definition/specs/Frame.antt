@@ -3,18 +3,18 @@ use Rattle.std.specs.Prelude.{◌≡◌, ℕ, List, map, codes}
 use Rattle.serde_json.specs.Data.{Data}
 use Rattle.cdf_parts.specs.Parts.{array_at, the_election}
 use Rattle.cdf_parts.specs.Places.{Texts, Contest, contest_of}
-use Rattle.cdf_definition.specs.Named.{Entry, named, by_id, ids_of, texts_of}
+use Rattle.cdf_definition.specs.Named.{IdText, named, by_id, ids_of, texts_of}
 use Rattle.cdf_definition.specs.References.{Scope}
 
 pub record Frame : Type 0 where
-  pub elections : List Entry
-  pub units : List Entry
-  pub parties : List Entry
-  pub devices : List Entry
+  pub elections : List IdText
+  pub units : List IdText
+  pub parties : List IdText
+  pub devices : List IdText
   pub contests : List Contest
 
 -- the objects in the array under a name, in byte order of their ids
-abbrev pub entries_at : List ℕ → Data → List Entry
+abbrev pub entries_at : List ℕ → Data → List IdText
 entries_at name d = by_id (map named (array_at name d))
 
 abbrev pub frame_of : Data → Frame

@@ -7,7 +7,7 @@ use Rattle.serde_json.specs.Data.{Data}
 use Rattle.cdf_parts.specs.Parts.{array_at}
 use Rattle.cdf_definition.specs.References.{Scope, in_cvr, in_snapshot, missing}
 use Rattle.cdf_definition.specs.Resolves.{CvrResolves, SnapshotResolves, Resolves}
-use Rattle.cdf_definition.specs.Named.{Entry, by_id, ids_of, text_of}
+use Rattle.cdf_definition.specs.Named.{IdText, by_id, ids_of, text_of}
 use Rattle.cdf_definition.specs.Frame.{Frame}
 use Rattle.cdf_definition.specs.Agreement.{disagreements, Agrees}
 use Rattle.cdf_definition.specs.Sound.{IsSound}
@@ -17,15 +17,15 @@ use Rattle.cdf_definition.specs.Bodies.{IsInHeader}
 -- ---- objects by their ids
 
 -- a list of entries by their ids: it rises strictly by id, and beside each id stands the text of the last entry that has it
-pub record IsById (es by_ids : List Entry) : Type 0 where
+pub record IsById (es by_ids : List IdText) : Type 0 where
   pub rises : IsStrictlySortedBy (slice_cmp nat_cmp) (ids_of by_ids)
   pub texts : (id : List ℕ) → text_of by_ids id ≡ text_of (reverse es) id
 
 abbrev pub ByIdLaw : Type 0
-ByIdLaw = (es : List Entry) → IsById es (by_id es)
+ByIdLaw = (es : List IdText) → IsById es (by_id es)
 
 -- worked example: of b, a and b again the list has a, and b with its last text
-abbrev pub two_of_one_id : List Entry
+abbrev pub two_of_one_id : List IdText
 two_of_one_id = (codes "b", codes "first") ∷ (codes "a", codes "only") ∷ (codes "b", codes "last") ∷ []
 
 abbrev pub TwoOfOneId : Type 0

@@ -11,27 +11,27 @@ use Rattle.cdf_parts.specs.Parts.{id_of}
 use Rattle.cdf_parts.specs.Places.{Texts}
 
 -- an object's id and compact text
-abbrev pub Entry : Type 0
-Entry = List ℕ × List ℕ
+abbrev pub IdText : Type 0
+IdText = List ℕ × List ℕ
 
-abbrev pub named : Data → Entry
+abbrev pub named : Data → IdText
 named d = (id_of d, compact_text d)
 
 -- the ids, and the texts
-abbrev pub ids_of : List Entry → Texts
+abbrev pub ids_of : List IdText → Texts
 ids_of entries = map (λ e. e.0) entries
 
-abbrev pub texts_of : List Entry → Texts
+abbrev pub texts_of : List IdText → Texts
 texts_of entries = map (λ e. e.1) entries
 
 -- the text that stands beside an id
-abbrev pub text_of : List Entry → List ℕ → Option (List ℕ)
+abbrev pub text_of : List IdText → List ℕ → Option (List ℕ)
 text_of entries id = lookup (bytes_eq id) entries
 
 -- the map of ids to texts that the entries make, where the last of an id stands: its entries, in byte order of the ids
-abbrev pub by_id : List Entry → List Entry
+abbrev pub by_id : List IdText → List IdText
 by_id es = entries (from_entries {R = slice_cmp nat_cmp} (reverse es))
 
 -- the entries of a map
-abbrev pub map_entries : List (String Global × List ℕ) → List Entry
+abbrev pub map_entries : List (String Global × List ℕ) → List IdText
 map_entries es = map (λ e. (string_bytes e.0, e.1)) es

@@ -1,5 +1,5 @@
 -- Paths of texts and objects in a report, in lists. (Paths: RFC 6901.)
-use Rattle.std.specs.Prelude.{ℕ, ◌+◌, List, [], ◌∷◌, ◌++◌, map, Bool, if◌then◌else◌, Option, Some, None}
+use Rattle.std.specs.Prelude.{ℕ, ◌+◌, List, [], ◌∷◌, ◌++◌, map, Bool, if◌then◌else◌}
 use Rattle.serde_json.specs.Data.{Data}
 use Rattle.cdf_form.specs.Form.{Step, at_member, at_item}
 use Rattle.cdf_parts.specs.Parts.{array_at}
@@ -7,11 +7,6 @@ use Rattle.cdf_parts.specs.Parts.{array_at}
 -- the steps from a value, outermost first
 abbrev pub Path : Type 0
 Path = List Step
-
--- the first of a list, if there is one
-abbrev pub first : List Path → Option Path
-first [] = None
-first (p ∷ ps) = Some p
 
 -- those of a part, told from the value that the step leads out of
 abbrev pub below : Step → List Path → List Path
@@ -22,10 +17,10 @@ abbrev pub itself_unless : Bool → List Path
 itself_unless b = if b then [] else [] ∷ []
 
 -- those of the items from place i on
-abbrev pub places : (Data → List Path) → List Data → ℕ → List Path
-places f [] i = []
-places f (d ∷ ds) i = below (at_item i) (f d) ++ places f ds (i + 1)
+abbrev pub below_each : (Data → List Path) → List Data → ℕ → List Path
+below_each f [] i = []
+below_each f (d ∷ ds) i = below (at_item i) (f d) ++ below_each f ds (i + 1)
 
 -- those of the items of the array under a name
 abbrev pub each : (Data → List Path) → List ℕ → Data → List Path
-each f name d = below (at_member name) (places f (array_at name d) 0)
+each f name d = below (at_member name) (below_each f (array_at name d) 0)

@@ -19,8 +19,8 @@ units more =
     codes "{\"@id\":\"p2\",\"@type\":\"CVR.GpUnit\",\"Type\":\"precinct\"}"
 
 -- a desk and two scanners
-abbrev pub devices : List ℕ
-devices =
+abbrev pub devices_text : List ℕ
+devices_text =
     codes "{\"@id\":\"desk\",\"@type\":\"CVR.ReportingDevice\"},{\"@id\":\"s1\",\"@type\":\"CVR.ReportingDevice\"}," ++
     codes "{\"@id\":\"s2\",\"@type\":\"CVR.ReportingDevice\"}"
 
@@ -29,7 +29,7 @@ abbrev pub report_with : List ℕ → List ℕ → List ℕ → List ℕ → Lis
 report_with cvrs its_election its_units more =
     codes "{\"@type\":\"CVR.CastVoteRecordReport\",\"CVR\":[" ++ cvrs ++ codes "],\"Election\":[" ++ its_election ++ codes "]," ++ more ++
     codes "\"GeneratedDate\":\"2024-11-05T20:00:00Z\",\"GpUnit\":[" ++ its_units ++
-    codes "],\"ReportGeneratingDeviceIds\":[\"s1\"],\"ReportingDevice\":[" ++ devices ++ codes "],\"Version\":\"1.0.0\"}"
+    codes "],\"ReportGeneratingDeviceIds\":[\"s1\"],\"ReportingDevice\":[" ++ devices_text ++ codes "],\"Version\":\"1.0.0\"}"
 
 -- the same with the definition's election and units
 abbrev pub report : List ℕ → List ℕ → List ℕ

@@ -2,7 +2,8 @@ ghost use Rattle.std.specs.Prelude.{◌≡◌, option_map, IfOk, false};
 ghost use Rattle.cdf_node.specs.View.{view};
 ghost use Rattle.serde_json.specs.Written.{has_float};
 ghost use Rattle.cdf_form.specs.Found.{path_of};
-ghost use Rattle.cdf_definition.specs.Paths.{first, each};
+ghost use Rattle.cdf_form.specs.Form.{first};
+ghost use Rattle.cdf_definition.specs.Paths.{each};
 ghost use Rattle.cdf_definition.specs.Agreement.{agrees, differing};
 
 use crate::named::Named;

@@ -6,7 +6,7 @@ ghost use Rattle.cdf_form.specs.Form as form;
 ghost use Rattle.cdf_form.specs.Found.{fault_of, path_of};
 ghost use Rattle.cdf_form.specs.Path.{path_text};
 ghost use Rattle.cdf_form.specs.Reading.{IsMemory, refusal_of, document_faults};
-ghost use Rattle.cdf_definition.specs.Paths.{first};
+ghost use Rattle.cdf_form.specs.Form.{first};
 ghost use Rattle.cdf_definition.specs.References.{missing};
 ghost use Rattle.cdf_definition.specs.Agreement.{disagreements};
 ghost use Rattle.cdf_definition.specs.Sound.{IsSound};

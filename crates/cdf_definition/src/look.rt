@@ -2,9 +2,10 @@ ghost use Rattle.std.specs.Prelude.{◌≡◌, List, ℕ, option_map, IfOk};
 ghost use Rattle.serde_json.specs.Data.{Data};
 ghost use Rattle.serde_json.specs.Find.{as_str};
 ghost use Rattle.cdf_node.specs.View.{view};
+ghost use Rattle.cdf_form.specs.Form.{first};
 ghost use Rattle.cdf_definition.specs.Paths as paths;
 ghost use Rattle.cdf_form.specs.Found.{path_of};
-ghost use Rattle.cdf_definition.specs.Paths.{first, each};
+ghost use Rattle.cdf_definition.specs.Paths.{each};
 ghost use Rattle.cdf_definition.specs.References.{unknown, one, many};
 
 use cdf_form::found::{Path, Step};

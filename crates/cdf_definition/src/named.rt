@@ -17,9 +17,9 @@ pub struct Named {
 impl Model for Named {
     ghost use Rattle.std.specs.Prelude.{List, ◌≡◌, length};
     ghost use Rattle.std.specs.List.{zip};
-    ghost use Rattle.cdf_definition.specs.Named.{Entry};
+    ghost use Rattle.cdf_definition.specs.Named.{IdText};
 
-    ghost Value = { List Entry };
+    ghost Value = { List IdText };
 
     ghost view = { λ n. zip n.ids n.bodies.items };
 

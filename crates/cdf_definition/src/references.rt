@@ -1,10 +1,10 @@
 ghost use Rattle.std.specs.Prelude.{◌≡◌, option_map, IfOk, codes, map, bytes_eq};
 ghost use Rattle.std.specs.List.{list_any};
 ghost use Rattle.cdf_node.specs.View.{view};
-ghost use Rattle.cdf_form.specs.Form.{class_in};
+ghost use Rattle.cdf_form.specs.Form.{class_in, first};
 ghost use Rattle.cdf_parts.specs.Parts.{ids_at, id_of};
 ghost use Rattle.cdf_form.specs.Found.{path_of};
-ghost use Rattle.cdf_definition.specs.Paths.{first, each};
+ghost use Rattle.cdf_definition.specs.Paths.{each};
 ghost use Rattle.cdf_definition.specs.Scoped.{scope_view, contests_alone};
 ghost use Rattle.cdf_definition.specs.References.{in_selection_vote, in_votes, in_contest_vote};
 ghost use Rattle.cdf_definition.specs.References.{in_snapshot, in_cvr, in_selection, in_contest};

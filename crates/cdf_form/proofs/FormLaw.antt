@@ -20,7 +20,7 @@ use Rattle.cdf_form.specs.declared.table.Kind.{Kind}
 use Rattle.cdf_form.specs.declared.table.Kind.TheVariants.{One, Array}
 use Rattle.cdf_form.specs.Tables.{Entry, table, classes_of, type_text}
 use Rattle.cdf_form.specs.Form.{Step, Fault, under, unless, wanted, find_class, class_faults, type_text_faults, type_faults, leaf_faults, class_in, class_below, rows_of, length_faults, key_text, is_among, add_text, mark_of, repeat_faults, row_faults, rows_faults, faults, items_faults, member_look}
-use Rattle.cdf_form.specs.Laws.{is_keyed, are_keyed, key_has_row, leaf_has_row, all_have_row, has_row, TablesInOrder}
+use Rattle.cdf_form.specs.Laws.{is_keyed, are_keyed, key_has_row, leaf_has_row, all_have_row, has_entry, TablesInOrder}
 use Rattle.cdf_form.specs.HasForm.{IsRow, HasForm, text, name, count, whole, truth, moment, listed, class, items}
 use Rattle.cdf_form.proofs.Apart.{ApartFrom, apart_places, apart_from}
 use Rattle.cdf_form.proofs.Parts.{faults-one, faults-array, faults-no_array}
@@ -155,7 +155,7 @@ le_from a b e = grind (arith, nat_tests)
 
 -- ---- no key twice
 
-has_row_at : (n : List ℕ) (r : Entry) (rs : List Entry) (b : Bool) → bytes_eq n r.name ≡ b → (b || has_row n rs) ≡ true → (has_row n rs ≡ true → (x : Entry) × (IsRow rs x × (n ≡ x.name))) → (x : Entry) × (IsRow (r ∷ rs) x × (n ≡ x.name))
+has_row_at : (n : List ℕ) (r : Entry) (rs : List Entry) (b : Bool) → bytes_eq n r.name ≡ b → (b || has_entry n rs) ≡ true → (has_entry n rs ≡ true → (x : Entry) × (IsRow rs x × (n ≡ x.name))) → (x : Entry) × (IsRow (r ∷ rs) x × (n ≡ x.name))
 has_row_at n r rs true is q later = (r, (inl refl, (bytes_eq-Decides n r.name).0 is))
 has_row_at n r rs false is q later = let x = later q in (x.0, (inr x.1.0, x.1.1))
 
@@ -163,15 +163,15 @@ repeat_at : (m : Key) (r : Entry) (o : Option Data) (e : Data) → row_faults m 
 repeat_at m r None e h is = cc
 repeat_at m r (Some d) e h is = right_nil _ _ h
 
-has_row_out : (n : List ℕ) (rs : List Entry) → has_row n rs ≡ true → (r : Entry) × (IsRow rs r × (n ≡ r.name))
+has_row_out : (n : List ℕ) (rs : List Entry) → has_entry n rs ≡ true → (r : Entry) × (IsRow rs r × (n ≡ r.name))
 has_row_out n [] q = cc
 has_row_out n (r ∷ rs) q = has_row_at n r rs (bytes_eq n r.name) refl q (has_row_out n rs)
 
-find_at : (n : List ℕ) (b : Bool) (x : Class) (rest : Option Class) (c : Class) → has_row n (table x) ≡ true → (rest ≡ Some c → has_row n (table c) ≡ true) → cond b (Some x) rest ≡ Some c → has_row n (table c) ≡ true
-find_at n true x rest c here later is = let same : x ≡ c = cc in subst (λ y. has_row n (table y) ≡ true) same here
+find_at : (n : List ℕ) (b : Bool) (x : Class) (rest : Option Class) (c : Class) → has_entry n (table x) ≡ true → (rest ≡ Some c → has_entry n (table c) ≡ true) → cond b (Some x) rest ≡ Some c → has_entry n (table c) ≡ true
+find_at n true x rest c here later is = let same : x ≡ c = cc in subst (λ y. has_entry n (table y) ≡ true) same here
 find_at n false x rest c here later is = later is
 
-find_has_row : (n : List ℕ) (s : List ℕ) (cs : List Class) (c : Class) → all_have_row n cs ≡ true → find_class cs s ≡ Some c → has_row n (table c) ≡ true
+find_has_row : (n : List ℕ) (s : List ℕ) (cs : List Class) (c : Class) → all_have_row n cs ≡ true → find_class cs s ≡ Some c → has_entry n (table c) ≡ true
 find_has_row n s [] c q is = cc
 find_has_row n s (x ∷ cs) c q is = find_at n (bytes_eq s (type_text x)) x (find_class cs s) c (both_left _ _ q) (find_has_row n s cs c (both_right _ _ q)) is
 
@@ -180,7 +180,7 @@ and_then_some f None b is = cc
 and_then_some f (Some a) b is = (a, (refl, is))
 
 -- a marked item has a fault, if its class has a row for the key
-marked_row : (d : Data) (m : Key) (n s : List ℕ) (rs : List Entry) → has_row n rs ≡ true → option_and_then as_str (get n d) ≡ Some s → (repeat_faults m n ≡ [] → ⊥) → rows_faults (member_look d) m rs ≡ [] → ⊥
+marked_row : (d : Data) (m : Key) (n s : List ℕ) (rs : List Entry) → has_entry n rs ≡ true → option_and_then as_str (get n d) ≡ Some s → (repeat_faults m n ≡ [] → ⊥) → rows_faults (member_look d) m rs ≡ [] → ⊥
 marked_row d m n s rs q is stands e =
     let r = has_row_out n rs q in
     let x = and_then_some as_str (get n d) s is in

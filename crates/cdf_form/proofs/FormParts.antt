@@ -20,7 +20,8 @@ use Rattle.cdf_form.specs.declared.table.Kind.TheVariants.{One, Array}
 use Rattle.cdf_form.specs.Tables.{Entry, table, classes_of, type_text, listed_in}
 use Rattle.cdf_form.specs.Form.{is_count, is_moment, class_in, find_class}
 use Rattle.cdf_form.specs.HasForm.{IsRow, HasForm, text, name, count, moment, listed, class, items}
-use Rattle.cdf_parts.specs.Parts.{list_of, array_at, text_in, text_at}
+use Rattle.cdf_node.specs.Items.{list_of}
+use Rattle.cdf_parts.specs.Parts.{array_at, text_in, text_at}
 use Rattle.cdf_form.specs.ByRow.{AllClasses, find_row, HasRow, HasClass, IsTextual, ListApart}
 
 -- ---- values by their kinds

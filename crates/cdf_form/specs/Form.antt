@@ -44,9 +44,9 @@ abbrev pub under : Step → List Fault → List Fault
 under s fs = map (deeper s) fs
 
 -- the first of a list, if there is one
-abbrev pub first : List Fault → Option Fault
+abbrev pub first : {X : Type 0} → List X → Option X
 first [] = None
-first (f ∷ fs) = Some f
+first (x ∷ xs) = Some x
 
 -- no fault where the test holds, and else this one
 abbrev pub unless : Bool → Rule → List Fault
@@ -112,9 +112,9 @@ leaf_faults (leaf.Listed l) d = wanted rule.WrongKind (λ s. unless (list_any (b
 leaf_faults (leaf.Object g) d = wanted rule.NotObject (λ ms. type_faults g (get_member (codes "@type") ms)) (as_object d)
 
 -- a value that is to be no object
-abbrev pub IsPlain : Leaf → Type 0
-IsPlain (leaf.Object g) = ⊥
-IsPlain l = Unit {0}
+abbrev pub IsNoObject : Leaf → Type 0
+IsNoObject (leaf.Object g) = ⊥
+IsNoObject l = Unit {0}
 
 -- ---- arrays and objects
 

@@ -28,8 +28,8 @@ abbrev pub all_told : List ℕ → Option (List (List ℕ × ℕ))
 all_told text = option_map (λ d. map told (document_faults d)) (read text)
 
 -- the text's value has one fault: at this path, of the rule with this number
-abbrev pub Tells : List ℕ → List ℕ → ℕ → Type 0
-Tells text path number = all_told text ≡ Some ((path, number) ∷ [])
+abbrev pub HasOneFault : List ℕ → List ℕ → ℕ → Type 0
+HasOneFault text path number = all_told text ≡ Some ((path, number) ∷ [])
 
 -- it has no fault
 abbrev pub TellsNothing : List ℕ → Type 0
@@ -109,66 +109,66 @@ IdOfTwoClasses = TellsNothing (with_more (codes "\"Party\":[{\"@id\":\"p1\",\"@t
 -- ---- rules 1, 2 and 5: objects
 
 abbrev pub NotObject : Type 0
-NotObject = Tells (with_units (codes "[]")) (codes "/GpUnit/0") 1
+NotObject = HasOneFault (with_units (codes "[]")) (codes "/GpUnit/0") 1
 
 abbrev pub MissingMember : Type 0
-MissingMember = Tells (with_units (codes "{\"@type\":\"CVR.GpUnit\"}")) (codes "/GpUnit/0/@id") 2
+MissingMember = HasOneFault (with_units (codes "{\"@type\":\"CVR.GpUnit\"}")) (codes "/GpUnit/0/@id") 2
 
 abbrev pub MissingClass : Type 0
-MissingClass = Tells (with_units (codes "{\"@id\":\"p1\"}")) (codes "/GpUnit/0/@type") 2
+MissingClass = HasOneFault (with_units (codes "{\"@id\":\"p1\"}")) (codes "/GpUnit/0/@type") 2
 
 -- where the class is wrong, the members aren't walked
 abbrev pub WrongClass : Type 0
-WrongClass = Tells (with_units (codes "{\"@type\":\"CVR.Party\"}")) (codes "/GpUnit/0/@type") 5
+WrongClass = HasOneFault (with_units (codes "{\"@type\":\"CVR.Party\"}")) (codes "/GpUnit/0/@type") 5
 
 -- ---- rules 3, 4, 6 and 11: texts
 
 -- null is a value of another kind, and no absence
 abbrev pub WrongKind : Type 0
-WrongKind = Tells (with_units (codes "{\"@id\":null,\"@type\":\"CVR.GpUnit\"}")) (codes "/GpUnit/0/@id") 3
+WrongKind = HasOneFault (with_units (codes "{\"@id\":null,\"@type\":\"CVR.GpUnit\"}")) (codes "/GpUnit/0/@id") 3
 
 abbrev pub NotListed : Type 0
-NotListed = Tells (with_more (codes "\"ReportType\":[\"other\",\"Other\"],")) (codes "/ReportType/1") 4
+NotListed = HasOneFault (with_more (codes "\"ReportType\":[\"other\",\"Other\"],")) (codes "/ReportType/1") 4
 
 abbrev pub EmptyText : Type 0
-EmptyText = Tells (with_units (codes "{\"@id\":\"\",\"@type\":\"CVR.GpUnit\"}")) (codes "/GpUnit/0/@id") 6
+EmptyText = HasOneFault (with_units (codes "{\"@id\":\"\",\"@type\":\"CVR.GpUnit\"}")) (codes "/GpUnit/0/@id") 6
 
 -- a date without a time, and an instant with the name of a zone
 abbrev pub NotMoment : Type 0
-NotMoment = Tells (with_date (codes "2024-11-05")) (codes "/GeneratedDate") 11
+NotMoment = HasOneFault (with_date (codes "2024-11-05")) (codes "/GeneratedDate") 11
 
 abbrev pub NamedZone : Type 0
-NamedZone = Tells (with_date (codes "2024-11-05T20:00:00Z[UTC]")) (codes "/GeneratedDate") 11
+NamedZone = HasOneFault (with_date (codes "2024-11-05T20:00:00Z[UTC]")) (codes "/GeneratedDate") 11
 
 -- ---- rules 7, 10 and 14: numbers
 
 abbrev pub CountTooGreat : Type 0
-CountTooGreat = Tells (with_contests (contest (codes ",\"Overvotes\":4294967296"))) (contest_path ++ codes "Overvotes") 7
+CountTooGreat = HasOneFault (with_contests (contest (codes ",\"Overvotes\":4294967296"))) (contest_path ++ codes "Overvotes") 7
 
 abbrev pub CountBelowZero : Type 0
-CountBelowZero = Tells (with_contests (contest (codes ",\"Undervotes\":-1"))) (contest_path ++ codes "Undervotes") 7
+CountBelowZero = HasOneFault (with_contests (contest (codes ",\"Undervotes\":-1"))) (contest_path ++ codes "Undervotes") 7
 
 -- whatever it is
 abbrev pub Fractional : Type 0
 Fractional =
-    Tells (with_contests (contest (codes ",\"CVRContestSelection\":[{\"@type\":\"CVR.CVRContestSelection\",\"SelectionPosition\":[" ++
+    HasOneFault (with_contests (contest (codes ",\"CVRContestSelection\":[{\"@type\":\"CVR.CVRContestSelection\",\"SelectionPosition\":[" ++
     codes "{\"@type\":\"CVR.SelectionPosition\",\"HasIndication\":\"no\",\"NumberVotes\":0}],\"TotalFractionalVotes\":\"1/2\"}]")))
     (contest_path ++ codes "CVRContestSelection/0/TotalFractionalVotes") 10
 
 -- numbers under an unlisted name, the second zero with a sign
 abbrev pub NotWhole : Type 0
-NotWhole = Tells (with_more (codes "\"Extra\":[1.0],")) (codes "/Extra/0") 14
+NotWhole = HasOneFault (with_more (codes "\"Extra\":[1.0],")) (codes "/Extra/0") 14
 
 abbrev pub NegativeZero : Type 0
-NegativeZero = Tells (with_more (codes "\"Extra\":-0,")) (codes "/Extra") 14
+NegativeZero = HasOneFault (with_more (codes "\"Extra\":-0,")) (codes "/Extra") 14
 
 -- ---- rules 8 and 9: arrays
 
 abbrev pub TooFew : Type 0
-TooFew = Tells (with_elections []) (codes "/Election") 8
+TooFew = HasOneFault (with_elections []) (codes "/Election") 8
 
 abbrev pub TooMany : Type 0
-TooMany = Tells (with_elections (election ++ codes "," ++ election)) (codes "/Election") 9
+TooMany = HasOneFault (with_elections (election ++ codes "," ++ election)) (codes "/Election") 9
 
 -- the kind of a member of a class
 abbrev pub kind_at : Class → List ℕ → Kind
@@ -198,7 +198,7 @@ MostContestSelections = HasAtMost class.CvrContest (codes "CVRContestSelection")
 -- ---- rules 12 and 13: repeats
 
 abbrev pub RepeatedId : Type 0
-RepeatedId = Tells (with_units (unit ++ codes "," ++ unit)) (codes "/GpUnit/1/@id") 12
+RepeatedId = HasOneFault (with_units (unit ++ codes "," ++ unit)) (codes "/GpUnit/1/@id") 12
 
 abbrev pub RepeatedContest : Type 0
-RepeatedContest = Tells (with_contests (contest [] ++ codes "," ++ contest [])) (codes "/CVR/0/CVRSnapshot/0/CVRContest/1/ContestId") 13
+RepeatedContest = HasOneFault (with_contests (contest [] ++ codes "," ++ contest [])) (codes "/CVR/0/CVRSnapshot/0/CVRContest/1/ContestId") 13

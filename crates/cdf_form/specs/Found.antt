@@ -21,6 +21,6 @@ abbrev pub fault_of : Found → Fault
 fault_of f = record { path = path_of f.path; rule = f.rule }
 
 -- the walk stopped at this fault; where it stopped for want of memory, nothing is said
-abbrev pub Tells : Stop → Option Fault → Type 0
-Tells (stop.Fault f) o = o ≡ Some (fault_of f)
-Tells stop.Memory o = Unit {0}
+abbrev pub StopsAt : Stop → Option Fault → Type 0
+StopsAt (stop.Fault f) o = o ≡ Some (fault_of f)
+StopsAt stop.Memory o = Unit {0}

@@ -16,13 +16,13 @@ use Rattle.cdf_form.specs.Form.{faults, float_faults}
 use Rattle.cdf_form.specs.HasForm.{HasForm}
 use Rattle.cdf_form.specs.Reading.{document_faults}
 
-abbrev pub has_row : List ℕ → List Entry → Bool
-has_row n [] = false
-has_row n (r ∷ rs) = bytes_eq n r.name || has_row n rs
+abbrev pub has_entry : List ℕ → List Entry → Bool
+has_entry n [] = false
+has_entry n (r ∷ rs) = bytes_eq n r.name || has_entry n rs
 
 abbrev pub all_have_row : List ℕ → List Class → Bool
 all_have_row n [] = true
-all_have_row n (c ∷ cs) = has_row n (table c) && all_have_row n cs
+all_have_row n (c ∷ cs) = has_entry n (table c) && all_have_row n cs
 
 abbrev pub leaf_has_row : List ℕ → Leaf → Bool
 leaf_has_row n (leaf.Object g) = all_have_row n (classes_of g)

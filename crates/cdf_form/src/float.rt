@@ -2,7 +2,7 @@ ghost use Rattle.std.specs.Prelude.{◌≡◌, None, OnOk, IfErr};
 ghost use Rattle.serde_json.specs.Written.{has_float, items_have_float, members_have_float};
 ghost use Rattle.cdf_node.specs.View.{view, items_view, members_view};
 ghost use Rattle.cdf_form.specs.Form.{first, float_faults, items_floats, members_floats};
-ghost use Rattle.cdf_form.specs.Found.{Tells};
+ghost use Rattle.cdf_form.specs.Found.{StopsAt};
 
 use crate::found::{Step, Stop};
 use cdf_node::Node;
@@ -55,7 +55,7 @@ fn members_have_fraction(members: &[(&str, Node<'_>)]) -> bool
 #[cycle(floats)]
 pub fn find_float<'t>(alloc: Global, value: &Node<'t>) -> Result<(), Stop<'t>>
     ensures none { OnOk result (first (float_faults (view value.now)) ≡ None) }
-    ensures fault { IfErr result (λ s. Tells s (first (float_faults (view value.now)))) }
+    ensures fault { IfErr result (λ s. StopsAt s (first (float_faults (view value.now)))) }
 {
     match value {
         Node::Null | Node::Bool(_) | Node::String(_) => Ok(()),
@@ -72,7 +72,7 @@ pub fn find_float<'t>(alloc: Global, value: &Node<'t>) -> Result<(), Stop<'t>>
 #[cycle(floats)]
 fn find_in_items<'t>(alloc: Global, items: &[Node<'t>]) -> Result<(), Stop<'t>>
     ensures none { OnOk result (first (items_floats (items_view items.now) 0) ≡ None) }
-    ensures fault { IfErr result (λ s. Tells s (first (items_floats (items_view items.now) 0))) }
+    ensures fault { IfErr result (λ s. StopsAt s (first (items_floats (items_view items.now) 0))) }
 {
     for (place, item) in items.iter().enumerate() {
         match find_float(alloc, item) {
@@ -87,7 +87,7 @@ fn find_in_items<'t>(alloc: Global, items: &[Node<'t>]) -> Result<(), Stop<'t>>
 fn find_in_members<'t>(alloc: Global, members: &[(&'t str, Node<'t>)]) -> Result<(), Stop<'t>>
     ensures none { OnOk result (first (members_floats (members_view members.now)) ≡ None) }
     ensures fault { IfErr result
-        (λ s. Tells s (first (members_floats (members_view members.now)))) }
+        (λ s. StopsAt s (first (members_floats (members_view members.now)))) }
 {
     for member in members {
         match find_float(alloc, &member.1) {

@@ -75,11 +75,11 @@ impl<'a> Path<'a> {
 impl<'a> Stop<'a> {
     ghost use Rattle.std.specs.Prelude.{Some, option_map, Option};
     ghost use Rattle.cdf_form.specs.Form.{Fault, here, deeper};
-    ghost use Rattle.cdf_form.specs.Found.{Tells, step_of};
+    ghost use Rattle.cdf_form.specs.Found.{StopsAt, step_of};
 
     /// A fault at the value itself. Takes no memory.
     pub fn at(alloc: Global, rule: Rule) -> Stop<'a>
-        ensures { Tells result (Some (here rule)) }
+        ensures { StopsAt result (Some (here rule)) }
     {
         Stop::Fault(Found {
             rule,
@@ -90,8 +90,8 @@ impl<'a> Stop<'a> {
     /// The same cause, told from the value that the step leads out of; want of memory where the
     /// path can't grow.
     pub fn under(self, step: Step<'a>) -> Stop<'a>
-        ensures { (o : Option Fault) → Tells self.entry o
-            → Tells result (option_map (deeper (step_of step.entry)) o) }
+        ensures { (o : Option Fault) → StopsAt self.entry o
+            → StopsAt result (option_map (deeper (step_of step.entry)) o) }
     {
         match self {
             Stop::Memory => Stop::Memory,

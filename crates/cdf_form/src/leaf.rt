@@ -3,9 +3,9 @@ ghost use Rattle.std.specs.List.{list_any};
 ghost use Rattle.serde_json.specs.View.{number_view};
 ghost use Rattle.cdf_node.specs.View.{view};
 ghost use Rattle.cdf_form.specs.Tables.{listed_in};
-ghost use Rattle.cdf_form.specs.Form.{first, leaf_faults, here, is_moment, is_count, IsPlain};
+ghost use Rattle.cdf_form.specs.Form.{first, leaf_faults, here, is_moment, is_count, IsNoObject};
 ghost use Rattle.cdf_form.specs.Form.{find_class, class_in};
-ghost use Rattle.cdf_form.specs.Found.{Tells};
+ghost use Rattle.cdf_form.specs.Found.{StopsAt};
 
 use crate::found::{Step, Stop};
 use crate::table::{Class, Group, Leaf, Listing, class_text, classes, texts};
@@ -66,7 +66,7 @@ pub fn class_of(alloc: Global, group: Group, value: &Node<'_>) -> Result<Class, 
     ensures ok { OnOk result (first (leaf_faults (Leaf.Object group) (view value.now)) ≡ None) }
     ensures class { IfOk result (λ class. class_in group (view value.now) ≡ Some class) }
     ensures fault { IfErr result (λ s.
-        Tells s (first (leaf_faults (Leaf.Object group) (view value.now)))) }
+        StopsAt s (first (leaf_faults (Leaf.Object group) (view value.now)))) }
 {
     if !value.is_object() {
         return Err(Stop::at(alloc, Rule::NotObject));
@@ -86,7 +86,7 @@ pub fn class_of(alloc: Global, group: Group, value: &Node<'_>) -> Result<Class, 
 
 /// The rule that a value breaks, where it is to be no object. Takes no memory.
 pub fn plain_rule(value: &Node<'_>, leaf: Leaf) -> Option<Rule>
-    requires { IsPlain leaf }
+    requires { IsNoObject leaf }
     ensures { option_map here result ≡ first (leaf_faults leaf (view value.now)) }
 {
     match leaf {

@@ -2,7 +2,7 @@ ghost use Rattle.std.specs.Prelude.{◌≡◌, None, IfOk, IfErr, OnOk};
 ghost use Rattle.serde_json.specs.Written.{has_float};
 ghost use Rattle.cdf_node.specs.View.{view};
 ghost use Rattle.cdf_form.specs.Form.{first};
-ghost use Rattle.cdf_form.specs.Found.{Tells};
+ghost use Rattle.cdf_form.specs.Found.{StopsAt};
 ghost use Rattle.cdf_form.specs.Records.{cvr_faults};
 ghost use Rattle.cdf_form.specs.Reading.{document_faults};
 
@@ -22,7 +22,7 @@ pub const MAX_FILE: usize = 67_108_864;
 /// `Fault` at the first fault; `Memory` where a growth was refused.
 pub fn document_fault<'t>(alloc: Global, value: &Node<'t>) -> Result<(), Stop<'t>>
     ensures none { OnOk result (first (document_faults (view value.now)) ≡ None) }
-    ensures fault { IfErr result (λ s. Tells s (first (document_faults (view value.now)))) }
+    ensures fault { IfErr result (λ s. StopsAt s (first (document_faults (view value.now)))) }
 {
     find_float(alloc, value)?;
     let report = Kind::One(Leaf::Object(Group::Reports));
@@ -37,7 +37,7 @@ pub fn document_fault<'t>(alloc: Global, value: &Node<'t>) -> Result<(), Stop<'t
 pub fn cvr_fault(alloc: Global, value: &Node<'_>) -> Result<bool, Stop<'static>>
     ensures none { OnOk result (first (cvr_faults (view value.now)) ≡ None) }
     ensures fraction { IfOk result (λ told. told ≡ has_float (view value.now)) }
-    ensures fault { IfErr result (λ s. Tells s (first (cvr_faults (view value.now)))) }
+    ensures fault { IfErr result (λ s. StopsAt s (first (cvr_faults (view value.now)))) }
 {
     let record = Kind::One(Leaf::Object(Group::Cvrs));
     walk(alloc, value, record, Key::Free)?;

@@ -4,7 +4,7 @@ ghost use Rattle.cdf_form.specs.declared.table.Key.TheVariants.{Free};
 ghost use Rattle.cdf_form.specs.Form.{first, faults, here, items_faults, length_faults};
 ghost use Rattle.cdf_form.specs.Form.{repeat_faults, row_faults, rows_faults, member_look};
 ghost use Rattle.cdf_form.specs.Form.{key_text, mark_of, add_text};
-ghost use Rattle.cdf_form.specs.Found.{Tells};
+ghost use Rattle.cdf_form.specs.Found.{StopsAt};
 ghost use Rattle.cdf_form.specs.Seen.{HasTexts};
 ghost use Rattle.cdf_form.specs.Tables.{entry_of, entries_of};
 
@@ -80,7 +80,7 @@ fn length_rule(least: usize, most: usize, len: usize) -> Option<Rule>
 #[tactic(auto, using(crate::proofs::Parts::array_first, crate::proofs::Parts::as_many))]
 pub fn walk(alloc: Global, value: &Node<'_>, kind: Kind, mark: Key) -> Result<(), Stop<'static>>
     ensures none { OnOk result (first (faults (view value.now) kind mark) ≡ None) }
-    ensures fault { IfErr result (λ s. Tells s (first (faults (view value.now) kind mark))) }
+    ensures fault { IfErr result (λ s. StopsAt s (first (faults (view value.now) kind mark))) }
 {
     match kind {
         Kind::One(leaf) => walk_one(alloc, value, leaf, mark),
@@ -99,7 +99,7 @@ pub fn walk(alloc: Global, value: &Node<'_>, kind: Kind, mark: Key) -> Result<()
 fn walk_one(alloc: Global, value: &Node<'_>, leaf: Leaf, mark: Key) -> Result<(), Stop<'static>>
     ensures none { OnOk result (first (faults (view value.now) (Kind.One leaf) mark) ≡ None) }
     ensures fault { IfErr result (λ s.
-        Tells s (first (faults (view value.now) (Kind.One leaf) mark))) }
+        StopsAt s (first (faults (view value.now) (Kind.One leaf) mark))) }
 {
     match leaf {
         Leaf::Object(group) => {
@@ -133,7 +133,7 @@ fn walk_rows(
     ensures none { OnOk result
         (first (rows_faults (member_look (view value.now)) mark (entries_of rows.now)) ≡ None) }
     ensures fault { IfErr result (λ s.
-        Tells s (first (rows_faults (member_look (view value.now)) mark (entries_of rows.now)))) }
+        StopsAt s (first (rows_faults (member_look (view value.now)) mark (entries_of rows.now)))) }
 {
     for row in rows {
         match value.get(row.name) {
@@ -159,7 +159,7 @@ fn walk_member(
 ) -> Result<(), Stop<'static>>
     ensures none { OnOk result (first (row_faults mark (entry_of row.now)
         (Some (faults (view member.now) row.now.kind Free))) ≡ None) }
-    ensures fault { IfErr result (λ s. Tells s (first (row_faults mark (entry_of row.now)
+    ensures fault { IfErr result (λ s. StopsAt s (first (row_faults mark (entry_of row.now)
         (Some (faults (view member.now) row.now.kind Free))))) }
 {
     walk(alloc, member, row.kind, Key::Free)?;
@@ -174,7 +174,7 @@ fn walk_member(
 fn walk_items(alloc: Global, items: &[Node<'_>], leaf: Leaf, key: Key) -> Result<(), Stop<'static>>
     ensures none { OnOk result (first (items_faults (items_view items.now) leaf key 0 []) ≡ None) }
     ensures fault { IfErr result (λ s.
-        Tells s (first (items_faults (items_view items.now) leaf key 0 []))) }
+        StopsAt s (first (items_faults (items_view items.now) leaf key 0 []))) }
 {
     let mut seen: BTreeSet<&str> = BTreeSet::new(alloc);
     for (place, item) in items.iter().enumerate() {

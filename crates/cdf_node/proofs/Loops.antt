@@ -7,7 +7,7 @@ use Rattle.json.proofs.Grammar.{value_is, value-begin_array, value-begin_object,
 use Rattle.serde_json.specs.Data.{Data, array, object, Items, no_items, item, Members, no_members, put}
 use Rattle.serde_json.specs.Read.{of_json, of_items, of_members, converted}
 use Rattle.serde_json.specs.View.{items_of}
-use Rattle.cdf_node.specs.Loops.{before, InArray, InObject}
+use Rattle.cdf_node.specs.Loops.{items_before, InArray, InObject}
 use Rattle.cdf_node.specs.Next.{next_value}
 
 -- ---- what the grammar builds, converted
@@ -65,15 +65,15 @@ module _ (p : Parse Json) where
 
 -- ---- an array
 
-before-no_items : (ds : List Data) → before ds no_items ≡ items_of ds
+before-no_items : (ds : List Data) → items_before ds no_items ≡ items_of ds
 before-no_items [] = refl
 before-no_items (d ∷ ds) = ap (item d) (before-no_items ds)
 
-before-push : (ds : List Data) (d : Data) (rest : Items) → before ds (item d rest) ≡ before (ds ++ d ∷ []) rest
+before-push : (ds : List Data) (d : Data) (rest : Items) → items_before ds (item d rest) ≡ items_before (ds ++ d ∷ []) rest
 before-push [] d rest = refl
 before-push (e ∷ ds) d rest = ap (item e) (before-push ds d rest)
 
-array-push : (ds : List Data) (d : Data) (o : Option (Items × List Token)) → parse_map (λ es. array (before ds es)) (parse_map (item d) o) ≡ parse_map (λ es. array (before (ds ++ d ∷ []) es)) o
+array-push : (ds : List Data) (d : Data) (o : Option (Items × List Token)) → parse_map (λ es. array (items_before ds es)) (parse_map (item d) o) ≡ parse_map (λ es. array (items_before (ds ++ d ∷ []) es)) o
 array-push ds d None = refl
 array-push ds d (Some p) = ap (λ es. Some (array es, p.1)) (before-push ds d p.0)
 
@@ -100,18 +100,18 @@ module _ {depth : ℕ} {start now : List Token} {ds : List Data} (l : InArray de
         turns = l.turns - 1;
         enough = omega (arith, l.enough);
         fewer = omega (arith, l.fewer);
-        same = l.same ∙ ap (parse_map (λ es. array (before ds es))) turn ∙ array-push ds d _;
+        same = l.same ∙ ap (parse_map (λ es. array (items_before ds es))) turn ∙ array-push ds d _;
       }
 
   pub array_over : {r : List Token} → after_end_array now ≡ Some r → next_value depth (Token.begin_array ∷ start) ≡ Some (array (items_of ds), r)
   array_over {r} over =
-      l.same ∙ ap (λ o. parse_map (λ es. array (before ds es)) (converted of_items o)) (items_end (value (depth - 1)) l.turns now r l.enough over) ∙ ap (λ es. Some (array es, r)) (before-no_items ds)
+      l.same ∙ ap (λ o. parse_map (λ es. array (items_before ds es)) (converted of_items o)) (items_end (value (depth - 1)) l.turns now r l.enough over) ∙ ap (λ es. Some (array es, r)) (before-no_items ds)
 
   pub array_shorter : {r : List Token} → after_end_array now ≡ Some r → length r < length start
   array_shorter {r} over = omega (arith, l.fewer, after_end_array-shorter now r over)
 
   pub array_none : {t : List Token} → (after_end_array now ≡ None) × (t ≡ now) → next_value (depth - 1) t ≡ None → next_value depth (Token.begin_array ∷ start) ≡ None
-  array_none going none = l.same ∙ ap (parse_map (λ es. array (before ds es))) (items_none (value (depth - 1)) l.turns now going.0 (rw (← going.1) none))
+  array_none going none = l.same ∙ ap (parse_map (λ es. array (items_before ds es))) (items_none (value (depth - 1)) l.turns now going.0 (rw (← going.1) none))
 
 -- ---- an object
 

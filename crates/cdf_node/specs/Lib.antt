@@ -1,3 +1,4 @@
+pub mod Items
 pub mod View
 pub mod Next
 pub mod Loops

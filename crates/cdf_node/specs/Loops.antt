@@ -7,16 +7,16 @@ use Rattle.serde_json.specs.Read.{of_items, of_members, converted}
 use Rattle.cdf_node.specs.Next.{next_value}
 
 -- the items, and then the rest
-abbrev pub before : List Data → Items → Items
-before [] rest = rest
-before (d ∷ ds) rest = item d (before ds rest)
+abbrev pub items_before : List Data → Items → Items
+items_before [] rest = rest
+items_before (d ∷ ds) rest = item d (items_before ds rest)
 
 -- behind the bracket come the tokens `start`; these items were read of them, and the tokens `now` are left
 pub record InArray (depth : ℕ) (start : List Token) (ds : List Data) (now : List Token) : Type 0 where
   pub turns : ℕ
   pub enough : length now ≤ turns
   pub fewer : length now ≤ length start
-  pub same : next_value depth (Token.begin_array ∷ start) ≡ parse_map (λ es. array (before ds es)) (converted of_items (items (value (depth - 1)) turns now))
+  pub same : next_value depth (Token.begin_array ∷ start) ≡ parse_map (λ es. array (items_before ds es)) (converted of_items (items (value (depth - 1)) turns now))
 
 -- behind the brace come the tokens `start`; these members were found in them, and the tokens `now` are left
 pub record InObject (depth : ℕ) (start : List Token) (found : Members) (now : List Token) : Type 0 where

@@ -18,8 +18,8 @@ abbrev pub IsAlone : Token → Data → Type 0
 IsAlone t d = (depth : ℕ) (rest : List Token) → next_value depth (t ∷ rest) ≡ Some (d, rest)
 
 -- no value begins with the token
-abbrev pub IsRefused : Token → Type 0
-IsRefused t = (depth : ℕ) (rest : List Token) → next_value depth (t ∷ rest) ≡ None
+abbrev pub BeginsNoValue : Token → Type 0
+BeginsNoValue t = (depth : ℕ) (rest : List Token) → next_value depth (t ∷ rest) ≡ None
 
 -- neither an array nor an object
 abbrev pub IsScalar : Data → Type 0

@@ -1,7 +1,7 @@
 ghost use Rattle.std.specs.Prelude.{◌≡◌, ◌≢◌, false, true, Err, IfOk, option_map};
 ghost use Rattle.json.specs.Reads.{token_of};
 ghost use Rattle.serde_json.specs.Read.{number_of, number_from};
-ghost use Rattle.cdf_node.specs.Next.{IsAlone, IsRefused, IsScalar};
+ghost use Rattle.cdf_node.specs.Next.{IsAlone, BeginsNoValue, IsScalar};
 ghost use Rattle.cdf_node.specs.View.{number_view, view};
 
 use crate::node::Node;
@@ -52,7 +52,7 @@ pub fn scalar(token: Token<'_>) -> Result<Node<'_>, Stop>
     requires no_object { token ≢ Token.BeginObject }
     ensures value { IfOk result (λ v. IsAlone (token_of token.entry) (view v)) }
     ensures scalar { IfOk result (λ v. IsScalar (view v)) }
-    ensures unread { result ≡ Err Stop.Unread → IsRefused (token_of token.entry) }
+    ensures unread { result ≡ Err Stop.Unread → BeginsNoValue (token_of token.entry) }
 {
     match token {
         Token::Null => Ok(Node::Null),

@@ -5,7 +5,7 @@ use Rattle.serde_json.specs.Data.{Data, array, Items, no_items, item, depth, ite
 use Rattle.serde_json.specs.View.{items_of}
 use Rattle.serde_json.specs.Written.{items_have_float}
 use Rattle.cdf_parts.specs.Proper.{ItemsAreWell, IsProper}
-use Rattle.cdf_parts.specs.Parts.{list_of}
+use Rattle.cdf_node.specs.Items.{list_of}
 
 pub list_of-items_of : (xs : List Data) → list_of (items_of xs) ≡ xs
 list_of-items_of [] = refl

@@ -13,7 +13,8 @@ use Rattle.serde_json.specs.Read.{read, max_depth}
 use Rattle.serde_json.specs.Written.{has_float, items_have_float, members_have_float}
 use Rattle.serde_json.specs.Written.{compact_text}
 use Rattle.cdf_parts.specs.Proper.{IsWell, ItemsAreWell, MembersAreWell, IsProper}
-use Rattle.cdf_parts.specs.Parts.{list_of, array_at}
+use Rattle.cdf_node.specs.Items.{list_of}
+use Rattle.cdf_parts.specs.Parts.{array_at}
 use Rattle.cdf_parts.specs.PartOf.{IsPart, itself, of_member, of_item}
 use Rattle.cdf_parts.proofs.ReadsBack.{inside, read-proper}
 use Rattle.cdf_parts.proofs.WasRead.{proper_read}

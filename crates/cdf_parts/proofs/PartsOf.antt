@@ -4,7 +4,7 @@ use Rattle.std.specs.Prelude.{unwrap_or}
 use Rattle.std.specs.Option.{UnwrapsOrElse}
 use Rattle.cdf_node.specs.View.{view, items_view}
 use Rattle.cdf_node.specs.declared.node.Node.{Node}
-use Rattle.cdf_parts.specs.Parts.{list_of}
+use Rattle.cdf_node.specs.Items.{list_of}
 
 list_of-items_view : (vs : List Node) → list_of (items_view vs) ≡ map view vs
 list_of-items_view [] = refl

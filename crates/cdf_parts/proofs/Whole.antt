@@ -9,7 +9,8 @@ use Rattle.cdf_node.specs.declared.node.Node.{Node}
 use Rattle.serde_json.specs.Written.{has_float, items_have_float, members_have_float}
 use Rattle.std.specs.Prelude.{option_and_then, unwrap_or}
 use Rattle.std.specs.List.{list_any}
-use Rattle.cdf_parts.specs.Parts.{list_of, array_at}
+use Rattle.cdf_node.specs.Items.{list_of}
+use Rattle.cdf_parts.specs.Parts.{array_at}
 
 pub or_false : (a b : Bool) → a ≡ false → b ≡ false → (a || b) ≡ false
 or_false true b p q = p

@@ -7,7 +7,8 @@ use Rattle.serde_json.specs.Read.{read}
 use Rattle.serde_json.specs.View.{items_of}
 use Rattle.serde_json.specs.Written.{has_float, compact_text}
 use Rattle.cdf_parts.specs.Proper.{IsProper}
-use Rattle.cdf_parts.specs.Parts.{list_of, array_at}
+use Rattle.cdf_node.specs.Items.{list_of}
+use Rattle.cdf_parts.specs.Parts.{array_at}
 use Rattle.cdf_parts.specs.PartOf.{IsPart}
 
 -- A member of a proper value is proper, one level less deep.

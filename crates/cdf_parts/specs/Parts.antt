@@ -1,13 +1,9 @@
 -- The parts of a value, with a default where one is absent or of another kind.
 use Rattle.std.specs.Prelude.{ℕ, ℤ, List, [], ◌∷◌, length, map, Option, Some, None, option_map, option_and_then, unwrap_or, Result, Ok, Err, codes}
-use Rattle.serde_json.specs.Data.{Data, null, Items, no_items, item}
+use Rattle.serde_json.specs.Data.{Data, null}
 use Rattle.serde_json.specs.Find.{get, as_str, as_array}
+use Rattle.cdf_node.specs.Items.{list_of}
 use Rattle.jiff.specs.Words.{parse_timestamp}
-
--- the items as a list
-abbrev pub list_of : Items → List Data
-list_of no_items = []
-list_of (item d ds) = d ∷ list_of ds
 
 -- the items of the array under a name, or none
 abbrev pub array_at : List ℕ → Data → List Data

@@ -15,7 +15,8 @@ use Rattle.serde_json.proofs.Views.{get_member-put, get_member-put_other}
 use Rattle.cdf_node.specs.Next.{IsScalar}
 use Rattle.cdf_node.specs.Order.{Before, Below, Rises, IsSorted}
 use Rattle.cdf_node.proofs.Lemmas.{rises_sorted}
-use Rattle.cdf_pull.specs.Fold.{changed, list_of, items_found, items_in, items_under, emptied, left_beside, IsOrdered}
+use Rattle.cdf_node.specs.Items.{list_of}
+use Rattle.cdf_pull.specs.Fold.{changed, items_found, items_in, items_under, emptied, left_beside, IsOrdered}
 
 same_key : (k l : List ℕ) → slice_cmp nat_cmp k l ≡ Equal → k ≡ l
 same_key k l is = (bytes_eq-Decides k l).0 (sym (is_eq-slice_cmp k l) ∙ ap is_eq is)

@@ -3,11 +3,8 @@ use Rattle.std.specs.Prelude.{◌≡◌, ⊤, ◌^◌, ℕ, List, [], ◌∷◌,
 use Rattle.serde_json.specs.Data.{Data, array, object, Items, no_items, item, Members, no_members, member}
 use Rattle.serde_json.specs.Find.{get_member}
 use Rattle.serde_json.specs.Read.{read}
+use Rattle.cdf_node.specs.Items.{list_of}
 use Rattle.cdf_node.specs.Order.{Rises}
-
-abbrev pub list_of : Items → List Data
-list_of no_items = []
-list_of (item d ds) = d ∷ list_of ds
 
 -- the items of an array; any other value has none
 abbrev pub items_in : Data → List Data

@@ -24,5 +24,5 @@ abbrev pub NameLaw : Type 0
 NameLaw = (name : List ℕ) (ds : Items) (ms : Members) → get_member name (filled name ds ms) ≡ option_map (λ _. array ds) (get_member name ms)
 
 -- no fraction comes in
-abbrev pub WholeLaw : Type 0
-WholeLaw = (name : List ℕ) (ds : Items) (ms : Members) → items_have_float ds ≡ false → members_have_float ms ≡ false → members_have_float (filled name ds ms) ≡ false
+abbrev pub KeepsWholeLaw : Type 0
+KeepsWholeLaw = (name : List ℕ) (ds : Items) (ms : Members) → items_have_float ds ≡ false → members_have_float ms ≡ false → members_have_float (filled name ds ms) ≡ false

@@ -11,6 +11,6 @@ pub record SinkState : Type 0 where
 
 -- A call took n of the bytes: as many as there are and one call allows, from the front. Such a call
 -- is counted.
-pub record IsTaken (old new : SinkState) (bytes : List ℕ) (n : ℕ) : Type 0 where
+pub record TakesBytes (old new : SinkState) (bytes : List ℕ) (n : ℕ) : Type 0 where
   pub count : n ≡ min (length bytes) old.per_call
   pub sink : new ≡ record old { taken = old.taken ++ take n bytes; fails_in = old.fails_in - 1 }

@@ -19,12 +19,12 @@ told_call n = record { rest = 7 ∷ 8 ∷ 9 ∷ []; per_call = 2; fails_in = n; 
 
 -- A call gave n bytes: as many as the buffer, one call and the rest allow, at the front of the
 -- buffer. Such a call is counted.
-pub record IsGiven (old new : SourceState) (before after : List ℕ) (n : ℕ) : Type 0 where
+pub record GivesBytes (old new : SourceState) (before after : List ℕ) (n : ℕ) : Type 0 where
   pub count : n ≡ min (min (length before) old.per_call) (length old.rest)
   pub source : new ≡ record old { rest = drop n old.rest; fails_in = old.fails_in - 1 }
   pub buffer : after ≡ take n old.rest ++ drop n before
 
 -- A call failed: the source has failed, and nothing else changed.
-pub record IsRefused (old new : SourceState) (before after : List ℕ) : Type 0 where
+pub record ReadFails (old new : SourceState) (before after : List ℕ) : Type 0 where
   pub source : new ≡ record old { has_failed = true }
   pub buffer : after ≡ before

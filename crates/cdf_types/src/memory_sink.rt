@@ -1,7 +1,7 @@
 ghost use Rattle.std.specs.Prelude.{◌≡◌, ◌<◌, ◌≤◌, ◌++◌, [], Some, true, false, length, take, IfOk};
 ghost use Rattle.std.specs.Prelude.{OnErr, IsErr};
 ghost use Rattle.cdf_types.specs.Device.{count, fails_write};
-ghost use Rattle.cdf_types.specs.MemorySink.{IsTaken};
+ghost use Rattle.cdf_types.specs.MemorySink.{TakesBytes};
 
 use crate::device::{DeviceFault, Sink};
 use std::alloc::Global;
@@ -76,7 +76,7 @@ impl Sink for MemorySink {
         ensures failed { self.new.has_failed ≡ fails_write result }
         ensures taken { self.new.taken ≡ self.old.taken ++ take (count result) bytes.now }
         ensures refused { self.old.fails_in ≡ 1 → IsErr result }
-        ensures ok { IfOk result (IsTaken self.old self.new bytes.now) }
+        ensures ok { IfOk result (TakesBytes self.old self.new bytes.now) }
         ensures err { OnErr result (self.new ≡ record self.old { has_failed = true }) }
     {
         let count = bytes.len().min(self.per_call);

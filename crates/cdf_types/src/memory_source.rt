@@ -1,6 +1,6 @@
 ghost use Rattle.std.specs.Prelude.{◌≡◌, ◌↔◌, ◌<◌, ◌≤◌, Some, false, length, IfOk, OnErr, IsErr};
 ghost use Rattle.cdf_types.specs.Device.{count, fails_read, Gives};
-ghost use Rattle.cdf_types.specs.MemorySource.{can_fail, IsGiven, IsRefused};
+ghost use Rattle.cdf_types.specs.MemorySource.{can_fail, GivesBytes, ReadFails};
 
 use crate::device::{DeviceFault, Source};
 use std::marker::Model;
@@ -74,8 +74,8 @@ impl Source for MemorySource<'_> {
             (Gives (Some self.old.rest) (Some self.new.rest) buffer.old buffer.new) }
         ensures unchanged { OnErr result (Some self.new.rest ≡ Some self.old.rest) }
         ensures refused { IsErr result ↔ (self.old.fails_in ≡ 1) }
-        ensures ok { IfOk result (IsGiven self.old self.new buffer.old buffer.new) }
-        ensures err { OnErr result (IsRefused self.old self.new buffer.old buffer.new) }
+        ensures ok { IfOk result (GivesBytes self.old self.new buffer.old buffer.new) }
+        ensures err { OnErr result (ReadFails self.old self.new buffer.old buffer.new) }
     {
         if self.fails_in == 1 {
             self.failed = true;

@@ -3,7 +3,7 @@ use Rattle.std.proofs.Common.{◌≡◌, ◌<◌, ◌^◌, ℕ, List, [], length
 use Rattle.std.specs.FinMap.{empty, same_map, get-empty}
 use Rattle.std.specs.Map.{keys_of}
 use Rattle.cdf_parts.specs.Places.{Contest}
-use Rattle.cdf_definition.specs.Named.{Entry}
+use Rattle.cdf_definition.specs.Named.{IdText}
 use Rattle.cdf_definition.specs.Frame.{Frame}
 use Rattle.cvr_fact_types.specs.Facts.{Device, name_cmp}
 use Rattle.cvr_facts.proofs.Lemmas.{none_listed, in_map, from_map}
@@ -20,12 +20,12 @@ use Rattle.cvr_cached.specs.Held.{AreOwn, IsHeld, IsCached}
 use Rattle.cvr_cached.proofs.Listed.{sorted_nil}
 use Rattle.cvr_cached.proofs.Answering.{records_are}
 
-module _ (frame : Frame) (none more d : List AnyFact) (empty_is : none ≡ []) (are : map fact_of more ≡ map (λ (e : Entry). Device e.0 e.1) frame.devices) (put : IsPut none more d) (es : Entries) (no_entries : es ≡ []) where
+module _ (frame : Frame) (none more d : List AnyFact) (empty_is : none ≡ []) (are : map fact_of more ≡ map (λ (e : IdText). Device e.0 e.1) frame.devices) (put : IsPut none more d) (es : Entries) (no_entries : es ≡ []) where
   own_devices : (f : AnyFact) → Contains d f → record_of (fact_of f) ≡ None
   own_devices f at = elim (put.from f at) [
     | inl was ↦ absurd (none_listed f (subst (λ xs. Contains xs f) empty_is was))
     | inr came ↦
-        let e = from_map (λ (e : Entry). Device e.0 e.1) (fact_of f) frame.devices (subst (λ fs. Contains fs (fact_of f)) are (in_map fact_of f more came)) in
+        let e = from_map (λ (e : IdText). Device e.0 e.1) (fact_of f) frame.devices (subst (λ fs. Contains fs (fact_of f)) are (in_map fact_of f more came)) in
         ap record_of (sym e.2)
   ]
 

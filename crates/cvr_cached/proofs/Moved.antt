@@ -32,7 +32,7 @@ use Rattle.cvr_cached.specs.declared.plan.Plan.{Plan}
 use Rattle.cvr_cached.specs.Contents.{Entries, content_at, facts_at, listed, header_in, current_in, pairs_of}
 use Rattle.cvr_cached.specs.Held.{Stored, facts_of, AreOwn, IsHeld, CanTake}
 use Rattle.cvr_cached.specs.Moves.{contests_at, moved}
-use Rattle.cvr_cached.specs.Plans.{is_named, is_name_of, laid, all_moves, IsPlan}
+use Rattle.cvr_cached.specs.Plans.{has_content, is_name_of, laid, all_moves, IsPlan}
 use Rattle.cvr_cached.proofs.KeyTests.{own_name, same_name}
 use Rattle.cvr_cached.proofs.Listed.{at_name, each_of, len-set_of, less_other}
 use Rattle.cvr_cached.proofs.Moving.{headed}
@@ -128,9 +128,9 @@ laid_own f (x ∷ xs) rises c at = elim (head_or_tail x c xs at) [
       ap (λ b. cond b (Some x.1) (laid xs f c.0)) (less_other (name_cmp x.0 c.0) less) ∙ laid_own f xs (sorted_tail name_cmp x.0 (map name_in xs) rises) c more
 ]
 
-named_listed : (cs : Entries) (q : RecordName) → is_named cs q ≡ true → Contains (map name_in cs) q
+named_listed : (cs : Entries) (q : RecordName) → has_content cs q ≡ true → Contains (map name_in cs) q
 named_listed [] q e = absurd (false≢true e)
-named_listed (c ∷ cs) q e = elim (is_name_of c.0 q) as (λ b. is_name_of c.0 q ≡ b → (b || is_named cs q) ≡ true → Contains (map name_in (c ∷ cs)) q) [
+named_listed (c ∷ cs) q e = elim (is_name_of c.0 q) as (λ b. is_name_of c.0 q ≡ b → (b || has_content cs q) ≡ true → Contains (map name_in (c ∷ cs)) q) [
   | true ↦ λ is _. subst (Contains (c.0 ∷ map name_in cs)) (same_name c.0 q is) (at_head c.0 (map name_in cs))
   | false ↦ λ _ later. at_tail c.0 q (map name_in cs) (named_listed cs q later)
 ] refl e
@@ -202,7 +202,7 @@ module _ (s : Stored) (count : ℕ) (more : List AnyFact) (held : IsHeld s count
       let x = from_set_of more f.0 came in
       let grouped : contains (set_of (g k)) f.0 ≡ true = subst (λ q. contains (set_of (g k)) q ≡ true) x.2 (in_set_of (g k) x.0 ((group_is k x.0).1 (x.1, ap record_of x.2 ∙ f.2))) in
       let there = subst (λ u. contains u f.0 ≡ true) (sym (plan.put k).set) (in_union fact_total fact_exact (set_of (facts_at (at_name k es))) (set_of (g k)) f.0 (inr grouped)) in
-      elim (is_named cs k) as (λ b. is_named cs k ≡ b → Contains (map name_in cs) k) [
+      elim (has_content cs k) as (λ b. has_content cs k ≡ b → Contains (map name_in cs) k) [
         | true ↦ λ e. named_listed cs k e
         | false ↦ λ e. absurd (false≢true (sym new.1 ∙ from_content k f.0 (subst (λ o. contains (set_of (facts_at o)) f.0 ≡ true) (laid_none (λ k. at_name k es) cs k e) there)))
       ] refl

@@ -10,7 +10,7 @@ use Rattle.cvr_office.specs.declared.any_fact.AnyFact.{AnyFact}
 use Rattle.cvr_office.specs.Plain.{IsPut}
 use Rattle.cvr_cached.specs.declared.plan.Plan.{Plan}
 use Rattle.cvr_cached.specs.Contents.{Entries, content_at, facts_at}
-use Rattle.cvr_cached.specs.Cells.{total, Agrees}
+use Rattle.cvr_cached.specs.Cells.{total, IsTableOf}
 use Rattle.cvr_cached.specs.Held.{Stored, facts_of, AreOwn, IsHeld}
 use Rattle.cvr_cached.specs.Plans.{laid, all_moves, AreTallied, IsRoomy}
 use Rattle.cvr_cached.specs.Taking.{IsPlanOf, IsTaken}
@@ -46,7 +46,7 @@ module _ (s : Stored) (count : ℕ) (held : IsHeld s count) (more devices : List
     counted : count' ≡ length s'.devices + sum_by length (values_of s'.records)
     counted = let before = counted_before s count held in let planned = of.planned.count in omega (arith, before, planned, longer, grown, sum)
 
-    pub held_settled : Agrees (total s'.records) s'.totals.rows → IsTotals s'.totals → count' < 2 ^ 64 → IsHeld s' count'
+    pub held_settled : IsTableOf (total s'.records) s'.totals.rows → IsTotals s'.totals → count' < 2 ^ 64 → IsHeld s' count'
     held_settled agrees whole fits = held_after s count more held of.allowed s' put count' own agrees whole same counted fits
 
     pub taken_settled : n ≤ new → s'.totals.moves ≡ s.totals.moves + all_moves (content_at s.records) cs → IsTaken s more s' new

@@ -32,10 +32,10 @@ use Rattle.cvr_office.proofs.Laws.{rows_law, ballots_law}
 use Rattle.cvr_lists.proofs.Laws.{currents_are_sums, spelled_put}
 use Rattle.cvr_cached.specs.declared.plan.Plan.{Plan}
 use Rattle.cvr_cached.specs.Contents.{Entries, content_at, facts_at, standing, listed}
-use Rattle.cvr_cached.specs.Cells.{total, Agrees}
+use Rattle.cvr_cached.specs.Cells.{total, IsTableOf}
 use Rattle.cvr_cached.specs.Held.{Stored, facts_of, AreOwn, IsHeld, IsCached, CanTake, IsSummed}
 use Rattle.cvr_cached.specs.Plans.{IsPlan, all_moves, AreTallied, IsRoomy}
-use Rattle.cvr_cached.specs.Taking.{AreApart, IsPlanOf}
+use Rattle.cvr_cached.specs.Taking.{AreSplit, IsPlanOf}
 use Rattle.cvr_cached.proofs.Listed.{len-set_of, at_name, found_own, sorted_nil, own_each, run_listed}
 use Rattle.cvr_cached.proofs.Passing.{of_name}
 use Rattle.cvr_cached.proofs.RowLink.{rows_agree, agrees_rows}
@@ -161,7 +161,7 @@ module _ (s : Stored) (count : ℕ) (more : List AnyFact) (held : IsHeld s count
         long_at None h = tt
         long_at (Some r) h = h r refl
 
-    pub held_after : (count' : ℕ) → AreOwn s'.devices s'.records → Agrees (total s'.records) s'.totals.rows → IsTotals s'.totals → s'.totals.contests ≡ s.totals.contests → count' ≡ length s'.devices + sum_by length (values_of s'.records) → count' < 2 ^ 64 → IsHeld s' count'
+    pub held_after : (count' : ℕ) → AreOwn s'.devices s'.records → IsTableOf (total s'.records) s'.totals.rows → IsTotals s'.totals → s'.totals.contests ≡ s.totals.contests → count' ≡ length s'.devices + sum_by length (values_of s'.records) → count' < 2 ^ 64 → IsHeld s' count'
     held_after count' own agrees whole same counted fits =
         let is = same ∙ allowed.before.contests_are in
         record {
@@ -180,7 +180,7 @@ module _ (s : Stored) (count : ℕ) (more : List AnyFact) (held : IsHeld s count
 
 -- ---- a plan that was made of what is kept is one of its value
 
-pub plan_seen : {s t : Stored} {more devices : List AnyFact} {g : RecordName → List AnyFact} {made : Plan} → t ≡ s → AreApart more devices g → CanTake s more → IsPlan (content_at t.records) g made → IsPlanOf s more devices made
+pub plan_seen : {s t : Stored} {more devices : List AnyFact} {g : RecordName → List AnyFact} {made : Plan} → t ≡ s → AreSplit more devices g → CanTake s more → IsPlan (content_at t.records) g made → IsPlanOf s more devices made
 plan_seen {g = g} {made = made} is apart allowed planned = record { allowed = allowed; group = g; apart = apart; planned = subst (λ (u : Stored). IsPlan (content_at u.records) g made) is planned }
 
 -- ---- facts told apart by record
@@ -210,7 +210,7 @@ module _ (theirs more : List AnyFact) (devices : (f : AnyFact) → Contains thei
     ],
   )
 
-  pub told_apart : AreApart (theirs ++ more) theirs (λ k. run k more)
+  pub told_apart : AreSplit (theirs ++ more) theirs (λ k. run k more)
   told_apart = record { devices_are = apart_devices; groups_are = apart_runs }
 
 -- ---- what another office holds
@@ -235,5 +235,5 @@ module _ (theirs : List AnyFact) (ts : Entries) (own : AreOwn theirs ts) where
     λ both. subst (λ xs. Contains xs f) (run_listed theirs ts own k) (in_filter (is_of k) (listed theirs ts) f both.0 (ap (λ o. is_eq (Rattle.std.specs.Option.option_cmp name_cmp o (Some k))) both.1 ∙ own_name k k refl)),
   )
 
-  pub own_apart : AreApart (listed theirs ts) theirs (λ k. facts_at (content_at ts k))
+  pub own_apart : AreSplit (listed theirs ts) theirs (λ k. facts_at (content_at ts k))
   own_apart = record { devices_are = own_devices; groups_are = own_runs }

@@ -7,7 +7,7 @@ use Rattle.cvr_fact_types.specs.declared.name.RecordName.{RecordName}
 use Rattle.cvr_fact_types.specs.Facts.{name_cmp}
 use Rattle.cvr_facts.specs.Sets.{JoinLaws}
 use Rattle.cvr_facts.proofs.Lemmas.{at_head, at_tail, head_or_tail, none_listed}
-use Rattle.cvr_cached.specs.Wholes.{part, whole}
+use Rattle.cvr_cached.specs.Wholes.{part, whole_of}
 use Rattle.cvr_cached.proofs.Listed.{at_name, found_own, found_listed}
 
 -- ---- one is in another where joining it adds nothing
@@ -38,7 +38,7 @@ module _ {M : Type 0} (join : M → M → M) (nothing : M) (laws : JoinLaws join
 
   module _ {P : Type 0} (held : P → M) where
     abbrev all : List (RecordName × P) → M
-    all parts = whole held join nothing parts
+    all parts = whole_of held join nothing parts
 
     abbrev held_at : List (RecordName × P) → RecordName → M
     held_at parts k = part held nothing parts k
@@ -65,10 +65,10 @@ module _ {M : Type 0} (join : M → M → M) (nothing : M) (laws : JoinLaws join
     own_at parts rises p there = ap (λ o. option_map_or held o nothing) (found_own parts rises p there)
 
     module _ (one other both : List (RecordName × P)) (one_rises : IsStrictlySortedBy name_cmp (keys_of one)) (other_rises : IsStrictlySortedBy name_cmp (keys_of other))
-        (both_rise : IsStrictlySortedBy name_cmp (keys_of both)) (joined : (k : RecordName) → held_at both k ≡ join (held_at one k) (held_at other k)) where
+        (both_rise : IsStrictlySortedBy name_cmp (keys_of both)) (whole_of : (k : RecordName) → held_at both k ≡ join (held_at one k) (held_at other k)) where
       both_below : IsIn (all both) (join (all one) (all other))
       both_below = all_in both (join (all one) (all other)) (λ p there.
-          subst (λ s. IsIn s (join (all one) (all other))) (sym (joined p.0) ∙ own_at both both_rise p there)
+          subst (λ s. IsIn s (join (all one) (all other))) (sym (whole_of p.0) ∙ own_at both both_rise p there)
           (both_in (held_at one p.0) (held_at other p.0) (join (all one) (all other))
           (in_through (held_at one p.0) (all one) (join (all one) (all other)) (at_in one p.0) (in_left (all one) (all other)))
           (in_through (held_at other p.0) (all other) (join (all one) (all other)) (at_in other p.0) (in_right (all one) (all other)))))
@@ -76,12 +76,12 @@ module _ {M : Type 0} (join : M → M → M) (nothing : M) (laws : JoinLaws join
       one_below : IsIn (all one) (all both)
       one_below = all_in one (all both) (λ p there.
           subst (λ s. IsIn s (all both)) (own_at one one_rises p there)
-          (in_through (held_at one p.0) (held_at both p.0) (all both) (subst (IsIn (held_at one p.0)) (sym (joined p.0)) (in_left (held_at one p.0) (held_at other p.0))) (at_in both p.0)))
+          (in_through (held_at one p.0) (held_at both p.0) (all both) (subst (IsIn (held_at one p.0)) (sym (whole_of p.0)) (in_left (held_at one p.0) (held_at other p.0))) (at_in both p.0)))
 
       other_below : IsIn (all other) (all both)
       other_below = all_in other (all both) (λ p there.
           subst (λ s. IsIn s (all both)) (own_at other other_rises p there)
-          (in_through (held_at other p.0) (held_at both p.0) (all both) (subst (IsIn (held_at other p.0)) (sym (joined p.0)) (in_right (held_at one p.0) (held_at other p.0))) (at_in both p.0)))
+          (in_through (held_at other p.0) (held_at both p.0) (all both) (subst (IsIn (held_at other p.0)) (sym (whole_of p.0)) (in_right (held_at one p.0) (held_at other p.0))) (at_in both p.0)))
 
       pub whole_joined : all both ≡ join (all one) (all other)
       whole_joined = each_in (all both) (join (all one) (all other)) both_below (both_in (all one) (all other) (all both) one_below other_below)

@@ -35,8 +35,8 @@ of_four_contests =
     Snapshot (codes "s1") (codes "u4") (codes "m") (adjudication (codes "judge" ∷ codes "mayor" ∷ codes "parks" ∷ codes "school" ∷ [])) ∷ []
 
 -- that record, and three others, whose current snapshots have 1, 2 and 3
-abbrev pub held : List Fact
-held =
+abbrev pub held_facts : List Fact
+held_facts =
     Header (codes "s1") (codes "u1") (header (codes "") (codes "p1") (codes "u1")) ∷ Snapshot (codes "s1") (codes "u1") (codes "a") (scan (codes "mayor" ∷ [])) ∷
     Header (codes "s1") (codes "u2") (header (codes "") (codes "p1") (codes "u2")) ∷ Snapshot (codes "s1") (codes "u2") (codes "a") (scan (codes "clerk" ∷ codes "mayor" ∷ [])) ∷
     Header (codes "s1") (codes "u3") (header (codes "") (codes "p2") (codes "u3")) ∷ Snapshot (codes "s1") (codes "u3") (codes "a") (scan (codes "judge" ∷ codes "parks" ∷ codes "roads" ∷ [])) ∷
@@ -50,22 +50,22 @@ coming =
     Header (codes "s1") (codes "u5") (header (codes "") (codes "p1") (codes "u5")) ∷ Snapshot (codes "s1") (codes "u5") (codes "a") (scan ids) ∷
     of_four_contests
 
-abbrev pub before : Facts
-before = from_list held
+abbrev pub facts_before : Facts
+facts_before = from_list held_facts
 
-abbrev pub after : Facts
-after = from_list (coming ++ held)
+abbrev pub facts_after : Facts
+facts_after = from_list (coming ++ held_facts)
 
 -- ---- moves
 
 -- 1 and 5 of the first record, 2 and 2 of the second, 6 of the new one
 abbrev pub MovedWhereTheyCome : Type 0
-MovedWhereTheyCome = moved contests before after ≡ 16
+MovedWhereTheyCome = moved contests facts_before facts_after ≡ 16
 
 -- from nothing to all that is held then, as rows are made anew: 5, 2, 3, 4 and 6
 abbrev pub MovedWhereMadeAnew : Type 0
-MovedWhereMadeAnew = moved contests empty after ≡ 20
+MovedWhereMadeAnew = moved contests empty facts_after ≡ 20
 
 -- and where the same comes once more, nothing is changed
 abbrev pub MovedWhereNothingIsNew : Type 0
-MovedWhereNothingIsNew = moved contests after (from_list (coming ++ coming ++ held)) ≡ 0
+MovedWhereNothingIsNew = moved contests facts_after (from_list (coming ++ coming ++ held_facts)) ≡ 0

@@ -14,7 +14,7 @@ use Rattle.cvr_cached.specs.Moves.{moved}
 use Rattle.cvr_cached.specs.Plans.{IsPlan}
 
 -- what comes, told apart: the facts of devices, and those of each record
-pub record AreApart (more devices : List AnyFact) (group : RecordName → List AnyFact) : Type 0 where
+pub record AreSplit (more devices : List AnyFact) (group : RecordName → List AnyFact) : Type 0 where
   pub devices_are : (f : AnyFact) → Contains devices f ↔ (Contains more f × (record_of (fact_of f) ≡ None))
   pub groups_are : (k : RecordName) (f : AnyFact) → Contains (group k) f ↔ (Contains more f × (record_of (fact_of f) ≡ Some k))
 
@@ -22,7 +22,7 @@ pub record AreApart (more devices : List AnyFact) (group : RecordName → List A
 pub record IsPlanOf (s : Stored) (more devices : List AnyFact) (plan : Plan) : Type 0 where
   pub allowed : CanTake s more
   pub group : RecordName → List AnyFact
-  pub apart : AreApart more devices group
+  pub apart : AreSplit more devices group
   pub planned : IsPlan (content_at s.records) group plan
 
 -- all that came was put in, so many facts of it were new, and rows were changed as often as records that gain facts ask for

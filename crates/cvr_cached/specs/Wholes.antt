@@ -12,13 +12,13 @@ abbrev pub part : {P M : Type 0} → (P → M) → M → List (RecordName × P) 
 part held nothing parts k = option_map_or held (lookup (is_at (name_cmp k)) parts) nothing
 
 -- what all parts hold, joined
-abbrev pub whole : {P M : Type 0} → (P → M) → (M → M → M) → M → List (RecordName × P) → M
-whole held join nothing [] = nothing
-whole held join nothing (p ∷ ps) = join (held p.1) (whole held join nothing ps)
+abbrev pub whole_of : {P M : Type 0} → (P → M) → (M → M → M) → M → List (RecordName × P) → M
+whole_of held join nothing [] = nothing
+whole_of held join nothing (p ∷ ps) = join (held p.1) (whole_of held join nothing ps)
 
 -- where the part of each name is the join of two others', the whole is the join of theirs
 abbrev pub WholesLaw : {P M : Type 0} → (P → M) → (M → M → M) → M → Type 0
 WholesLaw {P} held join nothing = (one other both : List (RecordName × P))
     → IsStrictlySortedBy name_cmp (keys_of one) → IsStrictlySortedBy name_cmp (keys_of other) → IsStrictlySortedBy name_cmp (keys_of both)
     → ((k : RecordName) → part held nothing both k ≡ join (part held nothing one k) (part held nothing other k))
-    → whole held join nothing both ≡ join (whole held join nothing one) (whole held join nothing other)
+    → whole_of held join nothing both ≡ join (whole_of held join nothing one) (whole_of held join nothing other)

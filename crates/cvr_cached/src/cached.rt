@@ -22,7 +22,7 @@ pub struct CachedOffice {
 }
 
 impl Model for CachedOffice {
-    ghost use Rattle.cvr_office.specs.Plain.{content};
+    ghost use Rattle.cvr_office.specs.Plain.{content_of};
     ghost use Rattle.cvr_cached.specs.Held.{Holding, coded_holding, facts_of, IsCached};
 
     ghost Value = { Holding };
@@ -30,7 +30,7 @@ impl Model for CachedOffice {
     ghost coded = { coded_holding };
 
     ghost view = { λ a. record {
-      content = content a.definition (facts_of a.store);
+      content = content_of a.definition (facts_of a.store);
       moves = a.store.totals.moves;
     } };
 

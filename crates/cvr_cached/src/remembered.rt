@@ -1,7 +1,8 @@
 // What a content remembers of its facts: where its header and its current snapshot stand, and a key
 // of its rows.
 ghost use Rattle.std.specs.Prelude.{◌≡◌, ◌<◌, ◌+◌, IfOk, None, option_map, drop, length};
-ghost use Rattle.cvr_cached.specs.Contents.{header_at, current_at, header_in, current_in, sums_in};
+ghost use Rattle.cvr_cached.specs.Contents.{header_at, current_at, header_in, current_in};
+ghost use Rattle.cvr_cached.specs.Contents.{current_sums};
 ghost use Rattle.cvr_cached.specs.Contents.{IsKeyOf};
 
 use cdf_types::Memory;
@@ -100,7 +101,7 @@ pub(crate) fn votes_at(
 ) -> &[VoteSums]
     requires head { header_at facts.now header ≡ header_in facts.now }
     requires current { current_at facts.now current ≡ current_in facts.now }
-    ensures { result.now ≡ sums_in facts.now }
+    ensures { result.now ≡ current_sums facts.now }
 {
     if header_fact_at(facts, header).is_none() {
         return &[];

@@ -10,7 +10,7 @@ ghost use Rattle.cvr_fact_types.specs.Facts.{name_cmp};
 ghost use Rattle.cvr_office.specs.Place.{any_cmp};
 ghost use Rattle.cvr_office.specs.Plain.{IsPut};
 ghost use Rattle.cvr_cached.specs.Contents.{facts_at};
-ghost use Rattle.cvr_cached.specs.Cells.{total, Agrees};
+ghost use Rattle.cvr_cached.specs.Cells.{total, IsTableOf};
 ghost use Rattle.cvr_cached.specs.Plans.{laid, all_moves, AreTallied, IsRoomy};
 
 use crate::commit::commit_all;
@@ -71,7 +71,7 @@ pub(crate) fn put_in(
     ensures counted { OnOk result (sum_by length (values_of records.new.entries)
         + sum_by (λ c. length (facts_at (get name_cmp records.old c.0))) contents.items
         ≡ sum_by length (values_of records.old.entries) + sum_by (λ c. length c.1) contents.items) }
-    ensures agrees { OnOk result (Agrees (total records.new.entries) totals.new.rows) }
+    ensures agrees { OnOk result (IsTableOf (total records.new.entries) totals.new.rows) }
     ensures moves { OnOk result (totals.new.moves
         ≡ totals.old.moves + all_moves (get name_cmp records.old) contents.items) }
     ensures contests { totals.new.contests ≡ totals.old.contests }

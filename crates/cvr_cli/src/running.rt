@@ -1,5 +1,5 @@
 ghost use Rattle.std.specs.Prelude.{◌≡◌, ◌≢◌, ◌⊎◌, [], ℕ, List, length, map, false, string_bytes};
-ghost use Rattle.cvr_words.specs.Line.{named};
+ghost use Rattle.cvr_words.specs.Line.{with_program};
 ghost use Rattle.cvr_words.specs.Request.{IsRequest};
 ghost use Rattle.cvr_words.specs.declared.request.Request.{Request};
 ghost use Rattle.cvr_run.specs.Answered.{Answers, IsGiven};
@@ -8,7 +8,7 @@ ghost use Rattle.cvr_run.specs.Explained.{AsksCode, Explains};
 ghost use Rattle.cvr_run.specs.Job.{Job};
 ghost use Rattle.cvr_run.specs.Listed.{AnswersListed, AsksListed, IsGivenEither, ListedRequest};
 ghost use Rattle.cvr_run.specs.Opening.{Opens, SaysTheSame};
-ghost use Rattle.cvr_run.specs.Outcome.{bytes_of, IsWhole};
+ghost use Rattle.cvr_run.specs.Outcome.{files_of, IsWhole};
 ghost use Rattle.cvr_run.specs.OwnWords.{AsksVersion, PrintsOwn, version_text};
 ghost use Rattle.cvr_run.specs.declared.status.Status.TheVariants.{CommandLine};
 
@@ -34,7 +34,7 @@ pub fn run<W: Sink, L: Sink>(
     requires working { (W.taken out.old).failed ≡ false }
     requires log_working { (L.taken log.old).failed ≡ false }
     requires named { length request.now.paths ≡ length files.now }
-    ensures ran { Ran (record { request = request.now; def = def.now; files = bytes_of files.now })
+    ensures ran { Ran (record { request = request.now; def = def.now; files = files_of files.now })
         result
         (record { out = W.taken out.old; log = L.taken log.old })
         (record { out = W.taken out.new; log = L.taken log.new }) }
@@ -65,8 +65,8 @@ pub fn work<O: Open, W: Sink, L: Sink>(
         → IsWhole result → Ran job result
         (record { out = W.taken out.old; log = L.taken log.old })
         (record { out = W.taken out.new; log = L.taken log.new }) }
-    ensures asked { (request : Request) → IsRequest (named (map string_bytes words.now)) request
-        → result ≢ CommandLine }
+    ensures asked { (request : Request)
+        → IsRequest (with_program (map string_bytes words.now)) request → result ≢ CommandLine }
     ensures says { SaysTheSame (O.state opener.old) (O.state opener.new) }
 {
     cvr_run::work::<CachedOffice, O, W, L>(alloc, opener, words, out, log)
@@ -110,8 +110,8 @@ pub fn respond<O: Open, W: Sink, L: Sink>(
         → IsWhole result → Ran job result
         (record { out = W.taken out.old; log = L.taken log.old })
         (record { out = W.taken out.new; log = L.taken log.new }) }
-    ensures asked { (request : Request) → IsRequest (named (map string_bytes words.now)) request
-        → result ≢ CommandLine }
+    ensures asked { (request : Request)
+        → IsRequest (with_program (map string_bytes words.now)) request → result ≢ CommandLine }
     ensures says { SaysTheSame (O.state opener.old) (O.state opener.new) }
     ensures unopened { AsksVersion (map string_bytes words.now)
         ⊎ ((name : List ℕ) × AsksCode (map string_bytes words.now) name)

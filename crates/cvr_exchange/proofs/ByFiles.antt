@@ -21,7 +21,7 @@ use Rattle.cvr_office.specs.Reach.{History, Start, File, origin_cmp, reached, co
 use Rattle.cvr_office.proofs.Laws.{answer_alike, same_definition, same_files, start_keeps}
 use Rattle.cvr_office.proofs.Lemmas.{origin_total, origin_exact, or_cases, tie_is}
 use Rattle.cvr_report.proofs.Laws.{same_volumes}
-use Rattle.cvr_exchange.specs.Laws.{BeganKept, ByFilesLaw, SameFilesLaw}
+use Rattle.cvr_exchange.specs.Laws.{BeganKept, ByFilesLaw, SamePassingLaw}
 use Rattle.cvr_exchange.specs.Passing.{IsByFiles, begun, event, volumes_of}
 use Rattle.cvr_exchange.proofs.Histories.{after_import, after_exchange, imports_exchange}
 use Rattle.cvr_exchange.proofs.Kept.{history_kept}
@@ -166,7 +166,7 @@ module _ {Office : Type 0} (held : Office → Facts) (defined : Office → Frame
         ∙ (same_files (starting (defined one)) (map held before) files past o p (began o (within o one at)) (began p (within p other also)) same
         ∙ sym (held_is p other also))
 
-pub same_files_law : {Office : Type 0} (held : Office → Facts) (defined : Office → Frame) → SameFilesLaw held defined
+pub same_files_law : {Office : Type 0} (held : Office → Facts) (defined : Office → Frame) → SamePassingLaw held defined
 same_files_law held defined before after files by past o p one other new played how same at also =
     let content = same_content held defined before after files by past new played how o p one other at also same in
     let definition = same_definition held defined before after files by new played o p one other at also in

@@ -11,7 +11,7 @@ use Rattle.cdf_definition.specs.Acceptance.{Holds, IsReport}
 use Rattle.cdf_definition.specs.Agreement.{Agrees}
 use Rattle.cdf_definition.specs.Frame.{Frame, frame_of, entries_at}
 use Rattle.cdf_check.specs.Laws.{IsListOf}
-use Rattle.cdf_definition.specs.Named.{Entry, named, by_id, ids_of, texts_of}
+use Rattle.cdf_definition.specs.Named.{IdText, named, by_id, ids_of, texts_of}
 use Rattle.cdf_definition.specs.Sound.{IsFrame}
 use Rattle.cdf_definition.proofs.Laws.{was_read, report_proper, listed_proper, one_election, sound}
 use Rattle.cdf_check.proofs.Laws.{lists, file_utf8, part_utf8}
@@ -23,11 +23,11 @@ use Rattle.cvr_exchange.proofs.Arrays.{IsRising}
 use Rattle.cvr_exchange.proofs.Clean.{IsClean}
 
 -- the values that the texts of entries spell
-abbrev pub values : List Entry → List Data
+abbrev pub values : List IdText → List Data
 values entries = map data_of (texts_of entries)
 
 -- they are the objects under a name of a report, and have the entries' ids
-pub record AreValuesOf (entries : List Entry) (name : List ℕ) (d : Data) : Type 0 where
+pub record AreValuesOf (entries : List IdText) (name : List ℕ) (d : Data) : Type 0 where
   pub each : (x : Data) → Contains (values entries) x → Contains (array_at name d) x
   pub all : (x : Data) → Contains (array_at name d) x → Contains (values entries) x
   pub ids : map id_of (values entries) ≡ ids_of entries
@@ -44,7 +44,7 @@ pub record IsDefined (frame : Frame) (d : Data) : Type 0 where
   pub contests : frame.contests ≡ map contest_of (array_at (codes "Contest") (the_election d))
   pub agrees : Agrees frame d
 
-ids_same : (es : List Entry) → ((e : Entry) → Contains es e → id_of (data_of e.1) ≡ e.0) → map id_of (values es) ≡ ids_of es
+ids_same : (es : List IdText) → ((e : IdText) → Contains es e → id_of (data_of e.1) ≡ e.0) → map id_of (values es) ≡ ids_of es
 ids_same [] h = refl
 ids_same (e ∷ es) h = λ i. h e (at_head e es) i ∷ ids_same es (λ f a. h f (at_tail e f es a)) i
 
@@ -54,16 +54,16 @@ module _ (bytes : List ℕ) (d : Data) (holds : Holds bytes d) (r : IsReport d) 
   back name x a = ap (λ o. unwrap_or o null) (part_reads_back bytes d x (was_read bytes d holds.1) r.whole (listed_part name d x a))
 
   -- which object an entry is of
-  source : (name : List ℕ) → IsListOf (entries_at name d) name d → (e : Entry) → Contains (entries_at name d) e
+  source : (name : List ℕ) → IsListOf (entries_at name d) name d → (e : IdText) → Contains (entries_at name d) e
       → (x : Data) × Contains (array_at name d) x × (data_of e.1 ≡ x) × (id_of x ≡ e.0)
   source name list e a =
       let s = entry_source name d list e a in
-      (s.0, s.1, ap (λ (y : Entry). data_of y.1) (sym s.2) ∙ back name s.0 s.1, ap (λ (y : Entry). y.0) s.2)
+      (s.0, s.1, ap (λ (y : IdText). data_of y.1) (sym s.2) ∙ back name s.0 s.1, ap (λ (y : IdText). y.0) s.2)
 
   value_source : (name : List ℕ) → IsListOf (entries_at name d) name d → (x : Data) → Contains (values (entries_at name d)) x → Contains (array_at name d) x
   value_source name list x a =
       let t = from_map data_of x (texts_of (entries_at name d)) a in
-      let e = from_map (λ (y : Entry). y.1) t.0 (entries_at name d) t.1 in
+      let e = from_map (λ (y : IdText). y.1) t.0 (entries_at name d) t.1 in
       let s = source name list e.0 e.1 in
       subst (Contains (array_at name d)) (sym s.2 ∙ (ap data_of e.2 ∙ t.2)) s.1
 
@@ -73,7 +73,7 @@ module _ (bytes : List ℕ) (d : Data) (holds : Holds bytes d) (r : IsReport d) 
     all = λ x a.
         subst (Contains (values (entries_at name d))) (back name x a)
         (in_map data_of (compact_text x) (texts_of (entries_at name d))
-        (in_map (λ (y : Entry). y.1) (named x) (entries_at name d) ((list.members (named x)).1 (in_map named x (array_at name d) a))));
+        (in_map (λ (y : IdText). y.1) (named x) (entries_at name d) ((list.members (named x)).1 (in_map named x (array_at name d) a))));
     ids = ids_same (entries_at name d) (λ e a. let s = source name list e a in ap id_of s.2 ∙ s.3);
     rises = list.rises;
     clean = λ x a.

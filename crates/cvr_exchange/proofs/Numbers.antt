@@ -15,7 +15,7 @@ use Rattle.cvr_office.specs.Names.{names, name_of, body_of, is_named, records, r
 use Rattle.cvr_office.specs.Readers.{header_list, device_list, snapshot_list}
 use Rattle.cvr_office.proofs.Lemmas.{from_ordered, in_ordered, len-from_list}
 use Rattle.cvr_office.proofs.Laws.{conflict_total, conflict_exact, name_total, name_exact}
-use Rattle.cvr_report.specs.Page.{shown, counts, stands, volumes}
+use Rattle.cvr_report.specs.Page.{shown, body_counts, stands, volumes}
 use Rattle.cvr_report.proofs.Laws.{shown_at}
 use Rattle.cvr_exchange.proofs.Shown.{of_device, of_header, of_snapshot, of_id}
 
@@ -102,8 +102,8 @@ module _ (s : Facts) where
       let n : length (header_list s key) ≡ count_under s (name.Header key) = length-reverse (bodies_under s (name.Header key)) in
       let q : count_under s (name.Header key) ≤ volumes s = count_within (Header d u b) h in
       let r = p.2 in
-      let m = most_above (counts s key) (length (header_list s key)) (at_head (length (header_list s key)) _) in
-      (p.0, p.1, omega (arith, n, q, r), le_true p.0 (most (counts s key)) (omega (arith, m, r)), p.3)
+      let m = most_above (body_counts s key) (length (header_list s key)) (at_head (length (header_list s key)) _) in
+      (p.0, p.1, omega (arith, n, q, r), le_true p.0 (most (body_counts s key)) (omega (arith, m, r)), p.3)
 
   pub snapshot_number : (d u id b : List ℕ) → contains s (Snapshot d u id b) ≡ true
       → (i : ℕ) × (0 < i) × (i ≤ volumes s) × (stands s i (key_of d u) ≡ true) × (shown i (snapshot_list s (key_of d u) id) ≡ b)
@@ -114,6 +114,6 @@ module _ (s : Facts) where
       let q : count_under s (name.Snapshot key id) ≤ volumes s = count_within (Snapshot d u id b) h in
       let r = p.2 in
       let its = (of_id s key id).1 (b, h) in
-      let m = most_above (counts s key) (length (snapshot_list s key id))
+      let m = most_above (body_counts s key) (length (snapshot_list s key id))
       (at_tail (length (header_list s key)) _ _ (in_map (λ j. length (snapshot_list s key j)) id (snapshot_ids s key) its)) in
-      (p.0, p.1, omega (arith, n, q, r), le_true p.0 (most (counts s key)) (omega (arith, m, r)), p.3)
+      (p.0, p.1, omega (arith, n, q, r), le_true p.0 (most (body_counts s key)) (omega (arith, m, r)), p.3)

@@ -15,7 +15,8 @@ use Rattle.cdf_form.specs.declared.table.Kind.TheVariants.{One, Array}
 use Rattle.cdf_form.specs.Tables.{Entry, table, classes_of, required, any}
 use Rattle.cdf_form.specs.Form.{class_in, find_class}
 use Rattle.cdf_form.specs.HasForm.{HasForm, IsRow, text, class}
-use Rattle.cdf_parts.specs.Parts.{list_of, array_at, ids_at, id_of, text_at}
+use Rattle.cdf_node.specs.Items.{list_of}
+use Rattle.cdf_parts.specs.Parts.{array_at, ids_at, id_of, text_at}
 use Rattle.cdf_parts.specs.Places.{Texts}
 use Rattle.cdf_parts.specs.Removing.{without}
 use Rattle.cdf_parts.proofs.Laws.{list_of-items_of, without-put}

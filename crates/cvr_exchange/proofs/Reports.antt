@@ -20,7 +20,8 @@ use Rattle.cdf_form.specs.Tables.{Entry as Row, table, classes_of, required, opt
 use Rattle.cdf_form.specs.Form.{class_in, find_class}
 use Rattle.cdf_form.specs.HasForm.{HasForm, text, moment, listed, class}
 use Rattle.cdf_parts.specs.PartOf.{IsPart, itself, of_member}
-use Rattle.cdf_parts.specs.Parts.{list_of, array_at, ids_at, id_of, first_or_null}
+use Rattle.cdf_node.specs.Items.{list_of}
+use Rattle.cdf_parts.specs.Parts.{array_at, ids_at, id_of, first_or_null}
 use Rattle.cdf_parts.specs.Places.{contest_of}
 use Rattle.cdf_form.specs.Reading.{value_of, max_file}
 use Rattle.cdf_form.proofs.Laws.{items_have_form}
@@ -29,7 +30,7 @@ use Rattle.cdf_parts.proofs.Lemmas.{inside}
 use Rattle.cdf_definition.specs.Acceptance.{Valid, value_in}
 use Rattle.cdf_definition.specs.Agreement.{Agrees}
 use Rattle.cdf_definition.specs.Frame.{Frame}
-use Rattle.cdf_definition.specs.Named.{Entry, ids_of}
+use Rattle.cdf_definition.specs.Named.{IdText, ids_of}
 use Rattle.cdf_definition.specs.References.{Scope, scope_of}
 use Rattle.cdf_definition.specs.Resolves.{Resolves, CvrResolves, ElectionResolves}
 use Rattle.cdf_definition.specs.Depths.{election_row}
@@ -63,7 +64,7 @@ list_unless no_items = refl
 list_unless (item d ds) = refl
 
 -- the ids of objects of a definition are those of its entries
-among_ids : (entries : List Entry) (name : List ℕ) (d : Data) → AreValuesOf entries name d → AreAmong (ids_at name d) (ids_of entries)
+among_ids : (entries : List IdText) (name : List ℕ) (d : Data) → AreValuesOf entries name d → AreAmong (ids_at name d) (ids_of entries)
 among_ids entries name d h n a =
     let x = from_map id_of n (array_at name d) a in
     subst (Contains (ids_of entries)) x.2 (subst (λ ids. Contains ids (id_of x.0)) h.ids (in_map id_of x.0 (values entries) (h.all x.0 x.1)))
@@ -123,8 +124,8 @@ module _ (frame : Frame) (head : Head) (s : Facts) (i : ℕ) (keeps : Keeps fram
 
   device_held : (b : List ℕ) × (contains s (Device head.device b) ≡ true)
   device_held =
-      let e = from_map (λ (e : Entry). e.0) head.device frame.devices (Contains-from_any (λ x y. (bytes_eq-Decides x y).0) head.device (ids_of frame.devices) can.device) in
-      let held = keeps.started (Device e.0.0 e.0.1) (in_set fact_total fact_exact (map (λ (e : Entry). Device e.0 e.1) frame.devices) (Device e.0.0 e.0.1) (in_map (λ (e : Entry). Device e.0 e.1) e.0 frame.devices e.1)) in
+      let e = from_map (λ (e : IdText). e.0) head.device frame.devices (Contains-from_any (λ x y. (bytes_eq-Decides x y).0) head.device (ids_of frame.devices) can.device) in
+      let held = keeps.started (Device e.0.0 e.0.1) (in_set fact_total fact_exact (map (λ (e : IdText). Device e.0 e.1) frame.devices) (Device e.0.0 e.0.1) (in_map (λ (e : IdText). Device e.0 e.1) e.0 frame.devices e.1)) in
       (e.0.1, subst (λ id. contains s (Device id e.0.1) ≡ true) e.2 held)
 
   device_listed : Contains (devices s) head.device

@@ -11,7 +11,7 @@ use Rattle.cdf_typed.specs.Greatest.{greater, greatest}
 use Rattle.cvr_fact_types.specs.declared.name.RecordName.{RecordName}
 use Rattle.cvr_fact_types.specs.Facts.{Fact, Device, Header, Snapshot, Facts}
 use Rattle.cvr_facts.specs.Choosing.{choice_cmp}
-use Rattle.cvr_facts.specs.Stands.{IsWhole}
+use Rattle.cvr_facts.specs.Stands.{HasRecord}
 use Rattle.cvr_facts.proofs.Laws.{text_total, text_exact, choice_total, choice_exact, contains_iff}
 use Rattle.cvr_facts.proofs.Lemmas.{at_head, at_tail, in_map, from_map}
 use Rattle.cdf_definition.specs.Frame.{Frame}
@@ -93,7 +93,7 @@ module _ (frame : Frame) (s : Facts) (keeps : Keeps frame s) (i : ℕ) (pos : 0 
 
       pub some_id : (id : List ℕ) × Contains (snapshot_ids s key) id
       some_id =
-          let whole : IsWhole s key.device key.unique = keeps.whole (Header key.device key.unique (shown i (header_list s key))) header_shown in
+          let whole : HasRecord s key.device key.unique = keeps.whole (Header key.device key.unique (shown i (header_list s key))) header_shown in
           (whole.snapshot.0, (of_id s key whole.snapshot.0).1 (whole.snapshot.1, whole.snapshot.2))
 
 -- ---- the current one is among those that are shown

@@ -94,8 +94,8 @@ ByFilesLaw = (frames : List Frame) (starts : List Facts) (files : List (List ℕ
     → (o : ℕ) → content starts files by o ≡ content starts files past o
 
 -- new offices of one definition pass each other volumes as files: two that the same files would have reached by exchanges are alike, and write alike
-abbrev pub SameFilesLaw : {Office : Type 0} → (Office → Facts) → (Office → Frame) → Type 0
-SameFilesLaw {Office} held defined = (before after : List Office) (files : List (List ℕ)) (by past : History) (o p : ℕ) (one other : Office)
+abbrev pub SamePassingLaw : {Office : Type 0} → (Office → Facts) → (Office → Frame) → Type 0
+SamePassingLaw {Office} held defined = (before after : List Office) (files : List (List ℕ)) (by past : History) (o p : ℕ) (one other : Office)
     → AreNewOfOne held defined before → ArePlayed held defined before after files by
     → IsByFiles (map defined before) (map held before) files by past → HaveSameFiles files past o p
     → slice_get after o ≡ Some one → slice_get after p ≡ Some other

@@ -1,7 +1,7 @@
 //! Laws of volumes that are passed on as files, in place of exchanges.
 ghost use Rattle.cvr_exchange.specs.Laws.{ValidLaw, ValidForSameLaw, NothingAddedLaw};
 ghost use Rattle.cvr_exchange.specs.Laws.{AllVolumesLaw, AnyOrderLaw, AcceptedLaw, ImportsLaw};
-ghost use Rattle.cvr_exchange.specs.Laws.{AmongLaw, AllAmongLaw, ByFilesLaw, SameFilesLaw};
+ghost use Rattle.cvr_exchange.specs.Laws.{AmongLaw, AllAmongLaw, ByFilesLaw, SamePassingLaw};
 
 use cvr_office::Office;
 
@@ -41,5 +41,5 @@ pub fn by_files()
 /// hold and answer the same, and make the same volumes. Files are the same where their values are,
 /// as `serde_json` reads them.
 pub fn same_files<O: Office>()
-    ensures alike { SameFilesLaw O.held O.defined }
+    ensures alike { SamePassingLaw O.held O.defined }
 {}

@@ -22,14 +22,14 @@ use Rattle.cvr_facts.specs.Sums.{sums_in}
 
 -- ---- what a report tells
 
-abbrev pub name_of : Cvr → RecordName
-name_of cvr = record { device = cvr.device; unique = cvr.unique }
+abbrev pub record_name : Cvr → RecordName
+record_name cvr = record { device = cvr.device; unique = cvr.unique }
 
 abbrev pub told_device : ReportingDevice → DeviceFact
 told_device device = record { id = device.id; body = device.body }
 
 abbrev pub told_header : Cvr → HeaderFact
-told_header cvr = record { key = name_of cvr; unit = cvr.unit; batch = cvr.batch; body = cvr.body }
+told_header cvr = record { key = record_name cvr; unit = cvr.unit; batch = cvr.batch; body = cvr.body }
 
 -- a snapshot of the record of a name
 abbrev pub told_under : List Contest → RecordName → ReportSnapshot → SnapshotFact
@@ -43,7 +43,7 @@ told_under contests key snapshot = record {
 }
 
 abbrev pub told_snapshot : List Contest → Cvr → ReportSnapshot → SnapshotFact
-told_snapshot contests cvr snapshot = told_under contests (name_of cvr) snapshot
+told_snapshot contests cvr snapshot = told_under contests (record_name cvr) snapshot
 
 abbrev pub told_snapshots : List Contest → Cvr → List SnapshotFact
 told_snapshots contests cvr = map (told_snapshot contests cvr) cvr.snapshots

@@ -56,13 +56,13 @@ Stands scope (Snapshot device unique id body) = (d : Data) × Spells body d × S
 -- ---- records
 
 -- among the facts are a header of the record, a snapshot of it and its device
-pub record IsWhole (held : Facts) (device unique : List ℕ) : Type 0 where
+pub record HasRecord (held : Facts) (device unique : List ℕ) : Type 0 where
   pub header : (body : List ℕ) × (contains held (Header device unique body) ≡ true)
   pub snapshot : (id : List ℕ) × (body : List ℕ) × (contains held (Snapshot device unique id body) ≡ true)
   pub creator : (body : List ℕ) × (contains held (Device device body) ≡ true)
 
 -- so it is with the record that a fact is of, if it is of one
-abbrev pub IsOfWhole : Facts → Fact → Type 0
-IsOfWhole held (Device id body) = ⊤
-IsOfWhole held (Header device unique body) = IsWhole held device unique
-IsOfWhole held (Snapshot device unique id body) = IsWhole held device unique
+abbrev pub IsOfRecord : Facts → Fact → Type 0
+IsOfRecord held (Device id body) = ⊤
+IsOfRecord held (Header device unique body) = HasRecord held device unique
+IsOfRecord held (Snapshot device unique id body) = HasRecord held device unique

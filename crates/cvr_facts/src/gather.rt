@@ -4,7 +4,7 @@ ghost use Rattle.std.specs.FinSet.{from_list};
 ghost use Rattle.cdf_types.specs.declared.report.Cvr.{Cvr};
 ghost use Rattle.cdf_typed.specs.Range.{SnapshotInRange, CvrInRange, ReportInRange};
 ghost use Rattle.cvr_fact_types.specs.Facts.{fact_cmp};
-ghost use Rattle.cvr_facts.specs.Lists.{name_of, told_device, told_header, told_snapshot};
+ghost use Rattle.cvr_facts.specs.Lists.{record_name, told_device, told_header, told_snapshot};
 ghost use Rattle.cvr_facts.specs.Lists.{told_snapshots, facts_in, told_facts, ListsRise};
 ghost use Rattle.cvr_facts.specs.Lists.{AreFactsOf, IsReportOf};
 ghost use Rattle.cvr_facts.specs.Reports.{facts};
@@ -84,7 +84,7 @@ fn header_of(cvr: &Cvr) -> Result<HeaderFact, Memory>
     ensures { IfOk result (λ fact. fact ≡ told_header cvr.now) }
 {
     Ok(HeaderFact {
-        key: name_of(cvr)?,
+        key: record_name(cvr)?,
         unit: copy_optional(&cvr.unit)?,
         batch: copy_optional(&cvr.batch)?,
         body: cvr.body.copy()?,
@@ -92,8 +92,8 @@ fn header_of(cvr: &Cvr) -> Result<HeaderFact, Memory>
 }
 
 // The name of a record.
-fn name_of(cvr: &Cvr) -> Result<RecordName, Memory>
-    ensures { IfOk result (λ name. name ≡ name_of cvr.now) }
+fn record_name(cvr: &Cvr) -> Result<RecordName, Memory>
+    ensures { IfOk result (λ name. name ≡ record_name cvr.now) }
 {
     Ok(RecordName {
         device: cvr.device.copy()?,
@@ -147,7 +147,7 @@ fn snapshot_of(
         (λ fact. fact ≡ told_snapshot definition.now.contests cvr.now snapshot.now) }
 {
     Ok(SnapshotFact {
-        key: name_of(cvr)?,
+        key: record_name(cvr)?,
         id: snapshot.id.copy()?,
         kind: snapshot.kind,
         moment: snapshot.moment,

@@ -6,7 +6,7 @@ use Rattle.std.specs.Cmp.Lexicographic.{options_total}
 use Rattle.std.proofs.lemmas.List.Sorted.{searchable_from_sorted}
 use Rattle.cvr_facts.proofs.Laws.{text_total}
 use Rattle.cvr_office.specs.declared.any_fact.AnyFact.{AnyFact}
-use Rattle.cvr_lists.specs.Groups.{id_of, id_order, RisesById}
+use Rattle.cvr_lists.specs.Groups.{snapshot_id, id_order, RisesById}
 
 pub id_order_rises : (run : List AnyFact) → RisesById run → (id : List ℕ) → IsNonDecreasingBy (λ y. ordering_index (id_order id y)) run
-id_order_rises run rises id = searchable_from_sorted (options_total text_total) id_of run (Some id) rises
+id_order_rises run rises id = searchable_from_sorted (options_total text_total) snapshot_id run (Some id) rises

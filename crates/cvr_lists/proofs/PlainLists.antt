@@ -5,7 +5,7 @@ use Rattle.std.proofs.lemmas.List.{map-append}
 use Rattle.std.proofs.lemmas.List.Elements.{Contains-append_cases}
 use Rattle.std.proofs.lemmas.Simd.{map-map}
 use Rattle.cdf_parts.specs.Places.{Contest}
-use Rattle.cdf_definition.specs.Named.{Entry}
+use Rattle.cdf_definition.specs.Named.{IdText}
 use Rattle.cdf_definition.specs.Frame.{Frame}
 use Rattle.cdf_definition.specs.Sound.{IsFrame}
 use Rattle.cvr_facts.specs.declared.list.FactList.{FactList}
@@ -35,7 +35,7 @@ device_spelled contests (any.Device d) id body e = tt
 device_spelled contests (any.Header h) id body e = Prim.cc e
 device_spelled contests (any.Snapshot s) id body e = Prim.cc e
 
-abbrev device_of : Entry → Fact
+abbrev device_of : IdText → Fact
 device_of e = Device e.0 e.1
 
 module _ (frame : Frame) (none more new : List AnyFact) (empty_is : none ≡ []) (are : map fact_of more ≡ map device_of frame.devices) (put : IsPut none more new) where

@@ -25,7 +25,7 @@ use Rattle.cvr_office.specs.Names.{snapshot_ids}
 use Rattle.cvr_office.specs.Place.{any_cmp}
 use Rattle.cvr_office.specs.Plain.{set_of}
 use Rattle.cvr_office.specs.Runs.{is_of, run, as_snapshot, snapshots}
-use Rattle.cvr_lists.specs.Groups.{id_of, id_order, under, ids, RisesById}
+use Rattle.cvr_lists.specs.Groups.{snapshot_id, id_order, with_id, ids, RisesById}
 use Rattle.cvr_office.proofs.Lemmas.{ordered-members}
 use Rattle.cvr_lists.proofs.Lifting.{rises-filter_map, rises-map}
 use Rattle.cvr_lists.proofs.Orderings.{then-Equal}
@@ -51,7 +51,7 @@ ids_rise x y same h =
     (sym (past_key x.key y.key same (ordering_then (text_cmp x.id y.id) (ordering_then (text_cmp x.body y.body) Equal))) ∙ h)
 
 module _ (key : RecordName) where
-  steps_rise : (x y : AnyFact) → is_of key x ≡ true → is_of key y ≡ true → any_cmp x y ≡ Less → is_gt (option_cmp text_cmp (id_of x) (id_of y)) ≡ false
+  steps_rise : (x y : AnyFact) → is_of key x ≡ true → is_of key y ≡ true → any_cmp x y ≡ Less → is_gt (option_cmp text_cmp (snapshot_id x) (snapshot_id y)) ≡ false
   steps_rise (any.Device x) y p q h = Prim.cc p
   steps_rise (any.Header x) (any.Device y) p q h = Prim.cc q
   steps_rise (any.Header x) (any.Header y) p q h = refl
@@ -83,7 +83,7 @@ module _ (facts : List AnyFact) (key : RecordName) where
         let y = get_or (run key facts) (k + 1) d in
         let own = filter_passes (is_of key) facts in
         let h = steps_rise key x y (own k d (omega arith)) (own (k + 1) d high) (Less-from_sorted any_cmp (run key facts) k (k + 1) d run_rises (omega arith) high) in
-        ap is_lt ((options_total text_total).antisymm (id_of y) (id_of x)) ∙ not_before _ h
+        ap is_lt ((options_total text_total).antisymm (snapshot_id y) (snapshot_id x)) ∙ not_before _ h
 
     snapshots_rise : IsStrictlySortedBy snapshot_order (snapshots (run key facts))
     snapshots_rise = rises-filter_map any_cmp snapshot_order as_snapshot taken_in_order (run key facts) run_rises
@@ -115,17 +115,17 @@ module _ (facts : List AnyFact) (key : RecordName) where
   -- ---- the snapshots under one id
 
   module _ (id : List ℕ) where
-    pub in_under : (s : SnapshotFact) → Contains (snapshots (run key facts)) s → s.id ≡ id → Contains (snapshots (under id (run key facts))) s
+    pub in_under : (s : SnapshotFact) → Contains (snapshots (run key facts)) s → s.id ≡ id → Contains (snapshots (with_id id (run key facts))) s
     in_under s at own =
         let found = from-filter_map as_snapshot (run key facts) s at in
         let here = subst (Contains (run key facts)) (of_snapshot found.0 s found.2) found.1 in
         let same : is_eq (text_cmp s.id id) ≡ true = is_eq-slice_cmp s.id id ∙ (bytes_eq-Decides s.id id).1 own in
-        Contains-filter_map as_snapshot (under id (run key facts)) (any.Snapshot s) s (in_filter (λ f. is_eq (id_order id f)) (run key facts) (any.Snapshot s) here same) refl
+        Contains-filter_map as_snapshot (with_id id (run key facts)) (any.Snapshot s) s (in_filter (λ f. is_eq (id_order id f)) (run key facts) (any.Snapshot s) here same) refl
 
-    pub from_under : (s : SnapshotFact) → Contains (snapshots (under id (run key facts))) s → Contains (snapshots (run key facts)) s × (s.id ≡ id)
+    pub from_under : (s : SnapshotFact) → Contains (snapshots (with_id id (run key facts))) s → Contains (snapshots (run key facts)) s × (s.id ≡ id)
     from_under s at =
-        let found = from-filter_map as_snapshot (under id (run key facts)) s at in
-        let here = subst (Contains (under id (run key facts))) (of_snapshot found.0 s found.2) found.1 in
+        let found = from-filter_map as_snapshot (with_id id (run key facts)) s at in
+        let here = subst (Contains (with_id id (run key facts))) (of_snapshot found.0 s found.2) found.1 in
         let kept = from_filter (λ f. is_eq (id_order id f)) (run key facts) (any.Snapshot s) here in
         (Contains-filter_map as_snapshot (run key facts) (any.Snapshot s) s kept.0 refl, (bytes_eq-Decides s.id id).0 (sym (is_eq-slice_cmp s.id id) ∙ kept.1))
 
@@ -137,9 +137,9 @@ module _ (facts : List AnyFact) (key : RecordName) where
         ∙ (sym (past_key x.key y.key (p.0 ∙ sym q.0) (ordering_then (text_cmp x.id y.id) (ordering_then (text_cmp x.body y.body) Equal))
         ∙ ap (λ r. ordering_then r (ordering_then (text_cmp x.body y.body) Equal)) tie) ∙ h)
 
-    pub bodies_rise : IsStrictlySortedBy any_cmp facts → IsStrictlySortedBy text_cmp (map (λ s. s.body) (snapshots (under id (run key facts))))
+    pub bodies_rise : IsStrictlySortedBy any_cmp facts → IsStrictlySortedBy text_cmp (map (λ s. s.body) (snapshots (with_id id (run key facts))))
     bodies_rise rises =
-        rises-map snapshot_order text_cmp (λ s. s.body) (λ s. (s.key ≡ key) × (s.id ≡ id)) by_body (snapshots (under id (run key facts)))
+        rises-map snapshot_order text_cmp (λ s. s.body) (λ s. (s.key ≡ key) × (s.id ≡ id)) by_body (snapshots (with_id id (run key facts)))
         (λ s at. let here = from_under s at in ((from_snapshots facts key s here.0).1, here.1))
-        (rises-filter_map any_cmp snapshot_order as_snapshot taken_in_order (under id (run key facts))
+        (rises-filter_map any_cmp snapshot_order as_snapshot taken_in_order (with_id id (run key facts))
         (IsStrictlySortedBy-filter any_cmp (λ f. is_eq (id_order id f)) (run key facts) (run_rises rises)))

@@ -25,9 +25,9 @@ use Rattle.cvr_office.specs.declared.record_facts.RecordFacts.{RecordFacts}
 use Rattle.cvr_office.specs.Names.{record_of, records}
 use Rattle.cvr_office.specs.Place.{fact_of, any_cmp}
 use Rattle.cvr_office.specs.Plain.{set_of}
-use Rattle.cvr_office.specs.Readers.{header_list, snapshot_list, IsHeaderOf, IsSnapshotOf, AreIdFacts, AreFactsOf}
+use Rattle.cvr_office.specs.Readers.{header_list, snapshot_list, IsHeaderOf, IsSnapshotOf, AreIdFacts, AreAllFactsOf}
 use Rattle.cvr_office.specs.Runs.{is_of, run, headers, snapshots, AreSpelled}
-use Rattle.cvr_lists.specs.Groups.{under, IsFalling, AreGrouped}
+use Rattle.cvr_lists.specs.Groups.{with_id, IsFalling, AreGrouped}
 use Rattle.cvr_office.proofs.Lemmas.{ordered-members, from_ordered, in_ordered, rises-distinct, map-map}
 use Rattle.cvr_lists.proofs.OneRecord as one
 use Rattle.cvr_lists.proofs.RecordGroups.{ids_are, in_under, from_under, bodies_rise}
@@ -107,8 +107,8 @@ module _ (facts : List AnyFact) (key : RecordName) where
 
       -- ---- snapshots under one id
 
-      module _ (id : List ℕ) (found : List SnapshotFact) (falls : IsFalling (snapshots (under id (run key facts))) found) where
-        given : (s : SnapshotFact) → Contains falls.rising s → Contains (snapshots (under id (run key facts))) s
+      module _ (id : List ℕ) (found : List SnapshotFact) (falls : IsFalling (snapshots (with_id id (run key facts))) found) where
+        given : (s : SnapshotFact) → Contains falls.rising s → Contains (snapshots (with_id id (run key facts))) s
         given s at = Contains-permutation _ _ s (IsPermutation-sym _ _ falls.same) at
 
         snapshot_of : (s : SnapshotFact) → Contains falls.rising s → IsSnapshotOf contests key s
@@ -153,14 +153,14 @@ module _ (facts : List AnyFact) (key : RecordName) where
 
       -- ---- all of them
 
-      id_facts : (i : IdFacts) → IsFalling (snapshots (under i.id.now (run key facts))) (map (λ s. s.now) i.snapshots.items) → AreIdFacts contests (set_of facts) key i
+      id_facts : (i : IdFacts) → IsFalling (snapshots (with_id i.id.now (run key facts))) (map (λ s. s.now) i.snapshots.items) → AreIdFacts contests (set_of facts) key i
       id_facts i falls = record {
         bodies = map-map (λ (s : Bor SnapshotFact). s.now) (λ s. s.body) i.snapshots.items ∙ sym (snapshots_are i.id.now _ falls);
         typed = typed_in i.id.now _ falls;
       }
 
       pub facts_are : (found : RecordFacts) → map (λ h. h.now) found.headers.items ≡ reverse (headers (run key facts)) → AreGrouped (run key facts) found.ids.items
-          → AreFactsOf contests (set_of facts) key found
+          → AreAllFactsOf contests (set_of facts) key found
       facts_are found is groups = record {
         bodies =
             map-map (λ (h : Bor HeaderFact). h.now) (λ h. h.body) found.headers.items

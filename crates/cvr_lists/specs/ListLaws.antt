@@ -24,7 +24,7 @@ use Rattle.cvr_office.specs.Names.{name_of, is_named, record_of, records, confli
 use Rattle.cvr_office.specs.Keeps.{starting}
 use Rattle.cvr_office.specs.Place.{fact_of, any_cmp}
 use Rattle.cvr_office.specs.Plain.{set_of, all_of, IsSpelled, IsPlain, IsPut}
-use Rattle.cvr_office.specs.Readers.{growth, IsHeader, IsCurrent, AreFactsOf}
+use Rattle.cvr_office.specs.Readers.{growth, IsHeader, IsCurrent, AreAllFactsOf}
 use Rattle.cvr_office.specs.Runs.{run, headers, snapshots, IsChosen, AreSpelled}
 use Rattle.cvr_lists.specs.Groups.{RisesById, AreGrouped}
 use Rattle.cvr_lists.specs.NameRuns.{counted_runs, of_several, most_of}
@@ -77,8 +77,8 @@ abbrev pub IdsRiseLaw : Type 0
 IdsRiseLaw = (facts : List AnyFact) (key : RecordName) → IsStrictlySortedBy any_cmp facts → RisesById (run key facts)
 
 -- along a list in order records don't fall
-abbrev pub RecordsRiseLaw : Type 0
-RecordsRiseLaw = (one other : AnyFact) → any_cmp one other ≡ Less → is_gt (option_cmp name_cmp (record_of (fact_of one)) (record_of (fact_of other))) ≡ false
+abbrev pub RunsRiseLaw : Type 0
+RunsRiseLaw = (one other : AnyFact) → any_cmp one other ≡ Less → is_gt (option_cmp name_cmp (record_of (fact_of one)) (record_of (fact_of other))) ≡ false
 
 -- a record is listed exactly where it has a run
 abbrev pub NoRunLaw : Type 0
@@ -87,7 +87,7 @@ NoRunLaw = (facts : List AnyFact) (key : RecordName) → run key facts ≡ [] �
 -- its headers, the last first, and its snapshots by id are all facts of the record
 abbrev pub WholeRunLaw : Type 0
 WholeRunLaw = (facts : List AnyFact) (key : RecordName) → IsStrictlySortedBy any_cmp facts → (contests : List Contest) → AreSpelled contests facts
-    → (found : RecordFacts) → map (λ h. h.now) found.headers.items ≡ reverse (headers (run key facts)) → AreGrouped (run key facts) found.ids.items → AreFactsOf contests (set_of facts) key found
+    → (found : RecordFacts) → map (λ h. h.now) found.headers.items ≡ reverse (headers (run key facts)) → AreGrouped (run key facts) found.ids.items → AreAllFactsOf contests (set_of facts) key found
 
 -- ---- names with several bodies
 

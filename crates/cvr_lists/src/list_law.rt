@@ -2,7 +2,7 @@
 ghost use Rattle.cvr_lists.specs.ListLaws.{SameListsLaw, PutGrowthLaw, SpelledPutLaw, StartSetLaw};
 ghost use Rattle.cvr_lists.specs.ListLaws.{PlainStartLaw, AllOfLaw, AllSpelledLaw};
 ghost use Rattle.cvr_lists.specs.ListLaws.{LastHeaderLaw, GreatestSnapshotLaw, IdsRiseLaw};
-ghost use Rattle.cvr_lists.specs.ListLaws.{RecordsRiseLaw, NoRunLaw, WholeRunLaw, NamedLaw};
+ghost use Rattle.cvr_lists.specs.ListLaws.{RunsRiseLaw, NoRunLaw, WholeRunLaw, NamedLaw};
 ghost use Rattle.cvr_lists.specs.ListLaws.{ConflictRunsLaw, GreatestRunLaw};
 ghost use Rattle.cvr_lists.specs.SumLaws.{CurrentSumsLaw, SnapshotSumsLaw, SumsAtLaw, RowMoreLaw};
 ghost use Rattle.cvr_lists.specs.SumLaws.{AddedLaw, NoHeaderLaw, NoCurrentLaw};
@@ -34,7 +34,7 @@ pub fn runs()
     ensures header { LastHeaderLaw }
     ensures current { GreatestSnapshotLaw }
     ensures ids { IdsRiseLaw }
-    ensures records { RecordsRiseLaw }
+    ensures records { RunsRiseLaw }
     ensures none { NoRunLaw }
     ensures whole { WholeRunLaw }
 {}

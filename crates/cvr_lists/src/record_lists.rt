@@ -7,7 +7,7 @@ ghost use Rattle.cvr_office.specs.Place.{any_cmp};
 ghost use Rattle.cvr_office.specs.Plain.{set_of};
 ghost use Rattle.cvr_office.specs.Readers.{AreRecordFacts};
 ghost use Rattle.cvr_office.specs.Runs.{headers, snapshots, AreSpelled};
-ghost use Rattle.cvr_lists.specs.Groups.{id_order, under, ids, RisesById, IsFalling, AreGrouped};
+ghost use Rattle.cvr_lists.specs.Groups.{id_order, with_id, ids, RisesById, IsFalling, AreGrouped};
 
 use crate::records::run_of;
 use cdf_types::Memory;
@@ -61,7 +61,7 @@ pub fn grouped(alloc: Global, run: &[AnyFact]) -> Result<Vec<IdFacts<'_>>, Memor
     for id in ids.iter() {
         groups.push(IdFacts {
             id,
-            snapshots: falling(alloc, under(run, id))?,
+            snapshots: falling(alloc, with_id(run, id))?,
         })?;
     }
     Ok(groups)
@@ -92,9 +92,9 @@ fn id_order(fact: &AnyFact, id: &str) -> Ordering
 }
 
 // The snapshots of a run that have this id.
-fn under<'a>(run: &'a [AnyFact], id: &str) -> &'a [AnyFact]
+fn with_id<'a>(run: &'a [AnyFact], id: &str) -> &'a [AnyFact]
     requires { RisesById run.now }
-    ensures { result.now ≡ under id.now run.now }
+    ensures { result.now ≡ with_id id.now run.now }
 {
     let start = run.partition_point(|fact| id_order(fact, id).is_lt());
     let rest = &run[start..];

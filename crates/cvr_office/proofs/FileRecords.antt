@@ -9,7 +9,7 @@ use Rattle.cdf_form.proofs.Lemmas.{some_of}
 use Rattle.cdf_definition.specs.Acceptance.{IsReport, value_in}
 use Rattle.cdf_check.proofs.Laws.{report_read}
 use Rattle.cvr_fact_types.specs.Facts.{Fact, Device}
-use Rattle.cvr_facts.specs.Stands.{IsWhole, IsOfWhole}
+use Rattle.cvr_facts.specs.Stands.{HasRecord, IsOfRecord}
 use Rattle.cvr_office.specs.FileFacts.{RecordsWholeLaw}
 use Rattle.cvr_facts.specs.Reports.{device_fact, header_fact, snapshot_fact, facts}
 use Rattle.cvr_facts.proofs.Lemmas.{one_listed, from_map}
@@ -40,7 +40,7 @@ module _ (d : Data) (report : IsReport d) (c : Data) (a : Contains (cvrs_in d) c
 -- ---- files
 
 record_whole : (bytes : List ℕ) → IsReport (value_in bytes) → (c : Data) → Contains (cvrs_in (value_in bytes)) c
-    → IsWhole (facts bytes) (device_id c) (unique_id c)
+    → HasRecord (facts bytes) (device_id c) (unique_id c)
 record_whole bytes report c a =
     let d = value_in bytes in
     let s = has_snapshot d report c a in
@@ -52,7 +52,7 @@ record_whole bytes report c a =
       creator = (compact_text e.0, subst (λ id. contains (facts bytes) (Device id (compact_text e.0)) ≡ true) e.2 held);
     }
 
-source_whole : (bytes : List ℕ) (f : Fact) → IsReport (value_in bytes) → Source (value_in bytes) f → IsOfWhole (facts bytes) f
+source_whole : (bytes : List ℕ) (f : Fact) → IsReport (value_in bytes) → Source (value_in bytes) f → IsOfRecord (facts bytes) f
 source_whole bytes _ report (of_device e a) = tt
 source_whole bytes _ report (of_header c a) = record_whole bytes report c a
 source_whole bytes _ report (of_snapshot c s a b) = record_whole bytes report c a

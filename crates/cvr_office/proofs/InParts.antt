@@ -22,7 +22,7 @@ use Rattle.cvr_tally.specs.declared.key.RowKey.{RowKey}
 use Rattle.cvr_tally.specs.declared.row.Row.{Row}
 use Rattle.cvr_office.specs.Names.{record_of, records}
 use Rattle.cvr_office.specs.Tallied.{is_headed, sums_of_body, sums_at, stands_in, column, row_of, row}
-use Rattle.cvr_office.specs.Parts.{AreApart, AreAllApart, whole, row_sum, option_sum, RowsOfPartsLaw, CurrentsOfPartsLaw, HeadersOfPartsLaw, RecordsRiseLaw, RowsOfManyLaw, CurrentsOfManyLaw, HeadersOfManyLaw, RecordsOfManyLaw}
+use Rattle.cvr_office.specs.Parts.{ShareNoRecord, AreAllApart, whole, row_sum, option_sum, RowsOfPartsLaw, CurrentsOfPartsLaw, HeadersOfPartsLaw, RecordsRiseLaw, RowsOfManyLaw, CurrentsOfManyLaw, HeadersOfManyLaw, RecordsOfManyLaw}
 use Rattle.cvr_office.proofs.BallotCounts.{sum_by-same}
 use Rattle.cvr_office.proofs.GivenFacts.{HaveSame, greatest-same}
 use Rattle.cvr_office.proofs.NextInFacts.{name_total, name_exact}
@@ -101,7 +101,7 @@ headers s t apart r at = let same = header_stays s t r (apart r at) in (same, ap
 
 -- ---- the records of both
 
-module _ (s t : Facts) (apart : AreApart s t) where
+module _ (s t : Facts) (apart : ShareNoRecord s t) where
   -- whether a record is in the first part
   abbrev is_first : RecordName → Bool
   is_first r = list_any (eq_by_cmp name_cmp r) (records s)
@@ -168,7 +168,7 @@ each_sum h f g is a (suc n) = ap₂ ◌∷◌ (is a) (each_sum h f g is (a + 1) 
 
 -- ---- rows
 
-module _ (contests : List Contest) (s t : Facts) (apart : AreApart s t) (q : RowKey) where
+module _ (contests : List Contest) (s t : Facts) (apart : ShareNoRecord s t) (q : RowKey) where
   abbrev both : Facts
   both = union s t
 
@@ -296,7 +296,7 @@ in_whole (p ∷ parts) s r at has =
     ]
 
 module _ (p : Facts) (parts : List Facts) (apart : AreAllApart (p ∷ parts)) where
-  first_apart : AreApart p (whole parts)
+  first_apart : ShareNoRecord p (whole parts)
   first_apart r here there =
       let found = part_with parts r there in
       let k = place_of parts found.0 found.1 in

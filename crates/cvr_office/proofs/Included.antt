@@ -10,7 +10,7 @@ use Rattle.cdf_definition.specs.References.{Scope}
 use Rattle.cdf_check.proofs.Laws.{header_stays, snapshot_stays}
 use Rattle.cdf_check.specs.Wider.{Includes, Wider}
 use Rattle.cvr_fact_types.specs.Facts.{Fact, Device, Header, Snapshot, Facts, fact_total}
-use Rattle.cvr_facts.specs.Stands.{Stands, IsWhole, IsOfWhole}
+use Rattle.cvr_facts.specs.Stands.{Stands, HasRecord, IsOfRecord}
 use Rattle.cvr_facts.proofs.Laws.{contains_iff}
 use Rattle.cvr_facts.proofs.Lemmas.{Contains-filter_map, from-filter_map}
 use Rattle.cvr_office.specs.Names.{device_in}
@@ -81,14 +81,14 @@ stands_wider a b w (Device id body) h = h
 stands_wider a b w (Header device unique body) h = (h.0, h.1, header_stays a b w device unique h.0 h.2)
 stands_wider a b w (Snapshot device unique id body) h = (h.0, h.1, snapshot_stays a b w id h.0 h.2)
 
-record_wider : (s t : Facts) → IsWithin s t → (device unique : List ℕ) → IsWhole s device unique → IsWhole t device unique
+record_wider : (s t : Facts) → IsWithin s t → (device unique : List ℕ) → HasRecord s device unique → HasRecord t device unique
 record_wider s t w device unique h = record {
   header = (h.header.0, w (Header device unique h.header.0) h.header.1);
   snapshot = (h.snapshot.0, h.snapshot.1, w (Snapshot device unique h.snapshot.0 h.snapshot.1) h.snapshot.2);
   creator = (h.creator.0, w (Device device h.creator.0) h.creator.1);
 }
 
-pub whole_wider : (s t : Facts) → IsWithin s t → (f : Fact) → IsOfWhole s f → IsOfWhole t f
+pub whole_wider : (s t : Facts) → IsWithin s t → (f : Fact) → IsOfRecord s f → IsOfRecord t f
 whole_wider s t w (Device id body) h = h
 whole_wider s t w (Header device unique body) h = record_wider s t w device unique h
 whole_wider s t w (Snapshot device unique id body) h = record_wider s t w device unique h

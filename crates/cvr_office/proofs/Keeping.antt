@@ -13,7 +13,7 @@ use Rattle.cdf_check.proofs.Laws.{same_definitions, more_devices, bodies_utf8}
 use Rattle.cdf_check.specs.Wider.{Includes}
 use Rattle.cvr_fact_types.specs.Facts.{Fact, Facts, texts}
 use Rattle.cvr_facts.specs.Reports.{facts, device_fact}
-use Rattle.cvr_facts.specs.Stands.{Stands, IsOfWhole}
+use Rattle.cvr_facts.specs.Stands.{Stands, IsOfRecord}
 use Rattle.cvr_facts.proofs.Lemmas.{from_map}
 use Rattle.cvr_facts.specs.Sources.{devices_in, Source, of_device, of_header, of_snapshot}
 use Rattle.cvr_facts.proofs.Laws.{device_listed, fact_source, fact_held}
@@ -38,7 +38,7 @@ TextsAreUtf8 f = AllByRecursion IsUtf8 (texts f)
 pub record CanJoin (frame : Frame) (t : Facts) : Type 0 where
   pub given : (f : Fact) → contains t f ≡ true → IsGiven frame f
   pub stand : (f : Fact) → contains t f ≡ true → Stands (content_scope frame t) f
-  pub whole : (f : Fact) → contains t f ≡ true → IsOfWhole t f
+  pub whole : (f : Fact) → contains t f ≡ true → IsOfRecord t f
   pub utf8 : (f : Fact) → contains t f ≡ true → TextsAreUtf8 f
 
 stands_within : (frame : Frame) (s t : Facts) → IsWithin s t → (f : Fact) → Stands (content_scope frame s) f → Stands (content_scope frame t) f
@@ -55,7 +55,7 @@ union_keeps frame s t k j =
       sound = k.sound;
       given = of_union s t (IsGiven frame) k.given j.given;
       stand = of_union s t (Stands (content_scope frame u)) (λ f h. stands_within frame s u l f (k.stand f h)) (λ f h. stands_within frame t u r f (j.stand f h));
-      whole = of_union s t (IsOfWhole u) (λ f h. whole_wider s u l f (k.whole f h)) (λ f h. whole_wider t u r f (j.whole f h));
+      whole = of_union s t (IsOfRecord u) (λ f h. whole_wider s u l f (k.whole f h)) (λ f h. whole_wider t u r f (j.whole f h));
       started = λ f h. l f (k.started f h);
       utf8 = of_union s t TextsAreUtf8 k.utf8 j.utf8;
     }

@@ -10,7 +10,7 @@ use Rattle.std.specs.FinMap.{IsAntisymmetric, nat_cmp-IsAntisymmetric, slice_cmp
 use Rattle.cdf_definition.specs.Frame.{Frame}
 use Rattle.cvr_fact_types.specs.Facts.{Facts}
 use Rattle.cvr_facts.specs.Reports.{facts}
-use Rattle.cvr_office.specs.Reach.{Origin, Start, File, numbers, origin_cmp, History, reached, brought, union_over, content}
+use Rattle.cvr_office.specs.Reach.{Origin, Start, File, origin_numbers, origin_cmp, History, reached, brought, union_over, content}
 use Rattle.cvr_office.specs.Outcomes.{contents_after, IsOutcome}
 use Rattle.cvr_office.specs.declared.event.Event.{Event}
 use Rattle.cvr_office.specs.declared.event.Event.TheVariants.{Import, Exchange}
@@ -26,16 +26,16 @@ origin_of [] = Start 0
 origin_of (o ∷ []) = Start o
 origin_of (f ∷ _ ∷ _) = File f
 
-origin_of-numbers : (x : Origin) → origin_of (numbers x) ≡ x
+origin_of-numbers : (x : Origin) → origin_of (origin_numbers x) ≡ x
 unfolding origin_of
 origin_of-numbers (Start o) = refl
 origin_of-numbers (File f) = refl
 
 pub origin_total : IsTotalOrder origin_cmp
-origin_total = on_total numbers nat_list_cmp_total
+origin_total = on_total origin_numbers nat_list_cmp_total
 
 pub origin_exact : IsAntisymmetric origin_cmp
-origin_exact x y e = sym (origin_of-numbers x) ∙ (ap origin_of (slice_cmp-IsAntisymmetric nat_cmp-IsAntisymmetric (numbers x) (numbers y) e) ∙ origin_of-numbers y)
+origin_exact x y e = sym (origin_of-numbers x) ∙ (ap origin_of (slice_cmp-IsAntisymmetric nat_cmp-IsAntisymmetric (origin_numbers x) (origin_numbers y) e) ∙ origin_of-numbers y)
 
 -- ---- the same place
 

@@ -1,5 +1,5 @@
 -- The sums of a snapshot: no contest stands twice, and each has a number for each of its selections.
-use Rattle.std.proofs.Common.{◌≡◌, ◌==◌, List, length, subst, arith, ne_eqb}
+use Rattle.std.proofs.Common.{◌==◌, List, length, subst, arith, ne_eqb}
 use Rattle.std.proofs.lemmas.List.FromFn.{length-map-range_with_len}
 use Rattle.std.proofs.lemmas.List.Sorted.{Contains-permutation, IsPermutation-sym}
 use Rattle.std.proofs.lemmas.Map.Keys.{IsDistinct-from_apart, below_from_sorted}

@@ -7,7 +7,7 @@ use Rattle.cdf_definition.specs.Frame.{Frame, scope_in}
 use Rattle.cdf_definition.specs.Acceptance.{Valid, value_in}
 use Rattle.cvr_fact_types.specs.Facts.{Fact}
 use Rattle.cvr_facts.specs.Reports.{facts}
-use Rattle.cvr_facts.specs.Stands.{Stands, IsOfWhole}
+use Rattle.cvr_facts.specs.Stands.{Stands, IsOfRecord}
 
 -- the bodies of an accepted file's facts would stand in a written report, by the definition and the report's devices alone
 abbrev pub FactsStandLaw : Type 0
@@ -16,4 +16,4 @@ FactsStandLaw = (frame : Frame) (bytes : List ℕ) (f : Fact) → IsFrame frame 
 
 -- each record that an accepted file has a fact of is whole
 abbrev pub RecordsWholeLaw : Type 0
-RecordsWholeLaw = (frame : Frame) (bytes : List ℕ) (f : Fact) → Valid frame bytes → contains (facts bytes) f ≡ true → IsOfWhole (facts bytes) f
+RecordsWholeLaw = (frame : Frame) (bytes : List ℕ) (f : Fact) → Valid frame bytes → contains (facts bytes) f ≡ true → IsOfRecord (facts bytes) f

@@ -9,7 +9,7 @@ use Rattle.cdf_definition.specs.Sound.{IsFrame}
 use Rattle.cdf_definition.specs.Acceptance.{Valid}
 use Rattle.cvr_fact_types.specs.Facts.{Fact, Device, Facts, texts}
 use Rattle.cvr_facts.specs.Reports.{facts}
-use Rattle.cvr_facts.specs.Stands.{Stands, IsOfWhole}
+use Rattle.cvr_facts.specs.Stands.{Stands, IsOfRecord}
 use Rattle.cvr_office.specs.Names.{device_in}
 
 -- the content of a new office: the devices of its definition
@@ -27,7 +27,7 @@ pub record Keeps (frame : Frame) (s : Facts) : Type 0 where
   -- its body would stand in a written report
   pub stand : (f : Fact) → contains s f ≡ true → Stands (content_scope frame s) f
   -- its record has a header, a snapshot and a device
-  pub whole : (f : Fact) → contains s f ≡ true → IsOfWhole s f
+  pub whole : (f : Fact) → contains s f ≡ true → IsOfRecord s f
   -- the definition's devices are there
   pub started : (f : Fact) → contains (starting frame) f ≡ true → contains s f ≡ true
   pub utf8 : (f : Fact) → contains s f ≡ true → AllByRecursion IsUtf8 (texts f)

@@ -7,7 +7,7 @@ use Rattle.cdf_definition.specs.Acceptance.{IsReport}
 use Rattle.cdf_definition.specs.Agreement.{Agrees}
 use Rattle.cdf_definition.specs.Frame.{Frame, frame_of, entries_at}
 use Rattle.cdf_check.specs.Laws.{IsListOf}
-use Rattle.cdf_definition.specs.Named.{Entry, named}
+use Rattle.cdf_definition.specs.Named.{IdText, named}
 use Rattle.cdf_check.specs.Same.{AreEqualButDevices}
 
 -- a report agrees with the definition that is made of it
@@ -20,5 +20,5 @@ SameAgreesLaw = (f g : Frame) → AreEqualButDevices f g → (d : Data) → Agre
 
 -- each entry of a definition's list is that of an object of its array
 abbrev pub EntryLaw : Type 0
-EntryLaw = (name : List ℕ) (d : Data) → IsListOf (entries_at name d) name d → (e : Entry) → Contains (entries_at name d) e
+EntryLaw = (name : List ℕ) (d : Data) → IsListOf (entries_at name d) name d → (e : IdText) → Contains (entries_at name d) e
     → (x : Data) × Contains (array_at name d) x × (named x ≡ e)

@@ -16,12 +16,12 @@ use Rattle.cvr_office.specs.Tallied.{row}
 -- ---- parts
 
 -- no record is in both; a device may be
-abbrev pub AreApart : Facts → Facts → Type 0
-AreApart s t = (r : RecordName) → Contains (records s) r → ¬ Contains (records t) r
+abbrev pub ShareNoRecord : Facts → Facts → Type 0
+ShareNoRecord s t = (r : RecordName) → Contains (records s) r → ¬ Contains (records t) r
 
 -- no record is in two of them
 abbrev pub AreAllApart : List Facts → Type 0
-AreAllApart parts = (i j : ℕ) (s t : Facts) → slice_get parts i ≡ Some s → slice_get parts j ≡ Some t → i ≢ j → AreApart s t
+AreAllApart parts = (i j : ℕ) (s t : Facts) → slice_get parts i ≡ Some s → slice_get parts j ≡ Some t → i ≢ j → ShareNoRecord s t
 
 -- all of them together
 abbrev pub whole : List Facts → Facts
@@ -56,19 +56,19 @@ sum_of_rows (r ∷ rs) = option_sum r (sum_of_rows rs)
 
 -- each row of both is the sum of theirs
 abbrev pub RowsOfPartsLaw : Type 0
-RowsOfPartsLaw = (contests : List Contest) (s t : Facts) → AreApart s t → (q : RowKey) → row contests (union s t) q ≡ option_sum (row contests s q) (row contests t q)
+RowsOfPartsLaw = (contests : List Contest) (s t : Facts) → ShareNoRecord s t → (q : RowKey) → row contests (union s t) q ≡ option_sum (row contests s q) (row contests t q)
 
 -- a record keeps the current snapshot of its part, whether the other part comes behind or before
 abbrev pub CurrentsOfPartsLaw : Type 0
-CurrentsOfPartsLaw = (s t : Facts) → AreApart s t → (r : RecordName) → Contains (records s) r → (current (union s t) r ≡ current s r) × (current (union t s) r ≡ current s r)
+CurrentsOfPartsLaw = (s t : Facts) → ShareNoRecord s t → (r : RecordName) → Contains (records s) r → (current (union s t) r ≡ current s r) × (current (union t s) r ≡ current s r)
 
 -- and the header
 abbrev pub HeadersOfPartsLaw : Type 0
-HeadersOfPartsLaw = (s t : Facts) → AreApart s t → (r : RecordName) → Contains (records s) r → (header (union s t) r ≡ header s r) × (header (union t s) r ≡ header s r)
+HeadersOfPartsLaw = (s t : Facts) → ShareNoRecord s t → (r : RecordName) → Contains (records s) r → (header (union s t) r ≡ header s r) × (header (union t s) r ≡ header s r)
 
 -- the records of both are those of the one and those of the other, in some order
 abbrev pub RecordsOfPartsLaw : Type 0
-RecordsOfPartsLaw = (s t : Facts) → AreApart s t → IsPermutation (records s ++ records t) (records (union s t))
+RecordsOfPartsLaw = (s t : Facts) → ShareNoRecord s t → IsPermutation (records s ++ records t) (records (union s t))
 
 -- records rise by name, each above the one before it
 abbrev pub RecordsRiseLaw : Type 0

@@ -6,13 +6,14 @@ use Rattle.std.specs.Coded.{Coded, code_by, coded×, coded_list, coded_ℕ}
 use Rattle.std.specs.FinSet.{from_list, union}
 use Rattle.std.proofs.Common.{refl}
 use Rattle.cdf_parts.specs.Places.{Contest}
-use Rattle.cdf_definition.specs.Named.{Entry}
+use Rattle.cdf_definition.specs.Named.{IdText}
 use Rattle.cdf_definition.specs.Frame.{Frame}
 use Rattle.cvr_facts.specs.declared.list.FactList.{FactList}
 use Rattle.cvr_fact_types.specs.Facts.{Facts, fact_cmp, coded_facts}
 use Rattle.cvr_facts.specs.Lists.{facts_in}
 use Rattle.cvr_facts.specs.Reports.{facts}
 use Rattle.cvr_facts.specs.Stands.{IsSpelledHeader, IsSpelledSnapshot, ListIsSpelled}
+use Rattle.cvr_tally.specs.Rows.{coded_contests}
 use Rattle.cvr_office.specs.declared.any_fact.AnyFact.{AnyFact}
 use Rattle.cvr_office.specs.declared.any_fact.AnyFact.TheVariants as any
 use Rattle.cvr_office.specs.Place.{fact_of, any_cmp}
@@ -34,22 +35,19 @@ pub record Content : Type 0 where
 abbrev pub coded_text : Coded (List ℕ)
 coded_text = coded_list coded_ℕ
 
-abbrev pub coded_entries : Coded (List Entry)
+abbrev pub coded_entries : Coded (List IdText)
 coded_entries = coded_list (coded× coded_text coded_text)
-
-abbrev pub coded_contests : Coded (List Contest)
-coded_contests = coded_list (coded× coded_text (coded_list coded_text))
 
 abbrev pub coded_content : Coded Content
 coded_content =
-    code_by (List Entry × (List Entry × (List Entry × (List Entry × (List Contest × Facts)))))
+    code_by (List IdText × (List IdText × (List IdText × (List IdText × (List Contest × Facts)))))
     (coded× coded_entries (coded× coded_entries (coded× coded_entries (coded× coded_entries (coded× coded_contests coded_facts)))))
     (λ c. (c.frame.elections, (c.frame.units, (c.frame.parties, (c.frame.devices, (c.frame.contests, c.facts))))))
     (λ p. record { frame = record { elections = p.0; units = p.1.0; parties = p.1.1.0; devices = p.1.1.1.0; contests = p.1.1.1.1.0 }; facts = p.1.1.1.1.1 })
     (λ _. refl)
 
-abbrev pub content : Frame → List AnyFact → Content
-content frame items = record { frame = frame; facts = set_of items }
+abbrev pub content_of : Frame → List AnyFact → Content
+content_of frame items = record { frame = frame; facts = set_of items }
 
 -- its fields are those that its body spells
 abbrev pub IsSpelled : List Contest → AnyFact → Type 0

@@ -18,12 +18,12 @@ pub data Origin : Type 0 where
   File : (file : ℕ) → Origin
 
 -- an origin as numbers, to keep sets of them: their order means nothing
-abbrev pub numbers : Origin → List ℕ
-numbers (Start o) = o ∷ []
-numbers (File f) = f ∷ f ∷ []
+abbrev pub origin_numbers : Origin → List ℕ
+origin_numbers (Start o) = o ∷ []
+origin_numbers (File f) = f ∷ f ∷ []
 
 abbrev pub origin_cmp : Origin → Origin → Ordering
-origin_cmp = on numbers (slice_cmp nat_cmp)
+origin_cmp = on origin_numbers (slice_cmp nat_cmp)
 
 abbrev pub Origins : Type 0
 Origins = FinSet origin_cmp

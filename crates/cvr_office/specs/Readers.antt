@@ -72,7 +72,7 @@ pub record AreIdFacts (contests : List Contest) (facts : Facts) (key : RecordNam
   pub typed : (s : SnapshotFact) → Contains (map (λ s. s.now) found.snapshots.items) s → IsSnapshotOf contests key s
 
 -- headers and ids, each with its snapshots
-pub record AreFactsOf (contests : List Contest) (facts : Facts) (key : RecordName) (found : RecordFacts) : Type 0 where
+pub record AreAllFactsOf (contests : List Contest) (facts : Facts) (key : RecordName) (found : RecordFacts) : Type 0 where
   pub bodies : map (λ h. h.now.body) found.headers.items ≡ header_list facts key
   pub typed : (h : HeaderFact) → Contains (map (λ h. h.now) found.headers.items) h → IsHeaderOf key h
   pub ids : map (λ i. i.id.now) found.ids.items ≡ snapshot_ids facts key
@@ -81,7 +81,7 @@ pub record AreFactsOf (contests : List Contest) (facts : Facts) (key : RecordNam
 -- where there is such a record
 abbrev pub AreRecordFacts : List Contest → Facts → RecordName → Option RecordFacts → Type 0
 AreRecordFacts contests facts key None = ¬ Contains (records facts) key
-AreRecordFacts contests facts key (Some found) = Contains (records facts) key × AreFactsOf contests facts key found
+AreRecordFacts contests facts key (Some found) = Contains (records facts) key × AreAllFactsOf contests facts key found
 
 -- ---- growth
 

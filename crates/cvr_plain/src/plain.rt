@@ -22,13 +22,13 @@ pub struct PlainOffice {
 }
 
 impl Model for PlainOffice {
-    ghost use Rattle.cvr_office.specs.Plain.{Content, coded_content, content, IsPlain};
+    ghost use Rattle.cvr_office.specs.Plain.{Content, coded_content, content_of, IsPlain};
 
     ghost Value = { Content };
 
     ghost coded = { coded_content };
 
-    ghost view = { λ a. content a.definition a.facts.items };
+    ghost view = { λ a. content_of a.definition a.facts.items };
 
     ghost invariant = { λ a. IsPlain a.definition a.facts.items };
 }

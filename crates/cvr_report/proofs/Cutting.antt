@@ -10,7 +10,7 @@ use Rattle.serde_json.specs.Data.{Data, Members, no_members, member}
 use Rattle.serde_json.specs.Written.{compact_text, members_text}
 use Rattle.cdf_parts.specs.Proper.{MembersAreWell}
 use Rattle.cvr_report.specs.Record.{front, back, some, IsCut}
-use Rattle.cvr_report.specs.Scan.{InString, after, is_before, HasNoEscape, start_of}
+use Rattle.cvr_report.specs.Scan.{InString, left_after, is_before, HasNoEscape, start_of}
 use Rattle.cvr_report.proofs.Names.{is_before-escape}
 use Rattle.cvr_report.proofs.Scanning.{member_pass}
 
@@ -125,7 +125,7 @@ pub cut_past : (text : List ℕ) (from : ℕ) (name : List ℕ) (at : ℕ) → G
 cut_past text from name at g unclosed l later ms h e = let w = g later ms h e in absurd (past w.0 text at w.1 unclosed l w.3)
 
 next : (now f : Bool) (text : List ℕ) (at to : ℕ) (name : List ℕ) (rest b : Members) → MembersAreWell rest → (get_or text at 0 ≡ 125 → ⊥) → drop at text ≡ members_text now rest → back name rest ≡ b
-    → (now || some (front name rest)) ≡ f → HasNoEscape name → is_before (drop (start_of text at) text) name ≡ true → drop to text ≡ after InString 0 (drop (start_of text at) text)
+    → (now || some (front name rest)) ≡ f → HasNoEscape name → is_before (drop (start_of text at) text) name ≡ true → drop to text ≡ left_after InString 0 (drop (start_of text at) text)
     → (now : Bool) × (rest : Members) × MembersAreWell rest × (drop to text ≡ members_text now rest) × (back name rest ≡ b) × ((now || some (front name rest)) ≡ f)
 next now f text at to name no_members b h unclosed e same flag plain go skip = absurd (unclosed (heads text at 125 [] e).0)
 next now f text at to name (member k d ms) b h unclosed e same flag plain go skip =
@@ -135,13 +135,13 @@ next now f text at to name (member k d ms) b h unclosed e same flag plain go ski
       true,
       ms,
       h.2,
-      skip ∙ ap (after InString 0) n.1 ∙ member_pass k d ms h.0,
+      skip ∙ ap (left_after InString 0) n.1 ∙ member_pass k d ms h.0,
       sym p.1 ∙ same,
       sym (or-true now) ∙ ap (λ m. now || some m) (sym p.0) ∙ flag,
     )
 
 pub goes_on : (text : List ℕ) (from : ℕ) (name : List ℕ) (at to : ℕ) → Goes text from name at → (get_or text at 0 ≡ 125 → ⊥) → HasNoEscape name
-    → is_before (drop (start_of text at) text) name ≡ true → drop to text ≡ after InString 0 (drop (start_of text at) text) → Goes text from name to
+    → is_before (drop (start_of text at) text) name ≡ true → drop to text ≡ left_after InString 0 (drop (start_of text at) text) → Goes text from name to
 goes_on text from name at to g unclosed plain go skip later ms h e =
     let w = g later ms h e in
     next w.0 _ text at to name w.1 (back name ms) w.2 unclosed w.3 w.4 w.5 plain go skip

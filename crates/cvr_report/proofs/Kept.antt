@@ -15,7 +15,7 @@ use Rattle.cdf_form.specs.Tables.{classes_of}
 use Rattle.cdf_definition.specs.Frame.{Frame}
 use Rattle.cvr_fact_types.specs.declared.name.RecordName.{RecordName}
 use Rattle.cvr_fact_types.specs.Facts.{Fact, Device, Header, Snapshot, Facts}
-use Rattle.cvr_facts.specs.Stands.{Stands, IsWhole, IsOfWhole}
+use Rattle.cvr_facts.specs.Stands.{Stands, HasRecord, IsOfRecord}
 use Rattle.cvr_facts.specs.Choosing.{data_of}
 use Rattle.cvr_facts.proofs.Laws.{text_total, text_exact, choice_total, choice_exact, contains_iff}
 use Rattle.cvr_facts.proofs.Lemmas.{at_head, at_tail, from-filter_map}
@@ -24,7 +24,7 @@ use Rattle.cvr_office.specs.Readers.{header_list, snapshot_list}
 use Rattle.cvr_office.specs.Keeps.{Keeps, content_scope}
 use Rattle.cvr_office.proofs.Lemmas.{from_ordered, in_ordered}
 use Rattle.cvr_office.proofs.Laws.{name_exact, name_total, header_under, snapshot_under, id_under}
-use Rattle.cvr_report.specs.Record.{IsHeader, texts_of}
+use Rattle.cvr_report.specs.Record.{HasHeaderMembers, item_texts}
 use Rattle.cvr_report.specs.Page.{shown}
 use Rattle.cvr_report.specs.Volume.{members_in, values_of}
 use Rattle.cvr_report.proofs.Picking.{shown_at}
@@ -51,7 +51,7 @@ object_of (object ms) c e = (ms, refl, typed (get_member (codes "@type") ms) c e
 
 pub record IsKeptHeader (body : List ℕ) (ms : Members) : Type 0 where
   pub well : MembersAreWell ms
-  pub header : IsHeader ms
+  pub header : HasHeaderMembers ms
   pub text : body ≡ compact_text (object ms)
   pub members : members_in body ≡ ms
 
@@ -70,14 +70,14 @@ module _ (frame : Frame) (s : Facts) (keeps : Keeps frame s) (key : RecordName) 
       let found = (id_under key s id).0 (from_ordered text_total text_exact _ id at) in
       some_listed _ found.0 (in_ordered choice_total choice_exact _ found.0 ((snapshot_under key s id found.0).1 found.1))
 
-  of_whole : (f : Fact) → record_of f ≡ Some key → IsOfWhole s f → IsWhole s key.device key.unique
+  of_whole : (f : Fact) → record_of f ≡ Some key → IsOfRecord s f → HasRecord s key.device key.unique
   of_whole (Device i b) e w = absurd (Prim.cc e)
   of_whole (Header d u b) e w =
       let same : record { device = d; unique = u } ≡ key = Prim.cc e in
-      subst (λ (k : RecordName). IsWhole s k.device k.unique) same w
+      subst (λ (k : RecordName). HasRecord s k.device k.unique) same w
   of_whole (Snapshot d u i b) e w =
       let same : record { device = d; unique = u } ≡ key = Prim.cc e in
-      subst (λ (k : RecordName). IsWhole s k.device k.unique) same w
+      subst (λ (k : RecordName). HasRecord s k.device k.unique) same w
 
   -- a record has a header
   pub headed : Contains (records s) key → 0 < length (header_list s key)
@@ -110,6 +110,6 @@ pub shown_listed : (i : ℕ) (xs : List (List ℕ)) → 0 < i → 0 < length xs 
 shown_listed i xs p q =
     (min i (length xs) - 1, omega (arith, p, q), sym (shown_at i xs (shown i xs) p q))
 
-pub texts_back : (bs : List (List ℕ)) → ((b : List ℕ) → Contains bs b → compact_text (data_of b) ≡ b) → texts_of (values_of bs) ≡ bs
+pub texts_back : (bs : List (List ℕ)) → ((b : List ℕ) → Contains bs b → compact_text (data_of b) ≡ b) → item_texts (values_of bs) ≡ bs
 texts_back [] h = refl
 texts_back (b ∷ bs) h = (λ j. h b (at_head b bs) j ∷ texts_back bs (λ c at. h c (at_tail b c bs at)) j)

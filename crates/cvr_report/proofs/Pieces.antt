@@ -3,7 +3,7 @@ use Rattle.std.proofs.Common.{◌≡◌, ◌≢◌, ℕ, List, ◌∷◌, ◌++�
 use Rattle.std.specs.Result.{IsErrAnd}
 use Rattle.cdf_types.specs.Device.{Taken, Appends, appended, AppendsPrefix, AppendsProperPrefix}
 use Rattle.cdf_types.proofs.Lemmas.{appended_twice}
-use Rattle.cvr_report.specs.Writes.{Writes, WritesOrLess, is_device}
+use Rattle.cvr_report.specs.Writes.{Writes, WritesOrLess, is_write_device}
 use Rattle.cvr_report.specs.declared.fault.WriteFault.{WriteFault}
 use Rattle.cvr_report.specs.declared.fault.WriteFault.TheVariants.{Memory}
 
@@ -26,9 +26,9 @@ prefix_of : (before after : Taken) (a b : List ℕ) → AppendsPrefix before aft
 prefix_of before after a b (head, rest, e, t) = (head, rest ++ b, ap (λ s. s ++ b) e ∙ append_assoc head rest b, t)
 
 -- a fault in a piece is a fault in the whole
-pub cut_short : {T : Type 0} (before after : Taken) (r : Result T WriteFault) (e : WriteFault) (a b : List ℕ) → IsErrAnd r (λ x. x ≡ e) → AppendsPrefix before after a × (after.failed ≡ is_device e) → Writes before after r (a ++ b)
+pub cut_short : {T : Type 0} (before after : Taken) (r : Result T WriteFault) (e : WriteFault) (a b : List ℕ) → IsErrAnd r (λ x. x ≡ e) → AppendsPrefix before after a × (after.failed ≡ is_write_device e) → Writes before after r (a ++ b)
 cut_short before after (Ok x) e a b h w = absurd h
-cut_short before after (Err x) e a b h w = (prefix_of before after a b w.0, w.1 ∙ sym (ap is_device h))
+cut_short before after (Err x) e a b h w = (prefix_of before after a b w.0, w.1 ∙ sym (ap is_write_device h))
 
 -- after a piece that was written, what the next call writes
 pub goes_on : {T : Type 0} (before mid after : Taken) (r : Result T WriteFault) (a b : List ℕ) → Appends before mid a → Writes mid after r b → Writes before after r (a ++ b)
@@ -50,9 +50,9 @@ proper_prefix_of : (before after : Taken) (a b : List ℕ) → b ≢ [] → Appe
 proper_prefix_of before after a b some (head, rest, e, t) = (head, rest ++ b, ap (λ s. s ++ b) e ∙ append_assoc head rest b, not_empty rest b some, t)
 
 -- a fault in a piece before another
-pub cut_before : {T : Type 0} (before after : Taken) (r : Result T WriteFault) (e : WriteFault) (a b : List ℕ) → b ≢ [] → IsErrAnd r (λ x. x ≡ e) → AppendsPrefix before after a × (after.failed ≡ is_device e) → WritesOrLess before after r (a ++ b)
+pub cut_before : {T : Type 0} (before after : Taken) (r : Result T WriteFault) (e : WriteFault) (a b : List ℕ) → b ≢ [] → IsErrAnd r (λ x. x ≡ e) → AppendsPrefix before after a × (after.failed ≡ is_write_device e) → WritesOrLess before after r (a ++ b)
 cut_before before after (Ok x) e a b some h w = absurd h
-cut_before before after (Err x) e a b some h w = (proper_prefix_of before after a b some w.0, w.1 ∙ sym (ap is_device h))
+cut_before before after (Err x) e a b some h w = (proper_prefix_of before after a b some w.0, w.1 ∙ sym (ap is_write_device h))
 
 -- after a piece that was written, what the next call writes
 pub then_less : {T : Type 0} (before mid after : Taken) (r : Result T WriteFault) (a b : List ℕ) → Appends before mid a → WritesOrLess mid after r b → WritesOrLess before after r (a ++ b)
@@ -65,4 +65,4 @@ then_less before mid after (Err x) a b m (prefix, f) = (further prefix, f)
 -- out of memory, nothing of a text is written
 pub no_memory : {T : Type 0} (before : Taken) (r : Result T WriteFault) (text : List ℕ) → text ≢ [] → IsErrAnd r (λ x. x ≡ Memory) → before.failed ≡ false → WritesOrLess before before r text
 no_memory before (Ok x) text some h works = absurd h
-no_memory before (Err x) text some h works = (([], text, refl, some, appended_none before.bytes), works ∙ sym (ap is_device h))
+no_memory before (Err x) text some h works = (([], text, refl, some, appended_none before.bytes), works ∙ sym (ap is_write_device h))

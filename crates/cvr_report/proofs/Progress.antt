@@ -15,7 +15,7 @@ use Rattle.cvr_office.proofs.Lemmas.{from, next_listed, from-next_none, from-som
 use Rattle.cvr_report.specs.Record.{joined}
 use Rattle.cvr_report.specs.Page.{shown}
 use Rattle.cvr_report.specs.Pieces.{record_text, record_texts, device_texts}
-use Rattle.cvr_report.specs.Writes.{Writes, is_device, list_text, record_piece, list_end}
+use Rattle.cvr_report.specs.Writes.{Writes, is_write_device, list_text, record_piece, list_end}
 use Rattle.cvr_report.specs.declared.fault.WriteFault.{WriteFault}
 use Rattle.cvr_report.proofs.Pieces.{cut_short, goes_on}
 
@@ -46,7 +46,7 @@ module _ (before mid after : Taken) (whole rest : List ℕ) (p : Progress before
   ends r w = subst (Writes before after r) (sym p.whole_is) (goes_on before mid after r p.done rest p.taken w)
 
   pub stops : {T : Type 0} (r : Result T WriteFault) (e : WriteFault) (piece more : List ℕ) → rest ≡ piece ++ more → IsErrAnd r (λ x. x ≡ e)
-      → AppendsPrefix mid after piece × (after.failed ≡ is_device e) → Writes before after r whole
+      → AppendsPrefix mid after piece × (after.failed ≡ is_write_device e) → Writes before after r whole
   stops r e piece more is err w = ends r (subst (Writes mid after r) (sym is) (cut_short mid after r e piece more err w))
 
 pub all_written : {T : Type 0} (before after : Taken) (whole rest : List ℕ) (x : T) → Progress before after whole rest → rest ≡ [] → Writes before after (Ok x) whole

@@ -7,7 +7,7 @@ use Rattle.cvr_fact_types.specs.Facts.{Facts}
 use Rattle.cvr_office.proofs.Laws.{answer_alike, same_content, same_definition}
 use Rattle.cvr_report.specs.Page.{Shown, page, volumes}
 use Rattle.cvr_report.specs.Volume.{volume_of, values_of, records_data}
-use Rattle.cvr_report.specs.Laws.{SameVolumesLaw, SameFilesLaw}
+use Rattle.cvr_report.specs.Laws.{SameVolumesLaw, SameWritingLaw}
 
 pub same_volumes : SameVolumesLaw
 same_volumes f g s t same is = record {
@@ -22,7 +22,7 @@ same_volumes f g s t same is = record {
   }) (records_data (page (is n) i)));
 }
 
-pub same_files_law : {Office : Type 0} (held : Office → Facts) (defined : Office → Frame) → SameFilesLaw held defined
+pub same_files_law : {Office : Type 0} (held : Office → Facts) (defined : Office → Frame) → SameWritingLaw held defined
 same_files_law held defined before after files past o p one other new played same at also =
     let content = same_content held defined before after files past new played o p one other at also same in
     let definition = same_definition held defined before after files past new played o p one other at also in (

@@ -18,11 +18,11 @@ use Rattle.cvr_facts.proofs.Lemmas.{at_head, at_tail, in_map, from_map}
 use Rattle.cvr_office.specs.declared.record_facts.IdFacts.{IdFacts}
 use Rattle.cvr_office.specs.declared.record_facts.RecordFacts.{RecordFacts}
 use Rattle.cvr_office.specs.Names.{snapshot_ids, most}
-use Rattle.cvr_office.specs.Readers.{header_list, snapshot_list, AreFactsOf}
+use Rattle.cvr_office.specs.Readers.{header_list, snapshot_list, AreAllFactsOf}
 use Rattle.cvr_office.specs.Keeps.{Keeps}
 use Rattle.cvr_office.proofs.Lemmas.{map-map}
-use Rattle.cvr_report.specs.Record.{texts_of}
-use Rattle.cvr_report.specs.Page.{Shown, shown, shown_snapshots, shown_record, stands, current_id, counts}
+use Rattle.cvr_report.specs.Record.{item_texts}
+use Rattle.cvr_report.specs.Page.{Shown, shown, shown_snapshots, shown_record, stands, current_id, body_counts}
 use Rattle.cvr_report.specs.Pieces.{record_text}
 use Rattle.cvr_report.specs.Volume.{values_of, record_data}
 use Rattle.cvr_report.specs.Found.{bodies, shown_all, shown_bodies, counts_of, pick, picks, none, CanShow, HaveSnapshots}
@@ -34,7 +34,7 @@ use Rattle.cvr_report.proofs.Current.{greatest_map}
 abbrev pub current_of : ℕ → List IdFacts → List ℕ
 current_of i gs = option_map_or (λ (p : List ℕ × SnapshotFact). p.0) (greatest (on (λ (p : List ℕ × SnapshotFact). p.1) fact_choice) (picks i gs)) []
 
-module _ (contests : List Contest) (s : Facts) (key : RecordName) (found : RecordFacts) (are : AreFactsOf contests s key found) where
+module _ (contests : List Contest) (s : Facts) (key : RecordName) (found : RecordFacts) (are : AreAllFactsOf contests s key found) where
   -- ---- what is shown
 
   all_shown : (i : ℕ) (gs : List IdFacts) → ((g : IdFacts) → Contains gs g → bodies g ≡ snapshot_list s key g.id.now)
@@ -53,7 +53,7 @@ module _ (contests : List Contest) (s : Facts) (key : RecordName) (found : Recor
       let one : length g.snapshots.items ≡ length (snapshot_list s key g.id.now) = sym (length-map g.snapshots.items (λ s. s.now.body)) ∙ ap length (h g (at_head g gs)) in
       (λ j. one j ∷ all_counted gs (λ x at. h x (at_tail g x gs at)) j)
 
-  pub counts_are : counts_of found ≡ counts s key
+  pub counts_are : counts_of found ≡ body_counts s key
   counts_are =
       let first : length found.headers.items ≡ length (header_list s key) = sym (length-map found.headers.items (λ h. h.now.body)) ∙ ap length are.bodies in
       let rest = all_counted found.ids.items (λ g at. (are.snapshots g at).bodies) ∙ ap (map (λ id. length (snapshot_list s key id))) are.ids in
@@ -101,7 +101,7 @@ module _ (contests : List Contest) (s : Facts) (key : RecordName) (found : Recor
       ids_of None = refl
       ids_of (Some p) = refl
 
-module _ (frame : Frame) (s : Facts) (keeps : Keeps frame s) (key : RecordName) (found : RecordFacts) (are : AreFactsOf frame.contests s key found) where
+module _ (frame : Frame) (s : Facts) (keeps : Keeps frame s) (key : RecordName) (found : RecordFacts) (are : AreAllFactsOf frame.contests s key found) where
   -- the facts can be shown
   pub can_show : 0 < length (header_list s key) → CanShow found
   can_show some = record {
@@ -115,7 +115,7 @@ module _ (frame : Frame) (s : Facts) (keeps : Keeps frame s) (key : RecordName) 
   }
 
   -- the snapshots' texts are those of what they spell
-  pub texts_are : (i : ℕ) → 0 < i → shown_bodies i found.ids.items ≡ texts_of (values_of (map (λ (s : Shown). s.body) (shown_snapshots s i key)))
+  pub texts_are : (i : ℕ) → 0 < i → shown_bodies i found.ids.items ≡ item_texts (values_of (map (λ (s : Shown). s.body) (shown_snapshots s i key)))
   texts_are i q =
       ap (map (λ (s : Shown). s.body)) (shown_are frame.contests s key found are i)
       ∙ sym (texts_back (map (λ (s : Shown). s.body) (shown_snapshots s i key)) each)

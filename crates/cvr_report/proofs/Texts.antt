@@ -9,7 +9,7 @@ use Rattle.serde_json.specs.Find.{get_member}
 use Rattle.serde_json.specs.Written.{compact_text, items_text, members_text, comma_if}
 use Rattle.cdf_parts.specs.Proper.{Before, Below, MembersAreWell}
 use Rattle.cdf_parts.proofs.Lemmas.{Before-trans, after_is, equal_is, greater_is, Below-trans, append}
-use Rattle.cvr_report.specs.Record.{snapshots_name, current_name, cvr_object, IsHeader, front, back, some, inner, joined, texts_of, IsCut}
+use Rattle.cvr_report.specs.Record.{snapshots_name, current_name, cvr_object, HasHeaderMembers, front, back, some, inner, joined, item_texts, IsCut}
 use Rattle.cvr_report.proofs.Splitting.{put_twice, text-append}
 
 pub front_of : (xs p r : List ℕ) (n : ℕ) → n ≤ length xs → xs ≡ p ++ r → drop n xs ≡ r → take n xs ≡ p
@@ -17,7 +17,7 @@ front_of xs p r n h e d =
     let same : n ≡ length p = omega (arith, ap length e, length-append p r, ap length d, length-drop n xs) in
     (λ i. take (same i) (e i)) ∙ take-append_seam p r
 
-pub joined-end : (later : Bool) (ds : Items) → items_text later ds ≡ joined later (texts_of ds) ++ 93 ∷ []
+pub joined-end : (later : Bool) (ds : Items) → items_text later ds ≡ joined later (item_texts ds) ++ 93 ∷ []
 joined-end later no_items = refl
 joined-end later (item d ds) =
     ap (λ s. comma_if later ++ (compact_text d ++ s)) (joined-end true ds) ∙ ap (λ s. comma_if later ++ s) (sym (append_assoc (compact_text d) _ _)) ∙ sym (append_assoc (comma_if later) _ _)
@@ -80,10 +80,10 @@ placed_text a b x y f m r e =
     ∙ ap (λ later. inner false f ++ members_text later (member a x (append m (member b y r)))) e
     ∙ ap (λ s. inner false f ++ (44 ∷ (quoted a ++ 58 ∷ (compact_text x ++ s)))) (text-append true m (member b y r))
 
-pub record_text : (ms : Members) (ds : Items) (current : List ℕ) → MembersAreWell ms → IsHeader ms
+pub record_text : (ms : Members) (ds : Items) (current : List ℕ) → MembersAreWell ms → HasHeaderMembers ms
     → let f = front snapshots_name ms in let m = back snapshots_name ms in
     compact_text (cvr_object ms ds current)
-    ≡ (123 ∷ inner false f) ++ (snapshots_lead ++ (joined false (texts_of ds) ++ (93 ∷ (inner true (front current_name m) ++ (codes ",\"CurrentSnapshotId\":" ++ (quoted current ++ members_text true (back current_name m)))))))
+    ≡ (123 ∷ inner false f) ++ (snapshots_lead ++ (joined false (item_texts ds) ++ (93 ∷ (inner true (front current_name m) ++ (codes ",\"CurrentSnapshotId\":" ++ (quoted current ++ members_text true (back current_name m)))))))
 record_text ms ds current well h =
     let f = front snapshots_name ms in
     let m = back snapshots_name ms in
@@ -93,7 +93,7 @@ record_text ms ds current well h =
     ∙ ap (λ s. 123 ∷ s) (placed_text snapshots_name current_name (array ds) (string current) f (front current_name m) r (some_front (codes "@type") snapshots_name ms refl well h.2))
     ∙ ap (λ s. 123 ∷ (inner false f ++ (44 ∷ (quoted snapshots_name ++ 58 ∷ (91 ∷ (items_text false ds ++ (inner true (front current_name m) ++ s))))))) (current_is (quoted current ++ members_text true r))
     ∙ ap (λ s. 123 ∷ (inner false f ++ s)) (lead_is (items_text false ds ++ (inner true (front current_name m) ++ tail)))
-    ∙ ap (λ s. 123 ∷ (inner false f ++ (snapshots_lead ++ s))) (ap (λ s. s ++ (inner true (front current_name m) ++ tail)) (joined-end false ds) ∙ append_assoc (joined false (texts_of ds)) (93 ∷ []) _)
+    ∙ ap (λ s. 123 ∷ (inner false f ++ (snapshots_lead ++ s))) (ap (λ s. s ++ (inner true (front current_name m) ++ tail)) (joined-end false ds) ∙ append_assoc (joined false (item_texts ds)) (93 ∷ []) _)
 
 back_well_at : (o : Ordering) (l : List ℕ) (d : Data) (ns b : Members) → MembersAreWell (member l d ns) → MembersAreWell b → MembersAreWell (match_ordering o (member l d ns) (member l d ns) b)
 back_well_at Less l d ns b w v = w
@@ -105,7 +105,7 @@ back_well k no_members w = tt
 back_well k (member l d ns) w = back_well_at (slice_cmp nat_cmp k l) l d ns (back k ns) w (back_well k ns w.2)
 
 -- what two cuts of a header's text give
-pub pieces : (text rest : List ℕ) (first second : ℕ) (ms : Members) → MembersAreWell ms → IsHeader ms → text ≡ compact_text (object ms) → rest ≡ drop first text
+pub pieces : (text rest : List ℕ) (first second : ℕ) (ms : Members) → MembersAreWell ms → HasHeaderMembers ms → text ≡ compact_text (object ms) → rest ≡ drop first text
     → first ≤ length text → IsCut text 1 snapshots_name first → second ≤ length rest → IsCut rest 0 current_name second
     → let m = back snapshots_name ms in
     (take first text ≡ 123 ∷ inner false (front snapshots_name ms)) × (take second rest ≡ inner true (front current_name m)) × (drop second rest ≡ members_text true (back current_name m))

@@ -17,7 +17,7 @@ use Rattle.cdf_form.specs.Reading.{value_of}
 use Rattle.cdf_parts.proofs.Laws.{part_reads_back, listed_part}
 use Rattle.cdf_definition.specs.Frame.{Frame}
 use Rattle.cdf_check.specs.Laws.{IsListOf}
-use Rattle.cdf_definition.specs.Named.{Entry, named, texts_of}
+use Rattle.cdf_definition.specs.Named.{IdText, named, texts_of}
 use Rattle.cdf_definition.specs.Sound.{IsFrame}
 use Rattle.cdf_check.proofs.Laws.{lists}
 use Rattle.cdf_definition.proofs.Laws.{sound}
@@ -31,7 +31,7 @@ use Rattle.cvr_office.specs.Names.{records, devices, device_in, is_named, body_o
 use Rattle.cvr_office.specs.Readers.{device_list}
 use Rattle.cvr_office.specs.Keeps.{Keeps, content_scope}
 use Rattle.cvr_office.proofs.Lemmas.{from_ordered, in_ordered, map-map, from_filter, in_filter}
-use Rattle.cvr_report.specs.Record.{joined, texts_of as items_texts}
+use Rattle.cvr_report.specs.Record.{joined, item_texts}
 use Rattle.cvr_report.specs.Writes.{list_text}
 use Rattle.cvr_report.specs.Page.{Shown, shown, shown_record, stands, page}
 use Rattle.cvr_report.specs.Volume.{values_of, record_data, records_data, cover_of, volume}
@@ -49,11 +49,11 @@ read_of : (b : Bool) (bytes : List ℕ) (d : Data) → is_utf8 bytes ≡ b → v
 read_of true bytes d u e = sym (rw u refl) ∙ e
 read_of false bytes d u e = let none : value_of bytes ≡ None = rw u refl in absurd (let same : Some d ≡ None = sym e ∙ none in Prim.cc same)
 
-listed_spelled : (bytes : List ℕ) (d : Data) → read bytes ≡ Some d → has_float d ≡ false → (name : List ℕ) (entries : List Entry) → IsListOf entries name d → (t : List ℕ) → Contains (texts_of entries) t → IsSpelled t
+listed_spelled : (bytes : List ℕ) (d : Data) → read bytes ≡ Some d → has_float d ≡ false → (name : List ℕ) (entries : List IdText) → IsListOf entries name d → (t : List ℕ) → Contains (texts_of entries) t → IsSpelled t
 listed_spelled bytes d is whole name entries list t at =
-    let e = from_map (λ (e : Entry). e.1) t entries at in
+    let e = from_map (λ (e : IdText). e.1) t entries at in
     let x = from_map named e.0 (array_at name d) ((list.members e.0).0 e.1) in
-    let text : compact_text x.0 ≡ t = ap (λ (e : Entry). e.1) x.2 ∙ e.2 in
+    let text : compact_text x.0 ≡ t = ap (λ (e : IdText). e.1) x.2 ∙ e.2 in
     let back = part_reads_back bytes d x.0 is whole (listed_part name d x.0 x.1) in
     subst IsSpelled text (ap (λ o. compact_text (unwrap_or o null)) back)
 
@@ -117,9 +117,9 @@ whole_text frame date device s i keeps q =
     let units = texts_back (texts_of frame.units) (units_spelled frame keeps.sound) in
     let parties = texts_back (texts_of frame.parties) (parties_spelled frame keeps.sound) in
     let bodies : map (λ (s : Shown). s.body) p.devices ≡ device_texts s i (devices s) = sym (map-map (λ id. record { id = id; body = shown i (device_list s id) }) (λ (s : Shown). s.body) (devices s)) in
-    let devices_are : items_texts (values_of (map (λ (s : Shown). s.body) p.devices)) ≡ device_texts s i (devices s) = ap (λ bs. items_texts (values_of bs)) bodies ∙ texts_back (device_texts s i (devices s)) (devices_spelled frame s keeps i q) in
-    let texts : items_texts (records_data p) ≡ record_texts s i (records s) =
-    ap (λ ds. items_texts (items_of ds)) (sym (map-map (shown_record s i) record_data (filter (stands s i) (records s)))) ∙ records_text s i (records s) in
+    let devices_are : item_texts (values_of (map (λ (s : Shown). s.body) p.devices)) ≡ device_texts s i (devices s) = ap (λ bs. item_texts (values_of bs)) bodies ∙ texts_back (device_texts s i (devices s)) (devices_spelled frame s keeps i q) in
+    let texts : item_texts (records_data p) ≡ record_texts s i (records s) =
+    ap (λ ds. item_texts (items_of ds)) (sym (map-map (shown_record s i) record_data (filter (stands s i) (records s)))) ∙ records_text s i (records s) in
     volume_text (cover_of frame date device p) (records_data p)
     ∙ ((λ n. head_text ++ (list_text false (texts n) ++
     (codes ",\"Election\":[" ++ (joined false (elections n) ++ (codes "],\"GeneratedDate\":" ++ (quoted date

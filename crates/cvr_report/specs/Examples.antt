@@ -29,8 +29,8 @@ heading = record { date = codes "2024-11-07T18:00:00-05:00"; device = codes "g7"
 
 -- ---- three records
 
-abbrev pub first_record : RecordName
-first_record = record { device = codes "s3"; unique = codes "u21" }
+abbrev pub example_record : RecordName
+example_record = record { device = codes "s3"; unique = codes "u21" }
 
 abbrev pub second_record : RecordName
 second_record = record { device = codes "s3"; unique = codes "u4" }
@@ -68,13 +68,13 @@ snapshot key id annotations contest overvotes kind = Snapshot key.device key.uni
 -- of the first record: two files put it into different units, and have a snapshot each
 abbrev pub of_scanner : List Fact
 of_scanner =
-    snapshot first_record (codes "k34") (codes "") (codes "mayor") (codes "11") (codes "original") ∷
-    header first_record (codes "\"BallotStyleUnitId\":\"p9\"") ∷ device (codes "s3") ∷ []
+    snapshot example_record (codes "k34") (codes "") (codes "mayor") (codes "11") (codes "original") ∷
+    header example_record (codes "\"BallotStyleUnitId\":\"p9\"") ∷ device (codes "s3") ∷ []
 
 abbrev pub of_board : List Fact
 of_board =
-    device (codes "s3") ∷ header first_record (codes "\"BallotStyleUnitId\":\"p10\"") ∷
-    snapshot first_record (codes "k31") (codes "") (codes "judge") (codes "12") (codes "modified") ∷ []
+    device (codes "s3") ∷ header example_record (codes "\"BallotStyleUnitId\":\"p10\"") ∷
+    snapshot example_record (codes "k31") (codes "") (codes "judge") (codes "12") (codes "modified") ∷ []
 
 -- of the second record: three files have a body each under k52, in another order by bytes than by choosing; two have one under k53 as well, of 13:00 and of 12:00 in UTC
 abbrev pub of_first_reader : List Fact
@@ -177,8 +177,8 @@ abbrev pub ThirdOfSix : Type 0
 ThirdOfSix = volume county heading (from_list of_six) 3 ≡ third_text
 
 -- which snapshot of a record each of three volumes calls current
-abbrev pub currents : Facts → RecordName → List (List ℕ)
-currents facts key = map (λ i. (shown_record facts i key).current) (1 ∷ 2 ∷ 3 ∷ [])
+abbrev pub called_current : Facts → RecordName → List (List ℕ)
+called_current facts key = map (λ i. (shown_record facts i key).current) (1 ∷ 2 ∷ 3 ∷ [])
 
 abbrev pub CurrentsOfSix : Type 0
-CurrentsOfSix = currents (from_list of_six) second_record ≡ codes "k52" ∷ codes "k53" ∷ codes "k53" ∷ []
+CurrentsOfSix = called_current (from_list of_six) second_record ≡ codes "k52" ∷ codes "k53" ∷ codes "k53" ∷ []

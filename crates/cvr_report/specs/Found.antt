@@ -15,8 +15,8 @@ none = record { key = record { device = []; unique = [] }; id = []; kind = Origi
 abbrev pub bodies : IdFacts → List (List ℕ)
 bodies g = map (λ s. s.now.body) g.snapshots.items
 
-abbrev pub header_bodies : RecordFacts → List (List ℕ)
-header_bodies r = map (λ h. h.now.body) r.headers.items
+abbrev pub own_header_bodies : RecordFacts → List (List ℕ)
+own_header_bodies r = map (λ h. h.now.body) r.headers.items
 
 abbrev pub shown_of : ℕ → IdFacts → Shown
 shown_of i g = record { id = g.id.now; body = shown i (bodies g) }

@@ -23,10 +23,10 @@ abbrev pub is_device_of : Frame → List ℕ → Bool
 is_device_of frame device = list_any (bytes_eq device) (ids_of frame.devices)
 
 -- the fault that applies
-abbrev pub IsFault : Frame → List ℕ → List ℕ → HeadFault → Type 0
-IsFault frame date device NotMoment = is_moment date ≡ false
-IsFault frame date device NoDevice = (is_moment date ≡ true) × (is_device_of frame device ≡ false)
-IsFault frame date device Memory = (is_moment date ≡ true) × (is_device_of frame device ≡ true)
+abbrev pub IsHeadFault : Frame → List ℕ → List ℕ → HeadFault → Type 0
+IsHeadFault frame date device NotMoment = is_moment date ≡ false
+IsHeadFault frame date device NoDevice = (is_moment date ≡ true) × (is_device_of frame device ≡ false)
+IsHeadFault frame date device Memory = (is_moment date ≡ true) × (is_device_of frame device ≡ true)
 
 -- the heading of a moment and a device of the definition
 pub record IsHead (frame : Frame) (date device : List ℕ) (h : Head) : Type 0 where

@@ -19,8 +19,8 @@ abbrev pub SameVolumesLaw : Type 0
 SameVolumesLaw = (f g : Frame) (s t : Facts) → IsSame f g → s ≡ t → WriteAlike f g s t
 
 -- new offices of one definition, after any events: two that the same files have reached hold the same, answer alike and write alike
-abbrev pub SameFilesLaw : {Office : Type 0} → (Office → Facts) → (Office → Frame) → Type 0
-SameFilesLaw {Office} held defined = (before after : List Office) (files : List (List ℕ)) (past : History) (o p : ℕ) (one other : Office)
+abbrev pub SameWritingLaw : {Office : Type 0} → (Office → Facts) → (Office → Frame) → Type 0
+SameWritingLaw {Office} held defined = (before after : List Office) (files : List (List ℕ)) (past : History) (o p : ℕ) (one other : Office)
     → AreNewOfOne held defined before → ArePlayed held defined before after files past → HaveSameFiles files past o p
     → slice_get after o ≡ Some one → slice_get after p ≡ Some other
     → AreAlike held defined one other × WriteAlike (defined one) (defined other) (held one) (held other)

@@ -32,12 +32,12 @@ abbrev pub shown : ℕ → List (List ℕ) → List ℕ
 shown i bodies = unwrap_or (numbered bodies (min i (length bodies))) []
 
 -- how many bodies each name of a record has
-abbrev pub counts : Facts → RecordName → List ℕ
-counts facts key = length (header_list facts key) ∷ map (λ id. length (snapshot_list facts key id)) (snapshot_ids facts key)
+abbrev pub body_counts : Facts → RecordName → List ℕ
+body_counts facts key = length (header_list facts key) ∷ map (λ id. length (snapshot_list facts key id)) (snapshot_ids facts key)
 
 -- a record stands in volume i where one of its names has at least i bodies
 abbrev pub stands : Facts → ℕ → RecordName → Bool
-stands facts i key = nat_le i (most (counts facts key))
+stands facts i key = nat_le i (most (body_counts facts key))
 
 abbrev pub shown_snapshots : Facts → ℕ → RecordName → List Shown
 shown_snapshots facts i key = map (λ id. record { id = id; body = shown i (snapshot_list facts key id) }) (snapshot_ids facts key)

@@ -21,8 +21,8 @@ abbrev pub cvr_object : Members → Items → List ℕ → Data
 cvr_object header snapshots current = object (record_members header snapshots current)
 
 -- what a header body's object is: neither member, and a class
-abbrev pub IsHeader : Members → Type 0
-IsHeader ms = (get_member snapshots_name ms ≡ None) × (get_member current_name ms ≡ None) × IsSome (get_member (codes "@type") ms)
+abbrev pub HasHeaderMembers : Members → Type 0
+HasHeaderMembers ms = (get_member snapshots_name ms ≡ None) × (get_member current_name ms ≡ None) × IsSome (get_member (codes "@type") ms)
 
 -- ---- the members before a name, and those from it on
 
@@ -44,9 +44,9 @@ inner later no_members = []
 inner later (member k d ms) = comma_if later ++ (quoted k ++ 58 ∷ (compact_text d ++ inner true ms))
 
 -- the compact texts of the items
-abbrev pub texts_of : Items → List (List ℕ)
-texts_of no_items = []
-texts_of (item d ds) = compact_text d ∷ texts_of ds
+abbrev pub item_texts : Items → List (List ℕ)
+item_texts no_items = []
+item_texts (item d ds) = compact_text d ∷ item_texts ds
 
 -- at is where the members from a name on begin, in the text of an object whose members go on at from
 abbrev pub IsCut : List ℕ → ℕ → List ℕ → ℕ → Type 0

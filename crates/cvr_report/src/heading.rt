@@ -53,7 +53,7 @@ impl Model for Heading {
 
 impl Heading {
     ghost use Rattle.std.specs.Prelude.{◌≡◌, IfOk, IfErr};
-    ghost use Rattle.cvr_report.specs.Head.{IsHead, IsFault, IsHeading};
+    ghost use Rattle.cvr_report.specs.Head.{IsHead, IsHeadFault, IsHeading};
 
     /// The heading of a date and of a device that the definition lists. The date is a date-time
     /// with an offset, as `2024-11-06T08:00:00Z` (RFC 3339, as `jiff` reads it), with no name of a
@@ -69,7 +69,7 @@ impl Heading {
         device: &str,
     ) -> Result<Heading, HeadFault>
         ensures head { IfOk result (IsHead definition.now date.now device.now) }
-        ensures fault { IfErr result (IsFault definition.now date.now device.now) }
+        ensures fault { IfErr result (IsHeadFault definition.now date.now device.now) }
     {
         if !is_moment(date) {
             return Err(HeadFault::NotMoment);

@@ -7,8 +7,8 @@ ghost use Rattle.cdf_definition.specs.Frame.{Frame};
 ghost use Rattle.cvr_fact_types.specs.declared.name.RecordName.{RecordName};
 ghost use Rattle.cvr_fact_types.specs.Facts.{Facts};
 ghost use Rattle.cvr_office.specs.Keeps.{Keeps};
-ghost use Rattle.cvr_office.specs.Readers.{AreFactsOf};
-ghost use Rattle.cvr_report.specs.Record.{IsHeader, cvr_object, texts_of, joined};
+ghost use Rattle.cvr_office.specs.Readers.{AreAllFactsOf};
+ghost use Rattle.cvr_report.specs.Record.{HasHeaderMembers, cvr_object, item_texts, joined};
 ghost use Rattle.cvr_report.specs.Page.{shown_record};
 ghost use Rattle.cvr_report.specs.Volume.{record_data};
 ghost use Rattle.cvr_report.specs.Found.{HaveSnapshots, CanShow, shown_bodies};
@@ -70,8 +70,8 @@ fn push_record(
     requires header { 0 < length header.now }
     requires number { 0 < i }
     requires some { HaveSnapshots ids.now }
-    ensures { OnOk result ((ms : Members) (ds : Items) → MembersAreWell ms → IsHeader ms
-        → header.now ≡ compact_text (object ms) → shown_bodies i ids.now ≡ texts_of ds
+    ensures { OnOk result ((ms : Members) (ds : Items) → MembersAreWell ms → HasHeaderMembers ms
+        → header.now ≡ compact_text (object ms) → shown_bodies i ids.now ≡ item_texts ds
         → out.new.items ≡ out.old.items ++ compact_text (cvr_object ms ds current.now)) }
 {
     let text = header.as_str().as_bytes();
@@ -99,7 +99,7 @@ pub(crate) fn push_shown(
     requires some { CanShow found.now }
     ensures { OnOk result
         ((frame : Frame) (s : Facts) (key : RecordName) → Keeps frame s
-        → AreFactsOf frame.contests s key found.now
+        → AreAllFactsOf frame.contests s key found.now
         → out.new.items ≡ out.old.items ++ compact_text (record_data (shown_record s i key))) }
 {
     let header = shown_header(found.headers.as_slice(), i);

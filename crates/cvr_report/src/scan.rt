@@ -1,6 +1,7 @@
 // A pass over compact text.
 ghost use Rattle.std.specs.Prelude.{◌≡◌, ◌≢◌, ◌+◌, ◌<◌, ◌≤◌, ℕ, length, drop, slice_index};
-ghost use Rattle.cvr_report.specs.Scan.{Between, InString, next_depth, stops, after, is_before};
+ghost use Rattle.cvr_report.specs.Scan.{Between, InString, next_depth, stops, left_after};
+ghost use Rattle.cvr_report.specs.Scan.{is_before};
 ghost use Rattle.cvr_report.specs.Scan.{before_escaped, start_of, HasNoEscape};
 ghost use Rattle.cvr_report.specs.Record.{IsCut};
 
@@ -31,8 +32,8 @@ fn stops_at(depth: usize, byte: u8) -> bool
 fn byte_end(text: &[u8], at: usize) -> usize
     requires inside { at < length text.now }
     requires open { slice_index text.now at ≢ 34 }
-    ensures rest { (depth : ℕ) → after InString depth (drop at text.now)
-        ≡ after InString depth (drop result text.now) }
+    ensures rest { (depth : ℕ) → left_after InString depth (drop at text.now)
+        ≡ left_after InString depth (drop result text.now) }
     ensures above { at < result }
     ensures within { result ≤ length text.now }
 {
@@ -46,8 +47,8 @@ fn byte_end(text: &[u8], at: usize) -> usize
 // The place behind the string that goes on at `from`.
 fn string_end(text: &[u8], from: usize) -> usize
     requires { from ≤ length text.now }
-    ensures rest { (depth : ℕ) → after InString depth (drop from text.now)
-        ≡ after Between depth (drop result text.now) }
+    ensures rest { (depth : ℕ) → left_after InString depth (drop from text.now)
+        ≡ left_after Between depth (drop result text.now) }
     ensures above { from ≤ result }
     ensures within { result ≤ length text.now }
 {
@@ -65,7 +66,7 @@ fn string_end(text: &[u8], from: usize) -> usize
 // whole.
 fn member_end(text: &[u8], from: usize) -> usize
     requires { from ≤ length text.now }
-    ensures rest { drop result text.now ≡ after InString 0 (drop from text.now) }
+    ensures rest { drop result text.now ≡ left_after InString 0 (drop from text.now) }
     ensures above { from ≤ result }
     ensures within { result ≤ length text.now }
 {

@@ -11,7 +11,8 @@ ghost use Rattle.cvr_report.specs.Record.{joined};
 ghost use Rattle.cvr_report.specs.Head.{is_device_of};
 ghost use Rattle.cvr_report.specs.Page.{volumes, shown};
 ghost use Rattle.cvr_report.specs.Volume.{volume};
-ghost use Rattle.cvr_report.specs.Writes.{Writes, WritesOrLess, is_device, list_text, record_piece};
+ghost use Rattle.cvr_report.specs.Writes.{Writes, WritesOrLess, is_write_device, list_text};
+ghost use Rattle.cvr_report.specs.Writes.{record_piece};
 ghost use Rattle.cvr_report.specs.Pieces.{head_text, middle_text, end_text, party_text};
 ghost use Rattle.cvr_report.specs.Pieces.{record_text, record_texts, device_texts};
 
@@ -195,7 +196,7 @@ pub fn write_volume<O: Office, W: Sink>(
     ensures volume { OnOk result (Appends (W.taken out.old) (W.taken out.new)
         (volume (O.defined office.now) heading.now (O.held office.now) i)) }
     ensures working { OnOk result ((W.taken out.new).failed ≡ false) }
-    ensures fault { IfErr result (λ e. (W.taken out.new).failed ≡ is_device e) }
+    ensures fault { IfErr result (λ e. (W.taken out.new).failed ≡ is_write_device e) }
     ensures front { OnErr result (AppendsProperPrefix (W.taken out.old) (W.taken out.new)
         (volume (O.defined office.now) heading.now (O.held office.now) i)) }
 {

@@ -3,7 +3,7 @@ use Rattle.std.proofs.Common.{◌≡◌, ◌∙◌, ℕ, List, [], ◌∷◌, co
 use Rattle.clap.specs.Words.{fault_of}
 use Rattle.clap.specs.declared.error.ErrorKind.TheVariants.{InvalidSubcommand, UnknownArgument}
 use Rattle.clap.proofs.OnLiterals.{clap_on_literals}
-use Rattle.cvr_words.specs.Line.{cvr_line, named}
+use Rattle.cvr_words.specs.Line.{cvr_line, with_program}
 use Rattle.cvr_words.specs.Request.{IsRequest}
 use Rattle.cvr_words.specs.declared.request.Request.{Request}
 use Rattle.cvr_run.specs.Explained.{AsksCode, NoExplainLaw}
@@ -16,14 +16,14 @@ version_no_code words (inr one) name asks = cc
 pub one_name : (words : List (List ℕ)) (a b : List ℕ) → AsksCode words a → AsksCode words b → a ≡ b
 one_name words a b asks other = cc
 
-explain_unknown : (name : List ℕ) → fault_of cvr_line (named (codes "explain" ∷ name ∷ [])) ≡ UnknownArgument ∷ InvalidSubcommand ∷ []
+explain_unknown : (name : List ℕ) → fault_of cvr_line (with_program (codes "explain" ∷ name ∷ [])) ≡ UnknownArgument ∷ InvalidSubcommand ∷ []
 unfolding clap_on_literals
 explain_unknown name = refl
 
 pub no_explain : NoExplainLaw
 no_explain words name asks =
-    subst (λ (w : List (List ℕ)). fault_of cvr_line (named w) ≡ UnknownArgument ∷ InvalidSubcommand ∷ []) (sym asks) (explain_unknown name)
+    subst (λ (w : List (List ℕ)). fault_of cvr_line (with_program w) ≡ UnknownArgument ∷ InvalidSubcommand ∷ []) (sym asks) (explain_unknown name)
 
-pub code_asks_none : (words : List (List ℕ)) (name : List ℕ) → AsksCode words name → (request : Request) → IsRequest (named words) request → ⊥
+pub code_asks_none : (words : List (List ℕ)) (name : List ℕ) → AsksCode words name → (request : Request) → IsRequest (with_program words) request → ⊥
 code_asks_none words name code request asks =
     let bad : [] ≡ UnknownArgument ∷ InvalidSubcommand ∷ [] = sym asks.0 ∙ no_explain words name code in cc

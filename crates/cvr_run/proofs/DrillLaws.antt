@@ -25,7 +25,7 @@ use Rattle.cvr_words.specs.declared.request.Act.{Act}
 use Rattle.cvr_words.specs.declared.request.Act.TheVariants as act
 use Rattle.cvr_words.specs.declared.request.Step.{Step}
 use Rattle.cvr_run.specs.Drill.{event_of, events_of, new_offices, drilled, are_same, least_same, office_line, office_lines}
-use Rattle.cvr_run.specs.Laws.{HasAccepted, HaveSameValues, acts, held_by, past_after, files_reached, ImportsAccepted, StartLaw, ImportLaw, ExchangeLaw, FilesReachedLaw, ReachedLaw, SameReachedLaw, AllImportedLaw, ByPlacesLaw, BothWaysLaw, EachImportsBothLaw, same_line, OneLineLaw, TwoLinesLaw}
+use Rattle.cvr_run.specs.Laws.{HasAccepted, HaveSameValues, acts, held_by, past_after, files_reached, ImportsAccepted, FirstStepLaw, StepImportLaw, ExchangeLaw, FilesReachedLaw, ReachedLaw, SameReachedLaw, AllImportedLaw, ByPlacesLaw, BothWaysLaw, EachImportsBothLaw, same_line, OneLineLaw, TwoLinesLaw}
 use Rattle.cvr_run.specs.Outcome.{accepted_facts, held}
 use Rattle.cvr_run.proofs.Members.{AreFactsOf, same_by_values, HasPlace, placed, held_of, same_held, by_bytes}
 use Rattle.cvr_run.proofs.SameOffices.{same_itself}
@@ -58,14 +58,14 @@ module _ (definition : Frame) (n : ℕ) (files : List (List ℕ)) where
       → get_or (drilled definition n files steps) o empty ≡ held_at definition n files (newest n last ++ newest n first) o
   drilled_after steps first last o is lt = drilled_at steps (first ++ last) o is lt ∙ ap (λ es. held_at definition n files es o) (newest-append n first last)
 
-pub at_start : StartLaw
+pub at_start : FirstStepLaw
 at_start definition n files steps o lt none =
     drilled_at definition n files steps [] o none lt
     ∙ (content-none (new_offices definition n) files o
     ∙ (get_or-replicate n o (starting definition) empty lt
     ∙ sym (union_empty fact_total fact_exact (starting definition))))
 
-pub one_import : ImportLaw
+pub one_import : StepImportLaw
 one_import definition n files steps more o f lo lf is =
     let es = newest n (acts steps) in
     let last : List Act = act.Import (suc o) f ∷ [] in

@@ -19,7 +19,7 @@ use Rattle.cvr_run.specs.Drill.{office_lines}
 use Rattle.cvr_run.specs.HeldBytes.{held_part, HeldTextLaw, HeldLinesLaw, HeldFaultLaw, HeldRefusedLaw}
 use Rattle.cvr_run.specs.Outcome.{accepted_facts, held, count_line, check_line, check_lines, facts_text, facts_fault, task_text, task_fault, files_refused, task_refused, run_text, run_fault, any_refused}
 use Rattle.cvr_run.specs.Refusals.{file_due}
-use Rattle.cvr_run.specs.Told.{refusal_line, refusal_lines, file_dues, texts_of, dues_of, run_lines}
+use Rattle.cvr_run.specs.Told.{refusal_line, refusal_lines, file_dues, argument_texts, dues_of, run_lines}
 use Rattle.cvr_run.proofs.HeldFiles.{same_for, too_long, unsound_long, refused_long, same_refusal}
 use Rattle.cvr_run.proofs.HeldSteps.{same_step_dues, same_drilled}
 
@@ -96,8 +96,8 @@ held_text task def paths files =
 pub held_lines : HeldLinesLaw
 held_lines task what def paths files =
     same_for (λ d. run_lines task what d paths (map held_part files)) (refusal_line what (file_due (Some TooLong)).cause)
-    (λ d long. ap (λ o. if is_some o then refusal_line what (file_due o).cause else refusal_lines (texts_of task paths) (dues_of (frame_in d) task (map held_part files))) (too_long own_refusal d long)) def
-    ∙ ap (λ dues. if is_unsound def then refusal_line what (file_due (first_unsound def)).cause else refusal_lines (texts_of task paths) dues) (same_told (frame_in def) task files)
+    (λ d long. ap (λ o. if is_some o then refusal_line what (file_due o).cause else refusal_lines (argument_texts task paths) (dues_of (frame_in d) task (map held_part files))) (too_long own_refusal d long)) def
+    ∙ ap (λ dues. if is_unsound def then refusal_line what (file_due (first_unsound def)).cause else refusal_lines (argument_texts task paths) dues) (same_told (frame_in def) task files)
 
 pub held_fault : HeldFaultLaw
 held_fault task def files =

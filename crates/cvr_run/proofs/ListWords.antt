@@ -5,7 +5,7 @@ use Rattle.std.proofs.lemmas.Slice.Eq.{bytes_eq-Decides}
 use Rattle.std.specs.Prelude.{◌⊎◌, if◌then◌else◌}
 use Rattle.std.specs.Str.{bytes_eq}
 use Rattle.cdf_types.specs.Device.{Taken}
-use Rattle.cvr_words.specs.Line.{named}
+use Rattle.cvr_words.specs.Line.{with_program}
 use Rattle.cvr_words.specs.Request.{IsRequest}
 use Rattle.cvr_words.specs.declared.request.Request.{Request}
 use Rattle.cvr_words.proofs.Laws.{one_request}
@@ -101,16 +101,16 @@ pub one_listed : (words : List (List ℕ)) (one other : ListedRequest) → AsksL
 one_listed words one other asks also =
     let same = same_words asks.before also.before one.list other.list one.by_null other.by_null asks.short also.short (sym asks.split ∙ also.split) in
     let request : one.request ≡ other.request =
-    one_request (named asks.before) one.request other.request asks.request (subst (λ (w : List (List ℕ)). IsRequest (named w) other.request) (sym same.0) also.request) in
+    one_request (with_program asks.before) one.request other.request asks.request (subst (λ (w : List (List ℕ)). IsRequest (with_program w) other.request) (sym same.0) also.request) in
     λ i. record { request = request i; list = same.1.0 i; by_null = same.1.1 i }
 
 -- those that are cut so ask for what the words before the list ask for
 pub asked_before : (words before : List (List ℕ)) (list : List ℕ) (by_null : Bool) (other : ListedRequest)
     → IsBefore before → words ≡ list_words before list by_null → AsksListed words other
-    → IsRequest (named before) other.request
+    → IsRequest (with_program before) other.request
 asked_before words before list by_null other short is asks =
     let same = same_words before asks.before list other.list by_null other.by_null short asks.short (sym is ∙ asks.split) in
-    subst (λ (w : List (List ℕ)). IsRequest (named w) other.request) (sym same.0) asks.request
+    subst (λ (w : List (List ℕ)). IsRequest (with_program w) other.request) (sym same.0) asks.request
 
 -- what holds of a request that was found, and where none was
 pub some_found : (o : Option Request) (P : Request → Type 0) → is_some o ≡ true → IfSome o P → ((request : Request) → ¬ P request) → ⊥
@@ -209,7 +209,7 @@ few_alone words few asked asks =
 
 -- and where they ask for no request as they stand, they give none either way
 pub few_give_none : (at : List ℕ → At) (words : List (List ℕ)) (job : Job)
-    → length words ≤ 3 → ((request : Request) → IsRequest (named words) request → ⊥) → IsGivenEither at words job → ⊥
+    → length words ≤ 3 → ((request : Request) → IsRequest (with_program words) request → ⊥) → IsGivenEither at words job → ⊥
 few_give_none at words job few none (inl given) = none job.request given.asked
 few_give_none at words job few none (inr given) = few_alone words few given.by given.asked
 

@@ -10,7 +10,7 @@ use Rattle.cdf_definition.specs.Frame.{Frame}
 use Rattle.cvr_fact_types.specs.Facts.{Facts}
 use Rattle.cvr_report.specs.declared.heading.HeadFault.{HeadFault}
 use Rattle.cvr_report.specs.declared.heading.HeadFault.TheVariants as head
-use Rattle.cvr_report.specs.Head.{Head, IsHead, IsFault, is_device_of}
+use Rattle.cvr_report.specs.Head.{Head, IsHead, IsHeadFault, is_device_of}
 use Rattle.cvr_report.specs.Page.{volumes, page}
 use Rattle.cvr_report.specs.Volume.{volume, volume_data, cover_of, records_data}
 use Rattle.cvr_report.proofs.Lemmas.{volume_text}
@@ -50,7 +50,7 @@ module _ (definition : Frame) (date device : List ℕ) (i : ℕ) (facts : Facts)
 
   -- ---- no heading
 
-  head_fault : (e : HeadFault) → IsFault definition date device e → of_head e ≢ Memory → fault ≡ merge_part (of_head e)
+  head_fault : (e : HeadFault) → IsHeadFault definition date device e → of_head e ≢ Memory → fault ≡ merge_part (of_head e)
   head_fault head.NotMoment is other = λ k. by_tests (is k) (is_device_of definition device) (nat_lt (volumes facts) i) (volumes facts)
   head_fault head.NoDevice is other = λ k. by_tests (is.0 k) (is.1 k) (nat_lt (volumes facts) i) (volumes facts)
   head_fault head.Memory is other = absurd (other refl)
@@ -60,7 +60,7 @@ module _ (definition : Frame) (date device : List ℕ) (i : ℕ) (facts : Facts)
   no_output head.NoDevice = refl
   no_output head.Memory = refl
 
-  pub no_heading : {T : Type 0} (before : Taken) (r : Result T PrintFault) (e : HeadFault) → IsErrAnd r (λ x. x ≡ of_head e) → IsFault definition date device e → before.failed ≡ false
+  pub no_heading : {T : Type 0} (before : Taken) (r : Result T PrintFault) (e : HeadFault) → IsErrAnd r (λ x. x ≡ of_head e) → IsHeadFault definition date device e → before.failed ≡ false
       → Prints before before r fault text
   no_heading before (Ok x) e h is works = absurd h
   no_heading before (Err x) e h is works = (

@@ -6,10 +6,10 @@ use Rattle.cvr_run.specs.declared.file.FileFault.{FileFault}
 use Rattle.cvr_run.specs.declared.file.FileFault.TheVariants.{Device}
 use Rattle.cvr_run.specs.declared.status.Status.{Status}
 use Rattle.cvr_run.specs.declared.status.Status.TheVariants.{Memory}
-use Rattle.cvr_run.specs.File.{held_bytes, is_device}
+use Rattle.cvr_run.specs.File.{held_bytes, is_file_device}
 use Rattle.cvr_run.specs.Log.{memory_line}
 use Rattle.cvr_run.specs.Opening.{At, Unknown, Absent, Has, Opener, has_file, opened_more, IsOpened, IsRead, AreRead, FailedAt, Opens, SaysTheSame}
-use Rattle.cvr_run.specs.Outcome.{bytes_of}
+use Rattle.cvr_run.specs.Outcome.{files_of}
 use Rattle.cvr_run.specs.Worked.{unread_status, unread_line, Stop, Unread, NoRoom, CanStop, Stops}
 
 -- ---- one file
@@ -37,7 +37,7 @@ may_have_failed (Has bytes) false may = absurd (may refl)
 
 -- where the reading failed by a device, its source has failed, so that it could
 pub failed_of : (at : At) (may_fail can_fail has_failed : Bool) (answer : Result (Vec ℕ) FileFault) → (may_fail ≡ false → can_fail ≡ false) → (can_fail ≡ false → has_failed ≡ false)
-    → IfErr answer (λ e. has_failed ≡ is_device e) → IfErr answer (λ e. is_device e ≡ true → FailedAt at may_fail)
+    → IfErr answer (λ e. has_failed ≡ is_file_device e) → IfErr answer (λ e. is_file_device e ≡ true → FailedAt at may_fail)
 failed_of at may_fail can_fail has_failed (Ok v) opened read told = tt
 failed_of at may_fail can_fail has_failed (Err e) opened read told =
     λ device. may_have_failed at may_fail (λ never. true≢false (sym (told ∙ device) ∙ read (opened never)))
@@ -57,12 +57,12 @@ read_last file_at (p ∷ paths) (f ∷ files) path file before last = (before.0,
 
 -- one more of them
 pub read_one_more : (file_at : List ℕ → At) (paths : List (List ℕ)) (n : ℕ) (path : List ℕ) (files : List (Vec ℕ)) (file : Vec ℕ) → n < length paths → path ≡ get_or paths n []
-    → AreRead file_at (take n paths) (bytes_of files) → IsRead (file_at path) file.items → AreRead file_at (take (n + 1) paths) (bytes_of (files ++ file ∷ []))
+    → AreRead file_at (take n paths) (files_of files) → IsRead (file_at path) file.items → AreRead file_at (take (n + 1) paths) (files_of (files ++ file ∷ []))
 read_one_more file_at paths n path files file lt named before last =
     let more : take (n + 1) paths ≡ take n paths ++ path ∷ [] = take_more paths n [] lt ∙ ap (λ p. take n paths ++ p ∷ []) (sym named) in
-    let bytes : bytes_of (files ++ file ∷ []) ≡ bytes_of files ++ file.items ∷ [] = map-append (λ (f : Vec ℕ). f.items) files (file ∷ []) in
-    subst (λ ps. AreRead file_at ps (bytes_of (files ++ file ∷ []))) (sym more)
-    (subst (AreRead file_at (take n paths ++ path ∷ [])) (sym bytes) (read_last file_at (take n paths) (bytes_of files) path file.items before last))
+    let bytes : files_of (files ++ file ∷ []) ≡ files_of files ++ file.items ∷ [] = map-append (λ (f : Vec ℕ). f.items) files (file ∷ []) in
+    subst (λ ps. AreRead file_at ps (files_of (files ++ file ∷ []))) (sym more)
+    (subst (AreRead file_at (take n paths ++ path ∷ [])) (sym bytes) (read_last file_at (take n paths) (files_of files) path file.items before last))
 
 -- ---- what was opened
 
@@ -113,7 +113,7 @@ module _ (old new : Opener) (paths : List (List ℕ)) (answer : Status) where
 
   -- at the nth of its paths
   pub stops_at : (n : ℕ) (path : List ℕ) (files : List (List ℕ)) (cause : FileFault) → n < length paths → path ≡ get_or paths n [] → AreRead old.at (take n paths) files
-      → (is_device cause ≡ true → FailedAt (old.at path) (old.may_fail path)) → (old.at path ≡ Absent → cause ≡ Device) → Opens old new (take n paths ++ path ∷ []) → answer ≡ unread_status cause
+      → (is_file_device cause ≡ true → FailedAt (old.at path) (old.may_fail path)) → (old.at path ≡ Absent → cause ≡ Device) → Opens old new (take n paths ++ path ∷ []) → answer ≡ unread_status cause
       → Stops old new paths answer (unread_line path cause)
   stops_at n path files cause lt named read device absent opened is = record {
     stop = Unread path cause;
@@ -150,7 +150,7 @@ module _ (old new : Opener) (paths : List (List ℕ)) (answer : Status) where
   }
 
   -- at a path before these
-  pub stops_first : (path : List ℕ) (cause : FileFault) → (is_device cause ≡ true → FailedAt (old.at path) (old.may_fail path)) → (old.at path ≡ Absent → cause ≡ Device) → Opens old new (path ∷ []) → answer ≡ unread_status cause
+  pub stops_first : (path : List ℕ) (cause : FileFault) → (is_file_device cause ≡ true → FailedAt (old.at path) (old.may_fail path)) → (old.at path ≡ Absent → cause ≡ Device) → Opens old new (path ∷ []) → answer ≡ unread_status cause
       → Stops old new (path ∷ paths) answer (unread_line path cause)
   stops_first path cause device absent opened is = record {
     stop = Unread path cause;

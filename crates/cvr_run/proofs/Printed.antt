@@ -11,7 +11,7 @@ use Rattle.cvr_run.specs.declared.status.Status.{Status}
 use Rattle.cvr_run.specs.declared.status.Status.TheVariants as status
 use Rattle.cvr_run.specs.Ends.{Ends}
 use Rattle.cvr_run.specs.Log.{Logs}
-use Rattle.cvr_run.specs.Merge.{merge_line}
+use Rattle.cvr_run.specs.Merge.{merge_fault_line}
 use Rattle.cvr_run.specs.Printing.{Prints, is_output, merge_part, end_line, print_status, status_after}
 use Rattle.cvr_run.specs.Told.{last_lines, CanEndAfter, Dues, LogsFirst, TellsRun}
 use Rattle.cvr_run.proofs.Telling.{appended_none, told_whole, wanted, cut_by_memory}
@@ -78,7 +78,7 @@ module _ (before after : Taken) (text : List ℕ) (refused : Bool) (s : Status) 
 pub whole_front : (before after : Taken) (text : List ℕ) → Appends before after text → AppendsPrefix before after text
 whole_front before after text taken = (text, [], sym (append-nil text), taken)
 
--- a front of nothing is all of it
+-- a prefix of nothing is all of it
 all_of_none : (before after : Taken) (text : List ℕ) → text ≡ [] → AppendsPrefix before after text → Appends before after text
 all_of_none before after text none ([], rest, cut, taken) = taken ∙ ap (appended before.bytes) (sym none)
 all_of_none before after text none (x ∷ front, rest, cut, taken) = absurd (let same : x ∷ (front ++ rest) ≡ [] = sym cut ∙ none in Prim.cc same)
@@ -127,7 +127,7 @@ rest_is : {T : Type 0} (before after : Taken) (result : Result T PrintFault) (fa
     → (IsErrAnd result (λ e. e ≡ Memory) → ⊥) → end_line result ≡ last_lines fault after.failed
 rest_is before after (Ok x) fault text (taken, works, none) other = λ i. last_lines (sym none i) (sym works i)
 rest_is before after (Err (Merge m)) fault text (front, works, part) other =
-    sym (append-nil (merge_line m)) ∙ (λ i. last_lines (sym (part (λ e. cc)) i) (sym works i))
+    sym (append-nil (merge_fault_line m)) ∙ (λ i. last_lines (sym (part (λ e. cc)) i) (sym works i))
 rest_is before after (Err Device) fault text (front, fails, part) other = λ i. last_lines (sym (part (λ e. cc)) i) (sym fails i)
 rest_is before after (Err Memory) fault text (front, works, part) other = absurd (other refl)
 

@@ -21,10 +21,10 @@ use Rattle.cvr_run.specs.declared.status.Status.{Status}
 use Rattle.cvr_run.specs.declared.status.Status.TheVariants as status
 use Rattle.cvr_run.specs.declared.refusals.Refusals.{Refusals}
 use Rattle.cvr_run.specs.Refusals.{is_memory, wants_memory, status_of, Due, no_due, file_due, IsDue}
-use Rattle.cvr_run.specs.Outcome.{bytes_of}
+use Rattle.cvr_run.specs.Outcome.{files_of}
 use Rattle.cvr_run.specs.Log.{cause_line, memory_line, has_path_in, Logs}
 use Rattle.cvr_run.specs.Laws.{AloneOrEachLaw}
-use Rattle.cvr_run.specs.Told.{Telling, AsDue, Lacking, Unspelled, refusal_line, refusal_lines, told_line, told_lines, can_be, can_all, is_lacking, is_unspelled, is_short, file_dues, texts_of, dues_of, run_lines, last_lines, Dues, LogsFirst, TellsRun, CanEndAfter, IsCutShort, IsRunCutShort, LogsSome}
+use Rattle.cvr_run.specs.Told.{Telling, AsDue, Lacking, Unspelled, refusal_line, refusal_lines, told_line, told_lines, can_be, can_all, is_lacking, is_unspelled, is_short, file_dues, argument_texts, dues_of, run_lines, last_lines, Dues, LogsFirst, TellsRun, CanEndAfter, IsCutShort, IsRunCutShort, LogsSome}
 
 -- ---- logs, one after the other
 
@@ -326,20 +326,20 @@ alone_or_each texts dues fault failed text cut =
 pub all_due : (definition : Frame) (files : List (List ℕ)) → length files ≡ length (file_dues definition files)
 all_due definition files = sym (length-map files (λ file. file_due (first_refusal definition file)))
 
-pub dues_count : (definition : Frame) (files : List (Vec ℕ)) → length files ≡ length (file_dues definition (bytes_of files))
-dues_count definition files = sym (length-map files (λ file. file.items)) ∙ all_due definition (bytes_of files)
+pub dues_count : (definition : Frame) (files : List (Vec ℕ)) → length files ≡ length (file_dues definition (files_of files))
+dues_count definition files = sym (length-map files (λ file. file.items)) ∙ all_due definition (files_of files)
 
 -- and what to one of them
-pub due_at : (definition : Frame) (files : List (Vec ℕ)) (n : ℕ) (file : Vec ℕ) → n < length files → file ≡ get_or files n file → get_or (file_dues definition (bytes_of files)) n no_due ≡ file_due (first_refusal definition file.items)
+pub due_at : (definition : Frame) (files : List (Vec ℕ)) (n : ℕ) (file : Vec ℕ) → n < length files → file ≡ get_or files n file → get_or (file_dues definition (files_of files)) n no_due ≡ file_due (first_refusal definition file.items)
 due_at definition files n file lt at =
-    get_or-map (λ file. file_due (first_refusal definition file)) (bytes_of files) n [] no_due (omega (arith, lt, length-map files (λ (f : Vec ℕ). f.items)))
+    get_or-map (λ file. file_due (first_refusal definition file)) (files_of files) n [] no_due (omega (arith, lt, length-map files (λ (f : Vec ℕ). f.items)))
     ∙ ap (λ file. file_due (first_refusal definition file)) (get_or-map (λ (f : Vec ℕ). f.items) files n file [] lt ∙ ap (λ f. f.items) (sym at))
 
 -- ---- a definition that is refused
 
 unsound_lines : (task : Task) (what def : List ℕ) (paths files : List (List ℕ)) (fault : ReadFault) → first_unsound def ≡ Some fault → run_lines task what def paths files ≡ refusal_line what (option_map Read (first_unsound def))
 unsound_lines task what def paths files fault due =
-    ap (λ o. if is_some o then refusal_line what (option_map Read (first_unsound def)) else refusal_lines (texts_of task paths) (dues_of (frame_in def) task files)) due
+    ap (λ o. if is_some o then refusal_line what (option_map Read (first_unsound def)) else refusal_lines (argument_texts task paths) (dues_of (frame_in def) task files)) due
 
 status_whole : (l u s : Bool) → ((if l || u then status.Memory else (if s then status.Refused else status.Done)) ≡ status.Memory → ⊥) → (l ≡ false) × (u ≡ false)
 status_whole true u s whole = absurd (whole refl)

@@ -4,7 +4,7 @@ use Rattle.std.specs.Prelude.{◌≡◌, ◌⊎◌, ℕ, List, [], ◌∷◌, �
 use Rattle.std.specs.Prelude.{false, if◌then◌else◌}
 use Rattle.cdf_types.specs.Device.{Appends, AppendsPrefix}
 use Rattle.cvr_words.specs.Fault.{IsLineFault}
-use Rattle.cvr_words.specs.Line.{named}
+use Rattle.cvr_words.specs.Line.{with_program}
 use Rattle.cvr_words.specs.Request.{IsRequest}
 use Rattle.cvr_words.specs.declared.fault.LineFault.{LineFault}
 use Rattle.cvr_words.specs.declared.fault.LineFault.TheVariants.{Refused, Help, BadStep, Memory}
@@ -69,11 +69,11 @@ Does request answer old new unchanged =
 -- nothing is opened
 abbrev pub Answers : List (List ℕ) → Status → Devices → Devices → Type 0 → Type 0
 Answers words answer old new unchanged =
-    ((request : Request) × IsRequest (named words) request × Does request answer old new unchanged)
-    ⊎ ((fault : LineFault) × IsLineFault (named words) fault × Opens old.opener new.opener []
+    ((request : Request) × IsRequest (with_program words) request × Does request answer old new unchanged)
+    ⊎ ((fault : LineFault) × IsLineFault (with_program words) fault × Opens old.opener new.opener []
     × TellsWords fault answer (outputs old) (outputs new) unchanged)
 
 -- the words ask for the request of a job, and its files stand at the paths
 pub record IsGiven (at : List ℕ → At) (words : List (List ℕ)) (job : Job) : Type 0 where
-  pub asked : IsRequest (named words) job.request
+  pub asked : IsRequest (with_program words) job.request
   pub there : AreAt at (job.request.def ∷ job.request.paths) (job.def ∷ job.files)

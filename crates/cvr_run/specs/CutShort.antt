@@ -1,4 +1,4 @@
--- Worked examples: what the log of a run that ended for want of memory may be. (This project's
+-- Worked examples: what the log of a run that ran out of memory may be. (This project's
 -- own.)
 use Rattle.std.specs.Prelude.{List, [], ◌∷◌, ℕ, codes, Bool, true, false, Some, None}
 use Rattle.cdf_types.specs.declared.fault.ReadFault.TheVariants.{TooLong, NotJson}
@@ -29,7 +29,7 @@ AfterOne = MayTell true (codes "a: E2\nmemory\n") × (¬ MayTell false (codes "a
 abbrev pub AfterAll : Type 0
 AfterAll = MayTell false (codes "a: E2\nc: E1\nmemory\n") × (¬ MayTell true (codes "a: E2\nc: E1\nmemory\n"))
 
--- where the second was lacking, the third is told and nothing else
+-- where the second was lacking, the third is logged and nothing else
 abbrev pub AfterLacking : Type 0
 AfterLacking =
     (check : Bool) → MayTell check (codes "a: E2\nb: E6\nc: E1\n")

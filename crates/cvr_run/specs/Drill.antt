@@ -49,7 +49,7 @@ step_texts steps = map (λ step. step.text) steps
 
 -- ---- what is due to each
 
--- a refusal by this cause, which no want of memory can hide
+-- a refusal by this cause, which running out of memory can't hide
 abbrev pub certain : Cause → Due
 certain cause = record { cause = Some cause; want = None }
 

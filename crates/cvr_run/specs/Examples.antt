@@ -174,7 +174,7 @@ abbrev pub with_devices : Frame
 with_devices = record { elections = []; units = []; parties = []; devices = (codes "desk", codes "1") ∷ (codes "s1", codes "2") ∷ []; contests = contests }
 
 -- under a date and a device, the volume of a number has this fault, or none, and these lines are
--- told
+-- logged
 abbrev pub MergeTells : List ℕ → List ℕ → ℕ → Option MergeFault → List ℕ → Type 0
 MergeTells date device i fault lines = (merge_fault with_devices date device i (from_list several_bodies) ≡ fault) × (merge_lines fault ≡ lines)
 
@@ -185,7 +185,7 @@ at_eight = codes "2024-11-06T08:00:00Z"
 abbrev pub DateAlone : Type 0
 DateAlone = MergeTells (codes "2024-11-06") (codes "s1") 12 (Some NotMoment) (codes "merge: H1\n")
 
--- it is told before a device that isn't listed and a number above the volumes
+-- it is reported before a device that isn't listed and a number above the volumes
 abbrev pub DateFirst : Type 0
 DateFirst = MergeTells (codes "2024-11-06") (codes "s2") 13 (Some NotMoment) (codes "merge: H1\n")
 
@@ -196,7 +196,7 @@ DeviceAlone = MergeTells at_eight (codes "s2") 12 (Some NoDevice) (codes "merge:
 abbrev pub DeviceBeforeNumber : Type 0
 DeviceBeforeNumber = MergeTells at_eight (codes "s2") 13 (Some NoDevice) (codes "merge: H2\n")
 
--- of a number above the volumes it is told how many there are
+-- for a number above the volumes the run reports how many there are
 abbrev pub NumberAlone : Type 0
 NumberAlone = MergeTells at_eight (codes "s1") 14 (Some (NoVolume 12)) (codes "merge: V1 12\n")
 

@@ -2,7 +2,7 @@
 use Rattle.std.specs.Prelude.{◌≡◌, ◌≢◌, ◌⊎◌, ℕ, List, [], ◌∷◌, codes}
 use Rattle.clap.specs.Words.{fault_of}
 use Rattle.clap.specs.declared.error.ErrorKind.TheVariants.{InvalidSubcommand, UnknownArgument}
-use Rattle.cvr_words.specs.Line.{cvr_line, named}
+use Rattle.cvr_words.specs.Line.{cvr_line, with_program}
 use Rattle.cvr_run.specs.declared.code.Code.{Code}
 use Rattle.cvr_run.specs.declared.status.Status.{Status}
 use Rattle.cvr_run.specs.declared.status.Status.TheVariants.{CommandLine}
@@ -19,7 +19,7 @@ AsksCode words name = words ≡ codes "explain" ∷ name ∷ []
 abbrev pub NoExplainLaw : Type 0
 NoExplainLaw =
     (words : List (List ℕ)) (name : List ℕ) → AsksCode words name
-    → fault_of cvr_line (named words) ≡ UnknownArgument ∷ InvalidSubcommand ∷ []
+    → fault_of cvr_line (with_program words) ≡ UnknownArgument ∷ InvalidSubcommand ∷ []
 
 -- the word names no code, which is reported; the output stays unchanged
 pub record TellsNoCode (name : List ℕ) (answer : Status) (old new : Outputs) (unchanged : Type 0) : Type 0 where

@@ -99,8 +99,8 @@ SameVolumeLaw = (definition : Frame) (date device : List ℕ) (i : ℕ) (files o
 -- ---- a merge
 
 -- one that has no fault prints the volume, which is not empty
-abbrev pub NoFaultLaw : Type 0
-NoFaultLaw = (definition : Frame) (date device : List ℕ) (i : ℕ) (facts : Facts) → merge_fault definition date device i facts ≡ None
+abbrev pub NoMergeFaultLaw : Type 0
+NoMergeFaultLaw = (definition : Frame) (date device : List ℕ) (i : ℕ) (facts : Facts) → merge_fault definition date device i facts ≡ None
     → (merge_text definition date device i facts ≡ volume definition (record { date = date; device = device }) facts i) × (merge_text definition date device i facts ≢ [])
 
 -- one that has a fault prints nothing
@@ -108,7 +108,7 @@ abbrev pub NoTextLaw : Type 0
 NoTextLaw = (definition : Frame) (date device : List ℕ) (i : ℕ) (facts : Facts) (fault : MergeFault) → merge_fault definition date device i facts ≡ Some fault
     → merge_text definition date device i facts ≡ []
 
--- the number that is told is that of the volumes
+-- the number that is reported is that of the volumes
 abbrev pub ToldNumberLaw : Type 0
 ToldNumberLaw = (definition : Frame) (date device : List ℕ) (i : ℕ) (facts : Facts) (n : ℕ) → merge_fault definition date device i facts ≡ Some (NoVolume n) → n ≡ volumes facts
 
@@ -118,12 +118,12 @@ LastNumberLaw = (facts : Facts) → conflict_text (conflicts facts) ≡ flat_map
 
 -- ---- a drill
 
--- the outcomes that are due to its events are such as may be told of them
+-- the outcomes that are due to its events are such as these events may have
 abbrev pub DueLaw : Type 0
 DueLaw = (definition : Frame) (n : ℕ) (files : List (List ℕ)) (events : List Event) → AreOutcomes (new_offices definition n) (replicate n definition) files (past_of definition n files events)
 
--- the number that is told of the office at place o: no higher than its own, of an office with the
--- same facts, and of no earlier one
+-- the number that is printed for the office at place o: no higher than its own, of an office with
+-- the same facts, and of no earlier one
 pub record IsLeast (all : List Facts) (o : ℕ) : Type 0 where
   pub at_most : least_same all (get_or all o empty) ≤ o + 1
   pub same : get_or all (least_same all (get_or all o empty) - 1) empty ≡ get_or all o empty
@@ -143,13 +143,13 @@ abbrev pub held_by : Frame → ℕ → List (List ℕ) → List Step → ℕ →
 held_by definition n files steps o = get_or (drilled definition n files steps) o empty
 
 -- before the first step each office holds what the other commands hold of no files
-abbrev pub StartLaw : Type 0
-StartLaw = (definition : Frame) (n : ℕ) (files : List (List ℕ)) (steps : List Step) (o : ℕ) → o < n → acts steps ≡ [] → held_by definition n files steps o ≡ held definition []
+abbrev pub FirstStepLaw : Type 0
+FirstStepLaw = (definition : Frame) (n : ℕ) (files : List (List ℕ)) (steps : List Step) (o : ℕ) → o < n → acts steps ≡ [] → held_by definition n files steps o ≡ held definition []
 
 -- after one import more, the office o holds the facts of the file besides, if that is accepted, and
 -- each other what it held
-abbrev pub ImportLaw : Type 0
-ImportLaw = (definition : Frame) (n : ℕ) (files : List (List ℕ)) (steps more : List Step) (o f : ℕ) → o < n → f < length files
+abbrev pub StepImportLaw : Type 0
+StepImportLaw = (definition : Frame) (n : ℕ) (files : List (List ℕ)) (steps more : List Step) (o f : ℕ) → o < n → f < length files
     → acts more ≡ acts steps ++ act.Import (suc o) f ∷ []
     → (held_by definition n files more o ≡ union (held_by definition n files steps o) (accepted_facts definition (get_or files f [])))
     × ((k : ℕ) → k < n → k ≢ o → held_by definition n files more k ≡ held_by definition n files steps k)
@@ -242,9 +242,9 @@ TwoLinesLaw = (definition : Frame) (files : List (List ℕ)) (steps : List Step)
     → acts steps ≡ first ++ act.Exchange 1 2 ∷ act.Exchange 2 1 ∷ [] → ImportEach definition files first 0 1
     → drill_text definition 2 files steps ≡ same_line 1 (held definition files) ++ same_line 2 (held definition files)
 
--- ---- want of memory
+-- ---- out of memory
 
--- but for `check`, a run that ends for want of memory tells `memory` alone, or each of its files or
+-- but for `check`, a run that runs out of memory logs `memory` alone, or each of its files or
 -- steps
 abbrev pub AloneOrEachLaw : Type 0
 AloneOrEachLaw =

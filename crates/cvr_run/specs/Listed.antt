@@ -3,7 +3,7 @@
 use Rattle.std.specs.Prelude.{◌≡◌, ◌<◌, ◌⊎◌, ℕ, List, [], ◌∷◌, ◌++◌, length, codes, Bool, true}
 use Rattle.std.specs.Prelude.{false, if◌then◌else◌, IsUtf8}
 use Rattle.std.specs.Str.{bytes_eq}
-use Rattle.cvr_words.specs.Line.{named}
+use Rattle.cvr_words.specs.Line.{with_program}
 use Rattle.cvr_words.specs.Request.{IsRequest}
 use Rattle.cvr_words.specs.declared.fault.LineFault.TheVariants as fault
 use Rattle.cvr_words.specs.declared.request.Request.{Request}
@@ -52,8 +52,8 @@ pub record AsksListed (words : List (List ℕ)) (asked : ListedRequest) : Type 0
   pub before : List (List ℕ)
   pub short : IsBefore before
   pub split : words ≡ list_words before asked.list asked.by_null
-  pub free : (other : Request) → ¬ IsRequest (named words) other
-  pub request : IsRequest (named before) asked.request
+  pub free : (other : Request) → ¬ IsRequest (with_program words) other
+  pub request : IsRequest (with_program before) asked.request
   pub files : takes_files asked.request.task ≡ true
   pub none : asked.request.paths ≡ []
 

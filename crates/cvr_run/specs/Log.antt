@@ -45,8 +45,8 @@ abbrev pub has_path_in : Cause → Bool
 has_path_in (Read fault) = has_path fault
 has_path_in cause = false
 
--- want of memory that no file is told for; it stands in the place of a line whose path could not be
--- spelled
+-- out of memory, where no file is the cause; it stands in the place of a line whose path could not
+-- be spelled
 abbrev pub memory_line : List ℕ
 memory_line = codes "memory\n"
 

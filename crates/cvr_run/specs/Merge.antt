@@ -24,12 +24,12 @@ merge_text definition date device i facts =
     if is_some (merge_fault definition date device i facts) then [] else volume definition (record { date = date; device = device }) facts i
 
 -- the line of a fault: its code, and of a volume that is not there the number of volumes
-abbrev pub merge_line : MergeFault → List ℕ
-merge_line NotMoment = codes "merge: H1\n"
-merge_line NoDevice = codes "merge: H2\n"
-merge_line (NoVolume n) = codes "merge: V1 " ++ (decimal n ++ 10 ∷ [])
+abbrev pub merge_fault_line : MergeFault → List ℕ
+merge_fault_line NotMoment = codes "merge: H1\n"
+merge_fault_line NoDevice = codes "merge: H2\n"
+merge_fault_line (NoVolume n) = codes "merge: V1 " ++ (decimal n ++ 10 ∷ [])
 
 -- and nothing where there is no fault
 abbrev pub merge_lines : Option MergeFault → List ℕ
 merge_lines None = []
-merge_lines (Some fault) = merge_line fault
+merge_lines (Some fault) = merge_fault_line fault

@@ -67,8 +67,8 @@ pub record SaysTheSame (old new : Opener) : Type 0 where
 
 -- ---- an example
 
--- an opener that showed `a` and `b`, and was to open `c` and `a` more, shows the four in this order, and
--- says of paths what it said
+-- an opener that showed `a` and `b`, and was to open `c` and `a` more, shows the four in this
+-- order, and says of paths what it said
 pub record ShowsFour (old new : Opener) : Type 0 where
   pub opened : new.opened ≡ Some (codes "a" ∷ codes "b" ∷ codes "c" ∷ codes "a" ∷ [])
   pub at : new.at ≡ old.at

@@ -100,8 +100,8 @@ any_refused task def files = is_unsound def || task_refused (frame_in def) task 
 -- ---- files and statuses
 
 -- the bytes of files
-abbrev pub bytes_of : List (Vec ℕ) → List (List ℕ)
-bytes_of files = map (λ file. file.items) files
+abbrev pub files_of : List (Vec ℕ) → List (List ℕ)
+files_of files = map (λ file. file.items) files
 
 -- the run said all that it had to say
 abbrev pub IsWhole : Status → Type 0

@@ -4,7 +4,7 @@ use Rattle.std.specs.Prelude.{◌≡◌, ◌⊎◌, ℕ, List, [], ◌∷◌, co
 use Rattle.clap.specs.Words.{fault_of}
 use Rattle.clap.specs.declared.error.ErrorKind.TheVariants.{UnknownArgument}
 use Rattle.cdf_types.specs.Device.{Appends, AppendsPrefix}
-use Rattle.cvr_words.specs.Line.{cvr_line, named}
+use Rattle.cvr_words.specs.Line.{cvr_line, with_program}
 use Rattle.cvr_run.specs.declared.status.Status.{Status}
 use Rattle.cvr_run.specs.declared.status.Status.TheVariants.{Done, Device}
 use Rattle.cvr_run.specs.Devices.{Outputs}
@@ -21,7 +21,7 @@ AsksVersion words = (words ≡ codes "--version" ∷ []) ⊎ (words ≡ codes "-
 
 -- the line of the commands has neither word
 abbrev pub UnknownVersionLaw : Type 0
-UnknownVersionLaw = (words : List (List ℕ)) → AsksVersion words → fault_of cvr_line (named words) ≡ UnknownArgument ∷ []
+UnknownVersionLaw = (words : List (List ℕ)) → AsksVersion words → fault_of cvr_line (with_program words) ≡ UnknownArgument ∷ []
 
 -- the text is printed whole; or the output has failed, which is reported
 pub record PrintsOwn (text : List ℕ) (answer : Status) (old new : Outputs) : Type 0 where

@@ -14,7 +14,7 @@ use Rattle.cvr_run.specs.declared.refusals.Refusals.{Refusals}
 use Rattle.cvr_run.specs.declared.status.Status.{Status}
 use Rattle.cvr_run.specs.declared.status.Status.TheVariants as status
 use Rattle.cvr_run.specs.Log.{memory_line}
-use Rattle.cvr_run.specs.Merge.{merge_line}
+use Rattle.cvr_run.specs.Merge.{merge_fault_line}
 use Rattle.cvr_run.specs.Refusals.{status_of}
 use Rattle.cvr_run.specs.Told.{out_line}
 
@@ -28,8 +28,8 @@ abbrev pub merge_part : PrintFault → Option MergeFault
 merge_part (Merge fault) = Some fault
 merge_part fault = None
 
--- all of the text where the call succeeded, else a front of it; the output has failed exactly where
--- that is the fault; want of memory aside, the merge has the fault that is told, or none
+-- all of the text where the call succeeded, else a prefix of it; the output has failed exactly
+-- where that is the fault; out of memory aside, the merge has the reported fault, or none
 abbrev pub Prints : {T : Type 0} → Taken → Taken → Result T PrintFault → Option MergeFault → List ℕ → Type 0
 Prints old new result fault text =
     MatchResult result
@@ -50,11 +50,11 @@ of_write write.Memory = Memory
 -- ---- how a run ends
 
 abbrev pub print_line : PrintFault → List ℕ
-print_line (Merge fault) = merge_line fault
+print_line (Merge fault) = merge_fault_line fault
 print_line Device = out_line true
 print_line Memory = memory_line
 
--- nothing is told where all was printed
+-- nothing is logged where all was printed
 abbrev pub end_line : {T : Type 0} → Result T PrintFault → List ℕ
 end_line (Ok x) = []
 end_line (Err fault) = print_line fault
@@ -64,7 +64,7 @@ print_status (Merge fault) = status.Refused
 print_status Device = status.Device
 print_status Memory = status.Memory
 
--- a path that was not spelled is want of memory, whatever the fault
+-- a path that was not spelled means out of memory, whatever the fault
 abbrev pub status_after : {T : Type 0} → Result T PrintFault → Refusals → Status
 status_after (Ok x) refusals = status_of refusals
 status_after (Err fault) refusals = if refusals.path_unspelled then status.Memory else print_status fault

@@ -13,7 +13,7 @@ use Rattle.cvr_run.specs.declared.refusals.Refusals.{Refusals}
 use Rattle.cvr_run.specs.declared.status.Status.{Status}
 use Rattle.cvr_run.specs.declared.status.Status.TheVariants as status
 
--- whether a file was refused for want of memory
+-- whether a file was refused since memory ran out
 abbrev pub is_memory : ReadFault → Bool
 is_memory Memory = true
 is_memory fault = false
@@ -33,12 +33,12 @@ cause_in (outcome.Refused cause) = Some cause
 abbrev pub is_refusal : Outcome → Bool
 is_refusal outcome = is_some (cause_in outcome)
 
--- whether it says so for want of memory
+-- whether it says so since memory ran out
 abbrev pub is_want : Outcome → Bool
 is_want outcome = option_map_or wants_memory (cause_in outcome) false
 
 -- what is due to a file or a step: the cause for which it is refused, if there is one; and the want
--- of memory that may be told in its place, if it takes memory
+-- of memory that may be logged in its place, if it takes memory
 pub record Due : Type 0 where
   pub cause : Option Cause
   pub want : Option Cause
@@ -51,7 +51,7 @@ no_due = record { cause = None; want = None }
 abbrev pub file_due : Option ReadFault → Due
 file_due fault = record { cause = option_map Read fault; want = Some (Read Memory) }
 
--- it was accepted where it is due, or refused by the cause that is due, or for want of memory in
+-- it was accepted where it is due, or refused by the cause that is due, or since memory ran out in
 -- its place
 abbrev pub IsDue : Due → Option Cause → Type 0
 IsDue due None = due.cause ≡ None
@@ -62,6 +62,6 @@ pub record AreDue (dues : List Due) (outcomes : List Outcome) : Type 0 where
   pub count : length dues ≡ length outcomes
   pub each : (k : ℕ) → k < length outcomes → IsDue (get_or dues k no_due) (cause_in (get_or outcomes k (outcome.Accepted 0)))
 
--- want of memory is worst, then a refusal
+-- out of memory is worst, then a refusal
 abbrev pub status_of : Refusals → Status
 status_of r = if r.file_lacking || r.path_unspelled then status.Memory else (if r.any_refusal then status.Refused else status.Done)

@@ -1,4 +1,4 @@
--- Worked examples: what a run tells of refused files, and what a drill prints. (This project's
+-- Worked examples: what a run logs of refused files, and what a drill prints. (This project's
 -- own.)
 use Rattle.std.specs.Prelude.{◌≡◌, ℕ, List, [], ◌∷◌, ◌++◌, codes}
 use Rattle.cdf_definition.specs.Acceptance.{frame_in}

@@ -1,9 +1,9 @@
--- What a run tells to its log: a line for each refused file or step, and what stands in its place
--- where memory was wanting. (This project's own.)
+-- What a run logs: a line for each refused file or step, and what stands in its place where memory
+-- ran out. (This project's own.)
 use Rattle.std.specs.Prelude.{◌≡◌, ◌≢◌, ◌⊎◌, ◌&&◌, ◌||◌, ◌<◌, ℕ, List, [], ◌∷◌, ◌++◌, length, map}
 use Rattle.std.specs.Prelude.{get_or, codes, Bool, true, false, if◌then◌else◌, Option, Some, None}
 use Rattle.std.specs.Prelude.{is_some}
-use Rattle.std.specs.List.{list_any}
+use Rattle.std.specs.List.{flat_map, list_any, zip}
 use Rattle.std.specs.Option.{option_map_or}
 use Rattle.cdf_types.specs.Device.{Taken}
 use Rattle.cdf_definition.specs.Frame.{Frame}
@@ -25,7 +25,7 @@ use Rattle.cvr_run.specs.Merge.{merge_lines}
 use Rattle.cvr_run.specs.Outcome.{run_fault}
 use Rattle.cvr_run.specs.Refusals.{Due, no_due, file_due}
 
--- ---- where memory was not wanting
+-- ---- where memory did not run out
 
 -- the line of what is refused for this cause, or nothing where there is none
 abbrev pub refusal_line : List ℕ → Option Cause → List ℕ
@@ -34,17 +34,17 @@ refusal_line what (Some cause) = cause_line what cause
 
 -- the lines of files or of steps, by their texts and what is due to them, in order
 abbrev pub refusal_lines : List (List ℕ) → List Due → List ℕ
-refusal_lines (what ∷ texts) (due ∷ dues) = refusal_line what due.cause ++ refusal_lines texts dues
-refusal_lines texts dues = []
+refusal_lines texts dues = flat_map (λ one. refusal_line one.0 one.1.cause) (zip texts dues)
 
 -- what is due to each file beside a definition
 abbrev pub file_dues : Frame → List (List ℕ) → List Due
 file_dues definition files = map (λ file. file_due (first_refusal definition file)) files
 
--- the texts by which a run tells what it refuses: of a drill its steps, else the paths of files
-abbrev pub texts_of : Task → List (List ℕ) → List (List ℕ)
-texts_of (Drill n steps) paths = step_texts steps
-texts_of task paths = paths
+-- the texts that stand in the lines of what a run refuses: of a drill its steps, else the paths of
+-- files
+abbrev pub argument_texts : Task → List (List ℕ) → List (List ℕ)
+argument_texts (Drill n steps) paths = step_texts steps
+argument_texts task paths = paths
 
 -- whether it is `check`, which goes file by file
 abbrev pub is_check : Task → Bool
@@ -56,10 +56,10 @@ abbrev pub dues_of : Frame → Task → List (List ℕ) → List Due
 dues_of definition (Drill n steps) files = step_dues definition n files steps
 dues_of definition task files = file_dues definition files
 
--- what a run tells: of the definition alone where it is refused, else of each refused file or step
+-- what a run logs: of the definition alone where it is refused, else of each refused file or step
 abbrev pub run_lines : Task → List ℕ → List ℕ → List (List ℕ) → List (List ℕ) → List ℕ
 run_lines task what def paths files =
-    if is_unsound def then refusal_line what (file_due (first_unsound def)).cause else refusal_lines (texts_of task paths) (dues_of (frame_in def) task files)
+    if is_unsound def then refusal_line what (file_due (first_unsound def)).cause else refusal_lines (argument_texts task paths) (dues_of (frame_in def) task files)
 
 -- where the output has failed
 abbrev pub out_line : Bool → List ℕ
@@ -70,10 +70,10 @@ out_line false = []
 abbrev pub last_lines : Option MergeFault → Bool → List ℕ
 last_lines fault out_failed = merge_lines fault ++ out_line out_failed
 
--- ---- where memory was wanting
+-- ---- where memory ran out
 
--- how a file or a step was told: as it is due; or by `E6` or `J2`, since memory was refused for it;
--- or by `memory`, since it was refused for the spelling of a path
+-- how a file or a step was logged: as it is due; or by `E6` or `J2`, since memory was refused for
+-- it; or by `memory`, since it was refused for the spelling of a path
 pub data Telling : Type 0 where
   AsDue : Telling
   Lacking : Telling
@@ -98,16 +98,16 @@ abbrev pub is_unspelled : Telling → Bool
 is_unspelled Unspelled = true
 is_unspelled telling = false
 
--- whether memory was wanting for it
+-- whether memory ran out for it
 abbrev pub is_short : Telling → Bool
 is_short telling = is_lacking telling || is_unspelled telling
 
 -- the lines of the first, as many as there are tellings
 abbrev pub told_lines : List Telling → List (List ℕ) → List Due → List ℕ
-told_lines (telling ∷ tellings) (what ∷ texts) (due ∷ dues) = told_line telling what due ++ told_lines tellings texts dues
-told_lines tellings texts dues = []
+told_lines tellings texts dues =
+    flat_map (λ one. told_line one.0 one.1.0 one.1.1) (zip tellings (zip texts dues))
 
--- each of them can be told so
+-- each of them can be logged so
 abbrev pub can_all : List Telling → List Due → Bool
 can_all [] dues = true
 can_all (telling ∷ tellings) [] = false
@@ -133,7 +133,7 @@ drill_dues definition n files steps =
 -- the files or steps of a task
 abbrev pub task_dues : Frame → Task → List (List ℕ) → List (List ℕ) → Dues
 task_dues definition task paths files =
-    record { by_file = is_check task; texts = texts_of task paths; dues = dues_of definition task files }
+    record { by_file = is_check task; texts = argument_texts task paths; dues = dues_of definition task files }
 
 -- the nth of them has this text, and this is due to it
 pub record IsNext (of : Dues) (n : ℕ) (text : List ℕ) (due : Due) : Type 0 where

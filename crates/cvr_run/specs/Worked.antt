@@ -8,7 +8,7 @@ use Rattle.cvr_run.specs.declared.status.Status.{Status}
 use Rattle.cvr_run.specs.declared.status.Status.TheVariants as status
 use Rattle.cvr_run.specs.Devices.{Devices, outputs}
 use Rattle.cvr_run.specs.Ends.{Ran}
-use Rattle.cvr_run.specs.File.{is_device}
+use Rattle.cvr_run.specs.File.{is_file_device}
 use Rattle.cvr_run.specs.Log.{memory_line}
 use Rattle.cvr_run.specs.Opening.{Absent, Has, Opener, AreRead, FailedAt, Opens}
 
@@ -32,7 +32,7 @@ pub record IsUnread (old new : Opener) (paths : List (List ℕ)) (path : List �
   pub split : paths ≡ before ++ path ∷ after
   pub files : List (List ℕ)
   pub read : AreRead old.at before files
-  pub device : is_device cause ≡ true → FailedAt (old.at path) (old.may_fail path)
+  pub device : is_file_device cause ≡ true → FailedAt (old.at path) (old.may_fail path)
   pub absent : old.at path ≡ Absent → cause ≡ Device
   pub opened : Opens old new (before ++ path ∷ [])
 

@@ -7,7 +7,7 @@ ghost use Rattle.cvr_run.specs.Drill.{drill_text, drilled, step_texts, AreOfOne}
 ghost use Rattle.cvr_run.specs.declared.status.Status.TheVariants.{Memory as NoMemory};
 ghost use Rattle.cvr_run.specs.declared.merge.MergeFault.{MergeFault};
 ghost use Rattle.cvr_run.specs.Ends.{Ends};
-ghost use Rattle.cvr_run.specs.Outcome.{bytes_of};
+ghost use Rattle.cvr_run.specs.Outcome.{files_of};
 ghost use Rattle.cvr_run.specs.Refusals.{cause_in, is_refusal, is_want, AreDue, Due};
 ghost use Rattle.cvr_run.specs.Told.{drill_dues, LogsFirst, TellsRun, IsCutShort, LogsSome};
 
@@ -126,11 +126,11 @@ fn drill<O: Office + Drop, L: Sink>(
 ) -> Result<(Vec<O>, Refusals), Memory>
     ensures of_one { IfOk result (λ r. AreOfOne (map O.defined r.0.items)) }
     ensures contents { IfOk result (λ r. r.1.file_lacking ≡ false
-        → map O.held r.0.items ≡ drilled definition.now count (bytes_of files.now) steps.now) }
+        → map O.held r.0.items ≡ drilled definition.now count (files_of files.now) steps.now) }
     ensures any_refusal { IfOk result (λ r. r.1.file_lacking ≡ false
-        → r.1.any_refusal ≡ drill_refused definition.now count (bytes_of files.now) steps.now) }
+        → r.1.any_refusal ≡ drill_refused definition.now count (files_of files.now) steps.now) }
     ensures log { IfOk result (λ r. LogsFirst
-        (drill_dues definition.now count (bytes_of files.now) steps.now) (length steps.now) r.1
+        (drill_dues definition.now count (files_of files.now) steps.now) (length steps.now) r.1
         (L.taken log.old) (L.taken log.new)) }
     ensures unchanged { OnErr result (log.new ≡ log.old) }
 {
@@ -152,16 +152,16 @@ fn drill_all<O: Office + Drop, L: Sink>(
 ) -> Result<(Vec<O>, Refusals), Status>
     ensures of_one { IfOk result (λ r. AreOfOne (map O.defined r.0.items)) }
     ensures contents { IfOk result (λ r.
-        map O.held r.0.items ≡ drilled definition.now count (bytes_of files.now) steps.now) }
+        map O.held r.0.items ≡ drilled definition.now count (files_of files.now) steps.now) }
     ensures any_refusal { IfOk result (λ r.
-        r.1.any_refusal ≡ drill_refused definition.now count (bytes_of files.now) steps.now) }
+        r.1.any_refusal ≡ drill_refused definition.now count (files_of files.now) steps.now) }
     ensures whole { IfOk result (λ r. r.1.file_lacking ≡ false) }
     ensures status { IfErr result (λ s. s ≡ NoMemory) }
     ensures log { IfOk result (λ r. LogsFirst
-        (drill_dues definition.now count (bytes_of files.now) steps.now) (length steps.now) r.1
+        (drill_dues definition.now count (files_of files.now) steps.now) (length steps.now) r.1
         (L.taken log.old) (L.taken log.new)) }
     ensures cut_short { OnErr result ((fault : Option MergeFault) → LogsSome
-        (IsCutShort (drill_dues definition.now count (bytes_of files.now) steps.now) fault false)
+        (IsCutShort (drill_dues definition.now count (files_of files.now) steps.now) fault false)
         (L.taken log.old) (L.taken log.new)) }
 {
     let Ok((offices, refusals)) = drill::<O, L>(alloc, definition, count, steps, files, log) else {
@@ -185,9 +185,9 @@ pub fn run_drill<O: Office + Drop, W: Sink, L: Sink>(
 ) -> Status
     requires { (W.taken out.old).failed ≡ false }
     ensures ends { Ends (W.taken out.old) (W.taken out.new)
-        (drill_text definition.now count (bytes_of files.now) steps.now)
-        (drill_refused definition.now count (bytes_of files.now) steps.now) result }
-    ensures log { TellsRun (drill_dues definition.now count (bytes_of files.now) steps.now) None
+        (drill_text definition.now count (files_of files.now) steps.now)
+        (drill_refused definition.now count (files_of files.now) steps.now) result }
+    ensures log { TellsRun (drill_dues definition.now count (files_of files.now) steps.now) None
         result
         (record { out = W.taken out.old; log = L.taken log.old })
         (record { out = W.taken out.new; log = L.taken log.new }) }

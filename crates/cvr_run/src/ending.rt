@@ -9,7 +9,7 @@ use crate::refusals::Refusals;
 use crate::status::Status;
 use cdf_types::Sink;
 
-/// Ends a run with no text, for want of memory.
+/// Ends a run without a text, since memory ran out.
 pub fn end_in_memory<L: Sink>(log: &mut L) -> Status
     ensures status { result ≡ NoMemory }
     ensures log { Logs (L.taken log.old) (L.taken log.new) memory_line }

@@ -11,7 +11,7 @@ ghost use Rattle.cvr_run.specs.Examples.{LinesOfTen, DateAlone, DateFirst, Devic
 ghost use Rattle.cvr_run.specs.Examples.{DeviceBeforeNumber, NumberAlone, LastVolume};
 
 /// The current snapshots and the tally of five records in three contests, the conflicts among facts
-/// of two records and three devices, what is told where there is none, and the lines of ten
+/// of two records and three devices, what is reported where there is none, and the lines of ten
 /// offices.
 pub fn worked_examples()
     ensures currents { CurrentsOfFive }
@@ -22,8 +22,8 @@ pub fn worked_examples()
 {}
 
 /// The fault of merges of facts with twelve volumes, and its line: the date is no moment, the
-/// device isn't listed, or the number is above the volumes; which of several is told; and none of
-/// the last volume.
+/// device isn't listed, or the number is above the volumes; which of several is reported; and none
+/// of the last volume.
 pub fn merges()
     ensures date { DateAlone }
     ensures date_first { DateFirst }

@@ -1,7 +1,7 @@
 ghost use Rattle.std.specs.Prelude.{◌≡◌, ◌≤◌, false, Some, length, take, drop, vec_len, IfOk};
 ghost use Rattle.std.specs.Prelude.{IfErr, OnOk, IfSome};
 ghost use Rattle.cvr_run.specs.declared.file.FileFault.TheVariants.{Device, Memory as NoMemory};
-ghost use Rattle.cvr_run.specs.File.{is_device, held_bytes};
+ghost use Rattle.cvr_run.specs.File.{is_file_device, held_bytes};
 
 use cdf_types::{DeviceFault, Source};
 use std::alloc::{AllocError, Global};
@@ -41,7 +41,7 @@ impl From<AllocError> for FileFault {
 }
 
 /// The bytes of a source up to its end, or the first 67,108,865 of them, so that a longer file can
-/// be told from one that is as long as it may be. No more is taken of the source.
+/// be distinguished from one that is as long as it may be. No more is taken of the source.
 ///
 /// # Errors
 /// `Device` exactly where the source has failed at the return; `Memory` where a growth was refused.
@@ -54,7 +54,7 @@ pub fn read_file<R: Source>(alloc: Global, source: &mut R) -> Result<Vec<u8>, Fi
         (λ left. (R.left source.new).bytes ≡ Some (drop held_bytes left))) }
     ensures fits { IfOk result (λ v. vec_len v ≤ held_bytes) }
     ensures working { OnOk result ((R.left source.new).failed ≡ false) }
-    ensures fault { IfErr result (λ e. (R.left source.new).failed ≡ is_device e) }
+    ensures fault { IfErr result (λ e. (R.left source.new).failed ≡ is_file_device e) }
     ensures steady { (R.left source.old).can_fail ≡ false → (R.left source.new).failed ≡ false }
 {
     let mut bytes = Vec::new(alloc);

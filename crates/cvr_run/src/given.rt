@@ -1,6 +1,6 @@
 ghost use Rattle.std.specs.Prelude.{◌≡◌, ◌<◌, ◌+◌, drop, length};
 ghost use Rattle.cvr_run.specs.Given.{files_bytes};
-ghost use Rattle.cvr_run.specs.Outcome.{bytes_of};
+ghost use Rattle.cvr_run.specs.Outcome.{files_of};
 
 /// The bytes of the files of a run.
 #[derive(Drop)]
@@ -14,7 +14,7 @@ pub enum Files<'a> {
 impl Files<'_> {
     /// All, in order. Takes no memory.
     pub fn all(&self) -> &[Vec<u8>]
-        ensures { bytes_of result.now ≡ files_bytes self.now }
+        ensures { files_of result.now ≡ files_bytes self.now }
     {
         match self {
             Files::Lent(files) => files,

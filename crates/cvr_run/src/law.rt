@@ -5,8 +5,9 @@ ghost use Rattle.cvr_run.specs.File.{held_bytes};
 ghost use Rattle.cvr_run.specs.HeldBytes.{HeldTextLaw, HeldLinesLaw, HeldFaultLaw, HeldRefusedLaw};
 ghost use Rattle.cvr_run.specs.Laws.{HeldLaw, ByBytesLaw, SameFactsLaw, SameCurrentsLaw};
 ghost use Rattle.cvr_run.specs.Laws.{SameConflictsLaw, SameTallyLaw, SameMergeFaultLaw};
-ghost use Rattle.cvr_run.specs.Laws.{SameVolumeLaw, NoFaultLaw, NoTextLaw, ToldNumberLaw};
-ghost use Rattle.cvr_run.specs.Laws.{LastNumberLaw, DueLaw, LeastSameLaw, StartLaw, ImportLaw};
+ghost use Rattle.cvr_run.specs.Laws.{SameVolumeLaw, NoMergeFaultLaw, NoTextLaw, ToldNumberLaw};
+ghost use Rattle.cvr_run.specs.Laws.{LastNumberLaw, DueLaw, LeastSameLaw, FirstStepLaw};
+ghost use Rattle.cvr_run.specs.Laws.{StepImportLaw};
 ghost use Rattle.cvr_run.specs.Laws.{ExchangeLaw, FilesReachedLaw, ReachedLaw, SameReachedLaw};
 ghost use Rattle.cvr_run.specs.Laws.{AllImportedLaw, ByPlacesLaw, BothWaysLaw, EachImportsBothLaw};
 ghost use Rattle.cvr_run.specs.Laws.{OneLineLaw, TwoLinesLaw, AloneOrEachLaw};
@@ -35,7 +36,7 @@ pub fn order_and_repeats_change_nothing()
 /// A merge has a fault or prints a volume, and never both. A fault of a volume that is not there
 /// tells how many there are.
 pub fn a_merge_has_a_fault_or_a_volume()
-    ensures volume { NoFaultLaw }
+    ensures volume { NoMergeFaultLaw }
     ensures fault { NoTextLaw }
     ensures number { ToldNumberLaw }
 {}
@@ -76,8 +77,8 @@ pub fn the_least_office_that_is_the_same_is_told()
 /// any other steps, holds what they hold of all files; and so do two that between them import each,
 /// and at last exchange both ways. The text tells that.
 pub fn offices_of_a_drill_hold_what_a_run_holds()
-    ensures start { StartLaw }
-    ensures import { ImportLaw }
+    ensures start { FirstStepLaw }
+    ensures import { StepImportLaw }
     ensures exchange { ExchangeLaw }
     ensures files_reached { FilesReachedLaw }
     ensures reached { ReachedLaw }

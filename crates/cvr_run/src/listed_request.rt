@@ -2,7 +2,7 @@ ghost use Rattle.std.specs.Prelude.{◌≡◌, ◌≢◌, [], map, true, false, 
 ghost use Rattle.std.specs.Prelude.{IfNone};
 ghost use Rattle.cvr_words.specs.declared.fault.LineFault.TheVariants.{Memory as NoMemory};
 ghost use Rattle.cvr_words.specs.declared.request.Request.{Request};
-ghost use Rattle.cvr_words.specs.Line.{named};
+ghost use Rattle.cvr_words.specs.Line.{with_program};
 ghost use Rattle.cvr_words.specs.Request.{IsRequest};
 ghost use Rattle.cvr_run.specs.Listed.{AsksListed, IsBefore, ListedRequest, list_words};
 ghost use Rattle.cvr_run.specs.Listed.{takes_files};
@@ -38,9 +38,9 @@ fn is_memory(fault: &LineFault) -> bool
 // The request that words ask for, if they ask for one.
 fn request_of(alloc: Global, words: &[String]) -> Result<Option<Request>, Memory>
     ensures some { IfOk result (λ found. IfSome found
-        (λ request. IsRequest (named (map string_bytes words.now)) request)) }
+        (λ request. IsRequest (with_program (map string_bytes words.now)) request)) }
     ensures none { IfOk result (λ found. IfNone found
-        ((request : Request) → ¬ IsRequest (named (map string_bytes words.now)) request)) }
+        ((request : Request) → ¬ IsRequest (with_program (map string_bytes words.now)) request)) }
 {
     match read_line(alloc, words) {
         Ok(request) => Ok(Some(request)),

@@ -25,7 +25,7 @@ pub fn say<L: Sink>(log: &mut L, pieces: &[&[u8]])
     }
 }
 
-/// Tells want of memory to the log. Takes no memory.
+/// Logs that memory ran out. Takes no memory.
 pub fn say_memory<L: Sink>(log: &mut L)
     ensures { Logs (L.taken log.old) (L.taken log.new) memory_line }
 {

@@ -2,7 +2,7 @@ ghost use Rattle.std.specs.Prelude.{◌≡◌, ◌==◌, not, true, false, Some,
 ghost use Rattle.std.specs.Prelude.{◌∷◌, [], IfErr, MatchOption};
 ghost use Rattle.cdf_types.specs.MemorySource.{can_fail};
 ghost use Rattle.cvr_run.specs.declared.file.FileFault.TheVariants.{Device};
-ghost use Rattle.cvr_run.specs.File.{is_device};
+ghost use Rattle.cvr_run.specs.File.{is_file_device};
 ghost use Rattle.cvr_run.specs.Opening.{Absent, Has, has_file, IsOpened, Opens};
 ghost use Rattle.cvr_run.specs.MemoryFiles.{found_at, can_fail_at, opener_over};
 
@@ -63,7 +63,7 @@ impl<'a> Open for MemoryFiles<'a> {
             → can_fail file ≡ false) }
         ensures fails { IfOk result
             (λ file. can_fail file ≡ can_fail_at self.old.files.now path.now) }
-        ensures device { IfErr result (λ e. is_device e ≡ true
+        ensures device { IfErr result (λ e. is_file_device e ≡ true
             → has_file (found_at self.old.files.now path.now) ≡ false) }
         ensures absent { IfErr result
             (λ e. found_at self.old.files.now path.now ≡ Absent → e ≡ Device) }

@@ -1,6 +1,6 @@
 ghost use Rattle.std.specs.Prelude.{◌≡◌, ◌<◌, false};
 ghost use Rattle.cvr_run.specs.Log.{Logs};
-ghost use Rattle.cvr_run.specs.Merge.{merge_fault, merge_text, merge_line};
+ghost use Rattle.cvr_run.specs.Merge.{merge_fault, merge_text, merge_fault_line};
 ghost use Rattle.cvr_run.specs.Printing.{Prints};
 
 use crate::log::say;
@@ -24,7 +24,7 @@ pub enum MergeFault {
 
 /// Tells the fault of a merge to the log. Takes no memory.
 pub fn say_merge<L: Sink>(log: &mut L, fault: MergeFault)
-    ensures { Logs (L.taken log.old) (L.taken log.new) (merge_line fault) }
+    ensures { Logs (L.taken log.old) (L.taken log.new) (merge_fault_line fault) }
 {
     match fault {
         MergeFault::NotMoment => say(log, &[b"merge: H1\n"]),
@@ -41,7 +41,7 @@ pub fn say_merge<L: Sink>(log: &mut L, fault: MergeFault)
 ///
 /// # Errors
 /// The first fault of the merge, with nothing printed; `Device` where the output has failed;
-/// `Memory` where a growth was refused. The output has then taken a front of the volume.
+/// `Memory` where a growth was refused. The output has then taken a prefix of the volume.
 pub fn print_volume<O: Office, W: Sink>(
     alloc: Global,
     office: &O,

@@ -80,7 +80,7 @@ fn offices_text<O: Office>(alloc: Global, offices: &[O]) -> Result<String, Memor
 ///
 /// # Errors
 /// `Device` where the output has failed; `Memory` where a growth was refused. The output has then
-/// taken a front of the text.
+/// taken a prefix of the text.
 pub fn print_offices<O: Office, W: Sink>(
     alloc: Global,
     offices: &[O],

@@ -1,10 +1,10 @@
 ghost use Rattle.std.specs.Prelude.{◌≡◌, ◌∷◌, [], length, true, false, IfOk, IfErr, OnOk};
-ghost use Rattle.cvr_run.specs.File.{is_device};
+ghost use Rattle.cvr_run.specs.File.{is_file_device};
 ghost use Rattle.cvr_run.specs.declared.file.FileFault.TheVariants.{Device};
 ghost use Rattle.cvr_run.specs.Log.{Logs};
 ghost use Rattle.cvr_run.specs.Opening.{Absent, Opener, has_file, IsOpened, IsRead, AreRead};
 ghost use Rattle.cvr_run.specs.Opening.{FailedAt, Opens};
-ghost use Rattle.cvr_run.specs.Outcome.{bytes_of};
+ghost use Rattle.cvr_run.specs.Outcome.{files_of};
 ghost use Rattle.cvr_run.specs.Told.{LogsSome};
 ghost use Rattle.cvr_run.specs.Worked.{unread_status, unread_line, Stops};
 
@@ -35,7 +35,7 @@ pub trait Open {
             (λ file. IsOpened ((state self.old).at path.now) (Self.File.left file).bytes) }
         ensures steady { IfOk result (λ file. (state self.old).may_fail path.now ≡ false
             → (Self.File.left file).can_fail ≡ false) }
-        ensures device { IfErr result (λ e. is_device e ≡ true
+        ensures device { IfErr result (λ e. is_file_device e ≡ true
             → has_file ((state self.old).at path.now) ≡ false) }
         ensures absent { IfErr result (λ e. (state self.old).at path.now ≡ Absent → e ≡ Device) }
         ensures opens { Opens (state self.old) (state self.new) (path.now ∷ []) };
@@ -55,7 +55,7 @@ impl From<FileFault> for Status {
 // The bytes of the file at a path.
 fn read_at<O: Open>(alloc: Global, opener: &mut O, path: &str) -> Result<Vec<u8>, FileFault>
     ensures bytes { IfOk result (λ bytes. IsRead ((O.state opener.old).at path.now) bytes.items) }
-    ensures device { IfErr result (λ e. is_device e ≡ true
+    ensures device { IfErr result (λ e. is_file_device e ≡ true
         → FailedAt ((O.state opener.old).at path.now) ((O.state opener.old).may_fail path.now)) }
     ensures absent { IfErr result (λ e. (O.state opener.old).at path.now ≡ Absent → e ≡ Device) }
     ensures opens { Opens (O.state opener.old) (O.state opener.new) (path.now ∷ []) }
@@ -88,7 +88,7 @@ pub fn read_told<O: Open, L: Sink>(
 ) -> Result<Vec<u8>, FileFault>
     ensures bytes { IfOk result (λ bytes. IsRead ((O.state opener.old).at path.now) bytes.items) }
     ensures quiet { OnOk result (log.new ≡ log.old) }
-    ensures device { IfErr result (λ e. is_device e ≡ true
+    ensures device { IfErr result (λ e. is_file_device e ≡ true
         → FailedAt ((O.state opener.old).at path.now) ((O.state opener.old).may_fail path.now)) }
     ensures absent { IfErr result (λ e. (O.state opener.old).at path.now ≡ Absent → e ≡ Device) }
     ensures opens { Opens (O.state opener.old) (O.state opener.new) (path.now ∷ []) }
@@ -116,7 +116,7 @@ pub fn read_all<O: Open, L: Sink>(
     log: &mut L,
 ) -> Result<Vec<Vec<u8>>, Status>
     ensures read { IfOk result
-        (λ files. AreRead (O.state opener.old).at paths.now (bytes_of files.items)) }
+        (λ files. AreRead (O.state opener.old).at paths.now (files_of files.items)) }
     ensures named { IfOk result (λ files. length paths.now ≡ length files.items) }
     ensures opens { OnOk result (Opens (O.state opener.old) (O.state opener.new) paths.now) }
     ensures quiet { OnOk result (log.new ≡ log.old) }

@@ -95,7 +95,7 @@ pub fn say_fault<L: Sink>(log: &mut L, fault: PrintFault)
 /// Prints a text. Takes no memory.
 ///
 /// # Errors
-/// `Device` exactly where the output has failed. It has then taken a front of the text.
+/// `Device` exactly where the output has failed. It has then taken a prefix of the text.
 pub fn print_text<W: Sink>(text: &str, out: &mut W) -> Result<(), PrintFault>
     requires { (W.taken out.old).failed ≡ false }
     ensures printed { Prints (W.taken out.old) (W.taken out.new) result None text.now }
@@ -159,7 +159,7 @@ pub fn show_several<O: Office, L: Sink>(alloc: Global, office: &O, task: &Task, 
 ///
 /// # Errors
 /// The first fault of a merge, with nothing printed; `Device` where the output has failed; `Memory`
-/// where a growth was refused. The output has then taken a front of the text.
+/// where a growth was refused. The output has then taken a prefix of the text.
 pub fn print_office<O: Office, W: Sink>(
     alloc: Global,
     office: &O,

@@ -13,13 +13,13 @@ use std::alloc::Global;
 pub struct Refusals {
     /// Something was refused.
     pub any_refusal: bool,
-    /// A file or a step was refused for want of memory, so that a text would lack it.
+    /// A file or a step was refused since memory ran out, so that a text would lack it.
     pub file_lacking: bool,
-    /// A path could not be spelled for a log line, for want of memory.
+    /// A path could not be spelled for a log line, since memory ran out.
     pub path_unspelled: bool,
 }
 
-// Whether something was refused for want of memory.
+// Whether something was refused since memory ran out.
 fn wants_memory(cause: &Cause) -> bool
     ensures { result ≡ wants_memory cause.now }
 {
@@ -47,7 +47,7 @@ impl Refusals {
     }
 
     /// Notes a refusal, and tells it to the log. Where its path can't be spelled for want of
-    /// memory, that is told in its place.
+    /// memory, that is logged in its place.
     pub fn note<L: Sink>(&mut self, alloc: Global, log: &mut L, what: &str, cause: &Cause)
         ensures any_refusal { self.new.any_refusal ≡ true }
         ensures file_lacking { self.new.file_lacking

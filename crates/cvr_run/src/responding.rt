@@ -1,5 +1,5 @@
 ghost use Rattle.std.specs.Prelude.{◌≡◌, ◌≢◌, ◌⊎◌, [], ℕ, List, map, false, string_bytes};
-ghost use Rattle.cvr_words.specs.Line.{named};
+ghost use Rattle.cvr_words.specs.Line.{with_program};
 ghost use Rattle.cvr_words.specs.Request.{IsRequest};
 ghost use Rattle.cvr_words.specs.declared.request.Request.{Request};
 ghost use Rattle.cvr_run.specs.declared.status.Status.TheVariants.{CommandLine};
@@ -56,8 +56,8 @@ fn respond_listed<C: Office + Drop, O: Open, W: Sink, L: Sink>(
         → IsWhole result → Ran job result
         (record { out = W.taken out.old; log = L.taken log.old })
         (record { out = W.taken out.new; log = L.taken log.new }) }
-    ensures asked { (request : Request) → IsRequest (named (map string_bytes words.now)) request
-        → result ≢ CommandLine }
+    ensures asked { (request : Request)
+        → IsRequest (with_program (map string_bytes words.now)) request → result ≢ CommandLine }
     ensures says { SaysTheSame (O.state opener.old) (O.state opener.new) }
 {
     match listed_request(alloc, words, listing) {
@@ -116,8 +116,8 @@ pub fn respond<C: Office + Drop, O: Open, W: Sink, L: Sink>(
         → IsWhole result → Ran job result
         (record { out = W.taken out.old; log = L.taken log.old })
         (record { out = W.taken out.new; log = L.taken log.new }) }
-    ensures asked { (request : Request) → IsRequest (named (map string_bytes words.now)) request
-        → result ≢ CommandLine }
+    ensures asked { (request : Request)
+        → IsRequest (with_program (map string_bytes words.now)) request → result ≢ CommandLine }
     ensures says { SaysTheSame (O.state opener.old) (O.state opener.new) }
     ensures unopened { AsksVersion (map string_bytes words.now)
         ⊎ ((name : List ℕ) × AsksCode (map string_bytes words.now) name)

@@ -4,7 +4,7 @@ ghost use Rattle.std.specs.List.{list_any};
 ghost use Rattle.cvr_run.specs.Accepted.{is_refused};
 ghost use Rattle.cvr_run.specs.Given.{files_bytes};
 ghost use Rattle.cvr_run.specs.Outcome.{held, check_lines, facts_text, task_text, task_fault};
-ghost use Rattle.cvr_run.specs.Outcome.{files_refused, task_refused, bytes_of};
+ghost use Rattle.cvr_run.specs.Outcome.{files_refused, task_refused, files_of};
 ghost use Rattle.cvr_run.specs.declared.status.Status.TheVariants.{Memory as NoMemory};
 ghost use Rattle.cvr_words.specs.declared.request.Task.TheVariants.{Check};
 ghost use Rattle.cvr_run.specs.declared.refusals.Refusals.{Refusals};
@@ -39,15 +39,15 @@ fn count_files<L: Sink>(
 ) -> Result<Refusals, Memory>
     requires { length paths.now ≡ length files.now }
     ensures any_refusal { IfOk result (λ r. r.file_lacking ≡ false
-        → r.any_refusal ≡ list_any (is_refused definition.now) (bytes_of files.now)) }
+        → r.any_refusal ≡ list_any (is_refused definition.now) (files_of files.now)) }
     ensures text { IfOk result (λ r. r.file_lacking ≡ false → string_bytes text.new
-        ≡ string_bytes text.old ++ check_lines definition.now paths.now (bytes_of files.now)) }
+        ≡ string_bytes text.old ++ check_lines definition.now paths.now (files_of files.now)) }
     ensures log { IfOk result
-        (λ r. LogsFirst (task_dues definition.now Check paths.now (bytes_of files.now))
+        (λ r. LogsFirst (task_dues definition.now Check paths.now (files_of files.now))
         (length files.now) r (L.taken log.old) (L.taken log.new)) }
     ensures cut_short { OnErr result ((n : ℕ) × (r : Refusals) × (r.file_lacking ≡ false)
-        × CanEndAfter true n (file_dues definition.now (bytes_of files.now))
-        × LogsFirst (task_dues definition.now Check paths.now (bytes_of files.now)) n r
+        × CanEndAfter true n (file_dues definition.now (files_of files.now))
+        × LogsFirst (task_dues definition.now Check paths.now (files_of files.now)) n r
         (L.taken log.old) (L.taken log.new)) }
 {
     let mut refusals = Refusals::none();
@@ -136,9 +136,9 @@ fn run_check<W: Sink, L: Sink>(
     requires working { (W.taken out.old).failed ≡ false }
     requires named { length paths.now ≡ length files.now }
     ensures ends { Ends (W.taken out.old) (W.taken out.new)
-        (check_lines definition.now paths.now (bytes_of files.now))
-        (list_any (is_refused definition.now) (bytes_of files.now)) result }
-    ensures log { TellsRun (task_dues definition.now Check paths.now (bytes_of files.now)) None
+        (check_lines definition.now paths.now (files_of files.now))
+        (list_any (is_refused definition.now) (files_of files.now)) result }
+    ensures log { TellsRun (task_dues definition.now Check paths.now (files_of files.now)) None
         result
         (record { out = W.taken out.old; log = L.taken log.old })
         (record { out = W.taken out.new; log = L.taken log.new }) }
@@ -237,7 +237,7 @@ pub fn run<O: Office + Drop, W: Sink, L: Sink>(
     requires working { (W.taken out.old).failed ≡ false }
     requires log_working { (L.taken log.old).failed ≡ false }
     requires named { length request.now.paths ≡ length files.now }
-    ensures ran { Ran (record { request = request.now; def = def.now; files = bytes_of files.now })
+    ensures ran { Ran (record { request = request.now; def = def.now; files = files_of files.now })
         result
         (record { out = W.taken out.old; log = L.taken log.old })
         (record { out = W.taken out.new; log = L.taken log.new }) }

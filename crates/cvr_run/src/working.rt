@@ -4,7 +4,7 @@ ghost use Rattle.cvr_run.specs.Answered.{Does};
 ghost use Rattle.cvr_run.specs.Ends.{Ran};
 ghost use Rattle.cvr_run.specs.Job.{Job};
 ghost use Rattle.cvr_run.specs.Opening.{AreRead, AreAt, Opens};
-ghost use Rattle.cvr_run.specs.Outcome.{bytes_of, IsWhole};
+ghost use Rattle.cvr_run.specs.Outcome.{files_of, IsWhole};
 ghost use Rattle.cvr_run.specs.Told.{LogsSome};
 ghost use Rattle.cvr_run.specs.Worked.{Stops};
 
@@ -35,7 +35,7 @@ fn read_inputs<O: Open, L: Sink>(
 ) -> Result<Inputs, Status>
     ensures read { IfOk result
         (λ inputs. AreRead (O.state opener.old).at (request.now.def ∷ request.now.paths)
-        (inputs.def.items ∷ bytes_of inputs.files.items)) }
+        (inputs.def.items ∷ files_of inputs.files.items)) }
     ensures named { IfOk result (λ inputs. length request.now.paths ≡ length inputs.files.items) }
     ensures opens { OnOk result
         (Opens (O.state opener.old) (O.state opener.new) (request.now.def ∷ request.now.paths)) }

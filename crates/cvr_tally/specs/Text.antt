@@ -10,9 +10,9 @@ use Rattle.cvr_tally.specs.declared.row.Row.{Row}
 use Rattle.cvr_tally.specs.Rows.{Rows}
 
 -- a unit or a batch, `null` where there is none, and a space
-abbrev pub part : Option (List ℕ) → List ℕ
-part None = codes "null "
-part (Some text) = word text
+abbrev pub part_text : Option (List ℕ) → List ℕ
+part_text None = codes "null "
+part_text (Some text) = word text
 
 -- a number, and a space before it
 abbrev pub number : ℕ → List ℕ
@@ -24,7 +24,7 @@ selection p = 32 ∷ quoted p.0 ++ number p.1
 
 -- contest, unit, batch
 abbrev pub key_words : List Contest → RowKey → List ℕ
-key_words contests k = word (slice_index_or (contest_ids contests) k.contest []) ++ (part k.unit ++ part k.batch)
+key_words contests k = word (slice_index_or (contest_ids contests) k.contest []) ++ (part_text k.unit ++ part_text k.batch)
 
 -- ballots, overvotes, undervotes, write-ins, pending, unassigned
 abbrev pub numbers : Row → List ℕ

@@ -1,7 +1,7 @@
 ghost use Rattle.std.specs.Prelude.{◌≡◌, ◌<◌, ◌++◌, OnOk, IfOk, length, decimal, string_bytes};
 ghost use Rattle.std.specs.List.{flat_map, zip};
 ghost use Rattle.cvr_tally.specs.Contests.{contests_of};
-ghost use Rattle.cvr_tally.specs.Text.{part, number, numbers, selection, key_words, row_line};
+ghost use Rattle.cvr_tally.specs.Text.{part_text, number, numbers, selection, key_words, row_line};
 ghost use Rattle.cvr_tally.specs.Text.{tally_text};
 
 use crate::contest_ids::ContestIds;
@@ -15,7 +15,7 @@ use std::alloc::Global;
 
 // Adds a unit or a batch, or that there is none.
 fn push_part(alloc: Global, text: &mut String, name: &Option<Body>) -> Result<(), Memory>
-    ensures { OnOk result (string_bytes text.new ≡ string_bytes text.old ++ part name.now) }
+    ensures { OnOk result (string_bytes text.new ≡ string_bytes text.old ++ part_text name.now) }
 {
     match name {
         None => text.push_str("null ")?,

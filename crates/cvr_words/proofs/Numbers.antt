@@ -9,7 +9,7 @@ use Rattle.std.proofs.lemmas.Str.{digit_value_digit}
 use Rattle.std.proofs.lemmas.Str.Parse.{without_leading_plus_none}
 use Rattle.std.proofs.lemmas.Int.Digits.{digits_value-lt}
 use Rattle.std.proofs.Math.Nat.{pow-le-pow_right}
-use Rattle.cvr_words.specs.Step.{number_in}
+use Rattle.cvr_words.specs.Step.{number_of_text}
 
 pub in_range : (c : ℕ) → is_ascii_digit c ≡ true → IsInRange 48 57 c
 in_range c h = search rules
@@ -49,7 +49,7 @@ fits t short h =
     omega (arith, low, most)
 
 pub parsed : {E : Type 0} (t : List ℕ) (r : Result ℕ E) → 0 < length t → length t ≤ 9 → list_all is_ascii_digit t ≡ true
-    → ParsesUnsigned 32 10 t r → result_ok r ≡ number_in t
+    → ParsesUnsigned 32 10 t r → result_ok r ≡ number_of_text t
 parsed t (Ok n) some short h p =
     rw (h) (search rules)
 parsed t (Err e) some short h p =

@@ -2,7 +2,7 @@
 use Rattle.std.proofs.Common.{◌≡◌, ◌∙◌, ◌++◌, ◌+◌, ◌<◌, ℕ, List, [], ◌∷◌, Option, Some, None, length, map, option_map, arith, refl, ap, sym, take, drop, get_or, suc, add-zero, zero-add, Bor, subst, append-nil, append_assoc}
 use Rattle.std.proofs.lemmas.List.{drop_more, get_or-map, get_or_default, length-append, length-map, length-take-le, take-append-drop, take_more}
 use Rattle.cvr_words.specs.Step.{StepForm, Text, path_in, step_form}
-use Rattle.cvr_words.specs.Steps.{bad_from, bad_place, path_of, paths_of, step_at, step_of, steps_of}
+use Rattle.cvr_words.specs.Steps.{bad_from, bad_place, import_path, paths_of, step_at, drill_step, steps_of}
 use Rattle.cvr_words.specs.declared.request.Step.{Step}
 
 pub none_later : (o : Option StepForm) (later : Option ℕ) → bad_from o later ≡ None → later ≡ None
@@ -28,23 +28,23 @@ unfolding bad_place
 bad_push [] t f h e = ap (λ o. bad_from o (bad_place [])) e
 bad_push (x ∷ xs) t f h e = fine_later (step_form x) (bad_place xs) (bad_place (xs ++ t ∷ [])) h (bad_push xs t f (none_later (step_form x) (bad_place xs) h) e)
 
-paths_push : (xs : List Text) (t : Text) → paths_of (xs ++ t ∷ []) ≡ paths_of xs ++ path_of (step_form t)
+paths_push : (xs : List Text) (t : Text) → paths_of (xs ++ t ∷ []) ≡ paths_of xs ++ import_path (step_form t)
 unfolding paths_of
-paths_push [] t = append-nil (path_of (step_form t))
+paths_push [] t = append-nil (import_path (step_form t))
 paths_push (x ∷ xs) t =
-    ap (λ l. path_of (step_form x) ++ l) (paths_push xs t) ∙ sym (append_assoc (path_of (step_form x)) (paths_of xs) (path_of (step_form t)))
+    ap (λ l. import_path (step_form x) ++ l) (paths_push xs t) ∙ sym (append_assoc (import_path (step_form x)) (paths_of xs) (import_path (step_form t)))
 
 place_more : (k : ℕ) (a b : List Text) → k + length a + length b ≡ k + length (a ++ b)
 place_more k a b = let sum = length-append a b in omega (arith, sum)
 
-steps_push : (k : ℕ) (xs : List Text) (t : Text) → steps_of k (xs ++ t ∷ []) ≡ steps_of k xs ++ step_of (step_form t) (k + length (paths_of xs)) t
+steps_push : (k : ℕ) (xs : List Text) (t : Text) → steps_of k (xs ++ t ∷ []) ≡ steps_of k xs ++ drill_step (step_form t) (k + length (paths_of xs)) t
 unfolding steps_of paths_of
-steps_push k [] t = append-nil (step_of (step_form t) k t) ∙ ap (λ (j : ℕ). step_of (step_form t) j t) (sym (add-zero k))
+steps_push k [] t = append-nil (drill_step (step_form t) k t) ∙ ap (λ (j : ℕ). drill_step (step_form t) j t) (sym (add-zero k))
 steps_push k (x ∷ xs) t =
-    let next : ℕ = k + length (path_of (step_form x)) in
-    ap (λ l. step_of (step_form x) k x ++ l)
-    (steps_push next xs t ∙ ap (λ (j : ℕ). steps_of next xs ++ step_of (step_form t) j t) (place_more k (path_of (step_form x)) (paths_of xs)))
-    ∙ sym (append_assoc (step_of (step_form x) k x) (steps_of next xs) _)
+    let next : ℕ = k + length (import_path (step_form x)) in
+    ap (λ l. drill_step (step_form x) k x ++ l)
+    (steps_push next xs t ∙ ap (λ (j : ℕ). steps_of next xs ++ drill_step (step_form t) j t) (place_more k (import_path (step_form x)) (paths_of xs)))
+    ∙ sym (append_assoc (drill_step (step_form x) k x) (steps_of next xs) _)
 
 whole_at : (ts : List Text) (i : ℕ) (d : Text) → i < length ts → ts ≡ take i ts ++ get_or ts i d ∷ drop (i + 1) ts
 whole_at ts i d h = sym (take-append-drop i ts) ∙ ap (λ l. take i ts ++ l) (drop_more ts i d h)
@@ -89,8 +89,8 @@ one_more ts i d f steps steps2 paths paths2 h e kept s2 p2 =
       ap bad_place more ∙ bad_push (take i all) t f kept.0 e,
       s2 ∙ (ap (λ (l : List Step). l ++ step_at (length paths) t f ∷ []) kept.1
           ∙ (ap (λ (j : ℕ). steps_of 0 (take i all) ++ step_at j t f ∷ []) place
-          ∙ (ap (λ (o : Option StepForm). steps_of 0 (take i all) ++ step_of o (0 + length (paths_of (take i all))) t) (sym e)
+          ∙ (ap (λ (o : Option StepForm). steps_of 0 (take i all) ++ drill_step o (0 + length (paths_of (take i all))) t) (sym e)
           ∙ (sym (steps_push 0 (take i all) t) ∙ sym (ap (steps_of 0) more))))),
-      p2 ∙ (ap (λ (l : List Text). l ++ path_in f) kept.2 ∙ (ap (λ (o : Option StepForm). paths_of (take i all) ++ path_of o) (sym e)
+      p2 ∙ (ap (λ (l : List Text). l ++ path_in f) kept.2 ∙ (ap (λ (o : Option StepForm). paths_of (take i all) ++ import_path o) (sym e)
           ∙ (sym (paths_push (take i all) t) ∙ sym (ap paths_of more)))),
     )

@@ -9,8 +9,8 @@ abbrev pub needed : Text → Rule
 needed id = record (new_rule id) { required = true; action = Some Set }
 
 -- a whole number in a range, which has to stand once
-abbrev pub numbered : Text → ℕ → ℕ → Rule
-numbered id low high = record (needed id) { parser = Some (parser.Signed (pos low) (pos high)) }
+abbrev pub one_number : Text → ℕ → ℕ → Rule
+one_number id low high = record (needed id) { parser = Some (parser.Signed (pos low) (pos high)) }
 
 -- the words at the end, any number of them
 abbrev pub several : Text → Rule
@@ -28,13 +28,13 @@ abbrev pub merge_line : App
 merge_line =
     with_rule (with_rule (with_rule (with_rule (with_rule (new_app (codes "merge"))
     (needed (codes "DEF"))) (needed (codes "DATE"))) (needed (codes "DEVICE")))
-    (numbered (codes "VOLUME") 1 4294967295)) (several (codes "FILE"))
+    (one_number (codes "VOLUME") 1 4294967295)) (several (codes "FILE"))
 
 -- drill DEF OFFICES STEP..
 abbrev pub drill_line : App
 drill_line =
     with_rule (with_rule (with_rule (new_app (codes "drill"))
-    (needed (codes "DEF"))) (numbered (codes "OFFICES") 1 64)) (several (codes "STEP"))
+    (needed (codes "DEF"))) (one_number (codes "OFFICES") 1 64)) (several (codes "STEP"))
 
 -- the program with no command yet: one has to stand
 abbrev pub bare_line : App
@@ -50,8 +50,8 @@ cvr_line =
     (files_line (codes "check")).top) merge_line.top) drill_line.top
 
 -- the words as clap takes them: the program's name stands before them
-abbrev pub named : List Text → List Text
-named words = codes "cvr" ∷ words
+abbrev pub with_program : List Text → List Text
+with_program words = codes "cvr" ∷ words
 
 abbrev pub command_names : List Text
 command_names =

@@ -17,8 +17,8 @@ pub data StepForm : Type 0 where
 abbrev pub is_number : Text → Bool
 is_number text = nat_lt 0 (length text) && (nat_le (length text) 9 && list_all is_ascii_digit text)
 
-abbrev pub number_in : Text → Option ℕ
-number_in text = if is_number text then Some (digits_value 10 text) else None
+abbrev pub number_of_text : Text → Option ℕ
+number_of_text text = if is_number text then Some (digits_value 10 text) else None
 
 -- what stands before and after the first of a byte (61 is `=`, 62 is `>`)
 abbrev pub before : ℕ → Text → Text

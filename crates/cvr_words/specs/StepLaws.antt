@@ -12,9 +12,9 @@ form_at paths (Import office place) = import_form office (get_or paths place [])
 form_at paths (Exchange from to) = exchange_form from to
 
 -- the place of an import
-abbrev pub place_in : Act → List ℕ
-place_in (Import office place) = place ∷ []
-place_in (Exchange from to) = []
+abbrev pub import_place : Act → List ℕ
+import_place (Import office place) = place ∷ []
+import_place (Exchange from to) = []
 
 -- where each text has a form, the texts of the steps are these, in order
 abbrev pub StepTextsLaw : Type 0
@@ -27,7 +27,7 @@ StepFormsLaw =
 
 -- the places of the imports are 0, 1, 2 and so on, in order: one for each path
 abbrev pub StepPlacesLaw : Type 0
-StepPlacesLaw = (texts : List Text) → flat_map (λ step. place_in step.act) (steps_of 0 texts) ≡ range_with_len 0 (length (paths_of texts))
+StepPlacesLaw = (texts : List Text) → flat_map (λ step. import_place step.act) (steps_of 0 texts) ≡ range_with_len 0 (length (paths_of texts))
 
 -- no text has both forms
 abbrev pub OneFormLaw : Type 0

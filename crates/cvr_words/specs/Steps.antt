@@ -30,24 +30,24 @@ unfoldable pub bad_place : List Text → Option ℕ
 bad_place [] = None
 bad_place (text ∷ texts) = bad_from (step_form text) (bad_place texts)
 
-abbrev pub path_of : Option StepForm → List Text
-path_of (Some f) = path_in f
-path_of None = []
+abbrev pub import_path : Option StepForm → List Text
+import_path (Some f) = path_in f
+import_path None = []
 
 -- the paths of the imports, in order
 unfoldable pub paths_of : List Text → List Text
 paths_of [] = []
-paths_of (text ∷ texts) = path_of (step_form text) ++ paths_of texts
+paths_of (text ∷ texts) = import_path (step_form text) ++ paths_of texts
 
-abbrev pub step_of : Option StepForm → ℕ → Text → List Step
-step_of (Some f) place text = step_at place text f ∷ []
-step_of None place text = []
+abbrev pub drill_step : Option StepForm → ℕ → Text → List Step
+drill_step (Some f) place text = step_at place text f ∷ []
+drill_step None place text = []
 
 -- the steps, the first path standing at a place
 unfoldable pub steps_of : ℕ → List Text → List Step
 steps_of place [] = []
 steps_of place (text ∷ texts) =
-    step_of (step_form text) place text ++ steps_of (place + length (path_of (step_form text))) texts
+    drill_step (step_form text) place text ++ steps_of (place + length (import_path (step_form text))) texts
 
 -- the fault names the first text with no form, or memory was refused
 abbrev pub IsBadStep : List Text → LineFault → Type 0

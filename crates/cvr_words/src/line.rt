@@ -1,7 +1,7 @@
 ghost use Rattle.std.specs.Prelude.{◌≡◌, IfOk, false, codes};
 ghost use Rattle.clap.specs.Words.{app_of, new_app, rule_of};
 ghost use Rattle.cvr_words.specs.Line.{bare_line, cvr_line, drill_line, files_line, merge_line};
-ghost use Rattle.cvr_words.specs.Line.{needed, numbered, several};
+ghost use Rattle.cvr_words.specs.Line.{needed, one_number, several};
 
 use clap::{Arg, ArgAction, Command};
 use std::alloc::{AllocError, Global};
@@ -73,7 +73,7 @@ fn device_word<'a>(alloc: Global) -> Arg<'a>
 }
 
 fn volume_word<'a>(alloc: Global) -> Arg<'a>
-    ensures rule { rule_of result ≡ numbered (codes "VOLUME") 1 4294967295 }
+    ensures rule { rule_of result ≡ one_number (codes "VOLUME") 1 4294967295 }
     ensures local { result.global ≡ false }
 {
     needed_word(
@@ -85,7 +85,7 @@ fn volume_word<'a>(alloc: Global) -> Arg<'a>
 }
 
 fn offices_word<'a>(alloc: Global) -> Arg<'a>
-    ensures rule { rule_of result ≡ numbered (codes "OFFICES") 1 64 }
+    ensures rule { rule_of result ≡ one_number (codes "OFFICES") 1 64 }
     ensures local { result.global ≡ false }
 {
     needed_word(alloc, "OFFICES", "How many offices there are, from 1 to 64").value_parser(

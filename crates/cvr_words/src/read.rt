@@ -1,7 +1,7 @@
 ghost use Rattle.std.specs.Prelude.{◌≡◌, IfErr, IfOk, map, string_bytes};
 ghost use Rattle.clap.specs.Words.{kind_of};
 ghost use Rattle.cvr_words.specs.Fault.{IsFault, IsLineFault, IsOfKind};
-ghost use Rattle.cvr_words.specs.Line.{named};
+ghost use Rattle.cvr_words.specs.Line.{with_program};
 ghost use Rattle.cvr_words.specs.Request.{IsRequest};
 
 use crate::fault::{LineFault, WordFault};
@@ -33,7 +33,8 @@ fn refusal(alloc: Global, error: &clap::Error) -> LineFault
 
 // The words as clap takes them: the program's name stands before them, as it begins each usage.
 fn named_words<'a>(alloc: Global, words: &'a [String]) -> Result<Vec<&'a str>, AllocError>
-    ensures { IfOk result (λ all. map (λ t. t.now) all.items ≡ named (map string_bytes words.now)) }
+    ensures { IfOk result
+        (λ all. map (λ t. t.now) all.items ≡ with_program (map string_bytes words.now)) }
 {
     let mut all = Vec::new(alloc);
     all.push("cvr")?;
@@ -63,8 +64,8 @@ fn read_named(alloc: Global, words: &[&str]) -> Result<Request, LineFault>
 /// # Errors
 /// As `read_words`, with the step that has no form.
 pub fn read_line(alloc: Global, words: &[String]) -> Result<Request, LineFault>
-    ensures request { IfOk result (λ r. IsRequest (named (map string_bytes words.now)) r) }
-    ensures fault { IfErr result (λ f. IsLineFault (named (map string_bytes words.now)) f) }
+    ensures request { IfOk result (λ r. IsRequest (with_program (map string_bytes words.now)) r) }
+    ensures fault { IfErr result (λ f. IsLineFault (with_program (map string_bytes words.now)) f) }
 {
     let all = named_words(alloc, words)?;
     read_named(alloc, all.as_slice())
@@ -76,8 +77,8 @@ pub fn read_line(alloc: Global, words: &[String]) -> Result<Request, LineFault>
 /// `Refused` where no command takes the words, or none stands; `Help` where they ask for help;
 /// `BadStep` with the place of the first step of a drill that has no form; `Memory`.
 pub fn read_words(alloc: Global, words: &[String]) -> Result<Request, WordFault>
-    ensures request { IfOk result (λ r. IsRequest (named (map string_bytes words.now)) r) }
-    ensures fault { IfErr result (λ f. IsFault (named (map string_bytes words.now)) f) }
+    ensures request { IfOk result (λ r. IsRequest (with_program (map string_bytes words.now)) r) }
+    ensures fault { IfErr result (λ f. IsFault (with_program (map string_bytes words.now)) f) }
 {
     match read_line(alloc, words) {
         Ok(request) => Ok(request),

@@ -4,11 +4,11 @@ use Rattle.std.specs.Fmt.{digits}
 use Rattle.serde_json.specs.Data.{Data}
 use Rattle.serde_json.proofs.OnLiterals.{serde_json_on_literals}
 use Rattle.cdf_types.specs.declared.fault.ReadFault.TheVariants.{TooLong, Reference}
-use Rattle.cdf_form.specs.Form.{Fault}
+use Rattle.cdf_form.specs.Form.{Fault, first}
 use Rattle.cdf_form.specs.Form as form
 use Rattle.cdf_form.specs.Path.{path_text}
 use Rattle.cdf_form.specs.Reading.{value_of, document_faults, refusal_of}
-use Rattle.cdf_definition.specs.Paths.{Path, first}
+use Rattle.cdf_definition.specs.Paths.{Path}
 use Rattle.cdf_definition.specs.References.{missing}
 use Rattle.cdf_definition.specs.Acceptance.{own_refusal, of_value}
 use Rattle.cdf_check.proofs.Ascii.{ascii_unsound}

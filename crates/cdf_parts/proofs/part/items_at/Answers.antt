@@ -1,6 +1,6 @@
 use Rattle.std.proofs.Common.{[], option_map, ap, ◌∙◌}
 use Rattle.std.specs.Prelude.{unwrap_or}
-use Rattle.cdf_parts.specs.Parts.{list_of}
+use Rattle.cdf_node.specs.Items.{list_of}
 use Rattle.cdf_parts.proofs.PartsOf.{items_or_none}
 use Rattle.cdf_parts.proofs.part.items_at.Goals as goal
 

@@ -12,7 +12,7 @@ returns c =
     let all = map-id c.as_slice.result.now ∙ c.as_slice.ensures in
     let votes = c.in_ok-sums_in.ensures ∙ (λ i. sums_in (c.contests.ensures i) (all i)) in
     λ i. record {
-      key = c.in_ok-name_of.ensures i;
+      key = c.in_ok-record_name.ensures i;
       id = c.in_ok-copy.ensures i;
       kind = c.args.snapshot.now.kind;
       moment = c.args.snapshot.now.moment;

@@ -1,5 +1,5 @@
 use Rattle.std.proofs.Common.{rules, ◌≡◌, drop, false, true, sym, ap, ◌∙◌, arith}
-use Rattle.cvr_report.specs.Scan.{InString, is_before, after}
+use Rattle.cvr_report.specs.Scan.{InString, is_before, left_after}
 use Rattle.cvr_report.proofs.Cutting.{goes_on, cut_at_end, cut_past, cut_at_name, no_text}
 use Rattle.cvr_report.proofs.scan.cut.Goals as goal
 
@@ -23,7 +23,7 @@ members-preserved c =
       goes =
           goes_on c.args.text.now c.args.from c.args.name.now c.members.at c.member_end-at.result c.members.invariant.goes c.if-text-at-eq125.false c.requires.plain
           (ap (λ n. is_before (drop n c.args.text.now) c.args.name.now) (sym c.name_start-start.ensures) ∙ sym c.stands_before.ensures ∙ go)
-          (c.member_end-at.ensures.rest ∙ ap (λ n. after InString 0 (drop n c.args.text.now)) c.name_start-start.ensures);
+          (c.member_end-at.ensures.rest ∙ ap (λ n. left_after InString 0 (drop n c.args.text.now)) c.name_start-start.ensures);
       low = search rules;
       high = search rules;
     }

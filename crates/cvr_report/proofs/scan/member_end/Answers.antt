@@ -1,5 +1,5 @@
 use Rattle.std.proofs.Common.{◌+◌, drop, sym, ap, ◌∙◌, arith}
-use Rattle.cvr_report.specs.Scan.{Between, after}
+use Rattle.cvr_report.specs.Scan.{Between, left_after}
 use Rattle.cvr_report.proofs.Steps.{first_quote, outer_byte, stop_byte, no_byte}
 use Rattle.cvr_report.proofs.scan.member_end.Goals as goal
 
@@ -28,7 +28,7 @@ bytes-preserved-then-byte-eq34 c = record {
 pub bytes-preserved : goal.bytes-preserved
 bytes-preserved c = record {
   same =
-      ap (λ n. after Between n (drop (c.bytes.at + 1) c.args.text.now)) c.depth_after-depth.ensures.value
+      ap (λ n. left_after Between n (drop (c.bytes.at + 1) c.args.text.now)) c.depth_after-depth.ensures.value
       ∙ sym (outer_byte c.bytes.depth c.args.text.now c.bytes.at c.bytes-test.true (sym c.stops_at.ensures ∙ c.if-stops_at.false) c.if-byte-eq34.false) ∙ c.bytes.invariant.same;
   low = omega arith;
   high = omega arith;

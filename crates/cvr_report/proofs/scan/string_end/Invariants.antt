@@ -1,10 +1,10 @@
 use Rattle.std.proofs.Common.{ℕ, length, ◌-◌, ◌≡◌, ◌≤◌, drop}
-use Rattle.cvr_report.specs.Scan.{InString, after}
+use Rattle.cvr_report.specs.Scan.{InString, left_after}
 use Rattle.cvr_report.proofs.scan.string_end.Given as goal
 
 abbrev pub invariant-bytes : goal.invariant-bytes
 invariant-bytes l = record {
-  same : (depth : ℕ) → after InString depth (drop l.at l.text) ≡ after InString depth (drop l.from l.text);
+  same : (depth : ℕ) → left_after InString depth (drop l.at l.text) ≡ left_after InString depth (drop l.from l.text);
   low : l.from ≤ l.at;
   high : l.at ≤ length l.text;
 }

@@ -1,5 +1,5 @@
 use Rattle.std.proofs.Common.{inl, inr, map, string_bytes, refl}
-use Rattle.cvr_words.specs.Line.{named}
+use Rattle.cvr_words.specs.Line.{with_program}
 use Rattle.cvr_words.proofs.Laws.{one_request}
 use Rattle.cvr_run.proofs.Unasked.{told_memory, not_asked, not_command_line}
 use Rattle.cvr_run.proofs.Opened.{opens_none}
@@ -8,7 +8,7 @@ use Rattle.cvr_run.proofs.answering.work.Goals as goal
 
 pub returns-in-Ok : goal.returns-in-Ok
 returns-in-Ok g c =
-    let words = named (map string_bytes c.args.words.now) in
+    let words = with_program (map string_bytes c.args.words.now) in
     let asked = c.in-Ok.ensures.request in
     let told = c.run_request.ensures in
     record {
@@ -20,7 +20,7 @@ returns-in-Ok g c =
 
 pub returns-in-Err : goal.returns-in-Err
 returns-in-Err g c =
-    let words = named (map string_bytes c.args.words.now) in
+    let words = with_program (map string_bytes c.args.words.now) in
     let fault = c.in-Err.fault in
     let is = c.in-Err.ensures.fault in
     let told = c.tell_fault.ensures in

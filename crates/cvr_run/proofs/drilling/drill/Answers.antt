@@ -6,7 +6,7 @@ use Rattle.cvr_office.specs.Reach.{content, history}
 use Rattle.cvr_office.specs.Outcomes.{AreOutcomes}
 use Rattle.cvr_words.specs.declared.request.Step.{Step}
 use Rattle.cvr_run.specs.Drill.{event_of, events_of, new_offices, step_dues}
-use Rattle.cvr_run.specs.Outcome.{bytes_of}
+use Rattle.cvr_run.specs.Outcome.{files_of}
 use Rattle.cvr_run.specs.Refusals.{is_refusal, is_want, AreDue}
 use Rattle.cvr_run.specs.Told.{drill_dues, LogsFirst}
 use Rattle.cvr_run.proofs.SameOffices.{of_one}
@@ -18,7 +18,7 @@ returns g c =
     let def = c.args.definition.now in
     let n = c.args.count in
     let steps = c.args.steps.now in
-    let files = bytes_of c.args.files.now in
+    let files = files_of c.args.files.now in
     let rs = c.in_ok-outcomes.outcomes.items in
     let before = c.as_mut_slice.result.now in
     let after = c.play.new.offices in

@@ -1,7 +1,7 @@
 use Rattle.std.proofs.Common.{false, length, sym}
 use Rattle.std.proofs.lemmas.List.{length-map}
 use Rattle.cvr_run.specs.Drill.{step_due}
-use Rattle.cvr_run.specs.Outcome.{bytes_of}
+use Rattle.cvr_run.specs.Outcome.{files_of}
 use Rattle.cvr_run.specs.Told.{drill_dues}
 use Rattle.cvr_run.proofs.Telling.{lacks}
 use Rattle.cvr_run.proofs.drilling.drill_all.Goals as goal
@@ -10,6 +10,6 @@ pub returns-then-refusals-clause-cut_short : goal.returns-then-refusals-clause-c
 returns-then-refusals-clause-cut_short g c = λ fault.
     let definition = c.args.definition.now in
     let steps = c.args.steps.now in
-    let files = bytes_of c.args.files.now in
+    let files = files_of c.args.files.now in
     lacks (drill_dues definition c.args.count files steps) (length steps) c.in-Ok.refusals _ _ c.in-Ok.ensures.log
     (sym (length-map steps (step_due definition c.args.count files))) c.if-refusals.true fault false

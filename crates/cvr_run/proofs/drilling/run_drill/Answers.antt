@@ -1,7 +1,7 @@
 use Rattle.std.proofs.Common.{None, length, refl, sym, rules}
 use Rattle.std.proofs.lemmas.List.{length-map}
 use Rattle.cvr_run.specs.Drill.{step_due, drill_text, drill_refused}
-use Rattle.cvr_run.specs.Outcome.{bytes_of}
+use Rattle.cvr_run.specs.Outcome.{files_of}
 use Rattle.cvr_run.specs.Printing.{Prints}
 use Rattle.cvr_run.specs.Told.{drill_dues}
 use Rattle.cvr_run.proofs.Endings.{ends_in_memory}
@@ -13,7 +13,7 @@ pub returns-in-Ok-clause-ends : goal.returns-in-Ok-clause-ends
 returns-in-Ok-clause-ends g c =
     let definition = c.args.definition.now in
     let steps = c.args.steps.now in
-    let files = bytes_of c.args.files.now in
+    let files = files_of c.args.files.now in
     let before = g.W.Sink.taken c.args.out.now in
     let after = g.W.Sink.taken c.print_offices-printed.new.out in
     let printed = c.print_offices-printed.result in
@@ -25,7 +25,7 @@ pub returns-in-Ok-clause-log : goal.returns-in-Ok-clause-log
 returns-in-Ok-clause-log g c =
     let definition = c.args.definition.now in
     let steps = c.args.steps.now in
-    let files = bytes_of c.args.files.now in
+    let files = files_of c.args.files.now in
     tells_after (drill_dues definition c.args.count files steps) (length steps) c.in-Ok.refusals _ _ _ c.in-Ok.ensures.log (sym (length-map steps (step_due definition c.args.count files))) c.in-Ok.ensures.whole
     (g.W.Sink.taken c.args.out.now) (g.W.Sink.taken c.print_offices-printed.new.out) c.print_offices-printed.result None _ _ refl c.print_offices-printed.ensures c.end_with.ensures.status c.end_with.ensures.log
 
@@ -36,4 +36,4 @@ pub returns-in-Err-clause-log : goal.returns-in-Err-clause-log
 returns-in-Err-clause-log g c =
     let definition = c.args.definition.now in
     let steps = c.args.steps.now in
-    wanted_unprinted (drill_dues definition c.args.count (bytes_of c.args.files.now) steps) None _ _ (g.W.Sink.taken c.args.out.now) _ _ c.in-Err.ensures.status c.requires (c.in-Err.ensures.cut_short None)
+    wanted_unprinted (drill_dues definition c.args.count (files_of c.args.files.now) steps) None _ _ (g.W.Sink.taken c.args.out.now) _ _ c.in-Err.ensures.status c.requires (c.in-Err.ensures.cut_short None)

@@ -1,5 +1,5 @@
 use Rattle.std.proofs.Common.{◌∙◌, ap, map, string_bytes, sym}
-use Rattle.cvr_words.specs.Line.{named}
+use Rattle.cvr_words.specs.Line.{with_program}
 use Rattle.cvr_words.proofs.Laws.{one_request}
 use Rattle.cvr_run.specs.Listed.{takes_files}
 use Rattle.cvr_run.proofs.ListWords.{asked_before, none_found, some_found}
@@ -27,7 +27,7 @@ returns-in-Some-clause-none c asked asks =
     let listing = c.args.listing.now in
     let found = rw c.in-Some.is at c.in_ok-found.ensures.some in
     let here = asked_before words before listing.list.now listing.by_null asked c.requires.short c.requires.words asks in
-    let same = one_request (named before) c.in-Some.request asked.request found here in
+    let same = one_request (with_program before) c.in-Some.request asked.request found here in
     c.takes_list.ensures.no c.if-takes_list.false (ap (λ r. takes_files r.task) same ∙ asks.files) (ap (λ r. r.paths) same ∙ asks.none)
 
 pub returns-clause-none : goal.returns-clause-none

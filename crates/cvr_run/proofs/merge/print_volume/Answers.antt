@@ -1,5 +1,5 @@
 use Rattle.std.proofs.Common.{arith, subst}
-use Rattle.cvr_report.specs.Head.{IsHead, IsFault}
+use Rattle.cvr_report.specs.Head.{IsHead, IsHeadFault}
 use Rattle.cvr_run.proofs.Merging.{no_heading, volume_printed}
 use Rattle.cvr_run.proofs.merge.print_volume.Goals as goal
 
@@ -8,7 +8,7 @@ returns-in_err-heading g c =
     let definition = g.O.Office.defined c.args.office.now in
     let fault = c.in_err-heading.field-0.0 in
     no_heading definition c.args.date.now c.args.device.now c.args.i (g.O.Office.held c.args.office.now) _ c.from_residual.result fault c.from_residual.ensures.1
-    (subst (λ d. IsFault d c.args.date.now c.args.device.now fault) c.definition.ensures.is c.in_err-heading.ensures.fault) c.requires.working
+    (subst (λ d. IsHeadFault d c.args.date.now c.args.device.now fault) c.definition.ensures.is c.in_err-heading.ensures.fault) c.requires.working
 
 pub returns : goal.returns
 returns g c =

@@ -1,11 +1,11 @@
 use Rattle.std.proofs.Common.{◌≡◌, ◌+◌, ◌++◌, ◌∙◌, [], ◌∷◌, length, take, true, refl, sym, ap, subst, rules}
 use Rattle.std.proofs.lemmas.List.{get_or_default, length_push}
 use Rattle.cvr_run.specs.declared.file.FileFault.TheVariants.{Device}
-use Rattle.cvr_run.specs.File.{is_device}
+use Rattle.cvr_run.specs.File.{is_file_device}
 use Rattle.cvr_run.specs.Log.{memory_line, Logs}
 use Rattle.cvr_run.specs.declared.status.Status.TheVariants.{Memory as NoMemory}
 use Rattle.cvr_run.specs.Opening.{Absent, AreRead, FailedAt, IsRead}
-use Rattle.cvr_run.specs.Outcome.{bytes_of}
+use Rattle.cvr_run.specs.Outcome.{files_of}
 use Rattle.cvr_run.specs.Told.{LogsSome}
 use Rattle.cvr_run.specs.Worked.{unread_status, unread_line, Stops}
 use Rattle.cvr_run.proofs.Opened.{at_err, opens_both, opens_one_more, opens_same, read_one_more, stops_at, stops_full}
@@ -28,14 +28,14 @@ returns-in_err-file-clause-stops g c =
     let logs = subst (λ l. Logs (g.L.Sink.taken l) a (unread_line path cause)) was.quiet told.told in
     let at = (opens_same old between (take n paths) was.opens).at in
     let device =
-    subst (λ files. is_device cause ≡ true → FailedAt (files path) (old.may_fail path)) at
-    (subst (λ may. is_device cause ≡ true → FailedAt (between.at path) (may path)) (opens_same old between (take n paths) was.opens).may_fail told.device) in
+    subst (λ files. is_file_device cause ≡ true → FailedAt (files path) (old.may_fail path)) at
+    (subst (λ may. is_file_device cause ≡ true → FailedAt (between.at path) (may path)) (opens_same old between (take n paths) was.opens).may_fail told.device) in
     let absent = subst (λ files. files path ≡ Absent → cause ≡ Device) at told.absent in
     let those = opens_both old between new (take n paths) (path ∷ []) was.opens told.opens in
     at_err c.from_residual.result (λ s. s ≡ unread_status cause) (λ s. LogsSome (Stops old new paths s) b a) c.from_residual.ensures.1
     (λ s is. (
       unread_line path cause,
-      stops_at old new paths s n path (bytes_of c.loop-path.files.items) cause c.loop-path-test.true named was.read device absent those is,
+      stops_at old new paths s n path (files_of c.loop-path.files.items) cause c.loop-path-test.true named was.read device absent those is,
       logs,
     ))
 
@@ -55,7 +55,7 @@ returns-then-is_err-clause-stops g c =
     let file = c.in_ok-file.file.items in
     let here = subst (λ files. IsRead (files path) file) (opens_same old between (take n paths) was.opens).at told.bytes in
     let those = opens_both old between new (take n paths) (path ∷ []) was.opens told.opens in
-    (memory_line, stops_full old new paths NoMemory n path (bytes_of c.loop-path.files.items) file c.loop-path-test.true named was.read here those refl, logs)
+    (memory_line, stops_full old new paths NoMemory n path (files_of c.loop-path.files.items) file c.loop-path-test.true named was.read here those refl, logs)
 
 pub loop-path-preserved : goal.loop-path-preserved
 loop-path-preserved g c =
@@ -73,7 +73,7 @@ loop-path-preserved g c =
     let pushed : c.push.new.self.items ≡ files ++ file ∷ [] = search rules in
     record {
       read =
-          subst (λ fs. AreRead old.at (take (n + 1) paths) (bytes_of fs)) (sym pushed)
+          subst (λ fs. AreRead old.at (take (n + 1) paths) (files_of fs)) (sym pushed)
           (read_one_more old.at paths n path files file c.loop-path-test.true named was.read
           (subst (λ at. IsRead (at path) file.items) (opens_same old between (take n paths) was.opens).at told.bytes));
       count = ap length pushed ∙ (length_push files file ∙ ap (λ k. k + 1) was.count);

@@ -4,7 +4,7 @@ use Rattle.std.proofs.lemmas.List.{get_or_default}
 use Rattle.cdf_definition.specs.Acceptance.{first_refusal}
 use Rattle.cvr_run.specs.declared.refusals.Refusals.{Refusals}
 use Rattle.cvr_office.specs.declared.event.Cause.TheVariants.{Read}
-use Rattle.cvr_run.specs.Outcome.{bytes_of}
+use Rattle.cvr_run.specs.Outcome.{files_of}
 use Rattle.cvr_run.specs.Refusals.{file_due, IsDue}
 use Rattle.cvr_run.specs.Told.{file_dues, task_dues, LogsFirst}
 use Rattle.cvr_words.specs.declared.request.Task.TheVariants.{Check}
@@ -16,15 +16,15 @@ pub loop-place-init : goal.loop-place-init
 loop-place-init g c = record {
   any_refusal = search rules;
   text = search rules;
-  log = tells_none (task_dues c.args.definition.now Check c.args.paths.now (bytes_of c.args.files.now)) _ c.none-refusals.result c.none-refusals.ensures.file_lacking c.none-refusals.ensures.path_unspelled;
+  log = tells_none (task_dues c.args.definition.now Check c.args.paths.now (files_of c.args.files.now)) _ c.none-refusals.result c.none-refusals.ensures.file_lacking c.none-refusals.ensures.path_unspelled;
 }
 
 pub loop-place-preserved : goal.loop-place-preserved
 loop-place-preserved g c =
     let paths = c.args.paths.now in
     let definition = c.args.definition.now in
-    let dues = file_dues definition (bytes_of c.args.files.now) in
-    let of = task_dues definition Check paths (bytes_of c.args.files.now) in
+    let dues = file_dues definition (files_of c.args.files.now) in
+    let of = task_dues definition Check paths (files_of c.args.files.now) in
     let n = c.loop-place.place in
     let before = c.loop-place.refusals in
     let was = c.loop-place.invariant in
@@ -62,7 +62,7 @@ returns-in_err-push_count-in-Ok-clause-cut_short g c =
     let files = c.args.files.now in
     let n = c.loop-place.place in
     let lt : n < length files = omega arith in
-    let within : n < length (file_dues definition (bytes_of files)) = omega (arith, dues_count definition files) in
+    let within : n < length (file_dues definition (files_of files)) = omega (arith, dues_count definition files) in
     let here = due_at definition files n c.index-files-place.result lt c.index-files-place.is ∙ ap (λ file. file_due (first_refusal definition file)) (sym c.as_slice.ensures.value) in
     let accepted = ap (λ d. d.cause) here ∙ ap (option_map Read) c.in-Ok.ensures.accepted in
     on_err _ c.from_residual.result (n, c.loop-place.refusals, search rules, (within, accepted), c.loop-place.invariant.log)

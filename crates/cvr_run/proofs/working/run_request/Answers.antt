@@ -1,7 +1,7 @@
 use Rattle.std.proofs.Common.{◌∷◌, inr, sym, subst}
 use Rattle.cvr_run.specs.Devices.{Devices}
 use Rattle.cvr_run.specs.Opening.{AreRead}
-use Rattle.cvr_run.specs.Outcome.{bytes_of}
+use Rattle.cvr_run.specs.Outcome.{files_of}
 use Rattle.cvr_run.specs.Worked.{Runs}
 use Rattle.cvr_run.proofs.Known.{job_known}
 use Rattle.cvr_run.proofs.working.run_request.Goals as goal
@@ -16,8 +16,8 @@ returns-in-Ok g c =
     subst (λ l. Runs request answer (record { opener = old.opener; out = old.out; log = g.L.Sink.taken l }) new) c.in-Ok.ensures.quiet
     (record {
       def = c.as_slice.result.now;
-      files = bytes_of c.in-Ok.field-0.files.items;
-      read = subst (λ def. AreRead old.opener.at (request.def ∷ request.paths) (def ∷ bytes_of c.in-Ok.field-0.files.items)) (sym c.as_slice.ensures.value) c.in-Ok.ensures.read;
+      files = files_of c.in-Ok.field-0.files.items;
+      read = subst (λ def. AreRead old.opener.at (request.def ∷ request.paths) (def ∷ files_of c.in-Ok.field-0.files.items)) (sym c.as_slice.ensures.value) c.in-Ok.ensures.read;
       opened = c.in-Ok.ensures.opens;
       ran = c.run_files.ensures.ran;
     }) in

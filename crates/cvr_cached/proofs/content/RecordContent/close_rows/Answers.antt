@@ -5,7 +5,7 @@ use Rattle.cvr_tally.specs.Keys.{is_key}
 use Rattle.cvr_tally.specs.declared.key.RowKey.{RowKey}
 use Rattle.cvr_fact_types.specs.declared.sums.VoteSums.{VoteSums}
 use Rattle.cvr_office.specs.Adding.{key_for}
-use Rattle.cvr_cached.specs.Contents.{pairs_of, sums_in}
+use Rattle.cvr_cached.specs.Contents.{pairs_of, current_sums}
 use Rattle.cvr_cached.proofs.Closing.{closed_more, get-closed}
 use Rattle.cvr_cached.proofs.Opening.{any_more}
 use Rattle.cvr_cached.proofs.Pairs.{pair_at}
@@ -13,7 +13,7 @@ use Rattle.cvr_cached.proofs.content.RecordContent.close_rows.Goals as goal
 
 pub loop-sums-preserved : goal.loop-sums-preserved
 loop-sums-preserved c =
-    let at = pair_at c.args.self.now c.loop-sums.key c.loop-sums.invariant.key (c.votes_at-sums-items.ensures ∙ ap sums_in (c.deref.ensures.value ∙ c.self.view_is)) c.loop-sums-test.true c.sums-item.is in
+    let at = pair_at c.args.self.now c.loop-sums.key c.loop-sums.invariant.key (c.votes_at-sums-items.ensures ∙ ap current_sums (c.deref.ensures.value ∙ c.self.view_is)) c.loop-sums-test.true c.sums-item.is in
     let ps = pairs_of c.args.self.now in
     let i = c.loop-sums.sums-index in
     let v = c.sums-item.result in

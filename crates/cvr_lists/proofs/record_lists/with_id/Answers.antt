@@ -4,7 +4,7 @@ use Rattle.std.proofs.lemmas.List.Sorted.{IsPartitionPoint-from_clause}
 use Rattle.cvr_lists.specs.Groups.{id_order}
 use Rattle.cvr_lists.proofs.Between.{lesser_first, equal_first, run_is}
 use Rattle.cvr_lists.proofs.Groups.{id_order_rises}
-use Rattle.cvr_lists.proofs.record_lists.under.Goals as goal
+use Rattle.cvr_lists.proofs.record_lists.with_id.Goals as goal
 
 pub returns : goal.returns
 returns c =

@@ -1,0 +1,8 @@
+-- The items of an array. (RFC 8259, section 5.)
+use Rattle.std.specs.Prelude.{List, [], ◌∷◌}
+use Rattle.serde_json.specs.Data.{Data, Items, no_items, item}
+
+-- the items as a list
+abbrev pub list_of : Items → List Data
+list_of no_items = []
+list_of (item d ds) = d ∷ list_of ds
