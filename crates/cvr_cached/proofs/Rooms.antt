@@ -1,13 +1,12 @@
 -- The sums of contents go to rows of the definition, and no column gets too large.
-use Rattle.std.proofs.Common.{◌≡◌, ℕ, ◌+◌, ◌*◌, ◌^◌, ◌<◌, ◌≤◌, true, false, List, [], ◌∷◌, map, length, get_or, ◌||◌, ◌==◌, le_trans, le_of_eq, mul_comm, mul-le-mul_right, Contains, inl, inr, Option, Some, None, refl, sym, ap, ◌∙◌, subst, arith}
-use Rattle.std.proofs.lemmas.List.{get_or_past, length-map}
+use Rattle.std.proofs.Common.{◌≡◌, ℕ, ◌+◌, ◌*◌, ◌^◌, ◌<◌, ◌≤◌, true, false, List, [], ◌∷◌, map, length, ◌||◌, ◌==◌, le_trans, le_of_eq, mul_comm, mul-le-mul_right, Contains, inl, inr, Option, Some, None, refl, sym, ap, ◌∙◌, subst, arith}
+use Rattle.std.proofs.lemmas.List.{length-map}
 use Rattle.std.proofs.lemmas.Map.Steps.{length-le_from_distinct_below}
 use Rattle.std.specs.List.{sum_by, list_any}
 use Rattle.std.specs.Map.{values_of}
 use Rattle.std.specs.Option.{option_map_or}
 use Rattle.std.specs.FinSet.{contains}
-use Rattle.std.proofs.lemmas.Bool.{cases_lt, eqb-true}
-use Rattle.std.proofs.lemmas.List.Elements.{Contains-get_or}
+use Rattle.std.proofs.lemmas.Bool.{eqb-true}
 use Rattle.std.proofs.lemmas.List.Sums.{sum_by-cons}
 use Rattle.cdf_parts.specs.Places.{Contest}
 use Rattle.cdf_definition.specs.Frame.{Frame}
@@ -16,7 +15,7 @@ use Rattle.cvr_fact_types.specs.declared.header.HeaderFact.{HeaderFact}
 use Rattle.cvr_fact_types.specs.declared.snapshot.SnapshotFact.{SnapshotFact}
 use Rattle.cvr_fact_types.specs.declared.sums.VoteSums.{VoteSums}
 use Rattle.cvr_fact_types.specs.Facts.{Facts}
-use Rattle.cvr_facts.specs.Sums.{sum_limit}
+use Rattle.cvr_facts.specs.Sums.{sum_limit, AreBelow}
 use Rattle.cvr_facts.proofs.Laws.{fact_total}
 use Rattle.cvr_facts.proofs.Lemmas.{greatest_is, at_head, at_tail, none_listed, from_map, from-filter_map}
 use Rattle.cvr_tally.specs.declared.key.RowKey.{RowKey}
@@ -32,7 +31,10 @@ use Rattle.cvr_office.proofs.Lemmas.{found}
 use Rattle.cvr_lists.proofs.Laws.{facts_are_sums}
 use Rattle.cvr_cached.specs.declared.plan.Plan.{Plan}
 use Rattle.cvr_cached.specs.Contents.{Entries, content_at, facts_at, header_in, current_in, pairs_of, pairs_of}
-use Rattle.cvr_cached.specs.Cells.{Column, Ballots, Overvotes, Undervotes, WriteIns, Pending, Unassigned, Vote, worth, cell_limit, shares, AreFit}
+use Rattle.cvr_fact_types.specs.Columns.{Column, Ballots, worth}
+use Rattle.cvr_tally.specs.Rows.{ballot_limit}
+use Rattle.cvr_tally.proofs.Lemmas.{below_limits}
+use Rattle.cvr_cached.specs.Cells.{shares, total, AreFit}
 use Rattle.cvr_cached.specs.Held.{IsSummed}
 use Rattle.cvr_cached.specs.Plans.{all_moves, IsPlan, IsRoomy}
 use Rattle.cvr_cached.proofs.Listed.{at_name, found_listed}
@@ -48,27 +50,15 @@ summed frame s keeps (any.Snapshot n) held spelled = subst (AreSums frame.contes
 
 -- ---- the most that a content adds to a column
 
-unfoldable pub cap : Column → ℕ
-cap Ballots = 1
-cap Overvotes = sum_limit
-cap Undervotes = sum_limit
-cap WriteIns = sum_limit
-cap Pending = sum_limit
-cap Unassigned = sum_limit
-cap (Vote i) = sum_limit
+-- this is the most that the sums of a ballot add to it
+abbrev pub IsMost : Column → ℕ → Type 0
+IsMost column most = (sums : VoteSums) → AreBelow sum_limit sums → worth column sums ≤ most
 
-worth_le : (contests : List Contest) (v : VoteSums) → IsSums contests v → (j : Column) → worth j v ≤ cap j
-unfolding cap
-worth_le contests v is Ballots = omega arith
-worth_le contests v is Overvotes = let lt = is.below.overvotes in omega (arith, lt)
-worth_le contests v is Undervotes = let lt = is.below.undervotes in omega (arith, lt)
-worth_le contests v is WriteIns = let lt = is.below.write_ins in omega (arith, lt)
-worth_le contests v is Pending = let lt = is.below.pending in omega (arith, lt)
-worth_le contests v is Unassigned = let lt = is.below.unassigned in omega (arith, lt)
-worth_le contests v is (Vote i) = elim (cases_lt i (length v.votes)) [
-  | inl lt ↦ let less = is.below.votes (get_or v.votes i 0) (Contains-get_or v.votes i 0 lt) in omega (arith, less)
-  | inr le ↦ let e = get_or_past v.votes i 0 le in omega (arith, e)
-]
+pub most_votes : (column : Column) → IsMost column sum_limit
+most_votes column sums below = let lt = below column in omega (arith, lt)
+
+pub most_ballots : IsMost Ballots 1
+most_ballots sums below = omega arith
 
 is_snapshot : (x : AnyFact) (n : SnapshotFact) → as_snapshot x ≡ Some n → x ≡ any.Snapshot n
 is_snapshot (any.Device d) n e = Prim.cc e
@@ -105,19 +95,20 @@ module _ (contests : List Contest) (xs : List AnyFact) (told : (x : AnyFact) →
   pub fit : AreFit contests (pairs_of xs)
   fit = fit_from (header_in xs) (current_in xs) refl refl
 
-  one_le : (q : RowKey) (j : Column) (h : HeaderFact) (n : SnapshotFact) → current_in xs ≡ Some n → (o : Option VoteSums) → sums_for h.unit h.batch q n.votes ≡ o → option_map_or (worth j) o 0 ≤ cap j
-  one_le q j h n b None is = omega arith
-  one_le q j h n b (Some v) is = worth_le contests v ((now_summed n b).each v (found (λ v. is_key q (key_for h.unit h.batch v)) n.votes v is).0) j
+  module _ (q : RowKey) (j : Column) (most : ℕ) (is_most : IsMost j most) where
+    one_le : (h : HeaderFact) (n : SnapshotFact) → current_in xs ≡ Some n → (o : Option VoteSums) → sums_for h.unit h.batch q n.votes ≡ o → option_map_or (worth j) o 0 ≤ most
+    one_le h n b None is = omega arith
+    one_le h n b (Some v) is = is_most v ((now_summed n b).each v (found (λ v. is_key q (key_for h.unit h.batch v)) n.votes v is).0).below
 
-  le_from : (q : RowKey) (j : Column) (h : Option HeaderFact) (n : Option SnapshotFact) → header_in xs ≡ h → current_in xs ≡ n → shares (pairs_of xs) q j ≤ cap j
-  le_from q j None n a b = subst (λ ps. shares ps q j ≤ cap j) (sym (pairs_are xs None n a b)) (omega arith)
-  le_from q j (Some h) None a b = subst (λ ps. shares ps q j ≤ cap j) (sym (pairs_are xs (Some h) None a b)) (omega arith)
-  le_from q j (Some h) (Some n) a b =
-      let is = ap (λ ps. shares ps q j) (pairs_are xs (Some h) (Some n) a b) ∙ (sum_pairs h.unit h.batch q j n.votes ∙ share_found h.unit h.batch q j n.votes (now_summed n b).once) in
-      subst (λ k. k ≤ cap j) (sym is) (one_le q j h n b _ refl)
+    le_from : (h : Option HeaderFact) (n : Option SnapshotFact) → header_in xs ≡ h → current_in xs ≡ n → shares (pairs_of xs) q j ≤ most
+    le_from None n a b = subst (λ ps. shares ps q j ≤ most) (sym (pairs_are xs None n a b)) (omega arith)
+    le_from (Some h) None a b = subst (λ ps. shares ps q j ≤ most) (sym (pairs_are xs (Some h) None a b)) (omega arith)
+    le_from (Some h) (Some n) a b =
+        let is = ap (λ ps. shares ps q j) (pairs_are xs (Some h) (Some n) a b) ∙ (sum_pairs h.unit h.batch q j n.votes ∙ share_found h.unit h.batch q j n.votes (now_summed n b).once) in
+        subst (λ k. k ≤ most) (sym is) (one_le h n b _ refl)
 
-  pub shares_le : (q : RowKey) (j : Column) → shares (pairs_of xs) q j ≤ cap j
-  shares_le q j = le_from q j (header_in xs) (current_in xs) refl refl
+    pub shares_le : shares (pairs_of xs) q j ≤ most
+    shares_le = le_from (header_in xs) (current_in xs) refl refl
 
   pairs_few : (h : Option HeaderFact) (n : Option SnapshotFact) → header_in xs ≡ h → current_in xs ≡ n → length (pairs_of xs) ≤ length contests
   pairs_few None n a b = subst (λ ps. length ps ≤ length contests) (sym (pairs_are xs None n a b)) (omega arith)
@@ -157,16 +148,6 @@ full_le (e ∷ es) h =
     let c = sum_by-cons length e.1 (values_of es) in
     omega (arith, a, b, c)
 
-below : (j : Column) (a b x y : ℕ) → a ≤ x * cap j → b ≤ y * cap j → x + y < 2 ^ 64 → a + b < cell_limit j
-unfolding cap
-below Ballots a b x y h k lt = omega (arith, h, k, lt)
-below Overvotes a b x y h k lt = omega (arith, h, k, lt)
-below Undervotes a b x y h k lt = omega (arith, h, k, lt)
-below WriteIns a b x y h k lt = omega (arith, h, k, lt)
-below Pending a b x y h k lt = omega (arith, h, k, lt)
-below Unassigned a b x y h k lt = omega (arith, h, k, lt)
-below (Vote i) a b x y h k lt = omega (arith, h, k, lt)
-
 -- ---- a plan
 
 module _ (f : RecordName → Option (List AnyFact)) where
@@ -202,14 +183,30 @@ module _ (contests : List Contest) (es : Entries) (made : Plan) (g : RecordName 
     names_rise = plan.names_rise;
     fit_old = λ q. fit contests (facts_at (at_name q es)) (old_at q (at_name q es) refl);
     fit_new = λ c at. fit contests c.1 (new_at c at);
-    room = λ q j.
-        let a = values_le (λ facts. shares (pairs_of facts) q j) (cap j) es (λ e at. shares_le contests e.1 (old e at) q j) in
-        let b = given_le (λ c. shares (pairs_of c.1) q j) (cap j) cs (λ c at. shares_le contests c.1 (new_at c at) q j) in
-        let many = full_le es full in
-        let more = grows (λ k. at_name k es) cs (λ c at. (plan.changes c at).more) in
-        let count = plan.count in
-        below j _ _ (length es) (length cs) a b (omega (arith, many, more, count, few));
+    room = λ q. below_limits (sums q) (few_ballots q) (few_votes q);
   }
+    where
+      sums : RowKey → Column → ℕ
+      sums q j = total es q j + sum_by (λ c. shares (pairs_of c.1) q j) cs
+
+      many : length es + length cs < 2 ^ 64
+      many =
+          let each = full_le es full in
+          let more = grows (λ k. at_name k es) cs (λ c at. (plan.changes c at).more) in
+          let count = plan.count in
+          omega (arith, each, more, count, few)
+
+      sums_le : (q : RowKey) (j : Column) (most : ℕ) → IsMost j most → sums q j ≤ length es * most + length cs * most
+      sums_le q j most is =
+          let a = values_le (λ facts. shares (pairs_of facts) q j) most es (λ e at. shares_le contests e.1 (old e at) q j most is) in
+          let b = given_le (λ c. shares (pairs_of c.1) q j) most cs (λ c at. shares_le contests c.1 (new_at c at) q j most is) in
+          omega (arith, a, b)
+
+      few_ballots : (q : RowKey) → sums q Ballots ≤ ballot_limit
+      few_ballots q = let le = sums_le q Ballots 1 most_ballots in omega (arith, le, many)
+
+      few_votes : (q : RowKey) (j : Column) → sums q j < 2 ^ 128
+      few_votes q j = let le = sums_le q j sum_limit (most_votes j) in omega (arith, le, many)
 
   -- each new fact moves at most two sums of each contest
   pub moves_few : all_moves (λ k. at_name k es) cs ≤ 2 * length contests * n

@@ -119,7 +119,7 @@ module _ (s : Stored) (count : ℕ) (more : List AnyFact) (held : IsHeld s count
       cells = λ q j. agrees_rows allowed.frame d es allowed.before.plain held.own sums s.totals.rows rows_at q j;
       none_empty = λ q.
           let is = ap (λ m. get m q) rows_at ∙ rows_law contests before q in
-          strict (get s.totals.rows q) (λ r e. ballots_law contests before q r (sym is ∙ e));
+          strict (get s.totals.rows q) (λ r e. (ballots_law contests before q r (sym is ∙ e)).1);
     };
   }
 

@@ -6,14 +6,15 @@ ghost use Rattle.std.specs.Ordering.{eq_by_cmp};
 ghost use Rattle.std.specs.List.Sorted.{IsStrictlySortedBy};
 ghost use Rattle.std.specs.Cmp.{partial_equiv_from_equiv, eq_by_cmp_equiv};
 ghost use Rattle.std.specs.Cmp.Lexicographic.{pointwise, lists_equiv};
-ghost use Rattle.cvr_tally.specs.Rows.{row_closed};
+ghost use Rattle.cvr_tally.specs.Rows.{row_closed, limit_of};
 ghost use Rattle.cvr_tally.specs.declared.key.RowKey.{RowKey};
 ghost use Rattle.cvr_office.specs.Place.{any_cmp, any_total};
 ghost use Rattle.cvr_office.specs.Plain.{set_of, IsPut};
 ghost use Rattle.cvr_fact_types.specs.Facts.{Facts, fact_total, fact_exact};
 ghost use Rattle.cvr_facts.specs.Unions.{union_laws};
 ghost use Rattle.cvr_cached.specs.Contents.{header_in, current_in, pairs_of};
-ghost use Rattle.cvr_cached.specs.Cells.{Column, cell, cell_limit, shares, has_row, is_row_of};
+ghost use Rattle.cvr_fact_types.specs.Columns.{Column};
+ghost use Rattle.cvr_cached.specs.Cells.{cell, shares, has_row, is_row_of};
 ghost use Rattle.cvr_cached.specs.Cells.{AreFit};
 
 use crate::remembered::{
@@ -152,7 +153,7 @@ impl RecordContent {
         requires open_at { (q : RowKey) → is_row_of self.old q ≡ true → has_row totals.old.rows q
             ≡ true }
         requires room { (q : RowKey) (j : Column) → cell totals.old.rows q j
-            + shares (pairs_of self.old) q j < cell_limit j }
+            + shares (pairs_of self.old) q j < limit_of j }
         ensures same { self.new ≡ self.old }
         ensures cells { (q : RowKey) (j : Column) → cell totals.new.rows q j
             ≡ cell totals.old.rows q j + shares (pairs_of self.old) q j }

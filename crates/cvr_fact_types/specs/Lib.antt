@@ -1,3 +1,4 @@
+pub mod Columns
 pub mod Facts
 pub mod Orders
 pub mod Text

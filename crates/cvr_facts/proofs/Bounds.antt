@@ -1,7 +1,10 @@
 -- How large the sums of a contest can be.
-use Rattle.std.proofs.Common.{◌≡◌, ◌<◌, ◌≤◌, ◌+◌, ℕ, get_or, take, ap, List, Bool, not, refl, length, arith}
-use Rattle.std.specs.List.{All, filter, sum_by}
-use Rattle.std.proofs.lemmas.List.Elements.{All-filter, All-map, All-contains, Contains-get_or}
+use Rattle.std.proofs.Common.{◌≡◌, ◌<◌, ◌≤◌, ◌+◌, ℕ, get_or, take, ap, List, Bool, not, refl, length, map, sym, subst, inl, inr, arith}
+use Rattle.std.specs.List.{All, filter, range_with_len, sum_by}
+use Rattle.std.proofs.lemmas.Bool.{cases_lt}
+use Rattle.std.proofs.lemmas.List.{get_or_past}
+use Rattle.std.proofs.lemmas.List.Elements.{All-filter, Contains-get_or}
+use Rattle.std.proofs.lemmas.List.FromFn.{length-map-range_with_len, get_or-map-range_with_len}
 use Rattle.std.proofs.lemmas.List.Filters.{sum_by-filter_both}
 use Rattle.std.proofs.lemmas.List.Sums.{sum_by-le, sum_by_more_le, length-filter, count_by-le-length}
 use Rattle.cdf_types.specs.declared.report.Position.{Position}
@@ -10,7 +13,8 @@ use Rattle.cdf_types.specs.declared.report.ContestVote.{ContestVote}
 use Rattle.cdf_types.specs.declared.report.Snapshot.{Snapshot}
 use Rattle.cdf_parts.specs.Places.{Contest, selections_at}
 use Rattle.cdf_typed.specs.Range.{IsCount, SelectionInRange, ContestInRange, SnapshotInRange}
-use Rattle.cvr_facts.specs.Sums.{counts, votes_of, names_place, names_none, votes_for, places_of, sums_of, sum_limit, AreBelow, AreInRange}
+use Rattle.cvr_fact_types.specs.Columns.{Ballots, Overvotes, Undervotes, WriteIns, Pending, Unassigned, VotesFor}
+use Rattle.cvr_facts.specs.Sums.{counts, votes_of, names_place, names_none, votes_for, sums_of, sum_limit, AreBelow, AreInRange}
 
 -- the most that a selection can have
 abbrev pub selection_limit : ℕ
@@ -50,17 +54,19 @@ part-lt p contests vote h =
     omega (arith, sum_by-filter-le (votes_of counts) p vote.selections, votes_are_below counts contests vote h)
 
 pub sums_of_are_below : (contests : List Contest) (vote : ContestVote) → ContestInRange contests vote → AreBelow sum_limit (sums_of contests vote)
-sums_of_are_below contests vote h = record {
-  votes = λ n c.
-      let places = places_of (selections_at contests vote.contest) in
-      let all = All-map (λ m. m < sum_limit) (λ place. votes_for place vote) places (λ k d less. part-lt (names_place _) contests vote h) in
-      All-contains (λ m. m < sum_limit) _ n all c;
-  overvotes = omega (arith, h.overvotes);
-  undervotes = omega (arith, h.undervotes);
-  write_ins = omega (arith, h.write_ins);
-  pending = votes_are_below _ contests vote h;
-  unassigned = part-lt names_none contests vote h;
-}
+sums_of_are_below contests vote h Ballots = omega arith
+sums_of_are_below contests vote h Overvotes = omega (arith, h.overvotes)
+sums_of_are_below contests vote h Undervotes = omega (arith, h.undervotes)
+sums_of_are_below contests vote h WriteIns = omega (arith, h.write_ins)
+sums_of_are_below contests vote h Pending = votes_are_below _ contests vote h
+sums_of_are_below contests vote h Unassigned = part-lt names_none contests vote h
+sums_of_are_below contests vote h (VotesFor place) =
+    let votes : ℕ → ℕ = λ place. votes_for place vote in
+    let n = length (selections_at contests vote.contest) in
+    elim (cases_lt place n) [
+      | inl less ↦ subst (λ k. k < sum_limit) (sym (get_or-map-range_with_len votes 0 n place place 0 less (omega arith))) (part-lt (names_place place) contests vote h)
+      | inr past ↦ let none = get_or_past (map votes (range_with_len 0 n)) place 0 (omega (arith, length-map-range_with_len votes 0 n, past)) in omega (arith, none)
+    ]
 
 pub AreInRange-from_snapshot : (contests : List Contest) (s : Snapshot) → SnapshotInRange contests s → AreInRange contests s.contests
 AreInRange-from_snapshot contests s h = record { once = h.once; each = h.votes }

@@ -12,6 +12,7 @@ use Rattle.cdf_types.specs.declared.report.ContestVote.{ContestVote}
 use Rattle.cdf_parts.specs.Places.{Contest, selections_at}
 use Rattle.cdf_typed.specs.Range.{ContestInRange}
 use Rattle.cvr_fact_types.specs.declared.sums.VoteSums.{VoteSums}
+use Rattle.cvr_fact_types.specs.Columns.{Column, worth}
 
 -- ---- positions
 
@@ -105,10 +106,6 @@ pub record AreInRange (contests : List Contest) (votes : List ContestVote) : Typ
 abbrev pub sum_limit : ℕ
 sum_limit = 18_014_398_509_481_984
 
-pub record AreBelow (limit : ℕ) (sums : VoteSums) : Type 0 where
-  pub votes : (n : ℕ) → Contains sums.votes n → n < limit
-  pub overvotes : sums.overvotes < limit
-  pub undervotes : sums.undervotes < limit
-  pub write_ins : sums.write_ins < limit
-  pub pending : sums.pending < limit
-  pub unassigned : sums.unassigned < limit
+-- in each column they are below this limit
+abbrev pub AreBelow : ℕ → VoteSums → Type 0
+AreBelow limit sums = (column : Column) → worth column sums < limit

@@ -1,6 +1,6 @@
 -- What is told of a set of facts that is given by a list.
-use Rattle.std.proofs.Common.{◌≡◌, ℕ, ◌==◌, ◌&&◌, ◌||◌, Bool, true, cond, List, [], ◌∷◌, ◌++◌, map, length, find, get_or, is_some, Contains, Option, Some, None, option_map, Ordering, nat_le, refl, sym, ap, ◌∙◌, subst}
-use Rattle.std.specs.List.{filter, filter_map, flat_map, sum_by, range_with_len}
+use Rattle.std.proofs.Common.{◌≡◌, ℕ, ◌==◌, ◌&&◌, ◌||◌, Bool, true, cond, List, [], ◌∷◌, ◌++◌, map, length, find, is_some, Contains, Option, Some, None, option_map, Ordering, nat_le, refl, sym, ap, ◌∙◌, subst}
+use Rattle.std.specs.List.{filter, filter_map, flat_map, sum_by}
 use Rattle.std.specs.Option.{option_map_or}
 use Rattle.std.specs.Cmp.{IsTotalOrder, eq_by_cmp_equiv}
 use Rattle.std.specs.Ordering.{eq_by_cmp}
@@ -13,6 +13,7 @@ use Rattle.cdf_parts.specs.Places.{Contest, selections_at}
 use Rattle.cdf_typed.specs.Greatest.{greatest}
 use Rattle.cvr_fact_types.specs.declared.name.RecordName.{RecordName}
 use Rattle.cvr_fact_types.specs.declared.sums.VoteSums.{VoteSums}
+use Rattle.cvr_fact_types.specs.Columns.{Column, worth}
 use Rattle.cvr_fact_types.specs.Facts.{Fact, Facts, fact_cmp, fact_total, fact_exact, text_cmp, name_cmp}
 use Rattle.cvr_facts.specs.Ordered.{keys_of, ordered}
 use Rattle.cvr_facts.specs.Choosing.{choice_cmp, header_body, snapshot_body, current}
@@ -21,6 +22,7 @@ use Rattle.cvr_facts.proofs.Lemmas.{greatest_is, is_greatest, in_map, from_map, 
 use Rattle.cvr_tally.specs.declared.key.RowKey.{RowKey}
 use Rattle.cvr_tally.specs.declared.row.Row.{Row}
 use Rattle.cvr_tally.specs.Keys.{key_cmp, keys_total}
+use Rattle.cvr_tally.specs.Rows.{row_by}
 use Rattle.cvr_tally.specs.Text.{row_line}
 use Rattle.cvr_tally.proofs.Lemmas.{placed, entries-given}
 use Rattle.cvr_office.specs.declared.conflict.ConflictName.{ConflictName}
@@ -140,19 +142,11 @@ module _ (contests : List Contest) (rs : List RecordName) (head now : RecordName
   abbrev stands : RowKey → RecordName → Bool
   stands q r = is_headed q (head r) && is_some (sums q.contest r)
 
-  abbrev total : ℕ → (VoteSums → ℕ) → List RecordName → ℕ
-  total c f xs = sum_by (λ r. option_map_or f (sums c r) 0) xs
+  abbrev total : ℕ → List RecordName → Column → ℕ
+  total c xs column = sum_by (λ r. option_map_or (worth column) (sums c r) 0) xs
 
   abbrev row_of_all : ℕ → List RecordName → Row
-  row_of_all c xs = record {
-    ballots = length xs;
-    overvotes = total c (λ v. v.overvotes) xs;
-    undervotes = total c (λ v. v.undervotes) xs;
-    write_ins = total c (λ v. v.write_ins) xs;
-    pending = total c (λ v. v.pending) xs;
-    unassigned = total c (λ v. v.unassigned) xs;
-    votes = map (λ i. total c (λ v. get_or v.votes i 0) xs) (range_with_len 0 (length (selections_at contests c)));
-  }
+  row_of_all c xs = row_by (length (selections_at contests c)) (total c xs)
 
   abbrev row_with : RowKey → List RecordName → Option Row
   row_with q xs = cond (length xs == 0) None (Some (row_of_all q.contest xs))

@@ -1,7 +1,7 @@
 -- The records, currents, headers and rows of facts in parts that have no record in common.
-use Rattle.std.proofs.Common.{◌≡◌, ◌+◌, ◌==◌, ◌<◌, ℕ, zero, suc, Bool, true, false, cond, not, ◌&&◌, List, [], ◌∷◌, ◌++◌, map, length, get_or, Contains, Option, Some, None, is_some, inl, inr, refl, sym, ap, ap₂, ◌∙◌, subst, arith, true≢false, ne_eqb}
+use Rattle.std.proofs.Common.{◌≡◌, ◌+◌, ◌==◌, ◌<◌, ℕ, suc, Bool, true, false, cond, not, ◌&&◌, List, [], ◌∷◌, ◌++◌, length, Contains, Option, Some, None, is_some, inl, inr, refl, sym, ap, ap₂, ◌∙◌, subst, arith, true≢false, ne_eqb}
 use Rattle.std.specs.Prelude.{◌⊎◌, slice_get}
-use Rattle.std.specs.List.{filter, find, zip, sum_by, flat_map, list_any, range_with_len}
+use Rattle.std.specs.List.{filter, find, sum_by, flat_map, list_any}
 use Rattle.std.specs.List.Sorted.{IsPermutation}
 use Rattle.std.specs.FinSet.{union, empty, contains, contains-union, contains-empty}
 use Rattle.std.specs.Option.{option_map_or}
@@ -13,6 +13,7 @@ use Rattle.std.proofs.lemmas.Map.Made.{is_member-Decides}
 use Rattle.cdf_parts.specs.Places.{Contest, selections_at}
 use Rattle.cvr_fact_types.specs.declared.name.RecordName.{RecordName}
 use Rattle.cvr_fact_types.specs.declared.sums.VoteSums.{VoteSums}
+use Rattle.cvr_fact_types.specs.Columns.{Column, worth}
 use Rattle.cvr_fact_types.specs.Facts.{Fact, Header, Snapshot, Facts, name_cmp, fact_total, fact_exact}
 use Rattle.cvr_facts.specs.Unions.{union_comm}
 use Rattle.cvr_facts.specs.Choosing.{header, current, header_bodies, snapshot_bodies}
@@ -20,15 +21,16 @@ use Rattle.cvr_facts.proofs.Laws.{text_total, text_exact, choice_total, choice_e
 use Rattle.cvr_facts.proofs.Lemmas.{none_listed, at_head, at_tail, head_or_tail, tie_decides, ordered_rises, same_lists_of_members}
 use Rattle.cvr_tally.specs.declared.key.RowKey.{RowKey}
 use Rattle.cvr_tally.specs.declared.row.Row.{Row}
+use Rattle.cvr_tally.specs.Rows.{number_in, row_by}
+use Rattle.cvr_tally.proofs.Lemmas.{length-row_by, number_in-row_by, row_by-same}
 use Rattle.cvr_office.specs.Names.{record_of, records}
-use Rattle.cvr_office.specs.Tallied.{is_headed, sums_of_body, sums_at, stands_in, column, row_of, row}
+use Rattle.cvr_office.specs.Tallied.{is_headed, sums_of_body, sums_at, stands_in, column_over, row_of, row}
 use Rattle.cvr_office.specs.Parts.{ShareNoRecord, AreAllApart, whole, row_sum, option_sum, RowsOfPartsLaw, CurrentsOfPartsLaw, HeadersOfPartsLaw, RecordsRiseLaw, RowsOfManyLaw, CurrentsOfManyLaw, HeadersOfManyLaw, RecordsOfManyLaw}
 use Rattle.cvr_office.proofs.BallotCounts.{sum_by-same}
 use Rattle.cvr_office.proofs.GivenFacts.{HaveSame, greatest-same}
 use Rattle.cvr_office.proofs.NextInFacts.{name_total, name_exact}
 use Rattle.cvr_office.proofs.NextLaws.{listed}
 use Rattle.cvr_office.proofs.RecordMembers.{from_filter, in_filter}
-use Rattle.cvr_office.proofs.RowColumns.{same_row}
 use Rattle.cvr_office.proofs.Unions.{or_cases, or_left, or_right}
 
 -- ---- records
@@ -159,14 +161,12 @@ module _ {X : Type 0} where
       ∙ (sum_by-append h xs ys
       ∙ ap₂ ◌+◌ (sum_by-same h g xs left) (sum_by-same h k ys right))
 
--- ---- numbers of each selection
-
-each_sum : (h f g : ℕ → ℕ) → ((i : ℕ) → h i ≡ f i + g i) → (a n : ℕ)
-    → map h (range_with_len a n) ≡ map (λ p. p.0 + p.1) (zip (map f (range_with_len a n)) (map g (range_with_len a n)))
-each_sum h f g is a zero = refl
-each_sum h f g is a (suc n) = ap₂ ◌∷◌ (is a) (each_sum h f g is (a + 1) n)
-
 -- ---- rows
+
+row_sum-row_by : (n : ℕ) (f g : Column → ℕ) → row_sum (row_by n f) (row_by n g) ≡ row_by n (λ column. f column + g column)
+row_sum-row_by n f g =
+    subst (λ m. row_by m (λ column. number_in column (row_by n f) + number_in column (row_by n g)) ≡ row_by n (λ column. f column + g column)) (sym (length-row_by n f))
+    (row_by-same n _ _ (λ column here. λ i. number_in-row_by n f column here i + number_in-row_by n g column here i))
 
 module _ (contests : List Contest) (s t : Facts) (apart : ShareNoRecord s t) (q : RowKey) where
   abbrev both : Facts
@@ -203,8 +203,9 @@ module _ (contests : List Contest) (s t : Facts) (apart : ShareNoRecord s t) (q 
   right_current : (r : RecordName) → Contains (records t) r → current both r ≡ current t r
   right_current r at = (currents t s (λ k here there. apart k there here) r at).1
 
-  columns : (f : VoteSums → ℕ) → column contests both q.contest f (standing both) ≡ column contests s q.contest f (standing s) + column contests t q.contest f (standing t)
-  columns f =
+  columns : (column : Column) → column_over contests both q.contest (standing both) column ≡ column_over contests s q.contest (standing s) column + column_over contests t q.contest (standing t) column
+  columns column =
+      let f = worth column in
       let kept = λ (u : Facts). sum_by-kept (stands_in contests u q) (λ r. option_map_or f (sums_at contests u q.contest r) 0) (records u) in
       let split = sum_by-parts (counted both f) (counted s f) (counted t f) (records both) (records s) (records t) (records_of_parts s t apart)
       (λ r at. λ i. counted_of f (left_header r at i) (left_current r at i)) (λ r at. λ i. counted_of f (right_header r at i) (right_current r at i)) in
@@ -220,24 +221,21 @@ module _ (contests : List Contest) (s t : Facts) (apart : ShareNoRecord s t) (q 
   abbrev theirs : Facts → List RecordName → Row
   theirs u rs = row_of contests u q.contest rs
 
+  abbrev selections : ℕ
+  selections = length (selections_at contests q.contest)
+
+  abbrev over : Facts → List RecordName → Column → ℕ
+  over u rs = column_over contests u q.contest rs
+
   sums : theirs both (standing both) ≡ row_sum (theirs s (standing s)) (theirs t (standing t))
-  sums = same_row ballots (columns (λ v. v.overvotes)) (columns (λ v. v.undervotes)) (columns (λ v. v.write_ins)) (columns (λ v. v.pending)) (columns (λ v. v.unassigned))
-      (each_sum _ _ _ (λ i. columns (λ v. get_or v.votes i 0)) 0 (length (selections_at contests q.contest)))
+  sums = row_by-same selections _ _ (λ column here. columns column) ∙ sym (row_sum-row_by selections (over s (standing s)) (over t (standing t)))
 
   -- a row of no records adds nothing
   none_left : (rs : List RecordName) → row_sum (theirs s []) (theirs t rs) ≡ theirs t rs
-  none_left rs =
-      let plus : (n : ℕ) → 0 + n ≡ n = λ n. omega arith in
-      same_row (plus _) (plus _) (plus _) (plus _) (plus _) (plus _)
-      (sym (each_sum (λ i. column contests t q.contest (λ v. get_or v.votes i 0) rs) (λ i. column contests s q.contest (λ v. get_or v.votes i 0) [])
-      (λ i. column contests t q.contest (λ v. get_or v.votes i 0) rs) (λ i. sym (plus (column contests t q.contest (λ v. get_or v.votes i 0) rs))) 0 (length (selections_at contests q.contest))))
+  none_left rs = row_sum-row_by selections (over s []) (over t rs) ∙ row_by-same selections _ (over t rs) (λ column here. let none : 0 + over t rs column ≡ over t rs column = omega arith in none)
 
   none_right : (rs : List RecordName) → row_sum (theirs s rs) (theirs t []) ≡ theirs s rs
-  none_right rs =
-      let plus : (n : ℕ) → n + 0 ≡ n = λ n. omega arith in
-      same_row (plus _) (plus _) (plus _) (plus _) (plus _) (plus _)
-      (sym (each_sum (λ i. column contests s q.contest (λ v. get_or v.votes i 0) rs) (λ i. column contests s q.contest (λ v. get_or v.votes i 0) rs)
-      (λ i. column contests t q.contest (λ v. get_or v.votes i 0) []) (λ i. sym (plus (column contests s q.contest (λ v. get_or v.votes i 0) rs))) 0 (length (selections_at contests q.contest))))
+  none_right rs = row_sum-row_by selections (over s rs) (over t []) ∙ row_by-same selections _ (over s rs) (λ column here. let none : over s rs column + 0 ≡ over s rs column = omega arith in none)
 
   there : (n : ℕ) (r : Row) → 0 < n → cond (n == 0) None (Some r) ≡ Some r
   there n r some = ap (λ b. cond b None (Some r)) (ne_eqb n 0 (λ none. omega (arith, some, none)))

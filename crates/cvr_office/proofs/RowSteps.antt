@@ -1,21 +1,23 @@
 -- What is at a key of the tally, record by record.
 use Rattle.std.proofs.Common.{◌≡◌, ◌==◌, ℕ, ◌<◌, Bool, true, false, cond, ◌&&◌, List, [], ◌∷◌, ◌++◌, length, Contains, Option, Some, None, is_some, refl, sym, ap, ◌∙◌, subst, arith, ne_eqb, append-nil}
 use Rattle.std.specs.Prelude.{unwrap_or}
-use Rattle.std.specs.List.{filter, find}
+use Rattle.std.specs.List.{filter, find, sum_by}
 use Rattle.std.specs.Option.{option_map_or}
 use Rattle.std.proofs.lemmas.Bool.{eqb-true, eqb-false}
 use Rattle.std.proofs.lemmas.List.{length_push}
 use Rattle.std.proofs.lemmas.List.Elements.{filter-append}
+use Rattle.std.proofs.lemmas.List.Sums.{sum_by-cons}
 use Rattle.cdf_parts.specs.Places.{Contest, selections_at}
 use Rattle.cvr_fact_types.specs.declared.name.RecordName.{RecordName}
 use Rattle.cvr_fact_types.specs.declared.sums.VoteSums.{VoteSums}
+use Rattle.cvr_fact_types.specs.Columns.{Ballots, worth}
 use Rattle.cvr_fact_types.specs.Facts.{Facts}
 use Rattle.cvr_facts.specs.Choosing.{header, current}
 use Rattle.cvr_facts.proofs.Lemmas.{at_head, at_tail}
 use Rattle.cvr_tally.specs.declared.key.RowKey.{RowKey}
 use Rattle.cvr_tally.specs.declared.row.Row.{Row}
 use Rattle.cvr_tally.specs.Rows.{zero_row, row_plus}
-use Rattle.cvr_office.specs.Tallied.{is_headed, sums_of_body, sums_at, stands_in, row_of, row_over}
+use Rattle.cvr_office.specs.Tallied.{is_headed, sums_of_body, sums_at, stands_in, column_over, row_of, row_over}
 use Rattle.cvr_office.specs.Adding.{IsSums, CurrentsAreSums, added, row_with}
 use Rattle.cvr_office.proofs.RowColumns.{row_of-none, row_of-more}
 
@@ -42,11 +44,6 @@ module _ (contests : List Contest) (s : Facts) (sums : CurrentsAreSums contests 
 
   pub sums_there : (c : ℕ) (r : RecordName) (v : VoteSums) → sums_at contests s c r ≡ Some v → IsSums contests v × (v.contest ≡ c)
   sums_there c r v e = sums_from c r v (current s r) refl e
-
-  votes_long : (c : ℕ) (r : RecordName) (v : VoteSums) → sums_at contests s c r ≡ Some v → length v.votes ≡ length (selections_at contests c)
-  votes_long c r v e =
-      let at = sums_there c r v e in
-      subst (λ k. length v.votes ≡ length (selections_at contests k)) at.1 at.0.votes
 
 -- ---- one record more
 
@@ -95,18 +92,34 @@ module _ (contests : List Contest) (s : Facts) (sums : CurrentsAreSums contests 
       let at = passed (is_headed q (header s r)) (sums_at contests s q.contest r) v is in
       ap if_any (standing_more rs r true (stands_is r ∙ ap is_some is))
       ∙ (if_any-more (standing rs) r
-      ∙ ap Some (row_of-more contests s q.contest (standing rs) r v at (votes_long contests s sums q.contest r v at) ∙ ap (λ w. row_plus w v) (sym (opened (standing rs)))))
+      ∙ ap Some (row_of-more contests s q.contest (standing rs) r v at ∙ ap (λ w. row_plus w v) (sym (opened (standing rs)))))
 
   pub row_over-more : (rs : List RecordName) (r : RecordName) → row_over contests s q (rs ++ r ∷ []) ≡ row_with contests q (row_over contests s q rs) (added contests s q r)
   row_over-more rs r = adds rs r (added contests s q r) refl
 
 -- ---- ballots
 
--- a row has the ballots of the records that stand in it
-pub row_stands : (contests : List Contest) (s : Facts) (q : RowKey) (rs : List RecordName) (r : Row) → row_over contests s q rs ≡ Some r
-    → (r.ballots ≡ length (filter (stands_in contests s q) rs)) × (0 < r.ballots)
-row_stands contests s q rs r is =
-    let parts = shown (length (filter (stands_in contests s q) rs) == 0) (row_of contests s q.contest (filter (stands_in contests s q) rs)) r is in
-    let none = eqb-false (length (filter (stands_in contests s q) rs)) 0 parts.0 in
-    let ballots : length (filter (stands_in contests s q) rs) ≡ r.ballots = ap (λ r. r.ballots) parts.1 in
-    (sym ballots, omega (arith, ballots, none))
+one_ballot : (b : Bool) (o : Option VoteSums) → (b && is_some o) ≡ true → option_map_or (worth Ballots) o 0 ≡ 1
+one_ballot true (Some v) is = refl
+one_ballot true None is = Prim.cc is
+one_ballot false o is = Prim.cc is
+
+module _ (contests : List Contest) (s : Facts) (q : RowKey) where
+  -- each of the records that stand in a row is a ballot
+  pub ballots_stand : (rs : List RecordName) → column_over contests s q.contest (filter (stands_in contests s q) rs) Ballots ≡ length (filter (stands_in contests s q) rs)
+  ballots_stand [] = refl
+  ballots_stand (r ∷ rs) =
+      let stand = filter (stands_in contests s q) rs in
+      let each : RecordName → ℕ = λ r. option_map_or (worth Ballots) (sums_at contests s q.contest r) 0 in
+      elim (stands_in contests s q r) as (λ b. stands_in contests s q r ≡ b → sum_by each (cond b (r ∷ stand) stand) ≡ length (cond b (r ∷ stand) stand)) [
+        | true ↦ λ is. omega (arith, sum_by-cons each r stand, one_ballot (is_headed q (header s r)) (sums_at contests s q.contest r) is, ballots_stand rs)
+        | false ↦ λ is. ballots_stand rs
+      ] refl
+
+  pub row_stands : (rs : List RecordName) (r : Row) → row_over contests s q rs ≡ Some r → (r.ballots ≡ length (filter (stands_in contests s q) rs)) × (0 < r.ballots)
+  row_stands rs r is =
+      let stand = filter (stands_in contests s q) rs in
+      let parts = shown (length stand == 0) (row_of contests s q.contest stand) r is in
+      let none = eqb-false (length stand) 0 parts.0 in
+      let ballots : r.ballots ≡ length stand = sym (ap (λ r. r.ballots) parts.1) ∙ ballots_stand rs in
+      (ballots, omega (arith, ballots, none))

@@ -174,4 +174,4 @@ pub rows_law : RowsLaw
 rows_law contests s q = get-of_keys keys_total keys_exact (row contests s) (flat_map (keys_at contests s) (records s)) (all_listed contests s) q
 
 pub ballots_law : BallotsLaw
-ballots_law contests s q r is = (row_stands contests s q (records s) r is).1
+ballots_law contests s q r is = row_stands contests s q (records s) r is

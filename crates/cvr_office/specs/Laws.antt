@@ -1,6 +1,6 @@
 -- Laws of what offices keep, of the next name, and of rows. (This project's own.)
-use Rattle.std.specs.Prelude.{◌≡◌, ◌≢◌, ◌↔◌, ◌<◌, ℕ, List, true, Option, Some, None, ⊤}
-use Rattle.std.specs.List.{Contains}
+use Rattle.std.specs.Prelude.{◌≡◌, ◌≢◌, ◌↔◌, ◌<◌, ℕ, List, length, true, Option, Some, None, ⊤}
+use Rattle.std.specs.List.{Contains, filter}
 use Rattle.std.specs.declared.cmp.Ordering.{Ordering}
 use Rattle.std.specs.declared.cmp.Ordering.TheVariants.{Less, Greater}
 use Rattle.std.specs.FinMap.{get}
@@ -11,11 +11,12 @@ use Rattle.cdf_definition.specs.Sound.{IsFrame}
 use Rattle.cdf_definition.specs.Acceptance.{Valid}
 use Rattle.cvr_fact_types.specs.Facts.{Fact, Facts}
 use Rattle.cvr_facts.specs.Reports.{facts}
+use Rattle.cvr_office.specs.Names.{records}
 use Rattle.cvr_office.specs.Readers.{next}
 use Rattle.cvr_office.specs.Keeps.{Keeps, starting}
 use Rattle.cvr_tally.specs.declared.key.RowKey.{RowKey}
 use Rattle.cvr_tally.specs.declared.row.Row.{Row}
-use Rattle.cvr_office.specs.Tallied.{row, rows}
+use Rattle.cvr_office.specs.Tallied.{row, rows, stands_in}
 
 -- ---- what offices keep
 
@@ -59,6 +60,8 @@ NoNextLaw {K} R list = (s : Facts) (after : Option K) → (next R (list s) after
 abbrev pub RowsLaw : Type 0
 RowsLaw = (contests : List Contest) (s : Facts) (q : RowKey) → get (rows contests s) q ≡ row contests s q
 
--- each row has a ballot
+-- the ballots of a row are the records that stand in it, and there is one
 abbrev pub BallotsLaw : Type 0
-BallotsLaw = (contests : List Contest) (s : Facts) (q : RowKey) (r : Row) → row contests s q ≡ Some r → 0 < r.ballots
+BallotsLaw =
+    (contests : List Contest) (s : Facts) (q : RowKey) (r : Row) → row contests s q ≡ Some r
+    → (r.ballots ≡ length (filter (stands_in contests s q) (records s))) × (0 < r.ballots)

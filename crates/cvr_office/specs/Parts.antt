@@ -1,6 +1,6 @@
 -- Facts in parts that have no record in common, and the sums of rows. (This project's own.)
-use Rattle.std.specs.Prelude.{◌≡◌, ◌≢◌, ◌+◌, ℕ, List, [], ◌∷◌, ◌++◌, map, slice_get, Option, Some, None}
-use Rattle.std.specs.List.{Contains, zip, flat_map}
+use Rattle.std.specs.Prelude.{◌≡◌, ◌≢◌, ◌+◌, ℕ, List, [], ◌∷◌, ◌++◌, map, length, slice_get, Option, Some, None}
+use Rattle.std.specs.List.{Contains, flat_map}
 use Rattle.std.specs.List.Sorted.{IsPermutation, IsStrictlySortedBy}
 use Rattle.std.specs.FinSet.{union}
 use Rattle.cdf_parts.specs.Places.{Contest}
@@ -9,6 +9,7 @@ use Rattle.cvr_fact_types.specs.Facts.{Facts, name_cmp}
 use Rattle.cvr_facts.specs.Choosing.{header, current}
 use Rattle.cvr_tally.specs.declared.key.RowKey.{RowKey}
 use Rattle.cvr_tally.specs.declared.row.Row.{Row}
+use Rattle.cvr_tally.specs.Rows.{number_in, row_by}
 use Rattle.cvr_office.specs.Names.{records}
 use Rattle.cvr_office.specs.Reach.{union_over}
 use Rattle.cvr_office.specs.Tallied.{row}
@@ -31,15 +32,7 @@ whole parts = union_over (λ s. s) parts
 
 -- column by column
 abbrev pub row_sum : Row → Row → Row
-row_sum a b = record {
-  ballots = a.ballots + b.ballots;
-  overvotes = a.overvotes + b.overvotes;
-  undervotes = a.undervotes + b.undervotes;
-  write_ins = a.write_ins + b.write_ins;
-  pending = a.pending + b.pending;
-  unassigned = a.unassigned + b.unassigned;
-  votes = map (λ p. p.0 + p.1) (zip a.votes b.votes);
-}
+row_sum a b = row_by (length a.votes) (λ column. number_in column a + number_in column b)
 
 -- a row that is absent adds nothing
 abbrev pub option_sum : Option Row → Option Row → Option Row

@@ -1,6 +1,6 @@
 -- The rows of a tally, anew from the facts. (Classes CVR and CVRContest of NIST SP 1500-103; which records stand in a row is this project's own.)
-use Rattle.std.specs.Prelude.{◌==◌, ◌<◌, ◌^◌, ℕ, List, [], map, length, find, get_or, cond, Bool, false, ◌&&◌, is_some, codes, Option, Some, None, option_map}
-use Rattle.std.specs.List.{filter, filter_map, flat_map, sum_by, range_with_len}
+use Rattle.std.specs.Prelude.{◌==◌, ◌<◌, ◌^◌, ℕ, List, [], map, length, find, cond, Bool, false, ◌&&◌, is_some, codes, Option, Some, None, option_map}
+use Rattle.std.specs.List.{filter, filter_map, flat_map, sum_by}
 use Rattle.std.specs.Ordering.{is_eq}
 use Rattle.std.specs.Option.{option_map_or}
 use Rattle.std.specs.FinMap.{from_entries}
@@ -9,13 +9,14 @@ use Rattle.cdf_parts.specs.Places.{Contest, selections_at}
 use Rattle.cdf_typed.specs.Typed.{snapshot_of}
 use Rattle.cvr_fact_types.specs.declared.name.RecordName.{RecordName}
 use Rattle.cvr_fact_types.specs.declared.sums.VoteSums.{VoteSums}
+use Rattle.cvr_fact_types.specs.Columns.{Column, worth}
 use Rattle.cvr_fact_types.specs.Facts.{Facts}
 use Rattle.cvr_facts.specs.Choosing.{data_of, header, current}
 use Rattle.cvr_facts.specs.Sums.{sums_in}
 use Rattle.cvr_tally.specs.declared.key.RowKey.{RowKey}
 use Rattle.cvr_tally.specs.declared.row.Row.{Row}
 use Rattle.cvr_tally.specs.Keys.{part_cmp}
-use Rattle.cvr_tally.specs.Rows.{Rows}
+use Rattle.cvr_tally.specs.Rows.{Rows, number_in, row_by}
 use Rattle.cvr_tally.specs.Text.{tally_text}
 use Rattle.cvr_office.specs.Names.{records}
 
@@ -48,21 +49,13 @@ stands_in contests s q r = is_headed q (header s r) && is_some (sums_at contests
 
 -- ---- a row
 
--- a number of the contest's sums, added up over records
-abbrev pub column : List Contest → Facts → ℕ → (VoteSums → ℕ) → List RecordName → ℕ
-column contests s c f rs = sum_by (λ r. option_map_or f (sums_at contests s c r) 0) rs
+-- a column of the contest's sums, added up over records
+abbrev pub column_over : List Contest → Facts → ℕ → List RecordName → Column → ℕ
+column_over contests s c rs column = sum_by (λ r. option_map_or (worth column) (sums_at contests s c r) 0) rs
 
 -- the row of these records
 abbrev pub row_of : List Contest → Facts → ℕ → List RecordName → Row
-row_of contests s c rs = record {
-  ballots = length rs;
-  overvotes = column contests s c (λ v. v.overvotes) rs;
-  undervotes = column contests s c (λ v. v.undervotes) rs;
-  write_ins = column contests s c (λ v. v.write_ins) rs;
-  pending = column contests s c (λ v. v.pending) rs;
-  unassigned = column contests s c (λ v. v.unassigned) rs;
-  votes = map (λ i. column contests s c (λ v. get_or v.votes i 0) rs) (range_with_len 0 (length (selections_at contests c)));
-}
+row_of contests s c rs = row_by (length (selections_at contests c)) (column_over contests s c rs)
 
 -- the row of those of these records that stand in it, if any does
 abbrev pub row_over : List Contest → Facts → RowKey → List RecordName → Option Row
@@ -92,11 +85,6 @@ tally contests s = tally_text contests (rows contests s)
 abbrev pub total_limit : ℕ
 total_limit = 2 ^ 118
 
-pub record IsBelow (limit : ℕ) (r : Row) : Type 0 where
-  pub ballots : r.ballots < limit
-  pub overvotes : r.overvotes < limit
-  pub undervotes : r.undervotes < limit
-  pub write_ins : r.write_ins < limit
-  pub pending : r.pending < limit
-  pub unassigned : r.unassigned < limit
-  pub votes : (i : ℕ) → get_or r.votes i 0 < limit
+-- each column is below this limit
+abbrev pub IsBelow : ℕ → Row → Type 0
+IsBelow limit row = (column : Column) → number_in column row < limit

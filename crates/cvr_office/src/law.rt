@@ -113,7 +113,8 @@ pub fn next_names()
     ensures no_device { NoNextLaw text_cmp devices }
 {}
 
-/// The map of rows has the row of each key and nothing else, and each row has a ballot.
+/// The map of rows has the row of each key and nothing else. The ballots of a row are the records
+/// that stand in it, and there is one.
 pub fn rows()
     ensures rows { RowsLaw }
     ensures ballots { BallotsLaw }

@@ -1,16 +1,15 @@
 -- The sums of a snapshot, added one by one: what is then at each key.
-use Rattle.std.proofs.Common.{◌≡◌, ◌==◌, ℕ, ◌+◌, ◌<◌, ◌≤◌, Bool, true, false, cond, List, [], ◌∷◌, ◌++◌, map, length, get_or, take, replicate, Contains, Option, Some, None, IfSome, refl, sym, ap, ◌∙◌, subst, arith}
+use Rattle.std.proofs.Common.{◌≡◌, ◌==◌, ℕ, ◌+◌, ◌<◌, ◌≤◌, Bool, true, false, cond, List, [], ◌∷◌, ◌++◌, map, length, get_or, take, Contains, Option, Some, None, IfSome, refl, sym, ap, ◌∙◌, subst, arith}
 use Rattle.std.specs.Prelude.{unwrap_or, IsSome}
 use Rattle.std.specs.List.{find}
 use Rattle.std.specs.Cmp.{Equal-is, tied_itself}
 use Rattle.std.specs.FinMap.{get, insert, get-insert}
 use Rattle.std.specs.Option.{option_or, option_map_or}
-use Rattle.std.proofs.lemmas.Bool.{eqb-false, cases_lt}
-use Rattle.std.proofs.lemmas.List.{take_more, take_all, get_or-map, length-map, get_or_past, get_or-replicate, length-replicate}
-use Rattle.std.proofs.lemmas.List.Elements.{Contains-get_or}
+use Rattle.std.proofs.lemmas.Bool.{eqb-false}
+use Rattle.std.proofs.lemmas.List.{take_more, take_all, get_or-map, length-map}
 use Rattle.std.proofs.lemmas.List.Folds.{find-append}
 use Rattle.std.proofs.lemmas.Map.Keys.{apart_from_distinct}
-use Rattle.std.proofs.Common.{get_or-take, length-take-le, inl, inr}
+use Rattle.std.proofs.Common.{get_or-take, length-take-le}
 use Rattle.cdf_parts.specs.Places.{Contest, selections_at}
 use Rattle.cvr_fact_types.specs.declared.sums.VoteSums.{VoteSums}
 use Rattle.cvr_facts.specs.Sums.{sum_limit, AreBelow}
@@ -18,6 +17,7 @@ use Rattle.cvr_tally.specs.declared.key.RowKey.{RowKey}
 use Rattle.cvr_tally.specs.declared.row.Row.{Row}
 use Rattle.cvr_tally.specs.Keys.{key_cmp, is_key, keys_total}
 use Rattle.cvr_tally.specs.Rows.{Rows, zero_row, row_plus, rows_opened, rows_plus, HasRoom}
+use Rattle.cvr_tally.proofs.Lemmas.{below_limits, number_in-zero_row}
 use Rattle.cvr_office.specs.Adding.{IsSums, AreSums, key_for, sums_for, row_with, CanGrow, HaveRoom}
 use Rattle.cvr_office.proofs.Lemmas.{found, same_key}
 
@@ -61,37 +61,11 @@ module _ (contests : List Contest) (m : Rows) (k : RowKey) where
 
 -- ---- room
 
-zero-le : (n i x : ℕ) → x < 18_014_398_509_481_984 → get_or (replicate n 0) i 0 + x < 18_014_398_509_481_984
-zero-le n i x lt = elim (cases_lt i n) [
-  | inl less ↦ let e = get_or-replicate {A = ℕ} n i 0 0 less in omega (arith, e, lt)
-  | inr le ↦ let long = length-replicate {A = ℕ} n 0 in let e = get_or_past {X = ℕ} (replicate n 0) i 0 (omega (arith, le, long)) in omega (arith, e, lt)
-]
-
-vote-lt : (v : VoteSums) → AreBelow sum_limit v → (i : ℕ) → get_or v.votes i 0 < sum_limit
-vote-lt v h i = elim (cases_lt i (length v.votes)) [
-  | inl lt ↦ h.votes (get_or v.votes i 0) (Contains-get_or v.votes i 0 lt)
-  | inr le ↦ let e = get_or_past v.votes i 0 le in omega (arith, e)
-]
-
 has_room : (n : ℕ) (v : VoteSums) → AreBelow sum_limit v → (o : Option Row) → IfSome o CanGrow → HasRoom (unwrap_or o (zero_row n)) v
-has_room n v h None grows = record {
-  ballots = omega arith;
-  overvotes = let lt = h.overvotes in omega (arith, lt);
-  undervotes = let lt = h.undervotes in omega (arith, lt);
-  write_ins = let lt = h.write_ins in omega (arith, lt);
-  pending = let lt = h.pending in omega (arith, lt);
-  unassigned = let lt = h.unassigned in omega (arith, lt);
-  votes = λ i. let lt = zero-le n i (get_or v.votes i 0) (vote-lt v h i) in omega (arith, lt);
-}
-has_room n v h (Some r) grows = record {
-  ballots = grows.ballots;
-  overvotes = let lt = h.overvotes in let row = grows.columns.overvotes in omega (arith, lt, row);
-  undervotes = let lt = h.undervotes in let row = grows.columns.undervotes in omega (arith, lt, row);
-  write_ins = let lt = h.write_ins in let row = grows.columns.write_ins in omega (arith, lt, row);
-  pending = let lt = h.pending in let row = grows.columns.pending in omega (arith, lt, row);
-  unassigned = let lt = h.unassigned in let row = grows.columns.unassigned in omega (arith, lt, row);
-  votes = λ i. let lt = vote-lt v h i in let row = grows.columns.votes i in omega (arith, lt, row);
-}
+has_room n v h None grows = below_limits _ (omega arith) (λ column. let none = number_in-zero_row n column in let lt = h column in omega (arith, none, lt))
+has_room n v h (Some r) grows =
+    let few = grows.ballots in
+    below_limits _ (omega (arith, few)) (λ column. let row = grows.columns column in let lt = h column in omega (arith, row, lt))
 
 -- ---- the sums so far
 

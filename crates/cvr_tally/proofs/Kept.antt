@@ -1,6 +1,5 @@
 -- Each row stays one of a contest, with a number for each of its selections.
 use Rattle.std.proofs.Common.{◌≡◌, ℕ, ◌==◌, ◌<◌, true, false, cond, List, length, Some, None, refl, sym, ap, subst, ◌∙◌}
-use Rattle.std.proofs.lemmas.List.{length-replicate}
 use Rattle.std.specs.Cmp.{Equal-is}
 use Rattle.std.specs.Option.{IfSome, option_map_or, unwrap_or}
 use Rattle.std.specs.FinMap.{get, insert, remove, empty, get-empty, get-insert, get-remove}
@@ -10,7 +9,7 @@ use Rattle.cvr_tally.specs.declared.key.RowKey.{RowKey}
 use Rattle.cvr_tally.specs.declared.row.Row.{Row}
 use Rattle.cvr_tally.specs.Keys.{key_cmp, is_key, keys_total, keys_exact}
 use Rattle.cvr_tally.specs.Rows.{Rows, IsTotals, row_plus, row_minus, zero_row, rows_plus, rows_minus, rows_opened, rows_closed}
-use Rattle.cvr_tally.proofs.Votes.{as_long}
+use Rattle.cvr_tally.proofs.Columns.{length-zero_row, length-row_plus, length-row_minus}
 
 -- a row of a contest
 abbrev IsOf : List Contest → RowKey → Row → Type 0
@@ -59,16 +58,16 @@ changed cs m k f keeps all =
       | Some r ↦ λ e. inserted cs m k (f r) (keeps r (all k r e)) all
     ] refl
 
-pub plus : (cs : List Contest) (m : Rows) (k : RowKey) (s : VoteSums) → length s.votes ≡ length (selections_at cs k.contest) → AreOf cs m → AreOf cs (rows_plus m k s)
-plus cs m k s long = changed cs m k (λ r. row_plus r s) (λ r is. (is.0, as_long _ r.votes s.votes (long ∙ sym is.1) ∙ is.1))
+pub plus : (cs : List Contest) (m : Rows) (k : RowKey) (s : VoteSums) → AreOf cs m → AreOf cs (rows_plus m k s)
+plus cs m k s = changed cs m k (λ r. row_plus r s) (λ r is. (is.0, length-row_plus r s ∙ is.1))
 
-pub minus : (cs : List Contest) (m : Rows) (k : RowKey) (s : VoteSums) → length s.votes ≡ length (selections_at cs k.contest) → AreOf cs m → AreOf cs (rows_minus m k s)
-minus cs m k s long = changed cs m k (λ r. row_minus r s) (λ r is. (is.0, as_long _ r.votes s.votes (long ∙ sym is.1) ∙ is.1))
+pub minus : (cs : List Contest) (m : Rows) (k : RowKey) (s : VoteSums) → AreOf cs m → AreOf cs (rows_minus m k s)
+minus cs m k s = changed cs m k (λ r. row_minus r s) (λ r is. (is.0, length-row_minus r s ∙ is.1))
 
 pub opened : (cs : List Contest) (m : Rows) (k : RowKey) → k.contest < length cs → AreOf cs m → AreOf cs (rows_opened cs m k)
 opened cs m k lt all =
     elim (get m k) as (λ v. AreOf cs (option_map_or (λ _. m) v (insert m k (zero_row (length (selections_at cs k.contest)))))) [
-      | None ↦ inserted cs m k _ (lt, length-replicate _ _) all
+      | None ↦ inserted cs m k _ (lt, length-zero_row _) all
       | Some r ↦ all
     ]
 

@@ -1,3 +1,4 @@
+pub mod Columns
 pub mod Beside
 pub mod ContestAt
 pub mod Contests
@@ -5,7 +6,6 @@ pub mod EachKey
 pub mod Kept
 pub mod Maps
 pub mod Pushes
-pub mod Votes
 pub mod Given
 pub mod Lemmas
 pub mod Lasts

@@ -1,23 +1,29 @@
--- A worked example: rows of three contests, and the text of their tally. (This project's own.)
+-- Worked examples: rows of three contests, and the text of their tally; a row with one more ballot.
+-- (This project's own.)
 use Rattle.std.specs.Prelude.{◌≡◌, ℕ, List, [], ◌∷◌, ◌++◌, get_or, Option, Some, None, codes}
 use Rattle.std.specs.FinMap.{from_entries}
 use Rattle.cdf_parts.specs.Places.{Contest}
+use Rattle.cvr_fact_types.specs.declared.sums.VoteSums.{VoteSums}
 use Rattle.cvr_tally.specs.declared.key.RowKey.{RowKey}
 use Rattle.cvr_tally.specs.declared.row.Row.{Row}
+use Rattle.cvr_tally.specs.Rows.{row_plus, row_minus}
 use Rattle.cvr_tally.specs.Text.{tally_text}
 
--- a ballot box, U+1F5F3, and a halfwidth dot, U+FF65, in UTF-8: by bytes the dot comes first, by UTF-16 it would come last
+-- a ballot box, U+1F5F3, and a halfwidth dot, U+FF65, in UTF-8: by bytes the dot comes first, by
+-- UTF-16 it would come last
 abbrev pub ballot_box : List ℕ
 ballot_box = 240 ∷ 159 ∷ 151 ∷ 179 ∷ []
 
 abbrev pub dot : List ℕ
 dot = 239 ∷ 189 ∷ 165 ∷ []
 
--- the first with two selections, one with a quote in its id; the second with one; the third with none
+-- the first with two selections, one with a quote in its id; the second with one; the third with
+-- none
 abbrev pub contests : List Contest
 contests = (codes "mayor", codes "ann" ∷ codes "b\"o" ∷ []) ∷ (ballot_box, dot ∷ []) ∷ (codes "q", []) ∷ []
 
--- of a contest, a unit and a batch: ballots, overvotes, undervotes, write-ins, pending and unassigned votes, then those of selections
+-- of a contest, a unit and a batch: ballots, overvotes, undervotes, write-ins, pending and
+-- unassigned votes, then those of selections
 abbrev pub row_at : ℕ → Option (List ℕ) → Option (List ℕ) → List ℕ → List ℕ → RowKey × Row
 row_at contest unit batch numbers votes = (
   record { contest = contest; unit = unit; batch = batch },
@@ -60,3 +66,17 @@ expected =
 
 abbrev pub TextOfTally : Type 0
 TextOfTally = tally_text contests (from_entries some_rows) ≡ expected
+
+-- ---- one ballot more, and taken out again
+
+abbrev pub sums_of_a_ballot : VoteSums
+sums_of_a_ballot = record { contest = 0; votes = 7 ∷ 80 ∷ []; overvotes = 1; undervotes = 20; write_ins = 3; pending = 40; unassigned = 5 }
+
+abbrev pub row_before : Row
+row_before = record { ballots = 9; overvotes = 100; undervotes = 200; write_ins = 300; pending = 400; unassigned = 500; votes = 600 ∷ 700 ∷ [] }
+
+abbrev pub row_after : Row
+row_after = record { ballots = 10; overvotes = 101; undervotes = 220; write_ins = 303; pending = 440; unassigned = 505; votes = 607 ∷ 780 ∷ [] }
+
+abbrev pub RowsOfABallot : Type 0
+RowsOfABallot = (row_plus row_before sums_of_a_ballot ≡ row_after) × (row_minus row_after sums_of_a_ballot ≡ row_before)

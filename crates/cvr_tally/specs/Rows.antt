@@ -1,69 +1,69 @@
 -- Rows of totals, and what each call makes of the map of rows. (This project's own.)
-use Rattle.std.specs.Prelude.{◌≡◌, ◌==◌, ◌<◌, ◌≤◌, ◌+◌, ◌-◌, ◌^◌, ℕ, List, map, length, replicate, get_or, cond, Option, Some, None}
-use Rattle.std.specs.List.{zip}
+use Rattle.std.specs.Prelude.{◌≡◌, ◌==◌, ◌<◌, ◌≤◌, ◌+◌, ◌-◌, ◌^◌, ℕ, List, map, length, get_or, cond, Option, Some, None}
+use Rattle.std.specs.List.{range_with_len}
 use Rattle.std.proofs.Common.{refl}
 use Rattle.std.specs.Coded.{Coded, code_by, coded×, coded_ℕ, coded_list}
 use Rattle.std.specs.Option.{option_map_or}
 use Rattle.std.specs.FinMap as rows
 use Rattle.cdf_parts.specs.Places.{Contest, selections_at}
 use Rattle.cvr_fact_types.specs.declared.sums.VoteSums.{VoteSums}
+use Rattle.cvr_fact_types.specs.Columns.{Column, Ballots, Overvotes, Undervotes, WriteIns, Pending, Unassigned, VotesFor, worth}
 use Rattle.cvr_tally.specs.declared.key.RowKey.{RowKey}
 use Rattle.cvr_tally.specs.declared.row.Row.{Row}
 use Rattle.cvr_tally.specs.Keys.{key_cmp, coded_key}
 
 -- ---- a row
 
--- of a contest with n selections
+-- the number in a column, 0 in that of a selection which the contest hasn't
+abbrev pub number_in : Column → Row → ℕ
+number_in Ballots row = row.ballots
+number_in Overvotes row = row.overvotes
+number_in Undervotes row = row.undervotes
+number_in WriteIns row = row.write_ins
+number_in Pending row = row.pending
+number_in Unassigned row = row.unassigned
+number_in (VotesFor place) row = get_or row.votes place 0
+
+-- the row with these numbers in its columns, of a contest with n selections
+abbrev pub row_by : ℕ → (Column → ℕ) → Row
+row_by n number = record {
+  ballots = number Ballots;
+  overvotes = number Overvotes;
+  undervotes = number Undervotes;
+  write_ins = number WriteIns;
+  pending = number Pending;
+  unassigned = number Unassigned;
+  votes = map (λ place. number (VotesFor place)) (range_with_len 0 n);
+}
+
+-- zero in each
 abbrev pub zero_row : ℕ → Row
-zero_row n = record { ballots = 0; overvotes = 0; undervotes = 0; write_ins = 0; pending = 0; unassigned = 0; votes = replicate n 0 }
+zero_row n = row_by n (λ column. 0)
 
 -- with the sums of one more ballot
 abbrev pub row_plus : Row → VoteSums → Row
-row_plus r s = record {
-  ballots = r.ballots + 1;
-  overvotes = r.overvotes + s.overvotes;
-  undervotes = r.undervotes + s.undervotes;
-  write_ins = r.write_ins + s.write_ins;
-  pending = r.pending + s.pending;
-  unassigned = r.unassigned + s.unassigned;
-  votes = map (λ p. p.0 + p.1) (zip r.votes s.votes);
-}
+row_plus row sums = row_by (length row.votes) (λ column. number_in column row + worth column sums)
 
 -- without the sums of one of its ballots
 abbrev pub row_minus : Row → VoteSums → Row
-row_minus r s = record {
-  ballots = r.ballots - 1;
-  overvotes = r.overvotes - s.overvotes;
-  undervotes = r.undervotes - s.undervotes;
-  write_ins = r.write_ins - s.write_ins;
-  pending = r.pending - s.pending;
-  unassigned = r.unassigned - s.unassigned;
-  votes = map (λ p. p.0 - p.1) (zip r.votes s.votes);
-}
+row_minus row sums = row_by (length row.votes) (λ column. number_in column row - worth column sums)
 
 -- the most ballots of a row
 abbrev pub ballot_limit : ℕ
 ballot_limit = 18_446_744_073_709_551_615
 
--- it has room for the sums: below the most ballots, and no column passes 2^128 - 1
-pub record HasRoom (r : Row) (s : VoteSums) : Type 0 where
-  pub ballots : r.ballots < ballot_limit
-  pub overvotes : r.overvotes + s.overvotes < 2 ^ 128
-  pub undervotes : r.undervotes + s.undervotes < 2 ^ 128
-  pub write_ins : r.write_ins + s.write_ins < 2 ^ 128
-  pub pending : r.pending + s.pending < 2 ^ 128
-  pub unassigned : r.unassigned + s.unassigned < 2 ^ 128
-  pub votes : (i : ℕ) → get_or r.votes i 0 + get_or s.votes i 0 < 2 ^ 128
+-- what the numbers of a column stay below: 2^128 but for ballots
+abbrev pub limit_of : Column → ℕ
+limit_of Ballots = ballot_limit + 1
+limit_of column = 2 ^ 128
 
--- it has the sums: at least one ballot, and no column is below theirs
-pub record HasSums (r : Row) (s : VoteSums) : Type 0 where
-  pub ballots : 1 ≤ r.ballots
-  pub overvotes : s.overvotes ≤ r.overvotes
-  pub undervotes : s.undervotes ≤ r.undervotes
-  pub write_ins : s.write_ins ≤ r.write_ins
-  pub pending : s.pending ≤ r.pending
-  pub unassigned : s.unassigned ≤ r.unassigned
-  pub votes : (i : ℕ) → get_or s.votes i 0 ≤ get_or r.votes i 0
+-- it has room for the sums: no column reaches its limit by them
+abbrev pub HasRoom : Row → VoteSums → Type 0
+HasRoom row sums = (column : Column) → number_in column row + worth column sums < limit_of column
+
+-- it has the sums: no column is below theirs
+abbrev pub HasSums : Row → VoteSums → Type 0
+HasSums row sums = (column : Column) → worth column sums ≤ number_in column row
 
 -- nothing where it has no ballots
 abbrev pub row_closed : Option Row → Option Row

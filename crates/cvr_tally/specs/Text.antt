@@ -4,17 +4,17 @@ use Rattle.std.specs.List.{flat_map, zip}
 use Rattle.std.specs.FinMap.{entries}
 use Rattle.json.specs.Print.{quoted}
 use Rattle.cdf_parts.specs.Places.{Contest, contest_ids, selections_at}
-use Rattle.cvr_fact_types.specs.Text.{word}
+use Rattle.cvr_fact_types.specs.Columns.{columns}
 use Rattle.cvr_tally.specs.declared.key.RowKey.{RowKey}
 use Rattle.cvr_tally.specs.declared.row.Row.{Row}
-use Rattle.cvr_tally.specs.Rows.{Rows}
+use Rattle.cvr_tally.specs.Rows.{Rows, number_in}
 
--- a unit or a batch, `null` where there is none, and a space
+-- a unit or a batch, `null` where there is none, with a space before it
 abbrev pub part_text : Option (List ℕ) → List ℕ
-part_text None = codes "null "
-part_text (Some text) = word text
+part_text None = codes " null"
+part_text (Some text) = 32 ∷ quoted text
 
--- a number, and a space before it
+-- a number, with a space before it
 abbrev pub number : ℕ → List ℕ
 number n = 32 ∷ decimal n
 
@@ -24,11 +24,11 @@ selection p = 32 ∷ quoted p.0 ++ number p.1
 
 -- contest, unit, batch
 abbrev pub key_words : List Contest → RowKey → List ℕ
-key_words contests k = word (slice_index_or (contest_ids contests) k.contest []) ++ (part_text k.unit ++ part_text k.batch)
+key_words contests k = quoted (slice_index_or (contest_ids contests) k.contest []) ++ (part_text k.unit ++ part_text k.batch)
 
--- ballots, overvotes, undervotes, write-ins, pending, unassigned
+-- the numbers in the columns that each row has
 abbrev pub numbers : Row → List ℕ
-numbers r = decimal r.ballots ++ (number r.overvotes ++ (number r.undervotes ++ (number r.write_ins ++ (number r.pending ++ number r.unassigned))))
+numbers row = flat_map (λ column. number (number_in column row)) columns
 
 -- the key, the numbers, then the votes of each selection
 abbrev pub row_line : List Contest → RowKey × Row → List ℕ

@@ -1,6 +1,6 @@
 // What a ballot changes in a row. Nothing here takes memory.
 ghost use Rattle.std.specs.Prelude.{◌≡◌, ◌<◌, ◌≤◌, ◌+◌, ◌-◌, ◌^◌, ℕ, map, length, get_or};
-ghost use Rattle.std.specs.List.{zip};
+ghost use Rattle.std.specs.List.{range_with_len};
 ghost use Rattle.cvr_tally.specs.Rows.{HasRoom, HasSums, row_plus, row_minus};
 
 use crate::row::Row;
@@ -10,7 +10,8 @@ use cvr_fact_types::VoteSums;
 fn add_votes(votes: &mut [u128], sums: &[u64])
     requires long { length sums.now ≡ length votes.old }
     requires room { (i : ℕ) → get_or votes.old i 0 + get_or sums.now i 0 < 2 ^ 128 }
-    ensures { votes.new ≡ map (λ p. p.0 + p.1) (zip votes.old sums.now) }
+    ensures { votes.new ≡ map (λ place. get_or votes.old place 0 + get_or sums.now place 0)
+        (range_with_len 0 (length votes.old)) }
 {
     for (place, sum) in sums.iter().enumerate() {
         votes[place] += u128::from(*sum);
@@ -21,7 +22,8 @@ fn add_votes(votes: &mut [u128], sums: &[u64])
 fn take_votes(votes: &mut [u128], sums: &[u64])
     requires long { length sums.now ≡ length votes.old }
     requires has { (i : ℕ) → get_or sums.now i 0 ≤ get_or votes.old i 0 }
-    ensures { votes.new ≡ map (λ p. p.0 - p.1) (zip votes.old sums.now) }
+    ensures { votes.new ≡ map (λ place. get_or votes.old place 0 - get_or sums.now place 0)
+        (range_with_len 0 (length votes.old)) }
 {
     for (place, sum) in sums.iter().enumerate() {
         votes[place] -= u128::from(*sum);

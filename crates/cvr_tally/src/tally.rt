@@ -1,7 +1,8 @@
-ghost use Rattle.std.specs.Prelude.{◌≡◌, ◌<◌, ◌++◌, OnOk, IfOk, length, decimal, string_bytes};
+ghost use Rattle.std.specs.Prelude.{◌≡◌, ◌<◌, ◌++◌, ◌∷◌, OnOk, IfOk, length, string_bytes};
 ghost use Rattle.std.specs.List.{flat_map, zip};
+ghost use Rattle.json.specs.Print as print;
 ghost use Rattle.cvr_tally.specs.Contests.{contests_of};
-ghost use Rattle.cvr_tally.specs.Text.{part_text, number, numbers, selection, key_words, row_line};
+ghost use Rattle.cvr_tally.specs.Text.{key_words, number, numbers, part_text, row_line, selection};
 ghost use Rattle.cvr_tally.specs.Text.{tally_text};
 
 use crate::contest_ids::ContestIds;
@@ -9,17 +10,27 @@ use crate::key::RowKey;
 use crate::row::Row;
 use crate::totals::Totals;
 use cdf_types::{Body, Memory};
-use cvr_fact_types::text::{push_word, quoted};
+use cvr_fact_types::text::quoted;
 use itoa::Buffer;
 use std::alloc::Global;
+
+// Adds a space and a text as a JSON string.
+fn push_text(alloc: Global, text: &mut String, word: &str) -> Result<(), Memory>
+    ensures { OnOk result
+        (string_bytes text.new ≡ string_bytes text.old ++ 32 ∷ print.quoted word.now) }
+{
+    text.push_str(" ")?;
+    text.push_str(quoted(alloc, word)?.as_str())?;
+    Ok(())
+}
 
 // Adds a unit or a batch, or that there is none.
 fn push_part(alloc: Global, text: &mut String, name: &Option<Body>) -> Result<(), Memory>
     ensures { OnOk result (string_bytes text.new ≡ string_bytes text.old ++ part_text name.now) }
 {
     match name {
-        None => text.push_str("null ")?,
-        Some(name) => push_word(alloc, text, name.as_str())?,
+        None => text.push_str(" null")?,
+        Some(name) => push_text(alloc, text, name.as_str())?,
     }
     Ok(())
 }
@@ -36,18 +47,9 @@ fn push_key(
         (string_bytes text.new ≡ string_bytes text.old
         ++ key_words (contests_of contests.now) key.now) }
 {
-    push_word(alloc, text, contests[key.contest].id.as_str())?;
+    text.push_str(quoted(alloc, contests[key.contest].id.as_str())?.as_str())?;
     push_part(alloc, text, &key.unit)?;
     push_part(alloc, text, &key.batch)?;
-    Ok(())
-}
-
-// Adds the digits of a number.
-fn push_digits(text: &mut String, count: u128) -> Result<(), Memory>
-    ensures { OnOk result (string_bytes text.new ≡ string_bytes text.old ++ decimal count) }
-{
-    let mut buffer = Buffer::new();
-    text.push_str(buffer.format(count))?;
     Ok(())
 }
 
@@ -55,8 +57,9 @@ fn push_digits(text: &mut String, count: u128) -> Result<(), Memory>
 fn push_number(text: &mut String, count: u128) -> Result<(), Memory>
     ensures { OnOk result (string_bytes text.new ≡ string_bytes text.old ++ number count) }
 {
+    let mut buffer = Buffer::new();
     text.push_str(" ")?;
-    push_digits(text, count)?;
+    text.push_str(buffer.format(count))?;
     Ok(())
 }
 
@@ -64,7 +67,7 @@ fn push_number(text: &mut String, count: u128) -> Result<(), Memory>
 fn push_numbers(text: &mut String, row: &Row) -> Result<(), Memory>
     ensures { OnOk result (string_bytes text.new ≡ string_bytes text.old ++ numbers row.now) }
 {
-    push_digits(text, row.ballots)?;
+    push_number(text, row.ballots)?;
     push_number(text, row.overvotes)?;
     push_number(text, row.undervotes)?;
     push_number(text, row.write_ins)?;
@@ -78,8 +81,7 @@ fn push_selection(alloc: Global, text: &mut String, id: &Body, votes: u128) -> R
     ensures { OnOk result
         (string_bytes text.new ≡ string_bytes text.old ++ selection (id.now, votes)) }
 {
-    text.push_str(" ")?;
-    text.push_str(quoted(alloc, id.as_str())?.as_str())?;
+    push_text(alloc, text, id.as_str())?;
     push_number(text, votes)?;
     Ok(())
 }

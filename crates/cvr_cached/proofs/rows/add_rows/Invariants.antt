@@ -2,7 +2,8 @@ use Rattle.std.proofs.Common.{◌≡◌, ◌+◌, length, take}
 use Rattle.std.specs.List.{sum_by}
 use Rattle.cvr_tally.specs.declared.key.RowKey.{RowKey}
 use Rattle.cvr_cached.specs.Contents.{pairs_of}
-use Rattle.cvr_cached.specs.Cells.{Column, cell, shares, has_row}
+use Rattle.cvr_fact_types.specs.Columns.{Column}
+use Rattle.cvr_cached.specs.Cells.{cell, shares, has_row}
 use Rattle.cvr_cached.proofs.rows.add_rows.Given as goal
 
 abbrev pub invariant-loop-content : goal.invariant-loop-content

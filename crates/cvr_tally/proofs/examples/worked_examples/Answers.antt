@@ -10,4 +10,4 @@ use Rattle.cvr_tally.proofs.examples.worked_examples.Goals as goal
 
 pub returns : goal.returns
 unfolding json_on_literals digits
-returns c = record { text = ap (flat_map (row_line contests)) (entries-given keys_total some_rows) ∙ refl }
+returns c = record { text = ap (flat_map (row_line contests)) (entries-given keys_total some_rows) ∙ refl; ballot = (refl, refl) }

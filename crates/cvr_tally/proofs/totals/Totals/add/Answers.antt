@@ -20,9 +20,8 @@ add_at-requires-clause-room c =
 
 pub invariant_of-self : goal.invariant_of-self
 invariant_of-self c =
-    let long : length c.args.sums.now.votes ≡ length (selections_at _ c.args.key.now.contest) = c.requires.votes ∙ ap (λ t. length (selections_at t.contests c.args.key.now.contest)) (sym c.self.view_is) in
     let new = mapped_at keys_total keys_exact (λ r. row_plus r c.args.sums.now) c.self.inside.rows.entries c.add_at.new.rows.entries c.args.key.now c.add_at.ensures.here c.add_at.ensures.others in
-    kept _ _ _ _ new (plus _ (rows.from_entries c.self.inside.rows.entries) c.args.key.now c.args.sums.now long (are_of _ _ _ c.self.invariant))
+    kept _ _ _ _ new (plus _ (rows.from_entries c.self.inside.rows.entries) c.args.key.now c.args.sums.now (are_of _ _ _ c.self.invariant))
 
 pub returns-clause-rows : goal.returns-clause-rows
 returns-clause-rows c =
