@@ -5,7 +5,7 @@ CVR = crates/cvr/out/cvr
 ZSH = $(PREFIX)/share/zsh/site-functions
 SHARE = $(DESTDIR)$(PREFIX)/share
 DOCUMENTS = README.md CHANGELOG.md docs/GUIDE.md docs/AUDITING.md docs/PAGE.md docs/page.png \
-	docs/FORMAT.md docs/FAULTS.md docs/DEFINITIONS.md docs/PROMISES.md examples/README.md $(wildcard examples/*/*.*)
+	docs/FORMAT.md docs/FAULTS.md docs/HEADLINE.md docs/DEFINITIONS.md docs/PROMISES.md examples/README.md $(wildcard examples/*/*.*)
 
 .PHONY: all install package
 
