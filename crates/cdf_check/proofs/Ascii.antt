@@ -1,5 +1,6 @@
 -- What is answered for files whose bytes are all ASCII.
-use Rattle.std.proofs.Common.{◌≡◌, ◌≢◌, ℕ, List, [], ◌∷◌, ◌<◌, ◌&&◌, length, Bool, true, false, true≢false, Option, nat_lt, bytes_eq, sym, ap, subst, ◌∙◌, arith}
+use Rattle.std.proofs.Common.{◌≡◌, ◌≢◌, ℕ, List, [], ◌∷◌, ◌<◌, ◌&&◌, length, Bool, true, false}
+use Rattle.std.proofs.Common.{true≢false, Option, nat_lt, bytes_eq, sym, ap, subst, ◌∙◌, arith}
 use Rattle.std.specs.Prelude.{nat_le, unwrap_or}
 use Rattle.std.specs.Str.{IsAscii}
 use Rattle.std.proofs.lemmas.Bool.Decides.{nat_tests}
@@ -12,7 +13,8 @@ use Rattle.cdf_form.specs.Reading.{max_file, value_of}
 use Rattle.cdf_form.proofs.Lemmas.{and-left, and-right}
 use Rattle.cdf_definition.specs.Frame.{Frame, frame_of, IsSame}
 use Rattle.cdf_definition.proofs.Lemmas.{frame_of-put, frame_put}
-use Rattle.cdf_definition.specs.Acceptance.{of_value, own_refusal, value_refusal, first_unsound, first_refusal, frame_in}
+use Rattle.cdf_definition.specs.Acceptance.{of_value, own_refusal, value_refusal, first_unsound}
+use Rattle.cdf_definition.specs.Acceptance.{first_refusal, frame_in}
 
 abbrev pub all_ascii : List ℕ → Bool
 all_ascii [] = true
@@ -20,7 +22,8 @@ all_ascii (b ∷ bs) = nat_lt b 128 && all_ascii bs
 
 ascii : (bs : List ℕ) → all_ascii bs ≡ true → IsAscii bs
 ascii [] h = IsAscii-nil
-ascii (b ∷ bs) h = IsAscii-cons b bs (nat_lt-from b (and-left (nat_lt b 128) (all_ascii bs) h)) (ascii bs (and-right (nat_lt b 128) (all_ascii bs) h))
+ascii (b ∷ bs) h = IsAscii-cons b bs (nat_lt-from b (and-left (nat_lt b 128) (all_ascii bs) h))
+    (ascii bs (and-right (nat_lt b 128) (all_ascii bs) h))
   where
     nat_lt-from : (b : ℕ) → nat_lt b 128 ≡ true → b < 128
     nat_lt-from b e = grind (arith, nat_tests)
@@ -28,32 +31,43 @@ ascii (b ∷ bs) h = IsAscii-cons b bs (nat_lt-from b (and-left (nat_lt b 128) (
 ascii_value : (bytes : List ℕ) → all_ascii bytes ≡ true → value_of bytes ≡ read bytes
 ascii_value bytes a = rw (is_utf8-from_IsUtf8 bytes (IsUtf8-from_ascii bytes (ascii bytes a)))
 
-pub ascii_frame : (bytes : List ℕ) → all_ascii bytes ≡ true → frame_in bytes ≡ frame_put (unwrap_or (read bytes) null)
-ascii_frame bytes a = ap (λ o. frame_of (unwrap_or o null)) (ascii_value bytes a) ∙ frame_of-put (unwrap_or (read bytes) null)
+pub ascii_frame : (bytes : List ℕ) → all_ascii bytes ≡ true
+    → frame_in bytes ≡ frame_put (unwrap_or (read bytes) null)
+ascii_frame bytes a = ap (λ o. frame_of (unwrap_or o null)) (ascii_value bytes a)
+    ∙ frame_of-put (unwrap_or (read bytes) null)
 
-pub ascii_unsound : (bytes : List ℕ) (r : Option ReadFault) → all_ascii bytes ≡ true → nat_le (length bytes) max_file ≡ true
+pub ascii_unsound : (bytes : List ℕ) (r : Option ReadFault) → all_ascii bytes ≡ true
+    → nat_le (length bytes) max_file ≡ true
     → of_value own_refusal (read bytes) ≡ r → first_unsound bytes ≡ r
 ascii_unsound bytes r a l e = rw (l, ascii_value bytes a) e
 
-pub ascii_refusal : (def bytes : List ℕ) (r : Option ReadFault) → all_ascii def ≡ true → all_ascii bytes ≡ true → nat_le (length bytes) max_file ≡ true
-    → of_value (value_refusal (frame_put (unwrap_or (read def) null))) (read bytes) ≡ r → first_refusal (frame_in def) bytes ≡ r
-ascii_refusal def bytes r d a l e = rw (l, ascii_value bytes a) (ap (λ f. of_value (value_refusal f) (read bytes)) (ascii_frame def d) ∙ e)
+pub ascii_refusal : (def bytes : List ℕ) (r : Option ReadFault) → all_ascii def ≡ true
+    → all_ascii bytes ≡ true → nat_le (length bytes) max_file ≡ true
+    → of_value (value_refusal (frame_put (unwrap_or (read def) null))) (read bytes) ≡ r
+    → first_refusal (frame_in def) bytes ≡ r
+ascii_refusal def bytes r d a l e = rw (l, ascii_value bytes a)
+    (ap (λ f. of_value (value_refusal f) (read bytes)) (ascii_frame def d) ∙ e)
 
 -- ---- definitions of two files
 
 abbrev frame_read : List ℕ → Frame
 frame_read bytes = frame_put (unwrap_or (read bytes) null)
 
-pub ascii_same : (a b : List ℕ) → all_ascii a ≡ true → all_ascii b ≡ true → IsSame (frame_read a) (frame_read b) → IsSame (frame_in a) (frame_in b)
-ascii_same a b p q h = subst (λ f. IsSame f (frame_in b)) (sym (ascii_frame a p)) (subst (λ f. IsSame (frame_read a) f) (sym (ascii_frame b q)) h)
+pub ascii_same : (a b : List ℕ) → all_ascii a ≡ true → all_ascii b ≡ true
+    → IsSame (frame_read a) (frame_read b) → IsSame (frame_in a) (frame_in b)
+ascii_same a b p q h = subst (λ f. IsSame f (frame_in b)) (sym (ascii_frame a p))
+    (subst (λ f. IsSame (frame_read a) f) (sym (ascii_frame b q)) h)
 
-pub ascii_same_back : (a b : List ℕ) → all_ascii a ≡ true → all_ascii b ≡ true → IsSame (frame_in a) (frame_in b) → IsSame (frame_read a) (frame_read b)
-ascii_same_back a b p q h = subst (λ f. IsSame f (frame_read b)) (ascii_frame a p) (subst (λ f. IsSame (frame_in a) f) (ascii_frame b q) h)
+pub ascii_same_back : (a b : List ℕ) → all_ascii a ≡ true → all_ascii b ≡ true
+    → IsSame (frame_in a) (frame_in b) → IsSame (frame_read a) (frame_read b)
+ascii_same_back a b p q h = subst (λ f. IsSame f (frame_read b)) (ascii_frame a p)
+    (subst (λ f. IsSame (frame_in a) f) (ascii_frame b q) h)
 
 abbrev first_text : List (List ℕ) → List ℕ
 first_text [] = []
 first_text (t ∷ ts) = t
 
 -- lists whose first texts differ
-pub apart : (xs ys : List (List ℕ)) → bytes_eq (first_text xs) (first_text xs) ≡ true → bytes_eq (first_text xs) (first_text ys) ≡ false → xs ≢ ys
+pub apart : (xs ys : List (List ℕ)) → bytes_eq (first_text xs) (first_text xs) ≡ true
+    → bytes_eq (first_text xs) (first_text ys) ≡ false → xs ≢ ys
 apart xs ys p q e = true≢false (sym p ∙ (ap (λ ts. bytes_eq (first_text xs) (first_text ts)) e ∙ q))

@@ -1,9 +1,12 @@
 -- Entries by their ids: where the ids are apart, they are the same entries.
-use Rattle.std.proofs.Common.{◌≡◌, ◌↔◌, ◌⊎◌, inl, inr, ◌<◌, ℕ, zero, suc, List, [], ◌∷◌, length, reverse, slice_index_or, Contains, bytes_eq, nat_cmp, sym, ◌∙◌, subst, arith}
+use Rattle.std.proofs.Common.{◌≡◌, ◌↔◌, ◌⊎◌, inl, inr, ◌<◌, ℕ, zero, suc, List, [], ◌∷◌, length}
+use Rattle.std.proofs.Common.{reverse, slice_index_or, Contains, bytes_eq, nat_cmp, sym, ◌∙◌, subst}
+use Rattle.std.proofs.Common.{arith}
 use Rattle.std.specs.List.{IsDistinct}
 use Rattle.std.specs.Cmp.Lexicographic.{slice_cmp}
 use Rattle.std.proofs.lemmas.Cmp.{nat_list_eq_equiv}
-use Rattle.std.proofs.lemmas.List.Sorted.{Contains-permutation, IsPermutation-map, IsPermutation-reverse, IsPermutation-sym}
+use Rattle.std.proofs.lemmas.List.Sorted.{Contains-permutation, IsPermutation-map}
+use Rattle.std.proofs.lemmas.List.Sorted.{IsPermutation-reverse, IsPermutation-sym}
 use Rattle.std.proofs.lemmas.Map.Keys.{IsDistinct-from_sorted, IsDistinct-IsPermutation}
 use Rattle.std.proofs.lemmas.Map.Text.{is_eq-slice_cmp}
 use Rattle.std.proofs.lemmas.Map.Views.{Contains-from_lookup, lookup-from_Contains}
@@ -18,7 +21,8 @@ IsAmong (y ∷ ys) x = (y ≡ x) ⊎ IsAmong ys x
 pub among_from : {X : Type 0} (ys : List X) (x : X) → Contains ys x → IsAmong ys x
 among_from ys x c = go ys c.0 c.1 c.2
   where
-    go : {X : Type 0} {x : X} (ys : List X) (i : ℕ) → i < length ys → slice_index_or ys i x ≡ x → IsAmong ys x
+    go : {X : Type 0} {x : X} (ys : List X) (i : ℕ) → i < length ys → slice_index_or ys i x ≡ x
+        → IsAmong ys x
     go [] i lt is = absurd (omega arith)
     go (y ∷ ys) zero lt is = inl is
     go (y ∷ ys) (suc i) lt is = inr (go ys i (omega arith) is)
@@ -45,13 +49,18 @@ alone_reversed es alone =
     (IsPermutation-map (λ (e : IdText). e.0) es (reverse es) (IsPermutation-reverse es)) alone
 
 -- what stands in one list stands in another with the same text beside each id
-same_texts : (es fs : List IdText) → AreAlone es → ((id : List ℕ) → text_of es id ≡ text_of fs id) → (x : IdText) → Contains es x → Contains fs x
+same_texts : (es fs : List IdText) → AreAlone es → ((id : List ℕ) → text_of es id ≡ text_of fs id)
+    → (x : IdText) → Contains es x → Contains fs x
 same_texts es fs alone same x at =
-    Contains-from_lookup (λ k l. (bytes_eq-Decides k l).0) x.0 x.1 fs (sym (same x.0) ∙ lookup-from_Contains nat_list_eq_equiv x.0 x.1 es alone at)
+    Contains-from_lookup (λ k l. (bytes_eq-Decides k l).0) x.0 x.1 fs
+    (sym (same x.0) ∙ lookup-from_Contains nat_list_eq_equiv x.0 x.1 es alone at)
 
-pub same_by_id : (es : List IdText) → AreAlone es → (x : IdText) → Contains (by_id es) x ↔ Contains es x
+pub same_by_id : (es : List IdText) → AreAlone es → (x : IdText)
+    → Contains (by_id es) x ↔ Contains es x
 same_by_id es alone x =
     let texts = (by_id_law es).texts in (
-      (λ at. Contains-permutation _ _ x (IsPermutation-sym _ _ (IsPermutation-reverse es)) (same_texts (by_id es) (reverse es) (alone_by_id es) texts x at)),
-      λ at. same_texts (reverse es) (by_id es) (alone_reversed es alone) (λ id. sym (texts id)) x (Contains-permutation _ _ x (IsPermutation-reverse es) at),
+      (λ at. Contains-permutation _ _ x (IsPermutation-sym _ _ (IsPermutation-reverse es))
+          (same_texts (by_id es) (reverse es) (alone_by_id es) texts x at)),
+      λ at. same_texts (reverse es) (by_id es) (alone_reversed es alone) (λ id. sym (texts id)) x
+          (Contains-permutation _ _ x (IsPermutation-reverse es) at),
     )

@@ -1,5 +1,8 @@
--- The first fault of numbers or form of a file, by what was seen of its records and by what is left beside them.
-use Rattle.std.proofs.Common.{◌≡◌, ◌≤◌, ℕ, List, [], ◌∷◌, ◌++◌, length, Bool, true, false, bytes_eq, Option, Some, None, IsSome, option_map, codes, refl, sym, ap, subst, ◌∙◌}
+-- The first fault of numbers or form of a file, by what was seen of its records and by what is left
+-- beside them.
+use Rattle.std.proofs.Common.{◌≡◌, ◌≤◌, ℕ, List, [], ◌∷◌, ◌++◌, length, Bool, true, false, bytes_eq}
+use Rattle.std.proofs.Common.{Option, Some, None, IsSome, option_map, codes, refl, sym, ap, subst}
+use Rattle.std.proofs.Common.{◌∙◌}
 use Rattle.std.specs.Prelude.{if◌then◌else◌, ◌||◌, option_and_then}
 use Rattle.std.specs.List.{list_any}
 use Rattle.std.specs.Option.{option_or}
@@ -8,7 +11,7 @@ use Rattle.serde_json.specs.Find.{get_member, as_str}
 use Rattle.serde_json.specs.Events.{items_len}
 use Rattle.cdf_node.specs.View.{items_of}
 use Rattle.serde_json.specs.Written.{has_float, items_have_float}
-use Rattle.cdf_pull.specs.Fold.{filled}
+use Rattle.cdf_pull.specs.Fold.{with_items_at}
 use Rattle.cdf_pull.proofs.Laws.{found_other, found_here}
 use Rattle.cdf_types.specs.declared.fault.ReadFault.TheVariants.{Schema}
 use Rattle.cdf_types.specs.declared.report.Cvr.{Cvr}
@@ -19,11 +22,14 @@ use Rattle.cdf_form.specs.declared.table.Leaf.TheVariants as leaf
 use Rattle.cdf_form.specs.declared.table.Key.TheVariants as key
 use Rattle.cdf_form.specs.declared.table.Kind.TheVariants.{One}
 use Rattle.cdf_form.specs.Tables.{any, type_text, classes_of}
-use Rattle.cdf_form.specs.Form.{at_member, Fault, deeper, first, find_class, class_faults, type_text_faults, type_faults, leaf_faults, faults, float_faults, items_floats, members_floats}
+use Rattle.cdf_form.specs.Form.{at_member, Fault, deeper_fault, first, find_class, class_faults}
+use Rattle.cdf_form.specs.Form.{type_text_faults, type_faults, leaf_faults, faults, float_faults}
+use Rattle.cdf_form.specs.Form.{items_floats, members_floats}
 use Rattle.cdf_form.specs.Found.{fault_of}
 use Rattle.cdf_form.specs.Reading.{document_faults, refusal_of}
 use Rattle.cdf_form.specs.Records.{cvrs_faults}
-use Rattle.cdf_form.proofs.Laws.{records_apart, records_first, no_float_faults, whole_document, whole_of}
+use Rattle.cdf_form.proofs.Laws.{records_apart, records_first, no_float_faults, whole_document}
+use Rattle.cdf_form.proofs.Laws.{whole_of}
 use Rattle.cdf_parts.proofs.Laws.{whole_array}
 use Rattle.cdf_check.specs.declared.seen.Seen.{Seen}
 use Rattle.cdf_definition.specs.Frame.{Frame}
@@ -38,38 +44,52 @@ records = codes "CVR"
 
 -- ---- lists of faults, and the class of a report
 
-pub array_there : (ds : Items) (o : Option Data) → IsSome o → option_map (λ _. array ds) o ≡ Some (array ds)
+pub array_there : (ds : Items) (o : Option Data) → IsSome o
+    → option_map (λ _. array ds) o ≡ Some (array ds)
 array_there ds None h = cc
 array_there ds (Some d) h = refl
 
 abbrev pub report : Leaf
 report = leaf.Object group.Reports
 
-one_class : (b : Bool) → class_faults (if b then Some class_of.CastVoteRecordReport else None) ≡ [] → (if b then Some class_of.CastVoteRecordReport else None) ≡ Some class_of.CastVoteRecordReport
+one_class : (b : Bool) → class_faults (if b then Some class_of.CastVoteRecordReport else None) ≡ []
+    → (if b then Some class_of.CastVoteRecordReport else None) ≡ Some class_of.CastVoteRecordReport
 one_class true e = refl
 one_class false e = cc
 
-type_class : (o : Option Data) → type_faults group.Reports o ≡ [] → option_and_then (find_class (classes_of group.Reports)) (option_and_then as_str o) ≡ Some class_of.CastVoteRecordReport
+type_class : (o : Option Data) → type_faults group.Reports o ≡ []
+    → option_and_then (find_class (classes_of group.Reports)) (option_and_then as_str o)
+    ≡ Some class_of.CastVoteRecordReport
 type_class None e = cc
 type_class (Some d) e = text_class (as_str d) e
   where
-    text_class : (o : Option (List ℕ)) → type_text_faults group.Reports o ≡ [] → option_and_then (find_class (classes_of group.Reports)) o ≡ Some class_of.CastVoteRecordReport
+    text_class : (o : Option (List ℕ)) → type_text_faults group.Reports o ≡ []
+        → option_and_then (find_class (classes_of group.Reports)) o
+        ≡ Some class_of.CastVoteRecordReport
     text_class None p = cc
     text_class (Some s) p = one_class (bytes_eq s (type_text class_of.CastVoteRecordReport)) p
 
-floats_at : (b : Bool) (ds : Items) (d : Data) → items_floats ds 0 ≡ [] → (if b then array no_items else d) ≡ d → float_faults (if b then array ds else d) ≡ float_faults d
+floats_at : (b : Bool) (ds : Items) (d : Data) → items_floats ds 0 ≡ []
+    → (if b then array no_items else d) ≡ d
+    → float_faults (if b then array ds else d) ≡ float_faults d
 floats_at true ds d whole e = whole ∙ ap float_faults e
 floats_at false ds d whole e = refl
 
-floats_stay : (ds : Items) (ms : Members) → items_floats ds 0 ≡ [] → filled records no_items ms ≡ ms → members_floats (filled records ds ms) ≡ members_floats ms
+floats_stay : (ds : Items) (ms : Members) → items_floats ds 0 ≡ []
+    → with_items_at records no_items ms ≡ ms
+    → members_floats (with_items_at records ds ms) ≡ members_floats ms
 floats_stay ds no_members whole e = refl
-floats_stay ds (member k d ms) whole e = rw (floats_at (bytes_eq k records) ds d whole (cc), floats_stay ds ms whole (cc))
+floats_stay ds (member k d ms) whole e =
+    rw (floats_at (bytes_eq k records) ds d whole (cc), floats_stay ds ms whole (cc))
 
 -- ---- the form, where each number of the records is whole
 
-module _ (ds : List Data) (ms : Members) (whole : items_have_float (items_of ds) ≡ false) (emptied : filled records no_items ms ≡ ms) (some : IsSome (get_member records ms)) (few : length ds ≤ any) where
-  here : get_member records (filled records (items_of ds) ms) ≡ Some (array (items_of ds))
-  here = found_here records (items_of ds) ms ∙ array_there (items_of ds) (get_member records ms) some
+module _ (ds : List Data) (ms : Members) (whole : items_have_float (items_of ds) ≡ false)
+    (emptied : with_items_at records no_items ms ≡ ms) (some : IsSome (get_member records ms))
+    (few : length ds ≤ any) where
+  here : get_member records (with_items_at records (items_of ds) ms) ≡ Some (array (items_of ds))
+  here = found_here records (items_of ds) ms
+      ∙ array_there (items_of ds) (get_member records ms) some
 
   short : items_len (items_of ds) ≤ any
   short = subst (λ n. n ≤ any) (sym (items_len-items_of ds)) few
@@ -78,22 +98,41 @@ module _ (ds : List Data) (ms : Members) (whole : items_have_float (items_of ds)
   numbers_stay = floats_stay (items_of ds) ms (no_float_faults (array (items_of ds)) whole) emptied
 
   class_stays : leaf_faults report (with_records ds ms) ≡ leaf_faults report (object ms)
-  class_stays = ap (type_faults group.Reports) (found_other records (items_of ds) (codes "@type") ms refl)
+  class_stays =
+      ap (type_faults group.Reports) (found_other records (items_of ds) (codes "@type") ms refl)
 
-  faults_stay : cvrs_faults (items_of ds) ≡ [] → document_faults (with_records ds ms) ≡ document_faults (object ms)
+  faults_stay : cvrs_faults (items_of ds) ≡ []
+      → document_faults (with_records ds ms) ≡ document_faults (object ms)
   faults_stay right =
-      let empty : get_member records ms ≡ Some (array no_items) = ap (get_member records) (sym emptied) ∙ found_here records no_items ms ∙ array_there no_items (get_member records ms) some in
-      rw (numbers_stay, records_apart (filled records (items_of ds) ms) ms (items_of ds) (λ name other. found_other records (items_of ds) name ms other) here empty short right)
+      let empty : get_member records ms
+      ≡ Some (array no_items) = ap (get_member records) (sym emptied)
+      ∙ found_here records no_items ms ∙ array_there no_items (get_member records ms) some in
+      rw (
+        numbers_stay,
+        records_apart (with_items_at records (items_of ds) ms) ms (items_of ds)
+            (λ name other. found_other records (items_of ds) name ms other) here empty short right,
+      )
 
-  by_part : (o : Option Fault) (numbers class : List Fault) → first (cvrs_faults (items_of ds)) ≡ o → float_faults (object ms) ≡ numbers → leaf_faults report (object ms) ≡ class
-      → first (numbers ++ faults (with_records ds ms) (One report) key.Free) ≡ option_or (first numbers) (option_or (first class) (option_or (option_map (deeper (at_member records)) o) (first (document_faults (object ms)))))
+  by_part : (o : Option Fault) (numbers class : List Fault) → first (cvrs_faults (items_of ds)) ≡ o
+      → float_faults (object ms) ≡ numbers → leaf_faults report (object ms) ≡ class
+      → first (numbers ++ faults (with_records ds ms) (One report) key.Free)
+      ≡ option_or (first numbers) (option_or (first class)
+      (option_or (option_map (deeper_fault (at_member records)) o)
+      (first (document_faults (object ms)))))
   by_part o (f ∷ fs) class told is right = refl
-  by_part o [] (f ∷ fs) told is right = append_first (leaf_faults report (with_records ds ms)) _ f (ap first (class_stays ∙ right))
-  by_part None [] [] told is right = ap (λ fs. first (fs ++ faults (with_records ds ms) (One report) key.Free)) (sym (numbers_stay ∙ is)) ∙ ap first (faults_stay (none_right _ told))
-  by_part (Some f) [] [] told is right = records_first (filled records (items_of ds) ms) (items_of ds) f (type_class (get_member (codes "@type") (filled records (items_of ds) ms)) (class_stays ∙ right)) here short told
+  by_part o [] (f ∷ fs) told is right =
+      append_first (leaf_faults report (with_records ds ms)) _ f (ap first (class_stays ∙ right))
+  by_part None [] [] told is right = ap
+      (λ fs. first (fs ++ faults (with_records ds ms) (One report) key.Free))
+      (sym (numbers_stay ∙ is)) ∙ ap first (faults_stay (none_right _ told))
+  by_part (Some f) [] [] told is right = records_first (with_items_at records (items_of ds) ms)
+      (items_of ds) f (type_class (get_member (codes "@type")
+      (with_items_at records (items_of ds) ms)) (class_stays ∙ right)) here short told
 
-  file_first : (o : Option Fault) → first (cvrs_faults (items_of ds)) ≡ o → first (document_faults (with_records ds ms)) ≡ first_of_file (object ms) o
-  file_first o told = rw numbers_stay (by_part o (float_faults (object ms)) (leaf_faults report (object ms)) told refl refl)
+  file_first : (o : Option Fault) → first (cvrs_faults (items_of ds)) ≡ o
+      → first (document_faults (with_records ds ms)) ≡ first_of_file (object ms) o
+  file_first o told = rw numbers_stay (by_part o (float_faults (object ms))
+      (leaf_faults report (object ms)) told refl refl)
 
 -- ---- the numbers of the records
 
@@ -101,41 +140,67 @@ whole_list : (ds : List Data) → items_have_float (items_of ds) ≡ list_any ha
 whole_list [] = refl
 whole_list (d ∷ ds) = ap (λ b. has_float d || b) (whole_list ds)
 
-whole_records : (ds : List Data) (ms : Members) → IsSome (get_member records ms) → has_float (with_records ds ms) ≡ false → items_have_float (items_of ds) ≡ false
-whole_records ds ms some whole = whole_list ds ∙ ap (list_any has_float) (sym (records_there ds ms some)) ∙ whole_array (with_records ds ms) records whole
+whole_records : (ds : List Data) (ms : Members) → IsSome (get_member records ms)
+    → has_float (with_records ds ms) ≡ false → items_have_float (items_of ds) ≡ false
+whole_records ds ms some whole = whole_list ds
+    ∙ ap (list_any has_float) (sym (records_there ds ms some))
+    ∙ whole_array (with_records ds ms) records whole
 
 -- ---- together
 
-law_at : {T : Type 0} (keeps : List Cvr → T → Type 0) (frame : Frame) (ds : List Data) (ms : Members) (seen : Seen T) (o : Option Fault) → IsSeen keeps frame ds seen → filled records no_items ms ≡ ms → IsSome (get_member records ms)
-    → option_map path_of (first (float_faults (with_records ds ms))) ≡ file_fraction ms seen.fraction → first (float_faults (with_records ds ms)) ≡ o
-    → option_map refusal_of (first (document_faults (with_records ds ms))) ≡ form_refusal (object ms) seen.fraction (option_map fault_of seen.form)
+law_at : {T : Type 0} (keeps : List Cvr → T → Type 0) (frame : Frame) (ds : List Data)
+    (ms : Members) (seen : Seen T) (o : Option Fault) → IsSeen keeps frame ds seen
+    → with_items_at records no_items ms ≡ ms → IsSome (get_member records ms)
+    → option_map path_of (first (float_faults (with_records ds ms)))
+    ≡ file_fraction ms seen.fraction → first (float_faults (with_records ds ms)) ≡ o
+    → option_map refusal_of (first (document_faults (with_records ds ms)))
+    ≡ form_refusal (object ms) seen.fraction (option_map fault_of seen.form)
 law_at keeps frame ds ms seen (Some f) h emptied some numbers is =
     let all = with_records ds ms in
     let found : first (document_faults all) ≡ Some f = append_first (float_faults all) _ f is in
-    let path : file_fraction ms seen.fraction ≡ Some (path_of f) = sym numbers ∙ ap (option_map path_of) is in
-    rw (found, path) (ap (λ r. Some (Schema (path_of f) r)) (first_rule (float_faults all) f (all_of all) is))
+    let path : file_fraction ms seen.fraction ≡ Some (path_of f) =
+    sym numbers ∙ ap (option_map path_of) is in
+    rw (found, path) (ap (λ r. Some (Schema (path_of f) r))
+    (first_rule (float_faults all) f (all_of all) is))
 law_at keeps frame ds ms seen None h emptied some numbers is =
     let all = with_records ds ms in
     let whole : has_float all ≡ false = whole_of all (none_right _ is) in
     let array_whole : items_have_float (items_of ds) ≡ false = whole_records ds ms some whole in
-    let told : seen.fraction ≡ None = h.fraction ∙ ap (λ fs. option_map in_file (first fs)) (no_float_faults (array (items_of ds)) array_whole) in
+    let told : seen.fraction ≡ None = h.fraction
+    ∙ ap (λ fs. option_map in_file (first fs))
+    (no_float_faults (array (items_of ds)) array_whole) in
     let path : file_fraction ms seen.fraction ≡ None = sym numbers ∙ ap (option_map path_of) is in
-    rw (path, file_first ds ms array_whole emptied some (h.whole told).few (option_map fault_of seen.form) (sym (h.whole told).form))
+    rw (
+      path,
+      file_first ds ms array_whole emptied some (h.whole told).few
+          (option_map fault_of seen.form) (sym (h.whole told).form),
+    )
 
--- the refusal for numbers and form is what is told
-pub form_law : {T : Type 0} (keeps : List Cvr → T → Type 0) (frame : Frame) (ds : List Data) (ms : Members) (seen : Seen T) → IsSeen keeps frame ds seen → filled records no_items ms ≡ ms → IsSome (get_member records ms)
-    → option_map refusal_of (first (document_faults (with_records ds ms))) ≡ form_refusal (object ms) seen.fraction (option_map fault_of seen.form)
+-- the refusal for numbers and form is what is answered
+pub form_law : {T : Type 0} (keeps : List Cvr → T → Type 0) (frame : Frame) (ds : List Data)
+    (ms : Members) (seen : Seen T) → IsSeen keeps frame ds seen
+    → with_items_at records no_items ms ≡ ms → IsSome (get_member records ms)
+    → option_map refusal_of (first (document_faults (with_records ds ms)))
+    ≡ form_refusal (object ms) seen.fraction (option_map fault_of seen.form)
 form_law keeps frame ds ms seen h emptied some =
-    law_at keeps frame ds ms seen _ h emptied some (first_filled (items_of ds) seen.fraction (sym h.fraction) ms) refl
+    law_at keeps frame ds ms seen _ h emptied some
+    (first_filled (items_of ds) seen.fraction (sym h.fraction) ms) refl
 
-pub no_fraction_seen : {T : Type 0} (keeps : List Cvr → T → Type 0) (frame : Frame) (ds : List Data) (ms : Members) (seen : Seen T) → IsSeen keeps frame ds seen → IsSome (get_member records ms) → document_faults (with_records ds ms) ≡ [] → seen.fraction ≡ None
+pub no_fraction_seen : {T : Type 0} (keeps : List Cvr → T → Type 0) (frame : Frame) (ds : List Data)
+    (ms : Members) (seen : Seen T) → IsSeen keeps frame ds seen → IsSome (get_member records ms)
+    → document_faults (with_records ds ms) ≡ [] → seen.fraction ≡ None
 no_fraction_seen keeps frame ds ms seen h some sound =
     let all = with_records ds ms in
-    let array_whole : items_have_float (items_of ds) ≡ false = whole_records ds ms some (whole_document all sound) in
-    h.fraction ∙ ap (λ fs. option_map in_file (first fs)) (no_float_faults (array (items_of ds)) array_whole)
+    let array_whole : items_have_float (items_of ds) ≡ false =
+    whole_records ds ms some (whole_document all sound) in
+    h.fraction ∙ ap (λ fs. option_map in_file (first fs))
+    (no_float_faults (array (items_of ds)) array_whole)
 
 -- records with no fault leave a file with none, where what is left has none
-pub records_right : {T : Type 0} (keeps : List Cvr → T → Type 0) (frame : Frame) (ds : List Data) (ms : Members) (seen : Seen T) → IsSeen keeps frame ds seen → filled records no_items ms ≡ ms → IsSome (get_member records ms) → seen.fraction ≡ None → seen.form ≡ None
+pub records_right : {T : Type 0} (keeps : List Cvr → T → Type 0) (frame : Frame) (ds : List Data)
+    (ms : Members) (seen : Seen T) → IsSeen keeps frame ds seen
+    → with_items_at records no_items ms ≡ ms → IsSome (get_member records ms) → seen.fraction ≡ None
+    → seen.form ≡ None
     → document_faults (object ms) ≡ [] → document_faults (with_records ds ms) ≡ []
 records_right keeps frame ds ms seen h emptied some whole right rest =
     let own = h.whole whole in

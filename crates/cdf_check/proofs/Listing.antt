@@ -1,5 +1,7 @@
 -- The lists of a definition, and the places of its ids.
-use Rattle.std.proofs.Common.{◌≡◌, ◌<◌, ◌+◌, ℕ, zero, suc, List, [], ◌∷◌, length, slice_index_or, map, Bool, true, false, cond, Option, Some, Contains, codes, bytes_eq, refl, sym, ap, ◌∙◌, subst, arith}
+use Rattle.std.proofs.Common.{◌≡◌, ◌<◌, ◌+◌, ℕ, zero, suc, List, [], ◌∷◌, length, slice_index_or}
+use Rattle.std.proofs.Common.{map, Bool, true, false, cond, Option, Some, Contains, codes, bytes_eq}
+use Rattle.std.proofs.Common.{refl, sym, ap, ◌∙◌, subst, arith}
 use Rattle.std.specs.List.{AllByRecursion, IsDistinct, position_from}
 use Rattle.std.proofs.lemmas.Bool.{false_from_ne_true}
 use Rattle.std.proofs.lemmas.Slice.Eq.{bytes_eq-Decides}
@@ -10,12 +12,12 @@ use Rattle.cdf_form.specs.declared.table.Leaf.TheVariants as leaf
 use Rattle.cdf_form.specs.declared.table.Key.TheVariants as key
 use Rattle.cdf_form.specs.declared.table.Kind.TheVariants.{Array, One}
 use Rattle.cdf_form.specs.Tables as tables
-use Rattle.cdf_form.specs.Tables.{table, classes_of, any, required, optional}
+use Rattle.cdf_form.specs.Tables.{table, classes_of, any, required_member, optional_member}
 use Rattle.cdf_form.specs.Form.{key_text}
 use Rattle.cdf_parts.specs.Parts.{array_at, id_of, the_election}
 use Rattle.cdf_form.specs.ByRow.{AllClasses, find_row, HasRow, ListApart}
 use Rattle.cdf_form.proofs.Laws.{row_of, items_have_form, items_are_apart}
-use Rattle.cdf_definition.specs.Named.{IdText, named, ids_of}
+use Rattle.cdf_definition.specs.Named.{IdText, id_and_text, ids_of}
 use Rattle.cdf_definition.specs.Frame.{entries_at}
 use Rattle.cdf_definition.specs.Acceptance.{IsReport}
 use Rattle.cdf_check.specs.Laws.{IsListOf, ListsLaw, AreFoundByIds, PlacesLaw}
@@ -26,9 +28,10 @@ use Rattle.cdf_definition.proofs.Laws.{by_id_law, report_row, has_id, one_electi
 use Rattle.cdf_form.specs.HasForm.{HasForm}
 
 abbrev contest_row : tables.Entry
-contest_row = required (codes "Contest") (Array (leaf.Object group.Contests) 0 any key.Id)
+contest_row = required_member (codes "Contest") (Array (leaf.Object group.Contests) 0 any key.Id)
 
-election_form : (d : Data) → IsReport d → HasForm (One (leaf.Object group.Elections)) (the_election d)
+election_form : (d : Data) → IsReport d
+    → HasForm (One (leaf.Object group.Elections)) (the_election d)
 election_form d h =
     let one = one_election d h in
     subst (λ e. HasForm (One (leaf.Object group.Elections)) e) (sym (election_is d one.0 one.1))
@@ -47,22 +50,27 @@ rest_apart d ds apart i j x y s p q u v =
     omega (arith, h)
 
 -- the first id is no later one
-first_differs : (d e : Data) (ds : List Data) (i : ℕ) → HaveIds (d ∷ ds) → ListApart key.Id (d ∷ ds) → i < length ds → slice_index_or ds i e ≡ e → id_of e ≡ id_of d → ⊥
+first_differs : (d e : Data) (ds : List Data) (i : ℕ) → HaveIds (d ∷ ds) → ListApart key.Id (d ∷ ds)
+    → i < length ds → slice_index_or ds i e ≡ e → id_of e ≡ id_of d → ⊥
 first_differs d e ds i h apart lt is same =
-    let later : key_text key.Id (slice_index_or ds i e) ≡ Some (id_of d) = ap (key_text key.Id) is ∙ h e (at_tail d e ds (i, lt, is)) ∙ ap Some same in
-    let p : 0 ≡ suc i = apart 0 (suc i) d e (id_of d) (omega arith) (omega (arith, lt)) (h d (at_head d ds)) later in
+    let later : key_text key.Id (slice_index_or ds i e) ≡ Some (id_of d) =
+    ap (key_text key.Id) is ∙ h e (at_tail d e ds (i, lt, is)) ∙ ap Some same in
+    let p : 0 ≡ suc i = apart 0 (suc i) d e (id_of d) (omega arith) (omega (arith, lt))
+    (h d (at_head d ds)) later in
     omega (arith, p)
 
 -- ---- lists
 
-none_has : (id : List ℕ) (ds : List Data) → ((e : Data) → Contains ds e → id_of e ≡ id → ⊥) → AllByRecursion (λ k. bytes_eq id k ≡ false) (ids_of (map named ds))
+none_has : (id : List ℕ) (ds : List Data) → ((e : Data) → Contains ds e → id_of e ≡ id → ⊥)
+    → AllByRecursion (λ k. bytes_eq id k ≡ false) (ids_of (map id_and_text ds))
 none_has id [] none = tt
 none_has id (d ∷ ds) none = (
-  false_from_ne_true (bytes_eq id (id_of d)) (λ same. none d (at_head d ds) (sym ((bytes_eq-Decides id (id_of d)).0 same))),
+  false_from_ne_true (bytes_eq id (id_of d))
+      (λ same. none d (at_head d ds) (sym ((bytes_eq-Decides id (id_of d)).0 same))),
   none_has id ds (λ e at. none e (at_tail d e ds at)),
 )
 
-alone : (ds : List Data) → HaveIds ds → ListApart key.Id ds → AreAlone (map named ds)
+alone : (ds : List Data) → HaveIds ds → ListApart key.Id ds → AreAlone (map id_and_text ds)
 unfolding IsDistinct
 alone [] h apart = tt
 alone (d ∷ ds) h apart = (
@@ -70,15 +78,17 @@ alone (d ∷ ds) h apart = (
   alone ds (rest_have d ds h) (rest_apart d ds apart),
 )
 
-listed : (name : List ℕ) (d : Data) → AreAlone (map named (array_at name d)) → IsListOf (entries_at name d) name d
+listed : (name : List ℕ) (d : Data) → AreAlone (map id_and_text (array_at name d))
+    → IsListOf (entries_at name d) name d
 listed name d h = record {
-  rises = (by_id_law (map named (array_at name d))).rises;
-  members = same_by_id (map named (array_at name d)) h;
+  rises = (by_id_law (map id_and_text (array_at name d))).rises;
+  members = same_by_id (map id_and_text (array_at name d)) h;
 }
 
 -- ---- places
 
-id_at : (ds : List Data) (i : ℕ) → i < length ds → (e : Data) × (slice_index_or ds i e ≡ e) × (slice_index_or (map id_of ds) i [] ≡ id_of e)
+id_at : (ds : List Data) (i : ℕ) → i < length ds
+    → (e : Data) × (slice_index_or ds i e ≡ e) × (slice_index_or (map id_of ds) i [] ≡ id_of e)
 id_at [] i lt = absurd (omega arith)
 id_at (d ∷ ds) zero lt = (d, refl, refl)
 id_at (d ∷ ds) (suc i) lt = id_at ds i (omega arith)
@@ -87,30 +97,36 @@ own_head : (t : Bool) (j : ℕ) (rest : Option ℕ) → t ≡ true → cond t (S
 own_head true j rest is = ap Some (omega arith)
 own_head false j rest is = absurd (cc)
 
-past_head : (t : Bool) (j p : ℕ) (rest : Option ℕ) → (t ≡ true → ⊥) → rest ≡ Some p → cond t (Some j) rest ≡ Some p
+past_head : (t : Bool) (j p : ℕ) (rest : Option ℕ) → (t ≡ true → ⊥) → rest ≡ Some p
+    → cond t (Some j) rest ≡ Some p
 past_head true j p rest never is = absurd (never refl)
 past_head false j p rest never is = is
 
 found_from : (ds : List Data) (j i : ℕ) → HaveIds ds → ListApart key.Id ds → i < length ds
     → position_from (bytes_eq (slice_index_or (map id_of ds) i [])) j (map id_of ds) ≡ Some (j + i)
 found_from [] j i h apart lt = absurd (omega arith)
-found_from (d ∷ ds) j zero h apart lt = own_head (bytes_eq (id_of d) (id_of d)) j _ ((bytes_eq-Decides (id_of d) (id_of d)).1 refl)
+found_from (d ∷ ds) j zero h apart lt =
+    own_head (bytes_eq (id_of d) (id_of d)) j _ ((bytes_eq-Decides (id_of d) (id_of d)).1 refl)
 found_from (d ∷ ds) j (suc i) h apart lt =
     let s = slice_index_or (map id_of ds) i [] in
     let p = id_at ds i (omega arith) in
     let z : (j + 1) + i ≡ j + suc i = omega arith in
     past_head (bytes_eq s (id_of d)) j (j + suc i) _
-    (λ e. first_differs d p.0 ds i h apart (omega arith) p.1 (sym p.2 ∙ (bytes_eq-Decides s (id_of d)).0 e))
+    (λ e. first_differs d p.0 ds i h apart (omega arith) p.1
+    (sym p.2 ∙ (bytes_eq-Decides s (id_of d)).0 e))
     (found_from ds (j + 1) i (rest_have d ds h) (rest_apart d ds apart) (omega arith) ∙ ap Some z)
 
-found : (name : List ℕ) (d : Data) → HaveIds (array_at name d) → ListApart key.Id (array_at name d) → AreFoundByIds name d
+found : (name : List ℕ) (d : Data) → HaveIds (array_at name d) → ListApart key.Id (array_at name d)
+    → AreFoundByIds name d
 found name d h apart place lt =
     let z : 0 + place ≡ place = omega arith in
     found_from (array_at name d) 0 place h apart lt ∙ ap Some z
 
 -- ---- arrays of objects with ids
 
-module _ {b : Bool} {n : List ℕ} {g : Group} {d : Data} (each : AllClasses (λ c. find_row (codes "@id") (table c) ≡ Some id_row) (classes_of g)) (row : HasRow b n (Array (leaf.Object g) 0 any key.Id) d) where
+module _ {b : Bool} {n : List ℕ} {g : Group} {d : Data}
+    (each : AllClasses (λ c. find_row (codes "@id") (table c) ≡ Some id_row) (classes_of g))
+    (row : HasRow b n (Array (leaf.Object g) 0 any key.Id) d) where
   have_ids : HaveIds (array_at n d)
   have_ids e c = has_id g e each (items_have_form row e c)
 
@@ -121,25 +137,27 @@ module _ {b : Bool} {n : List ℕ} {g : Group} {d : Data} (each : AllClasses (λ
   found_of_row = found n d have_ids (items_are_apart row)
 
 abbrev units_row : tables.Entry
-units_row = required (codes "GpUnit") (Array (leaf.Object group.GpUnits) 0 any key.Id)
+units_row = required_member (codes "GpUnit") (Array (leaf.Object group.GpUnits) 0 any key.Id)
 
 abbrev parties_row : tables.Entry
-parties_row = optional (codes "Party") (Array (leaf.Object group.Parties) 0 any key.Id)
+parties_row = optional_member (codes "Party") (Array (leaf.Object group.Parties) 0 any key.Id)
 
 abbrev devices_row : tables.Entry
-devices_row = required (codes "ReportingDevice") (Array (leaf.Object group.ReportingDevices) 0 any key.Id)
+devices_row = required_member (codes "ReportingDevice")
+    (Array (leaf.Object group.ReportingDevices) 0 any key.Id)
 
 abbrev selections_row : tables.Entry
-selections_row = optional (codes "ContestSelection") (Array (leaf.Object group.ContestSelections) 0 any key.Id)
+selections_row = optional_member (codes "ContestSelection")
+    (Array (leaf.Object group.ContestSelections) 0 any key.Id)
 
 alone_one : (e : IdText) → AreAlone (e ∷ [])
 unfolding IsDistinct
 alone_one e = (tt, tt)
 
-one_alone : (d : Data) → IsReport d → AreAlone (map named (array_at (codes "Election") d))
+one_alone : (d : Data) → IsReport d → AreAlone (map id_and_text (array_at (codes "Election") d))
 one_alone d h =
     let one = one_election d h in
-    subst (λ ds. AreAlone (map named ds)) (sym one.1) (alone_one (named one.0))
+    subst (λ ds. AreAlone (map id_and_text ds)) (sym one.1) (alone_one (id_and_text one.0))
 
 pub lists : ListsLaw
 lists d h = (
@@ -151,8 +169,10 @@ lists d h = (
 
 pub found_by_ids : PlacesLaw
 found_by_ids d h =
-    let row = row_of group.Elections contest_row (the_election d) (refl, tt) (election_form d h) in (
+    let row =
+    row_of group.Elections contest_row (the_election d) (refl, tt) (election_form d h) in (
       found_of_row (refl, (refl, (refl, (refl, (refl, tt))))) row,
       λ c a. found_of_row (refl, (refl, (refl, (refl, tt))))
-          (row_of group.Contests selections_row c (refl, (refl, (refl, (refl, (refl, tt))))) (items_have_form row c a)),
+          (row_of group.Contests selections_row c (refl, (refl, (refl, (refl, (refl, tt)))))
+          (items_have_form row c a)),
     )

@@ -1,4 +1,5 @@
--- When two definitions are the same, by the sets of their texts, and what they then share. (This project's own.)
+-- When two definitions are the same, by the sets of their texts, and what they then share. (This
+-- project's own.)
 use Rattle.std.specs.Prelude.{◌≡◌, ◌↔◌, ℕ, List}
 use Rattle.std.specs.List.{Contains}
 use Rattle.cdf_definition.specs.Named.{IdText, texts_of}

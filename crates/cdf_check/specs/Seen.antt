@@ -1,12 +1,15 @@
--- What is seen of the records of a file as it is read, and why the file is refused, by that and by what is left beside them. (This project's own.)
-use Rattle.std.specs.Prelude.{◌≡◌, ◌↔◌, ◌≤◌, ℕ, List, [], ◌∷◌, length, map, Option, None, Some, option_map, option_and_then, Result, IfOk, IfErr, OnOk, IsSome, codes, if◌then◌else◌, bytes_eq, Bool, true, false}
+-- What is seen of the records of a file as it is read, and why the file is refused, by that and by
+-- what is left beside the records. (This project's own.)
+use Rattle.std.specs.Prelude.{◌≡◌, ◌↔◌, ◌≤◌, ℕ, List, [], ◌∷◌, length, map, Option, None, Some}
+use Rattle.std.specs.Prelude.{option_map, option_and_then, Result, IfOk, IfErr, OnOk, IsSome, codes}
+use Rattle.std.specs.Prelude.{if◌then◌else◌, bytes_eq, Bool, true, false}
 use Rattle.std.specs.List.{All}
 use Rattle.std.specs.Option.{option_or}
 use Rattle.serde_json.specs.Data.{Data, array, object, no_items, Members, no_members, member}
 use Rattle.serde_json.specs.Find.{as_object, get_member}
 use Rattle.serde_json.specs.Read.{read}
 use Rattle.cdf_node.specs.View.{items_of}
-use Rattle.cdf_pull.specs.Fold.{filled}
+use Rattle.cdf_pull.specs.Fold.{with_items_at}
 use Rattle.cdf_types.specs.declared.fault.ReadFault.{ReadFault}
 use Rattle.cdf_types.specs.declared.fault.ReadFault.TheVariants.{Schema}
 use Rattle.cdf_types.specs.declared.report.Cvr.{Cvr}
@@ -16,7 +19,7 @@ use Rattle.cdf_form.specs.declared.table.Group.TheVariants as group
 use Rattle.cdf_form.specs.declared.table.Leaf.TheVariants as leaf
 use Rattle.cdf_form.specs.declared.found.Path.{Path as Found}
 use Rattle.cdf_form.specs.Form as form
-use Rattle.cdf_form.specs.Form.{Fault, at_member, deeper, first, float_faults, leaf_faults}
+use Rattle.cdf_form.specs.Form.{Fault, at_member, deeper_fault, first, float_faults, leaf_faults}
 use Rattle.cdf_form.specs.Found.{fault_of, path_of}
 use Rattle.cdf_form.specs.Tables.{any}
 use Rattle.cdf_form.specs.Path.{path_text}
@@ -37,87 +40,105 @@ use Rattle.cdf_definition.specs.Naming.{NamesOwn}
 
 -- ---- numbers and form
 
--- the path from a file of a fault of its records, which is told from their array
+-- the path from the file of a fault of its records, whose own path starts at their array
 abbrev pub in_file : Fault → List ℕ
 in_file f = path_text (at_member (codes "CVR") ∷ f.path)
 
 -- the path of the first number of a member that isn't whole
 abbrev pub member_fraction : List ℕ → Data → Option (List ℕ)
-member_fraction name d = option_map (λ f. path_text (at_member name ∷ f.path)) (first (float_faults d))
+member_fraction name d =
+    option_map (λ f. path_text (at_member name ∷ f.path)) (first (float_faults d))
 
--- that of a file, by the members of what is left beside its records, and that of these
+-- that of a file, from the members of what is left beside its records, and from that of the records
 abbrev pub file_fraction : Members → Option (List ℕ) → Option (List ℕ)
 file_fraction no_members fraction = None
-file_fraction (member name d ms) fraction = option_or (if bytes_eq name (codes "CVR") then fraction else member_fraction name d) (file_fraction ms fraction)
+file_fraction (member name d ms) fraction = option_or
+    (if bytes_eq name (codes "CVR") then fraction else member_fraction name d)
+    (file_fraction ms fraction)
 
--- the first fault of a file whose numbers are whole in its records, by what is left beside them and their first fault of form: of its numbers, else of the report's class, else of the records, else of all else
+-- the first fault of a file whose numbers are whole in its records, from what is left beside them
+-- and from their first fault of form: of its numbers, else of the report's class, else of the
+-- records, else of all else
 abbrev pub first_of_file : Data → Option Fault → Option Fault
 first_of_file left fault =
     option_or (form.first (float_faults left))
     (option_or (form.first (leaf_faults (leaf.Object group.Reports) left))
-    (option_or (option_map (deeper (at_member (codes "CVR"))) fault)
+    (option_or (option_map (deeper_fault (at_member (codes "CVR"))) fault)
     (form.first (document_faults left))))
 
--- the refusal for the first fault of numbers, or else of form, by what is left beside the records and theirs
+-- the refusal for the first fault of numbers, or else of form, from what is left beside the records
+-- and from the faults of these
 abbrev pub form_refusal : Data → Option (List ℕ) → Option Fault → Option ReadFault
 form_refusal left fraction fault =
-    option_and_then (λ ms. option_or (option_map (λ path. Schema path rule.NotWhole) (file_fraction ms fraction)) (option_map refusal_of (first_of_file left fault))) (as_object left)
+    option_and_then (λ ms. option_or (option_map (λ path. Schema path rule.NotWhole)
+    (file_fraction ms fraction)) (option_map refusal_of (first_of_file left fault)))
+    (as_object left)
 
 -- ---- what is kept of records that have no fault of numbers or form
 
--- whether what each record names is the definition's or its own, but for devices, units and parties; and where it is, these, and what is kept of the typed records
-pub record AreKept {T : Type 0} (keeps : List Cvr → T → Type 0) (frame : Frame) (ds : List Data) (kept : Kept T) : Type 0 where
+-- whether all that each record names is the definition's or its own, devices, units and parties
+-- aside; and where it is, these three, and what is kept of the typed records
+pub record AreKept {T : Type 0} (keeps : List Cvr → T → Type 0) (frame : Frame) (ds : List Data)
+    (kept : Kept T) : Type 0 where
   pub settled : (kept.settled ≡ true) ↔ All (NamesOwn frame) ds
   pub names : kept.settled ≡ true → AreNamed ds kept.names
   pub records : kept.settled ≡ true → keeps (map (cvr_of frame.contests) ds) kept.records
 
--- of records whose numbers are whole: their first fault of form, and what is kept where they have none
-pub record AreWhole {T : Type 0} (keeps : List Cvr → T → Type 0) (frame : Frame) (ds : List Data) (seen : Seen T) : Type 0 where
+-- for records whose numbers are whole: their first fault of form, and what is kept where they have
+-- none
+pub record AreWhole {T : Type 0} (keeps : List Cvr → T → Type 0) (frame : Frame) (ds : List Data)
+    (seen : Seen T) : Type 0 where
   pub few : length ds ≤ any
   pub form : option_map fault_of seen.form ≡ first (cvrs_faults (items_of ds))
   pub kept : seen.form ≡ None → AreKept keeps frame ds seen.kept
 
--- the path of the records' first number that isn't whole, and where there is none, all this
-pub record IsSeen {T : Type 0} (keeps : List Cvr → T → Type 0) (frame : Frame) (ds : List Data) (seen : Seen T) : Type 0 where
+-- the path of the records' first number that isn't whole; where there is none, `AreWhole` holds
+pub record IsSeen {T : Type 0} (keeps : List Cvr → T → Type 0) (frame : Frame) (ds : List Data)
+    (seen : Seen T) : Type 0 where
   pub fraction : seen.fraction ≡ option_map in_file (first (float_faults (array (items_of ds))))
   pub whole : seen.fraction ≡ None → AreWhole keeps frame ds seen
 
 -- ---- what they name
 
--- this is the first text of records that names nothing, from their array
+-- what is seen of the records when a refused file is read again: the path of their first text that
+-- names nothing, from their array
 abbrev pub IsUnnamed : Scope → List Data → Option Found → Type 0
 IsUnnamed scope ds found = option_map path_of found ≡ first (below_each (in_cvr scope) ds 0)
 
 -- ---- the answer
 
--- it is the devices of the value, which nothing refuses, and what is kept of its records; or why it is refused, or out of memory
-pub record IsJudged {T : Type 0} (keeps : List Cvr → T → Type 0) (frame : Frame) (d : Data) (answer : Result (List ReportingDevice × T) ReadFault) : Type 0 where
+-- the answer is the devices of a value that nothing refuses, and what is kept of its records; or
+-- why the value is refused; or out of memory
+pub record IsJudged {T : Type 0} (keeps : List Cvr → T → Type 0) (frame : Frame) (d : Data)
+    (answer : Result (List ReportingDevice × T) ReadFault) : Type 0 where
   pub accepted : OnOk answer (value_refusal frame d ≡ None)
   pub devices : IfOk answer (λ p. p.0 ≡ (report_of frame.contests d).devices)
   pub kept : IfOk answer (λ p. keeps (report_of frame.contests d).cvrs p.1)
   pub err : IfErr answer (λ e. ¬ IsMemory e → value_refusal frame d ≡ Some e)
 
--- the text is what is left with records in it; it has no fault of numbers or form, nor has what is left
+-- the text is what is left with records put in; neither it nor what is left has a fault of numbers
+-- or form
 abbrev pub HasForms : List ℕ → Data → Type 0
 HasForms text left = record {
   records : List Data;
   members : Members;
   whole : read text ≡ Some (with_records records members);
   left_is : left ≡ object members;
-  emptied : filled (codes "CVR") no_items members ≡ members;
+  emptied : with_items_at (codes "CVR") no_items members ≡ members;
   some : IsSome (get_member (codes "CVR") members);
   sound : document_faults (with_records records members) ≡ [];
   rest : document_faults (object members) ≡ [];
 }
 
--- what is left is sound and agrees, and lists each device, unit and party that the records name, whose other names are settled
+-- what is left is sound and agrees, and lists each device, unit and party that the records name;
+-- all else that they name is settled
 pub record Settles {T : Type 0} (frame : Frame) (left : Data) (kept : Kept T) : Type 0 where
   pub settled : kept.settled ≡ true
   pub sound : IsSound left
   pub agrees : disagreements frame left ≡ []
   pub listed : ListsNamed left kept.names
 
--- and the records have no fault
+-- the file is accepted: it settles, and its records have no fault
 pub record Accepts {T : Type 0} (frame : Frame) (left : Data) (seen : Seen T) : Type 0 where
   pub whole : seen.fraction ≡ None
   pub form : seen.form ≡ None
@@ -127,7 +148,7 @@ pub record Accepts {T : Type 0} (frame : Frame) (left : Data) (seen : Seen T) : 
 abbrev pub Refuses : Frame → List ℕ → Type 0
 Refuses frame text = (d : Data) → read text ≡ Some d → value_refusal frame d ≡ None → ⊥
 
--- this is why
+-- the value is refused, and this is the cause
 abbrev pub IsRefusedFor : Frame → List ℕ → ReadFault → Type 0
 IsRefusedFor frame text fault = (d : Data) → read text ≡ Some d → value_refusal frame d ≡ Some fault
 

@@ -2,7 +2,8 @@
 use Rattle.std.specs.Prelude.{◌≡◌, ℕ, List, Some, false, codes, ⊤}
 use Rattle.std.specs.List.{Contains}
 use Rattle.std.specs.Str.{IsUtf8}
-use Rattle.serde_json.specs.Data.{Data, null, boolean, number, string, array, object, Items, no_items, item, Members, no_members, member}
+use Rattle.serde_json.specs.Data.{Data, null, boolean, number, string, array, object, Items}
+use Rattle.serde_json.specs.Data.{no_items, item, Members, no_members, member}
 use Rattle.serde_json.specs.Written.{has_float, compact_text}
 use Rattle.cdf_form.specs.Reading.{value_of}
 use Rattle.cdf_parts.specs.PartOf.{IsPart}
@@ -32,13 +33,14 @@ abbrev mutual
   MembersHaveUtf8 no_members = ⊤
   MembersHaveUtf8 (member k d ms) = IsUtf8 k × HasUtf8 d × MembersHaveUtf8 ms
 
--- so it is in a file's value
+-- each text and each name in a file's value is UTF-8
 abbrev pub ReadUtf8Law : Type 0
 ReadUtf8Law = (bytes : List ℕ) (d : Data) → value_of bytes ≡ Some d → HasUtf8 d
 
 -- and the compact text of each part is UTF-8
 abbrev pub PartUtf8Law : Type 0
-PartUtf8Law = (bytes : List ℕ) (d e : Data) → value_of bytes ≡ Some d → has_float d ≡ false → IsPart e d → IsUtf8 (compact_text e)
+PartUtf8Law = (bytes : List ℕ) (d e : Data) → value_of bytes ≡ Some d → has_float d ≡ false
+    → IsPart e d → IsUtf8 (compact_text e)
 
 -- so is each text and name of a part, and the compact text of what is proper
 abbrev pub PartHasUtf8Law : Type 0
@@ -69,7 +71,8 @@ pub record SnapshotIsUtf8 (s : Data) : Type 0 where
 
 -- those of each device, CVR and snapshot of an accepted file
 pub record BodiesAreUtf8 (bytes : List ℕ) : Type 0 where
-  pub devices : (d : Data) → Contains (array_at (codes "ReportingDevice") (value_in bytes)) d → DeviceIsUtf8 d
+  pub devices : (d : Data) → Contains (array_at (codes "ReportingDevice") (value_in bytes)) d
+      → DeviceIsUtf8 d
   pub headers : (c : Data) → Contains (array_at (codes "CVR") (value_in bytes)) c → HeaderIsUtf8 c
   pub snapshots : (c s : Data) → Contains (array_at (codes "CVR") (value_in bytes)) c
       → Contains (array_at (codes "CVRSnapshot") c) s → SnapshotIsUtf8 s

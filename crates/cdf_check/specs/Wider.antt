@@ -23,19 +23,22 @@ pub record Wider (a b : Scope) : Type 0 where
 
 -- of one definition, more devices name more
 abbrev pub MoreDevicesLaw : Type 0
-MoreDevicesLaw = (frame : Frame) (xs ys : Texts) → Includes xs ys → Wider (scope_in frame xs) (scope_in frame ys)
+MoreDevicesLaw = (frame : Frame) (xs ys : Texts) → Includes xs ys
+    → Wider (scope_in frame xs) (scope_in frame ys)
 
--- a header that stands still does where more is named
+-- a header that stands also stands where more is named
 abbrev pub HeaderStaysLaw : Type 0
-HeaderStaysLaw = (a b : Scope) → Wider a b → (device unique : List ℕ) (d : Data) → HeaderStands a device unique d → HeaderStands b device unique d
+HeaderStaysLaw = (a b : Scope) → Wider a b → (device unique : List ℕ) (d : Data)
+    → HeaderStands a device unique d → HeaderStands b device unique d
 
 -- so does a snapshot
 abbrev pub SnapshotStaysLaw : Type 0
-SnapshotStaysLaw = (a b : Scope) → Wider a b → (id : List ℕ) (d : Data) → SnapshotStands a id d → SnapshotStands b id d
+SnapshotStaysLaw = (a b : Scope) → Wider a b → (id : List ℕ) (d : Data) → SnapshotStands a id d
+    → SnapshotStands b id d
 
 -- ---- the references of a CVR
 
--- that there is none missing, part by part
+-- no reference is missing, part by part
 pub record IsResolved (a : Scope) (d : Data) : Type 0 where
   pub unit : one a.units (codes "BallotStyleUnitId") d ≡ []
   pub snapshots : each (in_snapshot a) (codes "CVRSnapshot") d ≡ []
@@ -50,4 +53,5 @@ ResolvedLaw = (a : Scope) (d : Data) → in_cvr a d ≡ [] → IsResolved a d
 
 -- where an array has none missing, no item of it has
 abbrev pub EachLaw : Type 0
-EachLaw = (paths : Data → List Path) (name : List ℕ) (d e : Data) → each paths name d ≡ [] → Contains (array_at name d) e → paths e ≡ []
+EachLaw = (paths : Data → List Path) (name : List ℕ) (d e : Data) → each paths name d ≡ []
+    → Contains (array_at name d) e → paths e ≡ []

@@ -21,7 +21,7 @@ pub fn snapshot_bodies_stand()
     ensures { SnapshotsStandLaw }
 {}
 
-/// What stands still does where more can be named, as a definition with more devices names more.
+/// What stands also stands where more can be named, as a definition with more devices names more.
 pub fn bodies_stay()
     ensures devices { MoreDevicesLaw }
     ensures header { HeaderStaysLaw }

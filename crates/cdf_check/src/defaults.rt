@@ -8,7 +8,7 @@ pub fn no_default_occurs()
     ensures { NoDefaultLaw }
 {}
 
-/// Nor does any in a value that has the form of a report and refers to what is there.
+/// Nor does one in a value that has the form of a report and refers to what is there.
 pub fn no_default_of_a_report()
     ensures { ReportIsReadLaw }
 {}
@@ -19,8 +19,8 @@ pub fn places_are_in_range()
     ensures { InRangeLaw }
 {}
 
-/// So are those of a record that has its form, and names contests and selections of these contests
-/// alone.
+/// So are those of a record that has its form, and names only contests and selections of these
+/// contests.
 pub fn places_of_a_record()
     ensures { RecordInRangeLaw }
 {}

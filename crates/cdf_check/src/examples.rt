@@ -10,7 +10,7 @@ ghost use Rattle.cdf_check.specs.Examples.{OtherElection, OtherUnit, OtherParty,
 ghost use Rattle.cdf_check.specs.Examples.{SameWithOtherDevice, SameWithOtherRecord};
 ghost use Rattle.cdf_check.specs.Examples.{OtherByElection, OtherByUnit, OtherByParty};
 
-/// A report that has each reference is accepted; where all name nothing, all are told in order.
+/// A report that has each reference is accepted; where all name nothing, all are reported in order.
 pub fn reports()
     ensures plain { Plain }
     ensures all_unknown { AllUnknown }

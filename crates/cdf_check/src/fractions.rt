@@ -26,8 +26,8 @@ fn member_fraction<'t>(
     }
 }
 
-/// The path of the first number of a file that isn't whole, by the members of what is left beside
-/// its records and that of these.
+/// The path of the first number of a file that isn't whole, from the members of what is left beside
+/// its records and from that of the records.
 ///
 /// # Errors
 /// `Memory` where a growth was refused.

@@ -28,8 +28,8 @@ use cdf_typed::read_report;
 use cdf_types::{Body, Memory, ReadFault, ReportingDevice, Rule, Seq};
 use std::alloc::Global;
 
-// Looks for the first fault of a file whose numbers are whole in its records, by what is left
-// beside these and their first fault of form.
+// Looks for the first fault of a file whose numbers are whole in its records, from what is left
+// beside these and from their first fault of form.
 fn first_fault<'a>(
     alloc: Global,
     left: &Node<'a>,
@@ -99,8 +99,8 @@ fn stands(alloc: Global, definition: &Definition, left: &Node<'_>) -> Result<boo
     }
 }
 
-// Whether a file is accepted, whose records were seen so. What is left is checked once, and not for
-// its first fault, which is of interest only where the file is refused.
+// Whether a file is accepted, by what was seen of its records. What is left is checked once, and
+// not for its first fault, which is of interest only where the file is refused.
 fn is_accepted<T>(
     alloc: Global,
     definition: &Definition,
@@ -146,8 +146,8 @@ fn has_records(value: &Node<'_>) -> bool
     }
 }
 
-/// The reporting devices of a file, of whose records that was seen, and beside which this is left;
-/// and what is kept of its records.
+/// The reporting devices of a file, and what is kept of its records, from what was seen of these
+/// and what is left beside them.
 ///
 /// # Errors
 /// As `check_report`.

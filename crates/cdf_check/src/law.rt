@@ -26,9 +26,9 @@ pub fn same_definitions()
     ensures one { OneDefinitionLaw }
 {}
 
-/// A report may be told by its records and by what is left beside them: it is a report where what
-/// is left is one and each record is one of it, it agrees with a definition where what is left
-/// does, and its typed report is made of both.
+/// A report may be given as its records and what is left beside them: it is a report where what is
+/// left is one and each record is one of it, it agrees with a definition where what is left does,
+/// and its typed report is made of both.
 pub fn records_apart()
     ensures report { RecordsLaw }
     ensures agrees { AgreesApartLaw }

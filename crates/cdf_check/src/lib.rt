@@ -1,5 +1,5 @@
-//! Which files are accepted as cast vote record reports (NIST SP 1500-103), and what is told of the
-//! others: a file is judged as it is read.
+//! Which files are accepted as cast vote record reports (NIST SP 1500-103), and what is answered
+//! for the others: a file is judged as it is read.
 #![tactic(auto)]
 
 pub mod bodies;

@@ -18,6 +18,10 @@ use std::alloc::Global;
 /// of its records. The file is read once, with no more than a record's tree at a time; where it is
 /// refused for a reference or an object that isn't the definition's, it is read twice.
 ///
+/// A record is handed to `keep` as its value, with its place, only while it and each record before
+/// it have no fault of numbers or form and name contests and selections of the definition. So each
+/// part of it is in range (`defaults::places_of_a_record`).
+///
 /// # Errors
 /// As `check_report`.
 pub fn check_file<K: Keep>(
@@ -49,8 +53,7 @@ where
 }
 
 /// The typed report of a file that is accepted beside a definition: its records in order, contests
-/// and selections told by their places in the definition, each in range. It is read as by
-/// `check_file`.
+/// and selections by their places in the definition, each in range. It is read as by `check_file`.
 ///
 /// # Errors
 /// As `Definition::read`; else `Disagrees` at the first Election, GpUnit or Party, in this order,

@@ -3,7 +3,7 @@ ghost use Rattle.std.specs.Prelude.{OnOk, option_map};
 ghost use Rattle.serde_json.specs.Data.{Data};
 ghost use Rattle.serde_json.specs.Written.{has_float};
 ghost use Rattle.cdf_node.specs.View.{view};
-ghost use Rattle.cdf_form.specs.Form.{at_item, deeper, first, float_faults};
+ghost use Rattle.cdf_form.specs.Form.{at_item, deeper_fault, first, float_faults};
 ghost use Rattle.cdf_form.specs.Found.{fault_of};
 ghost use Rattle.cdf_form.specs.Records.{cvr_faults};
 ghost use Rattle.cdf_check.specs.Seen.{in_file, AreKept, IsSeen};
@@ -23,9 +23,9 @@ use std::alloc::{AllocError, Global};
 /// What is kept of records, none of which has a fault of numbers or form.
 #[derive(Drop)]
 pub(crate) struct Kept<T> {
-    /// Whether each names what is the definition's or its own, but for devices, units and parties.
+    /// Whether all that each names is the definition's or its own, devices, units, parties aside.
     pub settled: bool,
-    /// These, where it is settled.
+    /// The devices, units and parties that they name, where it is settled.
     pub names: RecordNames,
     /// What is kept of the typed records, where it is settled.
     pub records: T,
@@ -65,7 +65,7 @@ fn form_in(
     cvr: &Node<'_>,
 ) -> Result<(Option<Found<'static>>, bool), AllocError>
     ensures form { IfOk result (λ told. option_map fault_of told.0
-        ≡ option_map (deeper (at_item place)) (first (cvr_faults (view cvr.now)))) }
+        ≡ option_map (deeper_fault (at_item place)) (first (cvr_faults (view cvr.now)))) }
     ensures whole { IfOk result (λ told. told.1 ≡ false → has_float (view cvr.now) ≡ false) }
 {
     match cvr_fault(alloc, cvr) {
@@ -87,7 +87,7 @@ fn fraction_in(
 ) -> Result<Option<Body>, AllocError>
     requires { look ≡ false → has_float (view cvr.now) ≡ false }
     ensures { IfOk result (λ path. path
-        ≡ option_map (λ f. in_file (deeper (at_item place) f))
+        ≡ option_map (λ f. in_file (deeper_fault (at_item place) f))
         (first (float_faults (view cvr.now)))) }
 {
     if !look {

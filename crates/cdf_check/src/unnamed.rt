@@ -23,7 +23,7 @@ use std::alloc::{AllocError, Global};
 #[derive(Drop)]
 struct Names<'a>(&'a Scope);
 
-// The first text of a record that names nothing, from the array of the records.
+// The path, from the array of the records, of the first text of a record that names nothing.
 fn unnamed_in(
     alloc: Global,
     scope: &Scope,

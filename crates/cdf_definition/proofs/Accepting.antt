@@ -1,5 +1,6 @@
 -- A file is accepted exactly where no cause applies.
-use Rattle.std.proofs.Common.{◌≡◌, ℕ, ◌≤◌, List, [], ◌∷◌, length, Bool, true, Option, Some, None, option_map, nat_le, refl, ◌∙◌, arith}
+use Rattle.std.proofs.Common.{◌≡◌, ℕ, ◌≤◌, List, [], ◌∷◌, length, Bool, true, Option, Some, None}
+use Rattle.std.proofs.Common.{option_map, nat_le, refl, ◌∙◌, arith}
 use Rattle.std.specs.Prelude.{if◌then◌else◌}
 use Rattle.std.specs.Option.{option_or}
 use Rattle.std.proofs.lemmas.Bool.Decides.{nat_tests}
@@ -11,10 +12,11 @@ use Rattle.cdf_form.specs.Form as form
 use Rattle.cdf_form.specs.Path.{path_text}
 use Rattle.cdf_form.specs.Reading.{value_of, max_file, document_faults, refusal_of}
 use Rattle.cdf_definition.specs.Paths.{Path}
-use Rattle.cdf_definition.specs.References.{missing}
+use Rattle.cdf_definition.specs.References.{missing_paths}
 use Rattle.cdf_definition.specs.Agreement.{disagreements, Agrees}
 use Rattle.cdf_definition.specs.Frame.{Frame}
-use Rattle.cdf_definition.specs.Acceptance.{Holds, IsReport, own_refusal, value_refusal, of_value, of_file}
+use Rattle.cdf_definition.specs.Acceptance.{Holds, IsReport, own_refusal, value_refusal, of_value}
+use Rattle.cdf_definition.specs.Acceptance.{of_file}
 use Rattle.cdf_definition.specs.Laws.{ValueLaw, SoundFileLaw, ValidFileLaw}
 use Rattle.cdf_definition.proofs.Agreeing.{agreement}
 use Rattle.cdf_definition.proofs.Sounding.{sound}
@@ -39,16 +41,25 @@ no_path (p ∷ ps) e = absurd (cc)
 
 own_none : (d : Data) → own_refusal d ≡ None → IsReport d
 own_none d e =
-    let h = either (option_map refusal_of (form.first (document_faults d))) (option_map (λ p. Reference (path_text p)) (first (missing d))) e in
-    (sound d).0 (none_right (document_faults d) (unmapped refusal_of _ h.0), no_path (missing d) (unmapped (λ p. Reference (path_text p)) _ h.1))
+    let h = either (option_map refusal_of (form.first (document_faults d)))
+    (option_map (λ p. Reference (path_text p)) (first (missing_paths d))) e in
+    (sound d).0 (
+      none_right (document_faults d) (unmapped refusal_of _ h.0),
+      no_path
+          (missing_paths d) (unmapped (λ p. Reference (path_text p)) _ h.1),
+    )
 
 none_own : (d : Data) → IsReport d → own_refusal d ≡ None
 none_own d r = let s = (sound d).1 r in rw (s.0, s.1) refl
 
 value_none : (frame : Frame) (d : Data) → value_refusal frame d ≡ None → IsReport d × Agrees frame d
 value_none frame d e =
-    let v = either (own_refusal d) (option_map (λ p. Disagrees (path_text p)) (first (disagreements frame d))) e in
-    (own_none d v.0, (agreement frame d).0 (no_path (disagreements frame d) (unmapped (λ p. Disagrees (path_text p)) _ v.1)))
+    let v = either (own_refusal d) (option_map (λ p. Disagrees (path_text p))
+    (first (disagreements frame d))) e in (
+      own_none d v.0,
+      (agreement frame d).0
+          (no_path (disagreements frame d) (unmapped (λ p. Disagrees (path_text p)) _ v.1)),
+    )
 
 none_value : (frame : Frame) (d : Data) → IsReport d → Agrees frame d → value_refusal frame d ≡ None
 none_value frame d r a = rw (none_own d r, (agreement frame d).1 a) refl
@@ -58,18 +69,22 @@ value_law frame d = (value_none frame d, λ h. none_value frame d h.0 h.1)
 
 -- ---- files
 
-file_at : (short : Bool) (n m : ℕ) (f : Data → Option ReadFault) (o : Option Data) → nat_le n m ≡ short
-    → (if short then of_value f o else Some TooLong) ≡ None → (d : Data) × ((n ≤ m) × (o ≡ Some d)) × (f d ≡ None)
+file_at : (short : Bool) (n m : ℕ) (f : Data → Option ReadFault) (o : Option Data)
+    → nat_le n m ≡ short
+    → (if short then of_value f o else Some TooLong) ≡ None
+    → (d : Data) × ((n ≤ m) × (o ≡ Some d)) × (f d ≡ None)
 file_at true n m f (Some d) h e = (d, (grind (arith, nat_tests), refl), e)
 file_at _ n m f o h e = absurd (cc)
 
-file_none : (f : Data → Option ReadFault) (bytes : List ℕ) → of_file f bytes ≡ None → (d : Data) × Holds bytes d × (f d ≡ None)
+file_none : (f : Data → Option ReadFault) (bytes : List ℕ) → of_file f bytes ≡ None
+    → (d : Data) × Holds bytes d × (f d ≡ None)
 file_none f bytes e = file_at _ (length bytes) max_file f (value_of bytes) refl e
 
 pub is_short : (n m : ℕ) → n ≤ m → nat_le n m ≡ true
 is_short n m h = grind (arith, nat_tests)
 
-pub file_holds : (f : Data → Option ReadFault) (bytes : List ℕ) (d : Data) → Holds bytes d → of_file f bytes ≡ f d
+pub file_holds : (f : Data → Option ReadFault) (bytes : List ℕ) (d : Data) → Holds bytes d
+    → of_file f bytes ≡ f d
 file_holds f bytes d h = rw (is_short (length bytes) max_file h.0, h.1) refl
 
 pub sound_file : SoundFileLaw
@@ -80,6 +95,7 @@ sound_file bytes = (
 
 pub valid_file : ValidFileLaw
 valid_file frame bytes = (
-  (λ e. let h = file_none (value_refusal frame) bytes e in let v = value_none frame h.0 h.2 in (h.0, h.1, v.0, v.1)),
+  (λ e. let h = file_none (value_refusal frame) bytes e in
+      let v = value_none frame h.0 h.2 in (h.0, h.1, v.0, v.1)),
   λ s. file_holds (value_refusal frame) bytes s.0 s.1 ∙ none_value frame s.0 s.2 s.3,
 )

@@ -1,18 +1,23 @@
--- Entries by their ids: they rise, beside each id stands the text of the last entry that has it, and how they are computed.
-use Rattle.std.proofs.Common.{◌≡◌, ℕ, ◌&&◌, T, Bool, true, false, cond, List, [], ◌∷◌, ◌++◌, map, reverse, length, codes, Some, Ordering, Less, Equal, Greater, nat_cmp, refl, sym, ap, ◌∙◌, arith}
+-- Entries by their ids: they rise, beside each id stands the text of the last entry that has it,
+-- and how they are computed.
+use Rattle.std.proofs.Common.{◌≡◌, ℕ, ◌&&◌, T, Bool, true, false, cond, List, [], ◌∷◌, ◌++◌, map}
+use Rattle.std.proofs.Common.{reverse, length, codes, Some, Ordering, Less, Equal, Greater, nat_cmp}
+use Rattle.std.proofs.Common.{refl, sym, ap, ◌∙◌, arith}
 use mathlib.Core.List.{reverse_aux}
 use Rattle.std.specs.List.{AllByRecursion}
 use Rattle.std.specs.List.Sorted.{IsStrictlySortedBy}
 use Rattle.std.specs.Ordering.{is_lt}
 use Rattle.std.specs.Cmp.Lexicographic.{slice_cmp}
-use Rattle.std.specs.FinMap.{empty, entries, entries_sorted, entries-insert, from_entries, get-entries, get-from_entries, len-empty, len-entries, find, put, is_sorted}
+use Rattle.std.specs.FinMap.{empty, entries, entries_sorted, entries-insert, from_entries}
+use Rattle.std.specs.FinMap.{get-entries, get-from_entries, len-empty, len-entries, find, put}
+use Rattle.std.specs.FinMap.{is_sorted}
 use Rattle.std.specs.FinMap.Entries.{below_all}
 use Rattle.std.proofs.lemmas.Cmp.{nat_list_cmp_total}
 use Rattle.std.proofs.lemmas.List.{reverse-append}
 use Rattle.std.proofs.lemmas.Map.Text.{is_eq-slice_cmp}
 use Rattle.serde_json.specs.Data.{Data}
 use Rattle.cdf_parts.specs.Parts.{array_at}
-use Rattle.cdf_definition.specs.Named.{IdText, named, by_id, text_of}
+use Rattle.cdf_definition.specs.Named.{IdText, id_and_text, by_id, text_of}
 use Rattle.cdf_definition.specs.Frame.{Frame, frame_of}
 use Rattle.cdf_definition.specs.Laws.{ByIdLaw}
 
@@ -32,14 +37,24 @@ less_is Equal h = absurd h
 less_is Greater h = absurd h
 
 module _ {K X : Type 0} (R : K → K → Ordering) where
-  below_is : (k : K) (es : List (K × X)) → T (below_all R k es) → AllByRecursion (λ y. R k y ≡ Less) (map (λ x. x.0) es)
+  below_is : (k : K) (es : List (K × X)) → T (below_all R k es)
+      → AllByRecursion (λ y. R k y ≡ Less) (map (λ x. x.0) es)
   below_is k [] h = tt
-  below_is k (x ∷ es) h = (less_is (R k x.0) (both_left (is_lt (R k x.0)) _ h), below_is k es (both_right (is_lt (R k x.0)) _ h))
+  below_is k (x ∷ es) h = (
+    less_is (R k x.0) (both_left (is_lt (R k x.0)) _ h),
+    below_is k es
+        (both_right (is_lt (R k x.0)) _ h),
+  )
 
-  pub keys_rise : (es : List (K × X)) → T (is_sorted R es) → IsStrictlySortedBy R (map (λ x. x.0) es)
+  pub keys_rise : (es : List (K × X)) → T (is_sorted R es)
+      → IsStrictlySortedBy R (map (λ x. x.0) es)
   unfolding IsStrictlySortedBy
   keys_rise [] h = tt
-  keys_rise (x ∷ es) h = (below_is x.0 es (both_left (below_all R x.0 es) _ h), keys_rise es (both_right (below_all R x.0 es) _ h))
+  keys_rise (x ∷ es) h = (
+    below_is x.0 es (both_left (below_all R x.0 es) _ h),
+    keys_rise es
+        (both_right (below_all R x.0 es) _ h),
+  )
 
 -- ---- entries by id
 
@@ -58,7 +73,8 @@ by_id_law es = record {
       ∙ get-from_entries nat_list_cmp_total (reverse es) id ∙ sym (found (reverse es) id);
 }
 
-pub by_id-push : (es : List IdText) (e : IdText) → by_id (es ++ e ∷ []) ≡ put order e.0 e.1 (by_id es)
+pub by_id-push : (es : List IdText) (e : IdText)
+    → by_id (es ++ e ∷ []) ≡ put order e.0 e.1 (by_id es)
 by_id-push es e =
     ap (λ l. entries (from_entries {R = order} l)) (reverse-append es (e ∷ []))
     ∙ entries-insert nat_list_cmp_total (from_entries {R = order} (reverse es)) e.0 e.1
@@ -73,17 +89,20 @@ no_entries : (es : List IdText) → length es ≡ 0 → es ≡ []
 no_entries [] none = refl
 no_entries (e ∷ es) none = absurd (omega arith)
 
-put_behind : (es done : List IdText) → entries (from_entries {R = order} (reverse_aux es done)) ≡ put_all (entries (from_entries {R = order} done)) es
+put_behind : (es done : List IdText) → entries (from_entries {R = order} (reverse_aux es done))
+    ≡ put_all (entries (from_entries {R = order} done)) es
 put_behind [] done = refl
 put_behind (e ∷ es) done =
-    put_behind es (e ∷ done) ∙ ap (λ l. put_all l es) (entries-insert nat_list_cmp_total (from_entries {R = order} done) e.0 e.1)
+    put_behind es (e ∷ done) ∙ ap (λ l. put_all l es)
+    (entries-insert nat_list_cmp_total (from_entries {R = order} done) e.0 e.1)
 
 pub by_id-put : (es : List IdText) → by_id es ≡ put_all [] es
 by_id-put es =
-    put_behind es [] ∙ ap (λ l. put_all l es) (no_entries (entries empty) (sym (len-entries empty) ∙ len-empty order (List ℕ)))
+    put_behind es [] ∙ ap (λ l. put_all l es)
+    (no_entries (entries empty) (sym (len-entries empty) ∙ len-empty order (List ℕ)))
 
 abbrev put_at : List ℕ → Data → List IdText
-put_at name d = put_all [] (map named (array_at name d))
+put_at name d = put_all [] (map id_and_text (array_at name d))
 
 -- a frame whose lists compute
 abbrev pub frame_put : Data → Frame
@@ -97,9 +116,9 @@ frame_put d = record {
 
 pub frame_of-put : (d : Data) → frame_of d ≡ frame_put d
 frame_of-put d = λ i. record {
-  elections = by_id-put (map named (array_at (codes "Election") d)) i;
-  units = by_id-put (map named (array_at (codes "GpUnit") d)) i;
-  parties = by_id-put (map named (array_at (codes "Party") d)) i;
-  devices = by_id-put (map named (array_at (codes "ReportingDevice") d)) i;
+  elections = by_id-put (map id_and_text (array_at (codes "Election") d)) i;
+  units = by_id-put (map id_and_text (array_at (codes "GpUnit") d)) i;
+  parties = by_id-put (map id_and_text (array_at (codes "Party") d)) i;
+  devices = by_id-put (map id_and_text (array_at (codes "ReportingDevice") d)) i;
   contests = (frame_of d).contests;
 }

@@ -1,8 +1,11 @@
 -- How deep the parts of a file's value nest.
-use Rattle.std.proofs.Common.{◌≡◌, ◌<◌, ℕ, zero, suc, List, [], length, slice_index_or, Contains, Bool, true, false, cond}
-use Rattle.std.proofs.Common.{Option, Some, None, option_map, option_and_then, unwrap_or, refl, ap, arith}
+use Rattle.std.proofs.Common.{◌≡◌, ◌<◌, ℕ, zero, suc, List, [], length, slice_index_or, Contains}
+use Rattle.std.proofs.Common.{Bool, true, false, cond}
+use Rattle.std.proofs.Common.{Option, Some, None, option_map, option_and_then, unwrap_or, refl, ap}
+use Rattle.std.proofs.Common.{arith}
 use Rattle.std.specs.Str.{is_utf8}
-use Rattle.serde_json.specs.Data.{Data, null, boolean, number, string, array, object, Items, no_items, item}
+use Rattle.serde_json.specs.Data.{Data, null, boolean, number, string, array, object, Items}
+use Rattle.serde_json.specs.Data.{no_items, item}
 use Rattle.serde_json.specs.Find.{get, get_item, as_array}
 use Rattle.serde_json.specs.Read.{read}
 use Rattle.cdf_node.specs.Items.{list_of}
@@ -23,12 +26,14 @@ pub was_read : (bytes : List ℕ) (d : Data) → value_of bytes ≡ Some d → r
 was_read bytes d e = if_some (is_utf8 bytes) (read bytes) d e
 
 -- a report's value nests at most 127 deep
-pub report_proper : (bytes : List ℕ) (d : Data) → value_of bytes ≡ Some d → IsReport d → IsProper 127 d
+pub report_proper : (bytes : List ℕ) (d : Data) → value_of bytes ≡ Some d → IsReport d
+    → IsProper 127 d
 report_proper bytes d e r = proper_read bytes d (was_read bytes d e) r.whole
 
 -- ---- items
 
-item_in : (ds : Items) (i : ℕ) (e : Data) → i < length (list_of ds) → slice_index_or (list_of ds) i e ≡ e → get_item i ds ≡ Some e
+item_in : (ds : Items) (i : ℕ) (e : Data) → i < length (list_of ds)
+    → slice_index_or (list_of ds) i e ≡ e → get_item i ds ≡ Some e
 item_in no_items i e h is = absurd (omega arith)
 item_in (item d ds) zero e h is = ap Some is
 item_in (item d ds) (suc i) e h is = item_in ds i e (omega arith) is
@@ -41,8 +46,11 @@ proper_in n (Some (boolean b)) e h a = absurd (omega (arith, a.1))
 proper_in n (Some (number x)) e h a = absurd (omega (arith, a.1))
 proper_in n (Some (string s)) e h a = absurd (omega (arith, a.1))
 proper_in n (Some (object ms)) e h a = absurd (omega (arith, a.1))
-proper_in n (Some (array ds)) e h a = item_proper n a.0 (array ds) e (item_in ds a.0 e a.1 a.2) (h (array ds) refl)
+proper_in n (Some (array ds)) e h a =
+    item_proper n a.0 (array ds) e (item_in ds a.0 e a.1 a.2) (h (array ds) refl)
 
 -- an item of the array under a name nests two less deep
-pub listed_proper : (n : ℕ) (name : List ℕ) (d e : Data) → Contains (array_at name d) e → IsProper (suc (suc n)) d → IsProper n e
-listed_proper n name d e a h = proper_in n (get name d) e (λ f is. member_proper (suc n) name d f is h) a
+pub listed_proper : (n : ℕ) (name : List ℕ) (d e : Data) → Contains (array_at name d) e
+    → IsProper (suc (suc n)) d → IsProper n e
+listed_proper n name d e a h =
+    proper_in n (get name d) e (λ f is. member_proper (suc n) name d f is h) a

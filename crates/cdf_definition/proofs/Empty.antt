@@ -1,5 +1,6 @@
 -- Lists of paths that are empty, told by their parts.
-use Rattle.std.proofs.Common.{◌≡◌, ◌↔◌, ◌<◌, ℕ, zero, suc, ◌+◌, List, [], ◌∷◌, ◌++◌, length, slice_index_or, Bool, true, false, Contains, refl, ap, subst, arith}
+use Rattle.std.proofs.Common.{◌≡◌, ◌↔◌, ◌<◌, ℕ, zero, suc, ◌+◌, List, [], ◌∷◌, ◌++◌, length}
+use Rattle.std.proofs.Common.{slice_index_or, Bool, true, false, Contains, refl, ap, subst, arith}
 use Rattle.serde_json.specs.Data.{Data}
 use Rattle.cdf_form.specs.Form.{Step, at_member, at_item}
 use Rattle.cdf_parts.specs.Parts.{array_at}
@@ -20,8 +21,13 @@ both_nil : (xs ys : List Path) → xs ≡ [] → ys ≡ [] → xs ++ ys ≡ []
 both_nil xs ys a b = rw (a, b)
 
 -- two lists are empty where both are
-pub two : {P Q : Type 0} (xs ys : List Path) → (xs ≡ []) ↔ P → (ys ≡ []) ↔ Q → (xs ++ ys ≡ []) ↔ (P × Q)
-two xs ys p q = ((λ e. (p.0 (left_nil xs ys e), q.0 (right_nil xs ys e))), λ h. both_nil xs ys (p.1 h.0) (q.1 h.1))
+pub two : {P Q : Type 0} (xs ys : List Path) → (xs ≡ []) ↔ P → (ys ≡ []) ↔ Q
+    → (xs ++ ys ≡ []) ↔ (P × Q)
+two xs ys p q = (
+  (λ e. (p.0 (left_nil xs ys e), q.0 (right_nil xs ys e))),
+  λ h.
+      both_nil xs ys (p.1 h.0) (q.1 h.1),
+)
 
 below_nil : (s : Step) (xs : List Path) → below s xs ≡ [] → xs ≡ []
 below_nil s [] e = refl
@@ -47,10 +53,13 @@ pub at_tail : (d e : Data) (ds : List Data) → Contains ds e → Contains (d �
 at_tail d e ds c = (suc c.0, omega (arith, c.1), c.2)
 
 module _ (f : Data → List Path) (P : Data → Type 0) (told : (e : Data) → (f e ≡ []) ↔ P e) where
-  items_nil : (ds : List Data) (i j : ℕ) (e : Data) → below_each f ds i ≡ [] → j < length ds → slice_index_or ds j e ≡ e → P e
+  items_nil : (ds : List Data) (i j : ℕ) (e : Data) → below_each f ds i ≡ [] → j < length ds
+      → slice_index_or ds j e ≡ e → P e
   items_nil [] i j e h lt is = absurd (omega arith)
-  items_nil (d ∷ ds) i zero e h lt is = subst P is ((told d).0 (below_nil (at_item i) (f d) (left_nil _ _ h)))
-  items_nil (d ∷ ds) i (suc j) e h lt is = items_nil ds (i + 1) j e (right_nil _ _ h) (omega arith) is
+  items_nil (d ∷ ds) i zero e h lt is =
+      subst P is ((told d).0 (below_nil (at_item i) (f d) (left_nil _ _ h)))
+  items_nil (d ∷ ds) i (suc j) e h lt is =
+      items_nil ds (i + 1) j e (right_nil _ _ h) (omega arith) is
 
   nil_items : (ds : List Data) (i : ℕ) → ((e : Data) → Contains ds e → P e) → below_each f ds i ≡ []
   nil_items [] i h = refl
@@ -59,7 +68,7 @@ module _ (f : Data → List Path) (P : Data → Type 0) (told : (e : Data) → (
       (ap (below (at_item i)) ((told d).1 (h d (at_head d ds))))
       (nil_items ds (i + 1) (λ e c. h e (at_tail d e ds c)))
 
-  -- no item has a path where each has what its own paths tell
+  -- no item has a path where each has what its own paths say
   pub all_items : (name : List ℕ) (d : Data) → (each f name d ≡ []) ↔ Each P name d
   all_items name d =
       inner (at_member name) (below_each f (array_at name d) 0)

@@ -10,6 +10,7 @@ first_or [] ys = refl
 first_or (x ∷ xs) ys = refl
 
 -- that of a part's
-pub first_below : (s : Step) (ps : List Path) → first (below s ps) ≡ option_map (λ p. s ∷ p) (first ps)
+pub first_below : (s : Step) (ps : List Path)
+    → first (below s ps) ≡ option_map (λ p. s ∷ p) (first ps)
 first_below s [] = refl
 first_below s (p ∷ ps) = refl

@@ -1,4 +1,5 @@
--- What proofs of other crates may cite: each is a clause of one of this crate's functions, which has the statement.
+-- What proofs of other crates may cite: each is a clause of one of this crate's functions, which
+-- has the statement.
 pub use Rattle.cdf_definition.proofs.Accepting.{sound_file, valid_file, value_law}
 pub use Rattle.cdf_definition.proofs.Agreeing.{agreement}
 pub use Rattle.cdf_definition.proofs.ById.{by_id_law}

@@ -1,7 +1,9 @@
--- What proofs of other crates may cite besides its laws: facts on lists, truth values and orders, and ways of computing.
+-- What proofs of other crates may cite besides its laws: facts on lists, truth values and orders,
+-- and ways of computing.
 pub use Rattle.cdf_definition.proofs.Accepting.{either, file_holds, none_right, unmapped}
 pub use Rattle.cdf_definition.proofs.ById.{by_id-put, frame_of-put, frame_put, keys_rise}
-pub use Rattle.cdf_definition.proofs.Empty.{all_items, at_head, at_tail, inner, left_nil, right_nil, two, unless_nil}
+pub use Rattle.cdf_definition.proofs.Empty.{all_items, at_head, at_tail, inner, left_nil, right_nil}
+pub use Rattle.cdf_definition.proofs.Empty.{two, unless_nil}
 pub use Rattle.cdf_definition.proofs.Items.{first_below, first_or}
 pub use Rattle.cdf_definition.proofs.Kept.{differ}
 pub use Rattle.cdf_definition.proofs.Reports.{election_is, election_listed}

@@ -1,5 +1,6 @@
 -- What the form of a report says of its arrays.
-use Rattle.std.proofs.Common.{◌≡◌, ◌≤◌, List, [], ◌∷◌, length, Contains, Some, codes, refl, sym, subst, arith}
+use Rattle.std.proofs.Common.{◌≡◌, ◌≤◌, List, [], ◌∷◌, length, Contains, Some, codes, refl, sym}
+use Rattle.std.proofs.Common.{subst, arith}
 use Rattle.serde_json.specs.Data.{Data}
 use Rattle.cdf_form.specs.declared.table.Class.TheVariants as class
 use Rattle.cdf_form.specs.declared.table.Group.{Group}
@@ -7,7 +8,7 @@ use Rattle.cdf_form.specs.declared.table.Group.TheVariants as group
 use Rattle.cdf_form.specs.declared.table.Leaf.TheVariants as leaf
 use Rattle.cdf_form.specs.declared.table.Key.TheVariants as key
 use Rattle.cdf_form.specs.declared.table.Kind.TheVariants.{One}
-use Rattle.cdf_form.specs.Tables.{Entry, table, classes_of, required}
+use Rattle.cdf_form.specs.Tables.{Entry, table, classes_of, required_member}
 use Rattle.cdf_form.specs.HasForm.{HasForm}
 use Rattle.cdf_form.specs.Form.{key_text}
 use Rattle.cdf_parts.specs.Parts.{array_at, id_of, the_election}
@@ -19,11 +20,14 @@ use Rattle.cdf_definition.specs.Depths.{election_row, id_row}
 use Rattle.cdf_definition.proofs.Empty.{at_head}
 
 -- a row of reports
-pub report_row : (r : Entry) (d : Data) → find_row r.name (table class.CastVoteRecordReport) ≡ Some r → IsReport d → HasRow r.required r.name r.kind d
+pub report_row : (r : Entry) (d : Data)
+    → find_row r.name (table class.CastVoteRecordReport) ≡ Some r → IsReport d
+    → HasRow r.required r.name r.kind d
 report_row r d is h = row_of group.Reports r d (is, tt) h.form
 
 -- where each class of a group has an id, an object of the group has one
-pub has_id : (g : Group) (d : Data) → AllClasses (λ c. find_row (codes "@id") (table c) ≡ Some id_row) (classes_of g)
+pub has_id : (g : Group) (d : Data) → AllClasses
+    (λ c. find_row (codes "@id") (table c) ≡ Some id_row) (classes_of g)
     → HasForm (One (leaf.Object g)) d → key_text key.Id d ≡ Some (id_of d)
 has_id g d each f = must_text_in (row_of g id_row d each f) tt
 
@@ -42,5 +46,6 @@ one_election d h =
 pub election_is : (d e : Data) → array_at (codes "Election") d ≡ e ∷ [] → the_election d ≡ e
 election_is d e is = rw is refl
 
-pub election_listed : (d e : Data) → array_at (codes "Election") d ≡ e ∷ [] → Contains (array_at (codes "Election") d) e
+pub election_listed : (d e : Data) → array_at (codes "Election") d ≡ e ∷ []
+    → Contains (array_at (codes "Election") d) e
 election_listed d e is = subst (λ xs. Contains xs e) (sym is) (at_head e [])

@@ -20,7 +20,11 @@ report_of d s = record {
 }
 
 sound_of : (d : Data) → IsReport d → IsSound d
-sound_of d r = (rw (no_float_faults d r.whole, no_faults r.form) refl, (references d).1 r.references)
+sound_of d r = (
+  rw (no_float_faults d r.whole, no_faults r.form) refl,
+  (references d).1
+      r.references,
+)
 
 pub sound : SoundLaw
 sound d = (report_of d, sound_of d)

@@ -1,10 +1,13 @@
--- Which files are accepted, and what is told of the others: the first cause that applies. (This project's own; JSON: RFC 8259.)
-use Rattle.std.specs.Prelude.{◌≡◌, ℕ, ◌≤◌, List, length, if◌then◌else◌, nat_le, Option, Some, None, option_map, unwrap_or, false}
+-- Which files are accepted, and what is answered for the others: the first cause that applies.
+-- (This project's own; JSON: RFC 8259.)
+use Rattle.std.specs.Prelude.{◌≡◌, ℕ, ◌≤◌, List, length, if◌then◌else◌, nat_le, Option, Some, None}
+use Rattle.std.specs.Prelude.{option_map, unwrap_or, false}
 use Rattle.std.specs.Option.{option_or}
 use Rattle.serde_json.specs.Data.{Data, null}
 use Rattle.serde_json.specs.Written.{has_float}
 use Rattle.cdf_types.specs.declared.fault.ReadFault.{ReadFault}
-use Rattle.cdf_types.specs.declared.fault.ReadFault.TheVariants.{TooLong, NotJson, Reference, Disagrees}
+use Rattle.cdf_types.specs.declared.fault.ReadFault.TheVariants.{TooLong, NotJson, Reference}
+use Rattle.cdf_types.specs.declared.fault.ReadFault.TheVariants.{Disagrees}
 use Rattle.cdf_types.specs.declared.report.Report.{Report}
 use Rattle.cdf_form.specs.declared.table.Group.TheVariants as group
 use Rattle.cdf_form.specs.declared.table.Leaf.TheVariants as leaf
@@ -16,7 +19,7 @@ use Rattle.cdf_form.specs.Reading.{value_of, max_file, document_faults, refusal_
 use Rattle.cdf_parts.specs.Places.{Contest}
 use Rattle.cdf_typed.specs.Typed.{report_of}
 use Rattle.cdf_form.specs.Form.{first}
-use Rattle.cdf_definition.specs.References.{missing}
+use Rattle.cdf_definition.specs.References.{missing_paths}
 use Rattle.cdf_definition.specs.Resolves.{Resolves}
 use Rattle.cdf_definition.specs.Frame.{Frame, frame_of}
 use Rattle.cdf_definition.specs.Agreement.{disagreements, Agrees}
@@ -43,29 +46,35 @@ Valid frame bytes = (d : Data) × Holds bytes d × IsReport d × Agrees frame d
 
 -- ---- the first cause to refuse
 
--- of a value by itself: its numbers and form, then its references
+-- why a value is refused by itself, if it is: by its first fault of numbers, else of form, else by
+-- its first text that names nothing
 abbrev pub own_refusal : Data → Option ReadFault
 own_refusal d = option_or (option_map refusal_of (form.first (document_faults d)))
-    (option_map (λ p. Reference (path_text p)) (first (missing d)))
+    (option_map (λ p. Reference (path_text p)) (first (missing_paths d)))
 
--- of a value beside a definition
+-- why a value is refused beside a definition, if it is: as by itself, else by its first object that
+-- isn't the definition's
 abbrev pub value_refusal : Frame → Data → Option ReadFault
-value_refusal frame d = option_or (own_refusal d) (option_map (λ p. Disagrees (path_text p)) (first (disagreements frame d)))
+value_refusal frame d = option_or (own_refusal d)
+    (option_map (λ p. Disagrees (path_text p)) (first (disagreements frame d)))
 
 -- of a file's value, if it has one
 abbrev pub of_value : (Data → Option ReadFault) → Option Data → Option ReadFault
 of_value refusal None = Some NotJson
 of_value refusal (Some d) = refusal d
 
--- of a file, whose value is refused so
+-- of a file, by what refuses its value
 abbrev pub of_file : (Data → Option ReadFault) → List ℕ → Option ReadFault
-of_file refusal bytes = if nat_le (length bytes) max_file then of_value refusal (value_of bytes) else Some TooLong
+of_file refusal bytes =
+    if nat_le (length bytes) max_file then of_value refusal (value_of bytes) else Some TooLong
 
--- why a file is refused as a definition, if it is
+-- why a file is refused as a definition, if it is: it is too long; else it is no JSON; else its
+-- value is refused by itself
 abbrev pub first_unsound : List ℕ → Option ReadFault
 first_unsound bytes = of_file own_refusal bytes
 
--- why a file is refused beside a definition, if it is
+-- why a file is refused beside a definition, if it is: it is too long; else it is no JSON; else its
+-- value is refused beside the definition
 abbrev pub first_refusal : Frame → List ℕ → Option ReadFault
 first_refusal frame bytes = of_file (value_refusal frame) bytes
 
@@ -75,8 +84,10 @@ first_refusal frame bytes = of_file (value_refusal frame) bytes
 abbrev pub value_in : List ℕ → Data
 value_in bytes = unwrap_or (value_of bytes) null
 
+-- the definition that a file gives
 abbrev pub frame_in : List ℕ → Frame
 frame_in bytes = frame_of (value_in bytes)
 
+-- the typed report that a file gives, beside the contests of a definition
 abbrev pub report_in : List Contest → List ℕ → Report
 report_in contests bytes = report_of contests (value_in bytes)

@@ -1,4 +1,6 @@
--- What the bodies of an accepted file keep, with no word of the file: they would stand in a written report of the definition. (NIST SP 1500-103, classes ReportingDevice, CVR, CVRSnapshot; depths: this project's own.)
+-- What the bodies of an accepted file keep, stated without the file: they would stand in a written
+-- report of the definition. (NIST SP 1500-103, classes ReportingDevice, CVR, CVRSnapshot; depths:
+-- this project's own.)
 use Rattle.std.specs.Prelude.{◌≡◌, ◌≢◌, ℕ, List, [], true, Some, None, IsSome, codes}
 use Rattle.serde_json.specs.Data.{Data, string}
 use Rattle.serde_json.specs.Find.{get}
@@ -19,8 +21,10 @@ IsInHeader name = (name ≢ codes "CVRSnapshot") × (name ≢ codes "CurrentSnap
 -- a CVR but for its two members CVRSnapshot and CurrentSnapshotId
 pub record HasHeaderForm (d : Data) : Type 0 where
   pub class_is : class_in group.Cvrs d ≡ Some class.Cvr
-  pub needed : (r : Entry) → IsRow (table class.Cvr) r → IsInHeader r.name → r.required ≡ true → IsSome (get r.name d)
-  pub member : (r : Entry) (e : Data) → IsRow (table class.Cvr) r → IsInHeader r.name → get r.name d ≡ Some e → HasForm r.kind e
+  pub needed : (r : Entry) → IsRow (table class.Cvr) r → IsInHeader r.name → r.required ≡ true
+      → IsSome (get r.name d)
+  pub member : (r : Entry) (e : Data) → IsRow (table class.Cvr) r → IsInHeader r.name
+      → get r.name d ≡ Some e → HasForm r.kind e
   pub no_snapshots : get (codes "CVRSnapshot") d ≡ None
   pub no_current : get (codes "CurrentSnapshotId") d ≡ None
 

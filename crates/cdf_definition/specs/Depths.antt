@@ -1,4 +1,5 @@
--- How deep the parts of a file's value nest, and what each report's row of members is. (Depths: this project's own.)
+-- How deep the parts of a file's value nest, and what each row of the table of reports says of a
+-- report. (Depths: this project's own.)
 use Rattle.std.specs.Prelude.{◌≡◌, ℕ, suc, List, Some, codes}
 use Rattle.std.specs.List.{Contains}
 use Rattle.serde_json.specs.Data.{Data}
@@ -9,7 +10,7 @@ use Rattle.cdf_form.specs.declared.table.Group.TheVariants as group
 use Rattle.cdf_form.specs.declared.table.Leaf.TheVariants as leaf
 use Rattle.cdf_form.specs.declared.table.Key.TheVariants as key
 use Rattle.cdf_form.specs.declared.table.Kind.TheVariants.{One, Array}
-use Rattle.cdf_form.specs.Tables.{Entry, table, classes_of, required}
+use Rattle.cdf_form.specs.Tables.{Entry, table, classes_of, required_member}
 use Rattle.cdf_form.specs.Form.{key_text}
 use Rattle.cdf_form.specs.HasForm.{HasForm}
 use Rattle.cdf_form.specs.ByRow.{AllClasses, find_row, HasRow}
@@ -24,26 +25,30 @@ WasReadLaw = (bytes : List ℕ) (d : Data) → value_of bytes ≡ Some d → rea
 
 -- that of a report nests at most 127 deep
 abbrev pub ReportIsProperLaw : Type 0
-ReportIsProperLaw = (bytes : List ℕ) (d : Data) → value_of bytes ≡ Some d → IsReport d → IsProper 127 d
+ReportIsProperLaw = (bytes : List ℕ) (d : Data) → value_of bytes ≡ Some d → IsReport d
+    → IsProper 127 d
 
--- an item of an array under a name nests two less deep
+-- an item of an array under a name nests two levels less
 abbrev pub ListedIsProperLaw : Type 0
-ListedIsProperLaw = (n : ℕ) (name : List ℕ) (d e : Data) → Contains (array_at name d) e → IsProper (suc (suc n)) d → IsProper n e
+ListedIsProperLaw = (n : ℕ) (name : List ℕ) (d e : Data) → Contains (array_at name d) e
+    → IsProper (suc (suc n)) d → IsProper n e
 
 -- ---- rows of a report
 
 -- the rows of an election in a report, and of an id
 abbrev pub election_row : Entry
-election_row = required (codes "Election") (Array (leaf.Object group.Elections) 1 1 key.Free)
+election_row = required_member (codes "Election") (Array (leaf.Object group.Elections) 1 1 key.Free)
 
 abbrev pub id_row : Entry
-id_row = required (codes "@id") (One leaf.Name)
+id_row = required_member (codes "@id") (One leaf.Name)
 
--- each row of a report says so of it
+-- each row of the table of reports holds of a report
 abbrev pub ReportRowLaw : Type 0
-ReportRowLaw = (r : Entry) (d : Data) → find_row r.name (table class.CastVoteRecordReport) ≡ Some r → IsReport d → HasRow r.required r.name r.kind d
+ReportRowLaw = (r : Entry) (d : Data) → find_row r.name (table class.CastVoteRecordReport) ≡ Some r
+    → IsReport d → HasRow r.required r.name r.kind d
 
 -- where each class of a group has an id, an object of the group has one
 abbrev pub HasIdLaw : Type 0
-HasIdLaw = (g : Group) (d : Data) → AllClasses (λ c. find_row (codes "@id") (table c) ≡ Some id_row) (classes_of g)
+HasIdLaw = (g : Group) (d : Data) → AllClasses (λ c. find_row (codes "@id") (table c) ≡ Some id_row)
+    (classes_of g)
     → HasForm (One (leaf.Object g)) d → key_text key.Id d ≡ Some (id_of d)

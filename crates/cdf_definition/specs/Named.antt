@@ -14,8 +14,8 @@ use Rattle.cdf_parts.specs.Places.{Texts}
 abbrev pub IdText : Type 0
 IdText = List ℕ × List ℕ
 
-abbrev pub named : Data → IdText
-named d = (id_of d, compact_text d)
+abbrev pub id_and_text : Data → IdText
+id_and_text d = (id_of d, compact_text d)
 
 -- the ids, and the texts
 abbrev pub ids_of : List IdText → Texts
@@ -28,7 +28,8 @@ texts_of entries = map (λ e. e.1) entries
 abbrev pub text_of : List IdText → List ℕ → Option (List ℕ)
 text_of entries id = lookup (bytes_eq id) entries
 
--- the map of ids to texts that the entries make, where the last of an id stands: its entries, in byte order of the ids
+-- the map of ids to texts that the entries make, where the last of an id stands: its entries, in
+-- byte order of the ids
 abbrev pub by_id : List IdText → List IdText
 by_id es = entries (from_entries {R = slice_cmp nat_cmp} (reverse es))
 

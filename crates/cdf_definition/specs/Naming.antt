@@ -8,7 +8,8 @@ use Rattle.cdf_definition.specs.Scoped.{contests_alone}
 use Rattle.cdf_definition.specs.Named.{ids_of}
 use Rattle.cdf_definition.specs.Frame.{Frame}
 
--- a record's contests, selections and election are the definition's, and its current snapshot is its own
+-- a record's contests, selections and election are the definition's, and its current snapshot is
+-- its own
 pub record NamesOwn (frame : Frame) (cvr : Data) : Type 0 where
   pub snapshots : each (in_snapshot (contests_alone frame.contests)) (codes "CVRSnapshot") cvr ≡ []
   pub current : one (ids_at (codes "CVRSnapshot") cvr) (codes "CurrentSnapshotId") cvr ≡ []

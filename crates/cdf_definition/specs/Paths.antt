@@ -8,7 +8,7 @@ use Rattle.cdf_parts.specs.Parts.{array_at}
 abbrev pub Path : Type 0
 Path = List Step
 
--- those of a part, told from the value that the step leads out of
+-- those of a part, from the value that the step starts at
 abbrev pub below : Step → List Path → List Path
 below s ps = map (λ p. s ∷ p) ps
 

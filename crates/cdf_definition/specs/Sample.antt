@@ -1,7 +1,8 @@
--- The texts of a small report, of which worked examples are told. (This project's own.)
+-- The texts of a small report, for worked examples. (This project's own.)
 use Rattle.std.specs.Prelude.{ℕ, List, ◌++◌, codes}
 
--- an election with a contest for mayor and a ballot measure, with the text of one more member at its end
+-- an election with a contest for mayor and a ballot measure, with the text of one more member at
+-- its end
 abbrev pub election : List ℕ → List ℕ
 election more =
     codes "{\"@id\":\"e\",\"@type\":\"CVR.Election\",\"Contest\":[" ++
@@ -24,12 +25,15 @@ devices_text =
     codes "{\"@id\":\"desk\",\"@type\":\"CVR.ReportingDevice\"},{\"@id\":\"s1\",\"@type\":\"CVR.ReportingDevice\"}," ++
     codes "{\"@id\":\"s2\",\"@type\":\"CVR.ReportingDevice\"}"
 
--- a report of these cast vote records and this election and units, with the text of one more member after its Election
+-- a report of these cast vote records and this election and units, with the text of one more member
+-- after its Election
 abbrev pub report_with : List ℕ → List ℕ → List ℕ → List ℕ → List ℕ
 report_with cvrs its_election its_units more =
-    codes "{\"@type\":\"CVR.CastVoteRecordReport\",\"CVR\":[" ++ cvrs ++ codes "],\"Election\":[" ++ its_election ++ codes "]," ++ more ++
+    codes "{\"@type\":\"CVR.CastVoteRecordReport\",\"CVR\":[" ++ cvrs ++ codes "],\"Election\":["
+    ++ its_election ++ codes "]," ++ more ++
     codes "\"GeneratedDate\":\"2024-11-05T20:00:00Z\",\"GpUnit\":[" ++ its_units ++
-    codes "],\"ReportGeneratingDeviceIds\":[\"s1\"],\"ReportingDevice\":[" ++ devices_text ++ codes "],\"Version\":\"1.0.0\"}"
+    codes "],\"ReportGeneratingDeviceIds\":[\"s1\"],\"ReportingDevice\":[" ++ devices_text
+    ++ codes "],\"Version\":\"1.0.0\"}"
 
 -- the same with the definition's election and units
 abbrev pub report : List ℕ → List ℕ → List ℕ

@@ -1,4 +1,4 @@
--- What the ids that are kept of a report stand for.
+-- What the ids that are kept of a report stand for. (This project's own.)
 use Rattle.std.specs.Prelude.{List, []}
 use Rattle.cdf_parts.specs.Places.{Contest}
 use Rattle.cdf_definition.specs.References.{Scope}
@@ -16,4 +16,5 @@ scope_view s = record {
 
 -- a scope in which nothing but these contests can be named
 abbrev pub contests_alone : List Contest → Scope
-contests_alone contests = record { elections = []; units = []; parties = []; devices = []; contests = contests }
+contests_alone contests =
+    record { elections = []; units = []; parties = []; devices = []; contests = contests }

@@ -4,7 +4,7 @@ ghost use Rattle.serde_json.specs.Written.{has_float};
 ghost use Rattle.cdf_form.specs.Found.{path_of};
 ghost use Rattle.cdf_form.specs.Form.{first};
 ghost use Rattle.cdf_definition.specs.Paths.{each};
-ghost use Rattle.cdf_definition.specs.Agreement.{agrees, differing};
+ghost use Rattle.cdf_definition.specs.Agreement.{agrees, differing_paths};
 
 use crate::named::Named;
 use cdf_form::found::{Path, Step};
@@ -39,7 +39,7 @@ pub fn first_differing(
 ) -> Result<Option<Path<'static>>, Memory>
     requires { has_float (view value.now) ≡ false }
     ensures { IfOk result (λ o. option_map path_of o
-        ≡ first (each (differing known.now) name.now (view value.now))) }
+        ≡ first (each (differing_paths known.now) name.now (view value.now))) }
 {
     for (place, item) in items_at(name, value).iter().enumerate() {
         if !agrees(alloc, known, item)? {

@@ -7,7 +7,7 @@ ghost use Rattle.cdf_form.specs.Found.{fault_of, path_of};
 ghost use Rattle.cdf_form.specs.Path.{path_text};
 ghost use Rattle.cdf_form.specs.Reading.{IsMemory, refusal_of, document_faults};
 ghost use Rattle.cdf_form.specs.Form.{first};
-ghost use Rattle.cdf_definition.specs.References.{missing};
+ghost use Rattle.cdf_definition.specs.References.{missing_paths};
 ghost use Rattle.cdf_definition.specs.Agreement.{disagreements};
 ghost use Rattle.cdf_definition.specs.Sound.{IsSound};
 ghost use Rattle.cdf_definition.specs.Acceptance.{own_refusal, value_refusal};
@@ -22,7 +22,7 @@ use cdf_node::Node;
 use cdf_types::{Memory, ReadFault};
 use std::alloc::Global;
 
-/// The answer that tells a fault of form.
+/// The answer that reports a fault of form.
 ///
 /// # Errors
 /// `Memory` where a growth was refused.
@@ -50,9 +50,10 @@ fn check_form(alloc: Global, value: &Node<'_>) -> Result<(), ReadFault>
 
 // Whether every text of a report that has to name something does.
 fn check_references(alloc: Global, value: &Node<'_>) -> Result<(), ReadFault>
-    ensures ok { OnOk result (missing (view value.now) ≡ []) }
+    ensures ok { OnOk result (missing_paths (view value.now) ≡ []) }
     ensures err { IfErr result (λ e. ¬ IsMemory e
-        → option_map (λ p. Reference (path_text p)) (first (missing (view value.now))) ≡ Some e) }
+        → option_map (λ p. Reference (path_text p)) (first (missing_paths (view value.now)))
+        ≡ Some e) }
 {
     match first_missing(alloc, value)? {
         None => Ok(()),

@@ -11,8 +11,8 @@ pub fn entries_by_id()
     ensures example { TwoOfOneId }
 {}
 
-/// A list of faults is empty exactly where what the faults tell of holds: of references, of
-/// agreement, of a value, and of a file alone and beside a definition.
+/// A list of faults is empty exactly where what it checks holds: that of references, of agreement,
+/// of a value, and of a file alone and beside a definition.
 pub fn acceptance()
     ensures references { ReferencesLaw }
     ensures agreement { AgreementLaw }
@@ -33,7 +33,8 @@ pub fn one_election()
     ensures { OneElectionLaw }
 {}
 
-/// Each row of a report says so of it, and an object of a group whose classes have ids has one.
+/// Each row of the table of reports holds of a report, and an object of a group whose classes have
+/// ids has one.
 pub fn report_rows()
     ensures each_row { ReportRowLaw }
     ensures id { HasIdLaw }
@@ -44,7 +45,7 @@ pub fn headers_keep()
     ensures { KeptLaw }
 {}
 
-/// A report's value nests at most 127 deep, and an item of an array in it two less.
+/// A report's value nests at most 127 deep, and an item of an array in it two levels less.
 pub fn bodies_are_shallow()
     ensures value { WasReadLaw }
     ensures report { ReportIsProperLaw }

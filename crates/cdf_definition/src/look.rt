@@ -19,7 +19,7 @@ use std::alloc::Global;
 pub trait Look {
     ghost missing: { Self → Data → List paths.Path };
 
-    /// The path of that text, told from the value, or none.
+    /// The path from the value to that text, or none.
     ///
     /// # Errors
     /// `Memory` where a growth was refused.

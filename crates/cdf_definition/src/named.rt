@@ -32,7 +32,7 @@ impl Named {
     ghost use Rattle.cdf_node.specs.View.{view};
     ghost use Rattle.serde_json.specs.Written.{has_float};
     ghost use Rattle.cdf_parts.specs.Kept.{bytes_of};
-    ghost use Rattle.cdf_definition.specs.Named.{named, by_id, map_entries, ids_of, texts_of};
+    ghost use Rattle.cdf_definition.specs.Named.{id_and_text, by_id, map_entries, ids_of, texts_of};
     ghost use Rattle.cdf_definition.specs.Named.{text_of};
 
     /// The texts of objects, in byte order of their ids; of several with one id the last.
@@ -41,7 +41,7 @@ impl Named {
     /// `Memory` where a growth was refused.
     pub fn of_items(alloc: Global, items: &[Node<'_>]) -> Result<Named, Memory>
         requires { list_any has_float (map view items.now) ≡ false }
-        ensures { IfOk result (λ n. n ≡ by_id (map named (map view items.now))) }
+        ensures { IfOk result (λ n. n ≡ by_id (map id_and_text (map view items.now))) }
     {
         Named::of_map(alloc, gather(alloc, items)?)
     }

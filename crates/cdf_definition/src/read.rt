@@ -52,6 +52,8 @@ impl Definition {
     /// The definition that a file holds: any report that has no fault by itself, with or without
     /// cast vote records.
     ///
+    /// The records of the file are checked, and not taken.
+    ///
     /// # Errors
     /// The first of these that applies, and no definition: `TooLong` above 67,108,864 bytes;
     /// `NotJson` where the file is no JSON text as `serde_json` reads it (RFC 8259; at most 127

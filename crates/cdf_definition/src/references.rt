@@ -9,7 +9,7 @@ ghost use Rattle.cdf_definition.specs.Scoped.{scope_view, contests_alone};
 ghost use Rattle.cdf_definition.specs.References.{in_selection_vote, in_votes, in_contest_vote};
 ghost use Rattle.cdf_definition.specs.References.{in_snapshot, in_cvr, in_selection, in_contest};
 ghost use Rattle.cdf_definition.specs.References.{in_candidate, in_election, in_report, one};
-ghost use Rattle.cdf_definition.specs.References.{missing};
+ghost use Rattle.cdf_definition.specs.References.{missing_paths};
 
 use crate::look::{Look, look_at_many, look_at_one, look_in_each};
 use crate::scope::Scope;
@@ -23,7 +23,7 @@ use cdf_parts::{items_at, text_at};
 use cdf_types::Memory;
 use std::alloc::Global;
 
-// Each struct looks at a value of one class, in the order of the names of its members. One holds
+// Each struct looks at a value of one class, in the order of the names of its members, and holds
 // the ids that the value's texts can name.
 
 #[derive(Drop)]
@@ -288,7 +288,7 @@ fn look_in_report(
 /// # Errors
 /// `Memory` where a growth was refused.
 pub fn first_missing(alloc: Global, report: &Node<'_>) -> Result<Option<Path<'static>>, Memory>
-    ensures { IfOk result (λ o. option_map path_of o ≡ first (missing (view report.now))) }
+    ensures { IfOk result (λ o. option_map path_of o ≡ first (missing_paths (view report.now))) }
 {
     let scope = Scope::of_report(alloc, report)?;
     look_in_report(alloc, &scope, report)

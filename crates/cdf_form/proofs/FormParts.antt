@@ -1,5 +1,6 @@
 -- What a value that has the form of a kind has: its class, its members, its items.
-use Rattle.std.proofs.Common.{◌≡◌, ◌≤◌, ◌<◌, ℕ, zero, suc, List, [], ◌∷◌, length, slice_index_or, Contains}
+use Rattle.std.proofs.Common.{◌≡◌, ◌≤◌, ◌<◌, ℕ, zero, suc, List, [], ◌∷◌, length, slice_index_or}
+use Rattle.std.proofs.Common.{Contains}
 use Rattle.std.proofs.Common.{Bool, true, false, cond, Option, Some, None, IsSome, bytes_eq, codes}
 use Rattle.std.proofs.Common.{refl, sym, ap, ◌∙◌, subst, arith, inl, inr}
 use Rattle.std.specs.Prelude.{option_and_then, unwrap_or}
@@ -68,7 +69,8 @@ is_text_in n s d is = go (get n d) is
 -- ---- classes and rows
 
 row_at : (b : Bool) (n : List ℕ) (x r : Entry) (rs : List Entry)
-    → (find_row n rs ≡ Some r → IsRow rs r) → cond b (Some x) (find_row n rs) ≡ Some r → IsRow (x ∷ rs) r
+    → (find_row n rs ≡ Some r → IsRow rs r) → cond b (Some x) (find_row n rs) ≡ Some r
+    → IsRow (x ∷ rs) r
 row_at true n x r rs later is = inl (inside x r is)
 row_at false n x r rs later is = inr (later is)
 
@@ -81,13 +83,15 @@ class_at : (b : Bool) (P : Class → Type 0) (x c : Class) (rest : Option Class)
 class_at true P x c rest here later is = subst P (inside x c is) here
 class_at false P x c rest here later is = later is
 
-found_class : (P : Class → Type 0) (cs : List Class) (s : List ℕ) (c : Class) → AllClasses P cs → find_class cs s ≡ Some c → P c
+found_class : (P : Class → Type 0) (cs : List Class) (s : List ℕ) (c : Class) → AllClasses P cs
+    → find_class cs s ≡ Some c → P c
 found_class P [] s c h is = absurd (cc)
 found_class P (x ∷ cs) s c h is =
     class_at (bytes_eq s (type_text x)) P x c (find_class cs s) h.0 (found_class P cs s c h.1) is
 
 -- what holds of each class of a group holds of an object's class
-pub class_of_group : (P : Class → Type 0) (g : Group) (d : Data) (c : Class) → AllClasses P (classes_of g) → class_in g d ≡ Some c → P c
+pub class_of_group : (P : Class → Type 0) (g : Group) (d : Data) (c : Class)
+    → AllClasses P (classes_of g) → class_in g d ≡ Some c → P c
 class_of_group P g d c h is = go (option_and_then as_str (get (codes "@type") d)) is
   where
     go : (o : Option (List ℕ)) → option_and_then (find_class (classes_of g)) o ≡ Some c → P c
@@ -102,20 +106,25 @@ has_class (class {c = c} is needed part) = record {
 }
 
 -- an object of a group of one class has that class
-pub only_class : (g : Group) (c : Class) (d : Data) → AllClasses (λ x. x ≡ c) (classes_of g) → HasForm (One (leaf.Object g)) d → class_in g d ≡ Some c
+pub only_class : (g : Group) (c : Class) (d : Data) → AllClasses (λ x. x ≡ c) (classes_of g)
+    → HasForm (One (leaf.Object g)) d → class_in g d ≡ Some c
 only_class g c d only f =
     let h = has_class f in
     h.its_is ∙ ap Some (class_of_group (λ x. x ≡ c) g d h.its only h.its_is)
 
--- a row that each class of the group has, found by computing: `(refl, tt)` for one class, `(refl, (refl, tt))` for two
-pub row_of : (g : Group) (r : Entry) (d : Data) → AllClasses (λ c. find_row r.name (table c) ≡ Some r) (classes_of g)
+-- a row that each class of the group has, found by computing: `(refl, tt)` for one class, `(refl,
+-- (refl, tt))` for two
+pub row_of : (g : Group) (r : Entry) (d : Data)
+    → AllClasses (λ c. find_row r.name (table c) ≡ Some r) (classes_of g)
     → HasForm (One (leaf.Object g)) d → HasRow r.required r.name r.kind d
 row_of g r d each f =
     let h = has_class f in
-    h.row r (row_in r.name (table h.its) r (class_of_group (λ c. find_row r.name (table c) ≡ Some r) g d h.its each h.its_is))
+    h.row r (row_in r.name (table h.its) r
+    (class_of_group (λ c. find_row r.name (table c) ≡ Some r) g d h.its each h.its_is))
 
 -- an object is an object
-pub is_object : (g : Group) (d : Data) → HasForm (One (leaf.Object g)) d → (ms : Members) × (d ≡ object ms)
+pub is_object : (g : Group) (d : Data) → HasForm (One (leaf.Object g)) d
+    → (ms : Members) × (d ≡ object ms)
 is_object g d f = let h = has_class f in go d h.its h.its_is
   where
     go : (e : Data) (c : Class) → class_in g e ≡ Some c → (ms : Members) × (e ≡ object ms)
@@ -137,10 +146,12 @@ name_form (name {s = s} is full) = (s, is)
 moment_form : {e : Data} → HasForm (One leaf.Moment) e → (s : List ℕ) × (as_str e ≡ Some s)
 moment_form (moment {s = s} is h) = (s, is)
 
-listed_form : {l : Listing} {e : Data} → HasForm (One (leaf.Listed l)) e → (s : List ℕ) × (as_str e ≡ Some s)
+listed_form : {l : Listing} {e : Data} → HasForm (One (leaf.Listed l)) e
+    → (s : List ℕ) × (as_str e ≡ Some s)
 listed_form (listed {s = s} is h) = (s, is)
 
-pub textual_form : (l : Leaf) (e : Data) → IsTextual l → HasForm (One l) e → (s : List ℕ) × (as_str e ≡ Some s)
+pub textual_form : (l : Leaf) (e : Data) → IsTextual l → HasForm (One l) e
+    → (s : List ℕ) × (as_str e ≡ Some s)
 textual_form leaf.Text e q f = text_form f
 textual_form leaf.Name e q f = name_form f
 textual_form leaf.Count e q f = absurd q
@@ -157,11 +168,14 @@ moment_is_read s f = go f refl
     go : {e : Data} → HasForm (One leaf.Moment) e → as_str e ≡ Some s → is_moment s ≡ true
     go (moment {s = t} is h) same = subst (λ x. is_moment x ≡ true) (inside t s (sym is ∙ same)) h
 
-pub listed_is_among : (l : Listing) (s : List ℕ) → HasForm (One (leaf.Listed l)) (string s) → list_any (bytes_eq s) (listed_in l) ≡ true
+pub listed_is_among : (l : Listing) (s : List ℕ) → HasForm (One (leaf.Listed l)) (string s)
+    → list_any (bytes_eq s) (listed_in l) ≡ true
 listed_is_among l s f = go f refl
   where
-    go : {e : Data} → HasForm (One (leaf.Listed l)) e → as_str e ≡ Some s → list_any (bytes_eq s) (listed_in l) ≡ true
-    go (listed {s = t} is h) same = subst (λ x. list_any (bytes_eq x) (listed_in l) ≡ true) (inside t s (sym is ∙ same)) h
+    go : {e : Data} → HasForm (One (leaf.Listed l)) e → as_str e ≡ Some s
+        → list_any (bytes_eq s) (listed_in l) ≡ true
+    go (listed {s = t} is h) same =
+        subst (λ x. list_any (bytes_eq x) (listed_in l) ≡ true) (inside t s (sym is ∙ same)) h
 
 module _ {b : Bool} {n : List ℕ} {l : Leaf} {d : Data} (row : HasRow b n (One l) d) where
   -- the text under the name has the form
@@ -173,18 +187,21 @@ module _ {b : Bool} {n : List ℕ} {l : Leaf} {d : Data} (row : HasRow b n (One 
   may_be_text q e at = let p = textual_form l e q (row.part e at) in rw (at, p.1) refl
 
 -- a required text is the one that a reader finds
-pub must_be_text : {n : List ℕ} {l : Leaf} {d : Data} → HasRow true n (One l) d → IsTextual l → get n d ≡ Some (string (text_at n d))
+pub must_be_text : {n : List ℕ} {l : Leaf} {d : Data} → HasRow true n (One l) d → IsTextual l
+    → get n d ≡ Some (string (text_at n d))
 must_be_text {n = n} {l = l} {d = d} row q =
     let p = some_of (get n d) (row.there refl) in
     let t = textual_form l p.0 q (row.part p.0 p.1) in
     let is : get n d ≡ Some (string t.0) = p.1 ∙ ap Some (is_string p.0 t.0 t.1) in
     is ∙ ap (λ s. Some (string s)) (sym (ap (λ o. unwrap_or (option_and_then as_str o) []) is))
 
-pub must_text_in : {n : List ℕ} {l : Leaf} {d : Data} → HasRow true n (One l) d → IsTextual l → text_in n d ≡ Some (text_at n d)
+pub must_text_in : {n : List ℕ} {l : Leaf} {d : Data} → HasRow true n (One l) d → IsTextual l
+    → text_in n d ≡ Some (text_at n d)
 must_text_in {n = n} {l = l} {d = d} row q = ap (option_and_then as_str) (must_be_text row q)
 
 -- and it has the form
-pub must_have_form : {n : List ℕ} {l : Leaf} {d : Data} → HasRow true n (One l) d → IsTextual l → HasForm (One l) (string (text_at n d))
+pub must_have_form : {n : List ℕ} {l : Leaf} {d : Data} → HasRow true n (One l) d → IsTextual l
+    → HasForm (One l) (string (text_at n d))
 must_have_form {n = n} {d = d} row q = row.part (string (text_at n d)) (must_be_text row q)
 
 -- ---- counts
@@ -194,7 +211,8 @@ counted (unsigned m) h = (m, refl, grind (arith, h, nat_tests))
 counted (negative z) h = absurd (cc)
 counted (float x) h = absurd (cc)
 
-pub count_form : {e : Data} → HasForm (One leaf.Count) e → (m : ℕ) × (e ≡ number (unsigned m)) × (m ≤ 4_294_967_295)
+pub count_form : {e : Data} → HasForm (One leaf.Count) e
+    → (m : ℕ) × (e ≡ number (unsigned m)) × (m ≤ 4_294_967_295)
 count_form {e = e} (count {n = n} is h) =
     let p = counted n h in
     (p.0, is_number e n is ∙ ap number p.1, p.2)
@@ -205,7 +223,8 @@ items_length : (ds : Items) → length (list_of ds) ≡ items_len ds
 items_length no_items = refl
 items_length (item d ds) = ap suc (items_length ds)
 
-item_there : (ds : Items) (i : ℕ) (e : Data) → i < length (list_of ds) → get_item i ds ≡ Some (slice_index_or (list_of ds) i e)
+item_there : (ds : Items) (i : ℕ) (e : Data) → i < length (list_of ds)
+    → get_item i ds ≡ Some (slice_index_or (list_of ds) i e)
 item_there no_items i e h = absurd (omega arith)
 item_there (item d ds) zero e h = refl
 item_there (item d ds) (suc i) e h = item_there ds i e (omega arith)
@@ -226,12 +245,15 @@ items_form {l = l} (items {ds = ds} is lo hi each apart) =
       record {
         some = omega (arith, len, lo);
         few = omega (arith, len, hi);
-        each = λ e a. subst (λ x. HasForm (One l) x) a.2 (each a.0 (slice_index_or (list_of ds) a.0 e) (item_there ds a.0 e a.1));
-        apart = λ i j d e s p q u v. apart i j _ _ s (item_there ds i d p) (item_there ds j e q) u v;
+        each = λ e a. subst (λ x. HasForm (One l) x) a.2
+            (each a.0 (slice_index_or (list_of ds) a.0 e) (item_there ds a.0 e a.1));
+        apart = λ i j d e s p q u v. apart i j _ _ s (item_there ds i d p) (item_there ds j e q) u
+            v;
       },
     )
 
-module _ {b : Bool} {n : List ℕ} {l : Leaf} {least most : ℕ} {k : Key} {d : Data} (row : HasRow b n (Array l least most k) d) where
+module _ {b : Bool} {n : List ℕ} {l : Leaf} {least most : ℕ} {k : Key} {d : Data}
+    (row : HasRow b n (Array l least most k) d) where
   -- what is there is an array
   pub is_an_array : (e : Data) → get n d ≡ Some e → IsSome (as_array e)
   is_an_array e at = let p = items_form (row.part e at) in rw p.1 refl
@@ -247,7 +269,9 @@ module _ {b : Bool} {n : List ℕ} {l : Leaf} {least most : ℕ} {k : Key} {d : 
   items_have_form e a = go (get n d) refl
     where
       go : (o : Option Data) → get n d ≡ o → HasForm (One l) e
-      go None is = let none : array_at n d ≡ [] = rw is refl in absurd (let h : a.0 < length (array_at n d) = a.1 in let z : length (array_at n d) ≡ 0 = ap length none in omega (arith, h, z))
+      go None is = let none : array_at n d ≡ [] = rw is refl in
+          absurd (let h : a.0 < length (array_at n d) = a.1 in
+          let z : length (array_at n d) ≡ 0 = ap length none in omega (arith, h, z))
       go (Some x) is = (found_items x is).each e a
 
   pub items_are_few : length (array_at n d) ≤ most
@@ -261,9 +285,12 @@ module _ {b : Bool} {n : List ℕ} {l : Leaf} {least most : ℕ} {k : Key} {d : 
   items_are_apart = go (get n d) refl
     where
       go : (o : Option Data) → get n d ≡ o → ListApart k (array_at n d)
-      go None is = let z : length (array_at n d) ≡ 0 = rw is refl in λ i j x y s p q u v. absurd (omega (arith, p, z))
+      go None is = let z : length (array_at n d) ≡ 0 = rw is refl in
+          λ i j x y s p q u v. absurd (omega (arith, p, z))
       go (Some x) is = (found_items x is).apart
 
 -- a required array has at least so many items
-pub items_are_some : {n : List ℕ} {l : Leaf} {least most : ℕ} {k : Key} {d : Data} → HasRow true n (Array l least most k) d → least ≤ length (array_at n d)
-items_are_some {n = n} {d = d} row = let p = some_of (get n d) (row.there refl) in (found_items row p.0 p.1).some
+pub items_are_some : {n : List ℕ} {l : Leaf} {least most : ℕ} {k : Key} {d : Data}
+    → HasRow true n (Array l least most k) d → least ≤ length (array_at n d)
+items_are_some {n = n} {d = d} row =
+    let p = some_of (get n d) (row.there refl) in (found_items row p.0 p.1).some

@@ -1,5 +1,7 @@
 -- The first fault of a record is the first of its report's form; records with none play no part.
-use Rattle.std.proofs.Common.{◌≡◌, ℕ, ◌≤◌, List, [], ◌∷◌, ◌++◌, drop, Bool, true, false, not, ◌&&◌, bytes_eq, Option, None, Some, option_map, option_and_then, codes, refl, sym, ap, ◌∙◌, arith}
+use Rattle.std.proofs.Common.{◌≡◌, ℕ, ◌≤◌, List, [], ◌∷◌, ◌++◌, drop, Bool, true, false, not, ◌&&◌}
+use Rattle.std.proofs.Common.{bytes_eq, Option, None, Some, option_map, option_and_then, codes}
+use Rattle.std.proofs.Common.{refl, sym, ap, ◌∙◌, arith}
 use Rattle.std.specs.Prelude.{if◌then◌else◌}
 use Rattle.std.proofs.lemmas.Bool.{not-true}
 use Rattle.serde_json.specs.Data.{Data, array, object, Items, no_items, Members}
@@ -11,8 +13,10 @@ use Rattle.cdf_form.specs.declared.table.Leaf.TheVariants as leaf
 use Rattle.cdf_form.specs.declared.table.Key.TheVariants as key
 use Rattle.cdf_form.specs.declared.table.Kind.{Kind}
 use Rattle.cdf_form.specs.declared.table.Kind.TheVariants.{One, Array}
-use Rattle.cdf_form.specs.Tables.{Entry, optional, table, type_text, classes_of, any}
-use Rattle.cdf_form.specs.Form.{Step, at_member, Fault, deeper, under, first, find_class, type_faults, rows_of, repeat_faults, row_faults, rows_faults, faults, member_look}
+use Rattle.cdf_form.specs.Tables.{Entry, optional_member, table, type_text, classes_of, any}
+use Rattle.cdf_form.specs.Form.{Step, at_member, Fault, deeper_fault, under, first, find_class}
+use Rattle.cdf_form.specs.Form.{type_faults, rows_of, repeat_faults, row_faults, rows_faults}
+use Rattle.cdf_form.specs.Form.{faults, member_look}
 use Rattle.cdf_form.specs.Records.{cvrs_faults, RecordsFirstLaw, RecordsApartLaw}
 use Rattle.cdf_form.proofs.Parts.{first-append_some, first-under, faults-one, faults-array}
 use Rattle.cdf_form.proofs.FormLaw.{object_ok, length_ok}
@@ -31,29 +35,52 @@ records = codes "CVR"
 abbrev records_kind : Kind
 records_kind = Array (leaf.Object group.Cvrs) 0 any key.Free
 
-array_of_records : (ds : Items) (f : Fault) → items_len ds ≤ any → first (cvrs_faults ds) ≡ Some f → first (faults (array ds) records_kind key.Free) ≡ Some f
-array_of_records ds f few e = rw (faults-array (array ds) ds (leaf.Object group.Cvrs) 0 any key.Free key.Free refl, length_ok 0 any (items_len ds) (omega arith) few) e
+array_of_records : (ds : Items) (f : Fault) → items_len ds ≤ any → first (cvrs_faults ds) ≡ Some f
+    → first (faults (array ds) records_kind key.Free) ≡ Some f
+array_of_records ds f few e = rw (
+  faults-array (array ds) ds (leaf.Object group.Cvrs) 0 any key.Free
+      key.Free refl,
+  length_ok 0 any (items_len ds) (omega arith) few,
+) e
 
-row_there : (ms : Members) (r : Entry) (e : Data) (f : Fault) → get_member r.name ms ≡ Some e → first (faults e r.kind key.Free) ≡ Some f
+row_there : (ms : Members) (r : Entry) (e : Data) (f : Fault) → get_member r.name ms ≡ Some e
+    → first (faults e r.kind key.Free) ≡ Some f
     → first (row_faults key.Free r (member_look (object ms) r.name r.kind)) ≡ Some f
 row_there ms r e f there h =
-    ap (λ o. first (row_faults key.Free r (option_map (λ x. faults x r.kind key.Free) o))) there ∙ first-append_some (faults e r.kind key.Free) (repeat_faults key.Free r.name) f h
+    ap (λ o. first (row_faults key.Free r (option_map (λ x. faults x r.kind key.Free) o))) there
+    ∙ first-append_some (faults e r.kind key.Free) (repeat_faults key.Free r.name) f h
 
-row_first : (s : Step) (xs ys : List Fault) (f : Fault) → first xs ≡ Some f → first (under s xs ++ ys) ≡ Some (deeper s f)
-row_first s xs ys f e = first-append_some (under s xs) ys (deeper s f) (first-under s xs ∙ ap (option_map (deeper s)) e)
+row_first : (s : Step) (xs ys : List Fault) (f : Fault) → first xs ≡ Some f
+    → first (under s xs ++ ys) ≡ Some (deeper_fault s f)
+row_first s xs ys f e = first-append_some (under s xs) ys (deeper_fault s f)
+    (first-under s xs ∙ ap (option_map (deeper_fault s)) e)
 
-rows_begin : (ms : Members) (r : Entry) (rs : List Entry) (f : Fault) → first (row_faults key.Free r (member_look (object ms) r.name r.kind)) ≡ Some f
-    → first (rows_faults (member_look (object ms)) key.Free (r ∷ rs)) ≡ Some (deeper (at_member r.name) f)
-rows_begin ms r rs f e = row_first (at_member r.name) (row_faults key.Free r (member_look (object ms) r.name r.kind)) (rows_faults (member_look (object ms)) key.Free rs) f e
+rows_begin : (ms : Members) (r : Entry) (rs : List Entry) (f : Fault)
+    → first (row_faults key.Free r (member_look (object ms) r.name r.kind)) ≡ Some f
+    → first (rows_faults (member_look (object ms)) key.Free (r ∷ rs))
+    ≡ Some (deeper_fault (at_member r.name) f)
+rows_begin ms r rs f e = row_first (at_member r.name)
+    (row_faults key.Free r (member_look (object ms) r.name r.kind))
+    (rows_faults (member_look (object ms)) key.Free rs) f e
 
 -- a report's table begins with the row of its records
-rows_first : (ms : Members) (ds : Items) (f : Fault) → get_member records ms ≡ Some (array ds) → items_len ds ≤ any → first (cvrs_faults ds) ≡ Some f
-    → first (rows_faults (member_look (object ms)) key.Free (table class_of.CastVoteRecordReport)) ≡ Some (deeper (at_member records) f)
-rows_first ms ds f there few e = rows_begin ms (optional records records_kind) (drop 1 (table class_of.CastVoteRecordReport)) f (row_there ms (optional records records_kind) (array ds) f there (array_of_records ds f few e))
+rows_first : (ms : Members) (ds : Items) (f : Fault) → get_member records ms ≡ Some (array ds)
+    → items_len ds ≤ any → first (cvrs_faults ds) ≡ Some f
+    → first (rows_faults (member_look (object ms)) key.Free (table class_of.CastVoteRecordReport))
+    ≡ Some (deeper_fault (at_member records) f)
+rows_first ms ds f there few e = rows_begin ms (optional_member records records_kind)
+    (drop 1 (table class_of.CastVoteRecordReport)) f
+    (row_there ms (optional_member records records_kind) (array ds) f there
+    (array_of_records ds f few e))
 
 pub records_first : RecordsFirstLaw
 records_first ms ds f class there few e =
-    rw (faults-one (object ms) (leaf.Object group.Reports) key.Free, object_ok group.Reports (object ms) class_of.CastVoteRecordReport class, class) (rows_first ms ds f there few e)
+    rw (
+      faults-one (object ms) (leaf.Object group.Reports) key.Free,
+      object_ok group.Reports
+          (object ms) class_of.CastVoteRecordReport class,
+      class,
+    ) (rows_first ms ds f there few e)
 
 -- ---- a report and one that differs from it in its records alone
 
@@ -61,46 +88,77 @@ abbrev others_only : List Entry → Bool
 others_only [] = true
 others_only (r ∷ rs) = not (bytes_eq r.name records) && others_only rs
 
-module _ (ms left : Members) (ds : Items) (same : (name : List ℕ) → bytes_eq name records ≡ false → get_member name ms ≡ get_member name left)
-    (here : get_member records ms ≡ Some (array ds)) (empty : get_member records left ≡ Some (array no_items)) (few : items_len ds ≤ any) (right : cvrs_faults ds ≡ []) where
-  rows_same : (rs : List Entry) → others_only rs ≡ true → rows_faults (member_look (object ms)) key.Free rs ≡ rows_faults (member_look (object left)) key.Free rs
+module _ (ms left : Members) (ds : Items)
+    (same : (name : List ℕ) → bytes_eq name records ≡ false
+    → get_member name ms ≡ get_member name left)
+    (here : get_member records ms ≡ Some (array ds))
+    (empty : get_member records left ≡ Some (array no_items)) (few : items_len ds ≤ any)
+    (right : cvrs_faults ds ≡ []) where
+  rows_same : (rs : List Entry) → others_only rs ≡ true
+      → rows_faults (member_look (object ms)) key.Free rs
+      ≡ rows_faults (member_look (object left)) key.Free rs
   rows_same [] e = refl
   rows_same (r ∷ rs) e =
-      let looked : member_look (object ms) r.name r.kind ≡ member_look (object left) r.name r.kind = ap (option_map (λ d. faults d r.kind key.Free)) (same r.name (not-true _ (and-left _ _ e))) in
-      ap (λ o. under (at_member r.name) (row_faults key.Free r o) ++ rows_faults (member_look (object ms)) key.Free rs) looked
-      ∙ ap (λ fs. under (at_member r.name) (row_faults key.Free r (member_look (object left) r.name r.kind)) ++ fs) (rows_same rs (and-right _ _ e))
+      let looked : member_look (object ms) r.name r.kind
+      ≡ member_look (object left) r.name r.kind = ap
+      (option_map (λ d. faults d r.kind key.Free)) (same r.name (not-true _ (and-left _ _ e)))
+      in
+      ap (λ o. under (at_member r.name) (row_faults key.Free r o)
+      ++ rows_faults (member_look (object ms)) key.Free rs) looked
+      ∙ ap (λ fs. under (at_member r.name)
+      (row_faults key.Free r (member_look (object left) r.name r.kind)) ++ fs)
+      (rows_same rs (and-right _ _ e))
 
   array_right : faults (array ds) records_kind key.Free ≡ []
-  array_right = rw (faults-array (array ds) ds (leaf.Object group.Cvrs) 0 any key.Free key.Free refl, length_ok 0 any (items_len ds) (omega arith) few) right
+  array_right = rw (
+    faults-array (array ds) ds (leaf.Object group.Cvrs) 0 any key.Free key.Free
+        refl,
+    length_ok 0 any (items_len ds) (omega arith) few,
+  ) right
 
-  records_look : member_look (object ms) records records_kind ≡ member_look (object left) records records_kind
-  records_look = ap (option_map (λ d. faults d records_kind key.Free)) here ∙ ap Some array_right ∙ ap (option_map (λ d. faults d records_kind key.Free)) (sym empty)
+  records_look : member_look (object ms) records records_kind
+      ≡ member_look (object left) records records_kind
+  records_look = ap (option_map (λ d. faults d records_kind key.Free)) here ∙ ap Some array_right
+      ∙ ap (option_map (λ d. faults d records_kind key.Free)) (sym empty)
 
-  table_same : rows_faults (member_look (object ms)) key.Free (table class_of.CastVoteRecordReport) ≡ rows_faults (member_look (object left)) key.Free (table class_of.CastVoteRecordReport)
+  table_same : rows_faults (member_look (object ms)) key.Free (table class_of.CastVoteRecordReport)
+      ≡ rows_faults (member_look (object left)) key.Free (table class_of.CastVoteRecordReport)
   table_same =
-      let row = optional records records_kind in
+      let row = optional_member records records_kind in
       let rest = drop 1 (table class_of.CastVoteRecordReport) in
-      ap (λ o. under (at_member records) (row_faults key.Free row o) ++ rows_faults (member_look (object ms)) key.Free rest) records_look
-      ∙ ap (λ fs. under (at_member records) (row_faults key.Free row (member_look (object left) records records_kind)) ++ fs) (rows_same rest refl)
+      ap (λ o. under (at_member records) (row_faults key.Free row o)
+      ++ rows_faults (member_look (object ms)) key.Free rest) records_look
+      ∙ ap (λ fs. under (at_member records)
+      (row_faults key.Free row (member_look (object left) records records_kind)) ++ fs)
+      (rows_same rest refl)
 
-  class_same : (b : Bool) → rows_faults (member_look (object ms)) key.Free (rows_of (if b then Some class_of.CastVoteRecordReport else None))
-      ≡ rows_faults (member_look (object left)) key.Free (rows_of (if b then Some class_of.CastVoteRecordReport else None))
+  class_same : (b : Bool) → rows_faults (member_look (object ms)) key.Free
+      (rows_of (if b then Some class_of.CastVoteRecordReport else None))
+      ≡ rows_faults (member_look (object left)) key.Free
+      (rows_of (if b then Some class_of.CastVoteRecordReport else None))
   class_same true = table_same
   class_same false = refl
 
-  text_same : (o : Option (List ℕ)) → rows_faults (member_look (object ms)) key.Free (rows_of (option_and_then (find_class (classes_of group.Reports)) o))
-      ≡ rows_faults (member_look (object left)) key.Free (rows_of (option_and_then (find_class (classes_of group.Reports)) o))
+  text_same : (o : Option (List ℕ)) → rows_faults (member_look (object ms)) key.Free
+      (rows_of (option_and_then (find_class (classes_of group.Reports)) o))
+      ≡ rows_faults (member_look (object left)) key.Free
+      (rows_of (option_and_then (find_class (classes_of group.Reports)) o))
   text_same None = refl
   text_same (Some s) = class_same (bytes_eq s (type_text class_of.CastVoteRecordReport))
 
   type_same : get_member (codes "@type") ms ≡ get_member (codes "@type") left
   type_same = same (codes "@type") refl
 
-  apart : faults (object ms) (One (leaf.Object group.Reports)) key.Free ≡ faults (object left) (One (leaf.Object group.Reports)) key.Free
+  apart : faults (object ms) (One (leaf.Object group.Reports)) key.Free
+      ≡ faults (object left) (One (leaf.Object group.Reports)) key.Free
   apart =
       faults-one (object ms) (leaf.Object group.Reports) key.Free
-      ∙ ap (λ o. type_faults group.Reports o ++ rows_faults (member_look (object ms)) key.Free (rows_of (option_and_then (find_class (classes_of group.Reports)) (option_and_then as_str o)))) type_same
-      ∙ ap (λ fs. type_faults group.Reports (get_member (codes "@type") left) ++ fs) (text_same (option_and_then as_str (get_member (codes "@type") left)))
+      ∙ ap (λ o. type_faults group.Reports o
+      ++ rows_faults (member_look (object ms)) key.Free
+      (rows_of (option_and_then (find_class (classes_of group.Reports))
+      (option_and_then as_str o)))) type_same
+      ∙ ap (λ fs. type_faults group.Reports (get_member (codes "@type") left) ++ fs)
+      (text_same (option_and_then as_str (get_member (codes "@type") left)))
       ∙ sym (faults-one (object left) (leaf.Object group.Reports) key.Free)
 
 pub records_apart : RecordsApartLaw

@@ -1,6 +1,7 @@
 -- A value with no float.
 use Rattle.std.proofs.Common.{◌≡◌, ℕ, ◌+◌, List, [], ◌∷◌, false, not, None, refl, ap}
-use Rattle.serde_json.specs.Data.{Data, null, boolean, number, string, array, object, Items, no_items, item, Members, no_members, member}
+use Rattle.serde_json.specs.Data.{Data, null, boolean, number, string, array, object, Items}
+use Rattle.serde_json.specs.Data.{no_items, item, Members, no_members, member}
 use Rattle.serde_json.specs.Find.{is_float}
 use Rattle.serde_json.specs.Written.{has_float, items_have_float, members_have_float}
 use Rattle.cdf_types.specs.declared.rule.Rule.TheVariants as rule
@@ -20,11 +21,13 @@ mutual
 
   whole_items : (ds : Items) (i : ℕ) → items_floats ds i ≡ [] → items_have_float ds ≡ false
   whole_items no_items i e = refl
-  whole_items (item d ds) i e = or_false (has_float d) (items_have_float ds) (whole_of d (under_nil _ _ (left_nil _ _ e))) (whole_items ds (i + 1) (right_nil _ _ e))
+  whole_items (item d ds) i e = or_false (has_float d) (items_have_float ds)
+      (whole_of d (under_nil _ _ (left_nil _ _ e))) (whole_items ds (i + 1) (right_nil _ _ e))
 
   whole_members : (ms : Members) → members_floats ms ≡ [] → members_have_float ms ≡ false
   whole_members no_members e = refl
-  whole_members (member k d ms) e = or_false (has_float d) (members_have_float ms) (whole_of d (under_nil _ _ (left_nil _ _ e))) (whole_members ms (right_nil _ _ e))
+  whole_members (member k d ms) e = or_false (has_float d) (members_have_float ms)
+      (whole_of d (under_nil _ _ (left_nil _ _ e))) (whole_members ms (right_nil _ _ e))
 
 mutual
   pub no_float_faults : (d : Data) → has_float d ≡ false → float_faults d ≡ []
@@ -38,12 +41,20 @@ mutual
   no_items_floats : (ds : Items) (i : ℕ) → items_have_float ds ≡ false → items_floats ds i ≡ []
   no_items_floats no_items i h = refl
   no_items_floats (item d ds) i h =
-      rw (no_float_faults d (or_left (has_float d) (items_have_float ds) h), no_items_floats ds (i + 1) (or_right (has_float d) (items_have_float ds) h)) refl
+      rw (
+        no_float_faults d (or_left (has_float d) (items_have_float ds) h),
+        no_items_floats ds
+            (i + 1) (or_right (has_float d) (items_have_float ds) h),
+      ) refl
 
   no_members_floats : (ms : Members) → members_have_float ms ≡ false → members_floats ms ≡ []
   no_members_floats no_members h = refl
   no_members_floats (member k d ms) h =
-      rw (no_float_faults d (or_left (has_float d) (members_have_float ms) h), no_members_floats ms (or_right (has_float d) (members_have_float ms) h)) refl
+      rw (
+        no_float_faults d (or_left (has_float d) (members_have_float ms) h),
+        no_members_floats ms
+            (or_right (has_float d) (members_have_float ms) h),
+      ) refl
 
 -- ---- a document with no fault
 

@@ -1,5 +1,7 @@
--- What the rows of a class table say of an object of that class, and laws of that. (This project's profile of NIST SP 1500-103.)
-use Rattle.std.specs.Prelude.{◌≡◌, ◌≤◌, ◌<◌, ℕ, List, [], ◌∷◌, length, slice_index_or, Bool, true, cond, Option, Some, None, IsSome, bytes_eq, ⊤}
+-- What the rows of a class table say of an object of that class, and laws of that. (This project's
+-- profile of NIST SP 1500-103.)
+use Rattle.std.specs.Prelude.{◌≡◌, ◌≤◌, ◌<◌, ℕ, List, [], ◌∷◌, length, slice_index_or, Bool, true}
+use Rattle.std.specs.Prelude.{if◌then◌else◌, Option, Some, None, IsSome, bytes_eq, ⊤}
 use Rattle.std.specs.List.{list_any, Contains}
 use Rattle.serde_json.specs.Data.{Data, string, number, unsigned, object, Members}
 use Rattle.serde_json.specs.Find.{get, as_array}
@@ -26,7 +28,7 @@ AllClasses P (c ∷ cs) = P c × AllClasses P cs
 -- the first row of that name
 abbrev pub find_row : List ℕ → List Entry → Option Entry
 find_row n [] = None
-find_row n (r ∷ rs) = cond (bytes_eq n r.name) (Some r) (find_row n rs)
+find_row n (r ∷ rs) = if bytes_eq n r.name then Some r else find_row n rs
 
 -- what a row says of a value: its member is there where it has to be, and has the form of the kind
 pub record HasRow (needed : Bool) (n : List ℕ) (k : Kind) (d : Data) : Type 0 where
@@ -39,22 +41,25 @@ pub record HasClass (g : Group) (d : Data) : Type 0 where
   pub its_is : class_in g d ≡ Some its
   pub row : (r : Entry) → IsRow (table its) r → HasRow r.required r.name r.kind d
 
--- an object that has the form of a group has a class of it, and what each row of that class says
+-- an object that has the form of a group has a class of it, and each row of that class holds of it
 abbrev pub HasClassLaw : Type 0
 HasClassLaw = (g : Group) (d : Data) → HasForm (One (leaf.Object g)) d → HasClass g d
 
 -- an object of a group of one class has that class
 abbrev pub OnlyClassLaw : Type 0
-OnlyClassLaw = (g : Group) (c : Class) (d : Data) → AllClasses (λ x. x ≡ c) (classes_of g) → HasForm (One (leaf.Object g)) d → class_in g d ≡ Some c
+OnlyClassLaw = (g : Group) (c : Class) (d : Data) → AllClasses (λ x. x ≡ c) (classes_of g)
+    → HasForm (One (leaf.Object g)) d → class_in g d ≡ Some c
 
--- a row that each class of the group has says so of each object that has the form
+-- a row that each class of the group has holds of each object that has the form
 abbrev pub RowLaw : Type 0
-RowLaw = (g : Group) (r : Entry) (d : Data) → AllClasses (λ c. find_row r.name (table c) ≡ Some r) (classes_of g)
+RowLaw = (g : Group) (r : Entry) (d : Data)
+    → AllClasses (λ c. find_row r.name (table c) ≡ Some r) (classes_of g)
     → HasForm (One (leaf.Object g)) d → HasRow r.required r.name r.kind d
 
 -- what has the form of a group is an object
 abbrev pub ObjectLaw : Type 0
-ObjectLaw = (g : Group) (d : Data) → HasForm (One (leaf.Object g)) d → (ms : Members) × (d ≡ object ms)
+ObjectLaw = (g : Group) (d : Data) → HasForm (One (leaf.Object g)) d
+    → (ms : Members) × (d ≡ object ms)
 
 -- ---- texts and counts
 
@@ -68,59 +73,72 @@ IsTextual l = ⊥
 
 -- a text that is found under a row has the form
 abbrev pub TextLaw : Type 0
-TextLaw = (b : Bool) (n : List ℕ) (l : Leaf) (d : Data) → HasRow b n (One l) d → (s : List ℕ) → text_in n d ≡ Some s → HasForm (One l) (string s)
+TextLaw = (b : Bool) (n : List ℕ) (l : Leaf) (d : Data) → HasRow b n (One l) d → (s : List ℕ)
+    → text_in n d ≡ Some s → HasForm (One l) (string s)
 
 -- what stands under a row of texts is a text
 abbrev pub MayBeTextLaw : Type 0
-MayBeTextLaw = (b : Bool) (n : List ℕ) (l : Leaf) (d : Data) → HasRow b n (One l) d → IsTextual l → (e : Data) → get n d ≡ Some e → IsSome (text_in n d)
+MayBeTextLaw = (b : Bool) (n : List ℕ) (l : Leaf) (d : Data) → HasRow b n (One l) d → IsTextual l
+    → (e : Data) → get n d ≡ Some e → IsSome (text_in n d)
 
 -- a required text is the member of its name
 abbrev pub MustBeTextLaw : Type 0
-MustBeTextLaw = (n : List ℕ) (l : Leaf) (d : Data) → HasRow true n (One l) d → IsTextual l → get n d ≡ Some (string (text_at n d))
+MustBeTextLaw = (n : List ℕ) (l : Leaf) (d : Data) → HasRow true n (One l) d → IsTextual l
+    → get n d ≡ Some (string (text_at n d))
 
 -- and the one that a reader finds
 abbrev pub MustBeFoundLaw : Type 0
-MustBeFoundLaw = (n : List ℕ) (l : Leaf) (d : Data) → HasRow true n (One l) d → IsTextual l → text_in n d ≡ Some (text_at n d)
+MustBeFoundLaw = (n : List ℕ) (l : Leaf) (d : Data) → HasRow true n (One l) d → IsTextual l
+    → text_in n d ≡ Some (text_at n d)
 
 -- and it has the form
 abbrev pub MustHaveFormLaw : Type 0
-MustHaveFormLaw = (n : List ℕ) (l : Leaf) (d : Data) → HasRow true n (One l) d → IsTextual l → HasForm (One l) (string (text_at n d))
+MustHaveFormLaw = (n : List ℕ) (l : Leaf) (d : Data) → HasRow true n (One l) d → IsTextual l
+    → HasForm (One l) (string (text_at n d))
 
 -- a moment is one, a text of a list is among its texts, and a count is a number up to 4,294,967,295
 abbrev pub MomentFormLaw : Type 0
 MomentFormLaw = (s : List ℕ) → HasForm (One leaf.Moment) (string s) → is_moment s ≡ true
 
 abbrev pub ListedFormLaw : Type 0
-ListedFormLaw = (l : Listing) (s : List ℕ) → HasForm (One (leaf.Listed l)) (string s) → list_any (bytes_eq s) (listed_in l) ≡ true
+ListedFormLaw = (l : Listing) (s : List ℕ) → HasForm (One (leaf.Listed l)) (string s)
+    → list_any (bytes_eq s) (listed_in l) ≡ true
 
 abbrev pub CountFormLaw : Type 0
-CountFormLaw = (d : Data) → HasForm (One leaf.Count) d → (m : ℕ) × (d ≡ number (unsigned m)) × (m ≤ 4_294_967_295)
+CountFormLaw = (d : Data) → HasForm (One leaf.Count) d
+    → (m : ℕ) × (d ≡ number (unsigned m)) × (m ≤ 4_294_967_295)
 
 -- ---- items
 
 -- no text under the key stands at two places of a list
 abbrev pub ListApart : Key → List Data → Type 0
 ListApart k xs = (i j : ℕ) (d e : Data) (s : List ℕ) → i < length xs → j < length xs
-    → key_text k (slice_index_or xs i d) ≡ Some s → key_text k (slice_index_or xs j e) ≡ Some s → i ≡ j
+    → key_text k (slice_index_or xs i d) ≡ Some s → key_text k (slice_index_or xs j e) ≡ Some s
+    → i ≡ j
 
 -- what stands under a row of arrays is an array
 abbrev pub ArrayLaw : Type 0
-ArrayLaw = (b : Bool) (n : List ℕ) (l : Leaf) (least most : ℕ) (k : Key) (d : Data) → HasRow b n (Array l least most k) d
+ArrayLaw = (b : Bool) (n : List ℕ) (l : Leaf) (least most : ℕ) (k : Key) (d : Data)
+    → HasRow b n (Array l least most k) d
     → (e : Data) → get n d ≡ Some e → IsSome (as_array e)
 
 -- each of its items has the form
 abbrev pub ItemsLaw : Type 0
-ItemsLaw = (b : Bool) (n : List ℕ) (l : Leaf) (least most : ℕ) (k : Key) (d : Data) → HasRow b n (Array l least most k) d
+ItemsLaw = (b : Bool) (n : List ℕ) (l : Leaf) (least most : ℕ) (k : Key) (d : Data)
+    → HasRow b n (Array l least most k) d
     → (e : Data) → Contains (array_at n d) e → HasForm (One l) e
 
 -- they are no more than the row allows
 abbrev pub FewLaw : Type 0
-FewLaw = (b : Bool) (n : List ℕ) (l : Leaf) (least most : ℕ) (k : Key) (d : Data) → HasRow b n (Array l least most k) d → length (array_at n d) ≤ most
+FewLaw = (b : Bool) (n : List ℕ) (l : Leaf) (least most : ℕ) (k : Key) (d : Data)
+    → HasRow b n (Array l least most k) d → length (array_at n d) ≤ most
 
 -- and, where the array is required, no fewer than it demands
 abbrev pub SomeLaw : Type 0
-SomeLaw = (n : List ℕ) (l : Leaf) (least most : ℕ) (k : Key) (d : Data) → HasRow true n (Array l least most k) d → least ≤ length (array_at n d)
+SomeLaw = (n : List ℕ) (l : Leaf) (least most : ℕ) (k : Key) (d : Data)
+    → HasRow true n (Array l least most k) d → least ≤ length (array_at n d)
 
 -- no two of them have one text under the key
 abbrev pub ApartLaw : Type 0
-ApartLaw = (b : Bool) (n : List ℕ) (l : Leaf) (least most : ℕ) (k : Key) (d : Data) → HasRow b n (Array l least most k) d → ListApart k (array_at n d)
+ApartLaw = (b : Bool) (n : List ℕ) (l : Leaf) (least most : ℕ) (k : Key) (d : Data)
+    → HasRow b n (Array l least most k) d → ListApart k (array_at n d)

@@ -1,4 +1,4 @@
--- What a path and a fault that were found stand for.
+-- What a path and a fault that were found stand for. (This project's own.)
 use Rattle.std.specs.Prelude.{◌≡◌, List, map, reverse, Option, Some}
 use Rattle.cdf_form.specs.declared.found.Step.{Step as Kept}
 use Rattle.cdf_form.specs.declared.found.Step.TheVariants.{Member, Item}
@@ -8,7 +8,7 @@ use Rattle.cdf_form.specs.declared.found.Stop.{Stop}
 use Rattle.cdf_form.specs.declared.found.Stop.TheVariants as stop
 use Rattle.cdf_form.specs.Form.{Step, at_member, at_item, Fault}
 
--- the step
+-- the step that was found, as a step of a path
 abbrev pub step_of : Kept → Step
 step_of (Member name) = at_member name.now
 step_of (Item i) = at_item i
@@ -17,10 +17,11 @@ step_of (Item i) = at_item i
 abbrev pub path_of : Path → List Step
 path_of p = reverse (map step_of p.steps.items)
 
+-- the fault that was found: its rule, and its path from the value
 abbrev pub fault_of : Found → Fault
 fault_of f = record { path = path_of f.path; rule = f.rule }
 
--- the walk stopped at this fault; where it stopped for want of memory, nothing is said
+-- the walk stopped at this fault; where it stopped out of memory, this states nothing
 abbrev pub StopsAt : Stop → Option Fault → Type 0
 StopsAt (stop.Fault f) o = o ≡ Some (fault_of f)
 StopsAt stop.Memory o = Unit {0}

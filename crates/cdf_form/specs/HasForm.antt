@@ -1,5 +1,7 @@
--- What has the form of a kind, with no paths and no order. (This project's profile of NIST SP 1500-103.)
-use Rattle.std.specs.Prelude.{◌≡◌, ℕ, ◌≤◌, ◌⊎◌, List, [], ◌∷◌, Bool, true, false, Some, IsSome, bytes_eq}
+-- What has the form of a kind, with no paths and no order. (This project's profile of NIST SP
+-- 1500-103.)
+use Rattle.std.specs.Prelude.{◌≡◌, ℕ, ◌≤◌, ◌⊎◌, List, [], ◌∷◌, Bool, true, false, Some, IsSome}
+use Rattle.std.specs.Prelude.{bytes_eq}
 use Rattle.std.specs.List.{list_any}
 use Rattle.serde_json.specs.Data.{Num, Data, Items}
 use Rattle.serde_json.specs.Find.{get, get_item, as_str, as_number, as_bool, as_array}
@@ -22,18 +24,26 @@ IsRow (x ∷ xs) r = (x ≡ r) ⊎ IsRow xs r
 
 -- no text under the key stands at two places
 abbrev pub AreApart : Key → Items → Type 0
-AreApart k ds = (i j : ℕ) (d e : Data) (s : List ℕ) → get_item i ds ≡ Some d → get_item j ds ≡ Some e
+AreApart k ds = (i j : ℕ) (d e : Data) (s : List ℕ) → get_item i ds ≡ Some d
+    → get_item j ds ≡ Some e
     → key_text k d ≡ Some s → key_text k e ≡ Some s → i ≡ j
 
--- the value has the form of the kind: by cases over the kinds of a table, none for fractional votes
+-- The value has the form of the kind, with no paths and no order. An object has a class of its
+-- group; each member that this class requires is there; each that it lists and that is there has
+-- its own form. Texts and numbers are within their limits, and an array within its lengths; no two
+-- of its items have one text under its key. Nothing has the form of fractional votes.
 pub data HasForm : Kind → Data → Type 0 where
   text : {d : Data} {s : List ℕ} → as_str d ≡ Some s → HasForm (One leaf.Text) d
-  name : {d : Data} {s : List ℕ} → as_str d ≡ Some s → is_empty s ≡ false → HasForm (One leaf.Name) d
-  count : {d : Data} {n : Num} → as_number d ≡ Some n → is_count n ≡ true → HasForm (One leaf.Count) d
+  name : {d : Data} {s : List ℕ} → as_str d ≡ Some s → is_empty s ≡ false
+      → HasForm (One leaf.Name) d
+  count : {d : Data} {n : Num} → as_number d ≡ Some n → is_count n ≡ true
+      → HasForm (One leaf.Count) d
   whole : {d : Data} {n : Num} → as_number d ≡ Some n → HasForm (One leaf.Whole) d
   truth : {d : Data} {b : Bool} → as_bool d ≡ Some b → HasForm (One leaf.Truth) d
-  moment : {d : Data} {s : List ℕ} → as_str d ≡ Some s → is_moment s ≡ true → HasForm (One leaf.Moment) d
-  listed : {d : Data} {s : List ℕ} {l : Listing} → as_str d ≡ Some s → list_any (bytes_eq s) (listed_in l) ≡ true
+  moment : {d : Data} {s : List ℕ} → as_str d ≡ Some s → is_moment s ≡ true
+      → HasForm (One leaf.Moment) d
+  listed : {d : Data} {s : List ℕ} {l : Listing} → as_str d ≡ Some s
+      → list_any (bytes_eq s) (listed_in l) ≡ true
       → HasForm (One (leaf.Listed l)) d
   class : {d : Data} {g : Group} {c : Class} → class_in g d ≡ Some c
       → ((r : Entry) → IsRow (table c) r → r.required ≡ true → IsSome (get r.name d))

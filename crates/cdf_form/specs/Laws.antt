@@ -1,5 +1,7 @@
--- Laws of the form: no fault is found exactly where a value has the form; tables are in order; no fault of numbers, no float.
-use Rattle.std.specs.Prelude.{◌≡◌, ℕ, ◌↔◌, ◌||◌, List, [], ◌∷◌, Bool, true, false, ◌&&◌, bytes_eq, codes}
+-- Laws of the form: no fault is found exactly where a value has the form; tables are in order; no
+-- fault of numbers, no float. (This project's own.)
+use Rattle.std.specs.Prelude.{◌≡◌, ℕ, ◌↔◌, ◌||◌, List, [], ◌∷◌, Bool, true, false, ◌&&◌, bytes_eq}
+use Rattle.std.specs.Prelude.{codes}
 use Rattle.std.specs.Ordering.{nat_cmp, is_lt}
 use Rattle.std.specs.Cmp.Lexicographic.{slice_cmp}
 use Rattle.serde_json.specs.Data.{Data}
@@ -42,7 +44,7 @@ abbrev pub are_keyed : List Entry → Bool
 are_keyed [] = true
 are_keyed (r ∷ rs) = is_keyed r.kind && are_keyed rs
 
--- no fault is found exactly where the value fits
+-- no fault is found exactly where the value has the form
 abbrev pub FormLaw : Type 0
 FormLaw = (k : Kind) (d : Data) → is_keyed k ≡ true → (faults d k key.Free ≡ []) ↔ HasForm k d
 

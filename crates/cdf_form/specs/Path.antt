@@ -16,7 +16,8 @@ abbrev pub step_text : Step → List ℕ
 step_text (at_member name) = 47 ∷ escape name
 step_text (at_item i) = 47 ∷ decimal i
 
--- the whole document has the empty text
+-- The text of a path: the texts of its steps, one behind the other. The whole document has the
+-- empty text.
 abbrev pub path_text : List Step → List ℕ
 path_text [] = []
 path_text (s ∷ ss) = step_text s ++ path_text ss

@@ -1,4 +1,5 @@
--- The value that a file holds, its faults of numbers and form, and the answer that tells one. (JSON: RFC 8259. Order of causes: this project's own.)
+-- The value that a file holds, its faults of numbers and form, and the answer that reports one.
+-- (JSON: RFC 8259. Order of causes: this project's own.)
 use Rattle.std.specs.Prelude.{◌≡◌, ℕ, List, ◌++◌, if◌then◌else◌, Option, None}
 use Rattle.std.specs.Str.{is_utf8}
 use Rattle.serde_json.specs.Data.{Data}
@@ -16,7 +17,8 @@ use Rattle.cdf_form.specs.Path.{path_text}
 abbrev pub max_file : ℕ
 max_file = 67_108_864
 
--- the JSON value of a file's bytes, or none
+-- The value of a file's bytes: what serde_json reads where they are UTF-8, and else none. The
+-- members of each object stand by rising name.
 abbrev pub value_of : List ℕ → Option Data
 value_of bytes = if is_utf8 bytes then read bytes else None
 
@@ -24,10 +26,10 @@ value_of bytes = if is_utf8 bytes then read bytes else None
 abbrev pub document_faults : Data → List Fault
 document_faults d = float_faults d ++ faults d (One (leaf.Object group.Reports)) key.Free
 
--- the answer that tells a fault of form
+-- the answer that reports a fault of form
 abbrev pub refusal_of : Fault → ReadFault
 refusal_of f = Schema (path_text f.path) f.rule
 
--- the answer is want of memory, and says nothing of the file
+-- The answer is that memory ran out. It says nothing about the file.
 abbrev pub IsMemory : ReadFault → Type 0
 IsMemory e = e ≡ Memory

@@ -1,6 +1,8 @@
--- Worked examples of the class tables: what is told of each member where it is absent, and where it is a text, a number or an array.
--- (Classes and members: NIST SP 1500-103; what is demanded of them is this project's own.)
-use Rattle.std.specs.Prelude.{◌≡◌, ℕ, List, [], ◌∷◌, ◌++◌, map, Bool, false, if◌then◌else◌, option_map, unwrap_or, bytes_eq, codes}
+-- Worked examples of the class tables: the rule that each member breaks where it is absent, and
+-- where it is a text, a number or an array. (Classes and members: NIST SP 1500-103; what is
+-- demanded of them is this project's own.)
+use Rattle.std.specs.Prelude.{◌≡◌, ℕ, List, [], ◌∷◌, ◌++◌, map, Bool, false, if◌then◌else◌}
+use Rattle.std.specs.Prelude.{option_map, unwrap_or, bytes_eq, codes}
 use Rattle.serde_json.specs.Read.{read}
 use Rattle.cdf_types.specs.Rule.{number_of}
 use Rattle.cdf_form.specs.declared.table.Class.{Class}
@@ -19,7 +21,7 @@ leads_to name [] = false
 leads_to name (at_member n ∷ steps) = bytes_eq name n
 leads_to name (at_item i ∷ steps) = false
 
--- the number of the first rule that is told there, or 0
+-- the number of the first rule that is broken there, or 0
 abbrev pub number_at : List ℕ → List Fault → ℕ
 number_at name [] = 0
 number_at name (f ∷ fs) = if leads_to name f.path then number_of f.rule else number_at name fs
@@ -27,9 +29,10 @@ number_at name (f ∷ fs) = if leads_to name f.path then number_of f.rule else n
 -- that of an object of the class, with the text of one more member
 abbrev pub told_at : Group → List ℕ → List ℕ → List ℕ → ℕ
 told_at g type name more =
-    unwrap_or (option_map (λ d. number_at name (faults d (One (leaf.Object g)) key.Free)) (read (codes "{\"@type\":\"CVR." ++ type ++ codes "\"" ++ more ++ codes "}"))) 0
+    unwrap_or (option_map (λ d. number_at name (faults d (One (leaf.Object g)) key.Free))
+    (read (codes "{\"@type\":\"CVR." ++ type ++ codes "\"" ++ more ++ codes "}"))) 0
 
--- a member's name, and what is told of it where it is absent, `""`, `-1` and `[""]`
+-- a member's name, and that number where the member is absent, `""`, `-1` and `[""]`
 abbrev pub Answer : Type 0
 Answer = List ℕ × ℕ × ℕ × ℕ × ℕ
 
@@ -47,10 +50,12 @@ answer_of g type name = (
 
 -- a class has just these members, and these are the answers
 abbrev pub HasAnswers : Group → Class → List ℕ → List Answer → Type 0
-HasAnswers g c type answers = (map (λ a. answer_of g type a.0) answers ≡ answers) × (map (λ e. e.name) (table c) ≡ map (λ a. a.0) answers)
+HasAnswers g c type answers = (map (λ a. answer_of g type a.0) answers ≡ answers)
+    × (map (λ e. e.name) (table c) ≡ map (λ a. a.0) answers)
 
 abbrev pub AnswersCastVoteRecordReport : Type 0
-AnswersCastVoteRecordReport = HasAnswers group.Reports class.CastVoteRecordReport (codes "CastVoteRecordReport") (
+AnswersCastVoteRecordReport =
+    HasAnswers group.Reports class.CastVoteRecordReport (codes "CastVoteRecordReport") (
     (codes "CVR", 0, 3, 3, 1) ∷
     (codes "Election", 2, 3, 3, 1) ∷
     (codes "GeneratedDate", 2, 11, 3, 3) ∷
@@ -111,7 +116,8 @@ AnswersCvrContest = HasAnswers group.CvrContests class.CvrContest (codes "CVRCon
     [])
 
 abbrev pub AnswersCvrContestSelection : Type 0
-AnswersCvrContestSelection = HasAnswers group.CvrContestSelections class.CvrContestSelection (codes "CVRContestSelection") (
+AnswersCvrContestSelection =
+    HasAnswers group.CvrContestSelections class.CvrContestSelection (codes "CVRContestSelection") (
     (codes "ContestSelectionId", 0, 0, 3, 3) ∷
     (codes "OptionPosition", 0, 3, 0, 3) ∷
     (codes "OtherStatus", 0, 0, 3, 3) ∷
@@ -123,7 +129,8 @@ AnswersCvrContestSelection = HasAnswers group.CvrContestSelections class.CvrCont
     [])
 
 abbrev pub AnswersSelectionPosition : Type 0
-AnswersSelectionPosition = HasAnswers group.SelectionPositions class.SelectionPosition (codes "SelectionPosition") (
+AnswersSelectionPosition =
+    HasAnswers group.SelectionPositions class.SelectionPosition (codes "SelectionPosition") (
     (codes "CVRWriteIn", 0, 1, 1, 1) ∷
     (codes "FractionalVotes", 0, 10, 10, 10) ∷
     (codes "HasIndication", 2, 4, 3, 3) ∷
@@ -157,19 +164,23 @@ contest_answers =
     []
 
 abbrev pub AnswersBallotMeasureContest : Type 0
-AnswersBallotMeasureContest = HasAnswers group.Contests class.BallotMeasureContest (codes "BallotMeasureContest") contest_answers
+AnswersBallotMeasureContest = HasAnswers group.Contests class.BallotMeasureContest
+    (codes "BallotMeasureContest") contest_answers
 
 abbrev pub AnswersCandidateContest : Type 0
-AnswersCandidateContest = HasAnswers group.Contests class.CandidateContest (codes "CandidateContest") contest_answers
+AnswersCandidateContest =
+    HasAnswers group.Contests class.CandidateContest (codes "CandidateContest") contest_answers
 
 abbrev pub AnswersContest : Type 0
 AnswersContest = HasAnswers group.Contests class.Contest (codes "Contest") contest_answers
 
 abbrev pub AnswersPartyContest : Type 0
-AnswersPartyContest = HasAnswers group.Contests class.PartyContest (codes "PartyContest") contest_answers
+AnswersPartyContest =
+    HasAnswers group.Contests class.PartyContest (codes "PartyContest") contest_answers
 
 abbrev pub AnswersRetentionContest : Type 0
-AnswersRetentionContest = HasAnswers group.Contests class.RetentionContest (codes "RetentionContest") contest_answers
+AnswersRetentionContest =
+    HasAnswers group.Contests class.RetentionContest (codes "RetentionContest") contest_answers
 
 -- the members of BallotMeasureSelection, ContestSelection, GpUnit, Party, ReportingDevice
 abbrev pub plain_answers : List Answer
@@ -178,10 +189,12 @@ plain_answers =
     []
 
 abbrev pub AnswersBallotMeasureSelection : Type 0
-AnswersBallotMeasureSelection = HasAnswers group.ContestSelections class.BallotMeasureSelection (codes "BallotMeasureSelection") plain_answers
+AnswersBallotMeasureSelection = HasAnswers group.ContestSelections class.BallotMeasureSelection
+    (codes "BallotMeasureSelection") plain_answers
 
 abbrev pub AnswersContestSelection : Type 0
-AnswersContestSelection = HasAnswers group.ContestSelections class.ContestSelection (codes "ContestSelection") plain_answers
+AnswersContestSelection = HasAnswers group.ContestSelections class.ContestSelection
+    (codes "ContestSelection") plain_answers
 
 abbrev pub AnswersGpUnit : Type 0
 AnswersGpUnit = HasAnswers group.GpUnits class.GpUnit (codes "GpUnit") plain_answers
@@ -190,17 +203,20 @@ abbrev pub AnswersParty : Type 0
 AnswersParty = HasAnswers group.Parties class.Party (codes "Party") plain_answers
 
 abbrev pub AnswersReportingDevice : Type 0
-AnswersReportingDevice = HasAnswers group.ReportingDevices class.ReportingDevice (codes "ReportingDevice") plain_answers
+AnswersReportingDevice =
+    HasAnswers group.ReportingDevices class.ReportingDevice (codes "ReportingDevice") plain_answers
 
 abbrev pub AnswersCandidateSelection : Type 0
-AnswersCandidateSelection = HasAnswers group.ContestSelections class.CandidateSelection (codes "CandidateSelection") (
+AnswersCandidateSelection =
+    HasAnswers group.ContestSelections class.CandidateSelection (codes "CandidateSelection") (
     (codes "@id", 2, 6, 3, 3) ∷
     (codes "CandidateIds", 0, 3, 3, 0) ∷
     (codes "IsWriteIn", 0, 3, 3, 3) ∷
     [])
 
 abbrev pub AnswersPartySelection : Type 0
-AnswersPartySelection = HasAnswers group.ContestSelections class.PartySelection (codes "PartySelection") (
+AnswersPartySelection =
+    HasAnswers group.ContestSelections class.PartySelection (codes "PartySelection") (
     (codes "@id", 2, 6, 3, 3) ∷
     (codes "PartyIds", 0, 3, 3, 0) ∷
     [])
@@ -213,30 +229,37 @@ AnswersCandidate = HasAnswers group.Candidates class.Candidate (codes "Candidate
 
 -- ---- lists and repeats
 
--- what is told of a member with this value
+-- that number for a member with this value
 abbrev pub told_of : Group → List ℕ → List ℕ → List ℕ → ℕ
 told_of g type name value = told_at g type name (with_value name value)
 
 -- each list takes a text or texts that stand in it
 abbrev pub OwnTexts : Type 0
 OwnTexts = (
-    told_of group.Reports (codes "CastVoteRecordReport") (codes "ReportType") (codes "[\"rcv-round\"]") ∷
+    told_of group.Reports (codes "CastVoteRecordReport") (codes "ReportType")
+    (codes "[\"rcv-round\"]") ∷
     told_of group.Reports (codes "CastVoteRecordReport") (codes "Version") (codes "\"1.0.0\"") ∷
-    told_of group.Snapshots (codes "CVRSnapshot") (codes "Status") (codes "[\"needs-adjudication\"]") ∷
+    told_of group.Snapshots (codes "CVRSnapshot") (codes "Status")
+    (codes "[\"needs-adjudication\"]") ∷
     told_of group.Snapshots (codes "CVRSnapshot") (codes "Type") (codes "\"interpreted\"") ∷
     told_of group.CvrContests (codes "CVRContest") (codes "Status") (codes "[\"undervoted\"]") ∷
-    told_of group.CvrContestSelections (codes "CVRContestSelection") (codes "Status") (codes "[\"generated-rules\",\"needs-adjudication\"]") ∷
-    told_of group.SelectionPositions (codes "SelectionPosition") (codes "HasIndication") (codes "\"unknown\"") ∷
-    told_of group.SelectionPositions (codes "SelectionPosition") (codes "IsAllocable") (codes "\"unknown\"") ∷
-    told_of group.SelectionPositions (codes "SelectionPosition") (codes "Status") (codes "[\"adjudicated\",\"generated-rules\"]") ∷
+    told_of group.CvrContestSelections (codes "CVRContestSelection") (codes "Status")
+    (codes "[\"generated-rules\",\"needs-adjudication\"]") ∷
+    told_of group.SelectionPositions (codes "SelectionPosition") (codes "HasIndication")
+    (codes "\"unknown\"") ∷
+    told_of group.SelectionPositions (codes "SelectionPosition") (codes "IsAllocable")
+    (codes "\"unknown\"") ∷
+    told_of group.SelectionPositions (codes "SelectionPosition") (codes "Status")
+    (codes "[\"adjudicated\",\"generated-rules\"]") ∷
     told_of group.Contests (codes "Contest") (codes "VoteVariation") (codes "\"borda\"") ∷ [])
     ≡ 0 ∷ 0 ∷ 0 ∷ 0 ∷ 0 ∷ 0 ∷ 0 ∷ 0 ∷ 0 ∷ 0 ∷ []
 
 -- a snapshot's status is not this one, which a selection's may be
 abbrev pub OtherList : Type 0
-OtherList = told_of group.Snapshots (codes "CVRSnapshot") (codes "Status") (codes "[\"generated-rules\"]") ≡ 4
+OtherList = told_of group.Snapshots (codes "CVRSnapshot") (codes "Status")
+    (codes "[\"generated-rules\"]") ≡ 4
 
--- an array of an object twice
+-- an array that has an object twice
 abbrev pub twice : List ℕ → List ℕ
 twice object = codes "[" ++ object ++ codes "," ++ object ++ codes "]"
 
@@ -247,17 +270,29 @@ with_id type = codes "{\"@id\":\"a\",\"@type\":\"CVR." ++ type ++ codes "\",\"Ty
 -- no object with an id may come twice in an array, nor a CVRContest; an annotation may
 abbrev pub Repeats : Type 0
 Repeats = (
-    told_of group.Reports (codes "CastVoteRecordReport") (codes "GpUnit") (twice (with_id (codes "GpUnit"))) ∷
-    told_of group.Reports (codes "CastVoteRecordReport") (codes "Party") (twice (with_id (codes "Party"))) ∷
-    told_of group.Reports (codes "CastVoteRecordReport") (codes "ReportingDevice") (twice (with_id (codes "ReportingDevice"))) ∷
-    told_of group.Elections (codes "Election") (codes "Candidate") (twice (with_id (codes "Candidate"))) ∷
-    told_of group.Elections (codes "Election") (codes "Contest") (twice (with_id (codes "Contest"))) ∷
-    told_of group.Contests (codes "BallotMeasureContest") (codes "ContestSelection") (twice (with_id (codes "PartySelection"))) ∷
-    told_of group.Contests (codes "CandidateContest") (codes "ContestSelection") (twice (with_id (codes "PartySelection"))) ∷
-    told_of group.Contests (codes "Contest") (codes "ContestSelection") (twice (with_id (codes "PartySelection"))) ∷
-    told_of group.Contests (codes "PartyContest") (codes "ContestSelection") (twice (with_id (codes "PartySelection"))) ∷
-    told_of group.Contests (codes "RetentionContest") (codes "ContestSelection") (twice (with_id (codes "PartySelection"))) ∷
+    told_of group.Reports (codes "CastVoteRecordReport") (codes "GpUnit")
+    (twice (with_id (codes "GpUnit"))) ∷
+    told_of group.Reports (codes "CastVoteRecordReport") (codes "Party")
+    (twice (with_id (codes "Party"))) ∷
+    told_of group.Reports (codes "CastVoteRecordReport") (codes "ReportingDevice")
+    (twice (with_id (codes "ReportingDevice"))) ∷
+    told_of group.Elections (codes "Election") (codes "Candidate")
+    (twice (with_id (codes "Candidate"))) ∷
+    told_of group.Elections (codes "Election") (codes "Contest") (twice (with_id (codes "Contest")))
+    ∷
+    told_of group.Contests (codes "BallotMeasureContest") (codes "ContestSelection")
+    (twice (with_id (codes "PartySelection"))) ∷
+    told_of group.Contests (codes "CandidateContest") (codes "ContestSelection")
+    (twice (with_id (codes "PartySelection"))) ∷
+    told_of group.Contests (codes "Contest") (codes "ContestSelection")
+    (twice (with_id (codes "PartySelection"))) ∷
+    told_of group.Contests (codes "PartyContest") (codes "ContestSelection")
+    (twice (with_id (codes "PartySelection"))) ∷
+    told_of group.Contests (codes "RetentionContest") (codes "ContestSelection")
+    (twice (with_id (codes "PartySelection"))) ∷
     told_of group.Cvrs (codes "CVR") (codes "CVRSnapshot") (twice (with_id (codes "CVRSnapshot"))) ∷
-    told_of group.Snapshots (codes "CVRSnapshot") (codes "CVRContest") (twice (codes "{\"@type\":\"CVR.CVRContest\",\"ContestId\":\"m\"}")) ∷
-    told_of group.Snapshots (codes "CVRSnapshot") (codes "Annotation") (twice (with_id (codes "Annotation"))) ∷ [])
+    told_of group.Snapshots (codes "CVRSnapshot") (codes "CVRContest")
+    (twice (codes "{\"@type\":\"CVR.CVRContest\",\"ContestId\":\"m\"}")) ∷
+    told_of group.Snapshots (codes "CVRSnapshot") (codes "Annotation")
+    (twice (with_id (codes "Annotation"))) ∷ [])
     ≡ 12 ∷ 12 ∷ 12 ∷ 12 ∷ 12 ∷ 12 ∷ 12 ∷ 12 ∷ 12 ∷ 12 ∷ 12 ∷ 13 ∷ 0 ∷ []

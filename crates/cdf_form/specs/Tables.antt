@@ -1,5 +1,6 @@
--- The class tables: which members a class has, and what each may be. (Classes, members and enumerations: NIST SP 1500-103; which
--- members are demanded, and which texts a list has, is this project's own profile.)
+-- The class tables: which members a class has, and what each may be. (Classes, members and
+-- enumerations: NIST SP 1500-103; which members are demanded, and which texts a list has, is this
+-- project's own profile.)
 use Rattle.std.specs.Prelude.{ℕ, List, [], ◌∷◌, Bool, true, false, codes, map}
 use Rattle.cdf_form.specs.declared.table.Class.{Class}
 use Rattle.cdf_form.specs.declared.table.Class.TheVariants as class
@@ -20,12 +21,12 @@ pub record Entry : Type 0 where
   pub kind : Kind
 
 -- a member that has to be there
-abbrev pub required : List ℕ → Kind → Entry
-required name kind = record { name = name; required = true; kind = kind }
+abbrev pub required_member : List ℕ → Kind → Entry
+required_member name kind = record { name = name; required = true; kind = kind }
 
 -- a member that may be absent
-abbrev pub optional : List ℕ → Kind → Entry
-optional name kind = record { name = name; required = false; kind = kind }
+abbrev pub optional_member : List ℕ → Kind → Entry
+optional_member name kind = record { name = name; required = false; kind = kind }
 
 -- the bound of an array of any length, which no array reaches
 abbrev pub any : ℕ
@@ -68,10 +69,12 @@ classes_of group.SelectionPositions = class.SelectionPosition ∷ []
 classes_of group.WriteIns = class.CvrWriteIn ∷ []
 classes_of group.Elections = class.Election ∷ []
 classes_of group.Contests =
-    class.BallotMeasureContest ∷ class.CandidateContest ∷ class.Contest ∷ class.PartyContest ∷ class.RetentionContest ∷
+    class.BallotMeasureContest ∷ class.CandidateContest ∷ class.Contest ∷ class.PartyContest
+    ∷ class.RetentionContest ∷
     []
 classes_of group.ContestSelections =
-    class.BallotMeasureSelection ∷ class.CandidateSelection ∷ class.ContestSelection ∷ class.PartySelection ∷ []
+    class.BallotMeasureSelection ∷ class.CandidateSelection ∷ class.ContestSelection
+    ∷ class.PartySelection ∷ []
 classes_of group.Candidates = class.Candidate ∷ []
 classes_of group.GpUnits = class.GpUnit ∷ []
 classes_of group.Parties = class.Party ∷ []
@@ -82,156 +85,171 @@ abbrev pub listed_in : Listing → List (List ℕ)
 listed_in listing.CvrType = codes "interpreted" ∷ codes "modified" ∷ codes "original" ∷ []
 listed_in listing.CvrStatus = codes "needs-adjudication" ∷ codes "other" ∷ []
 listed_in listing.ContestStatus =
-    codes "invalidated-rules" ∷ codes "not-indicated" ∷ codes "other" ∷ codes "overvoted" ∷ codes "undervoted" ∷ []
+    codes "invalidated-rules" ∷ codes "not-indicated" ∷ codes "other" ∷ codes "overvoted"
+    ∷ codes "undervoted" ∷ []
 listed_in listing.ContestSelectionStatus =
-    codes "generated-rules" ∷ codes "invalidated-rules" ∷ codes "needs-adjudication" ∷ codes "other" ∷ []
-listed_in listing.PositionStatus = codes "adjudicated" ∷ codes "generated-rules" ∷ codes "invalidated-rules" ∷ codes "other" ∷ []
+    codes "generated-rules" ∷ codes "invalidated-rules" ∷ codes "needs-adjudication" ∷ codes "other"
+    ∷ []
+listed_in listing.PositionStatus =
+    codes "adjudicated" ∷ codes "generated-rules" ∷ codes "invalidated-rules" ∷ codes "other" ∷ []
 listed_in listing.IndicationStatus = codes "no" ∷ codes "unknown" ∷ codes "yes" ∷ []
 listed_in listing.AllocationStatus = codes "no" ∷ codes "unknown" ∷ codes "yes" ∷ []
 listed_in listing.ReportType =
-    codes "adjudicated" ∷ codes "aggregated" ∷ codes "originating-device-export" ∷ codes "other" ∷ codes "rcv-round" ∷
+    codes "adjudicated" ∷ codes "aggregated" ∷ codes "originating-device-export" ∷ codes "other"
+    ∷ codes "rcv-round" ∷
     []
 listed_in listing.VoteVariation =
-    codes "approval" ∷ codes "borda" ∷ codes "cumulative" ∷ codes "majority" ∷ codes "n-of-m" ∷ codes "other" ∷
-    codes "plurality" ∷ codes "proportional" ∷ codes "range" ∷ codes "rcv" ∷ codes "super-majority" ∷ []
+    codes "approval" ∷ codes "borda" ∷ codes "cumulative" ∷ codes "majority" ∷ codes "n-of-m"
+    ∷ codes "other" ∷
+    codes "plurality" ∷ codes "proportional" ∷ codes "range" ∷ codes "rcv" ∷ codes "super-majority"
+    ∷ []
 listed_in listing.Version = codes "1.0.0" ∷ []
 
 -- the members of a class, in byte order of their names
 abbrev pub table : Class → List Entry
 table class.CastVoteRecordReport =
-    optional (codes "CVR") (Array (leaf.Object group.Cvrs) 0 any key.Free) ∷
-    required (codes "Election") (Array (leaf.Object group.Elections) 1 1 key.Free) ∷
-    required (codes "GeneratedDate") (One leaf.Moment) ∷
-    required (codes "GpUnit") (Array (leaf.Object group.GpUnits) 0 any key.Id) ∷
-    optional (codes "Notes") (One leaf.Text) ∷
-    optional (codes "OtherReportType") (One leaf.Text) ∷
-    optional (codes "Party") (Array (leaf.Object group.Parties) 0 any key.Id) ∷
-    required (codes "ReportGeneratingDeviceIds") (Array leaf.Text 0 any key.Free) ∷
-    optional (codes "ReportType") (Array (leaf.Listed listing.ReportType) 0 any key.Free) ∷
-    required (codes "ReportingDevice") (Array (leaf.Object group.ReportingDevices) 0 any key.Id) ∷
-    required (codes "Version") (One (leaf.Listed listing.Version)) ∷
+    optional_member (codes "CVR") (Array (leaf.Object group.Cvrs) 0 any key.Free) ∷
+    required_member (codes "Election") (Array (leaf.Object group.Elections) 1 1 key.Free) ∷
+    required_member (codes "GeneratedDate") (One leaf.Moment) ∷
+    required_member (codes "GpUnit") (Array (leaf.Object group.GpUnits) 0 any key.Id) ∷
+    optional_member (codes "Notes") (One leaf.Text) ∷
+    optional_member (codes "OtherReportType") (One leaf.Text) ∷
+    optional_member (codes "Party") (Array (leaf.Object group.Parties) 0 any key.Id) ∷
+    required_member (codes "ReportGeneratingDeviceIds") (Array leaf.Text 0 any key.Free) ∷
+    optional_member (codes "ReportType") (Array (leaf.Listed listing.ReportType) 0 any key.Free) ∷
+    required_member (codes "ReportingDevice")
+    (Array (leaf.Object group.ReportingDevices) 0 any key.Id) ∷
+    required_member (codes "Version") (One (leaf.Listed listing.Version)) ∷
     []
 table class.Cvr =
-    optional (codes "BallotAuditId") (One leaf.Text) ∷
-    optional (codes "BallotPrePrintedId") (One leaf.Text) ∷
-    optional (codes "BallotSheetId") (One leaf.Text) ∷
-    optional (codes "BallotStyleId") (One leaf.Text) ∷
-    optional (codes "BallotStyleUnitId") (One leaf.Text) ∷
-    optional (codes "BatchId") (One leaf.Text) ∷
-    optional (codes "BatchSequenceId") (One leaf.Whole) ∷
-    required (codes "CVRSnapshot") (Array (leaf.Object group.Snapshots) 1 any key.Id) ∷
-    required (codes "CreatingDeviceId") (One leaf.Name) ∷
-    required (codes "CurrentSnapshotId") (One leaf.Text) ∷
-    required (codes "ElectionId") (One leaf.Text) ∷
-    optional (codes "PartyIds") (Array leaf.Text 0 any key.Free) ∷
-    required (codes "UniqueId") (One leaf.Name) ∷
+    optional_member (codes "BallotAuditId") (One leaf.Text) ∷
+    optional_member (codes "BallotPrePrintedId") (One leaf.Text) ∷
+    optional_member (codes "BallotSheetId") (One leaf.Text) ∷
+    optional_member (codes "BallotStyleId") (One leaf.Text) ∷
+    optional_member (codes "BallotStyleUnitId") (One leaf.Text) ∷
+    optional_member (codes "BatchId") (One leaf.Text) ∷
+    optional_member (codes "BatchSequenceId") (One leaf.Whole) ∷
+    required_member (codes "CVRSnapshot") (Array (leaf.Object group.Snapshots) 1 any key.Id) ∷
+    required_member (codes "CreatingDeviceId") (One leaf.Name) ∷
+    required_member (codes "CurrentSnapshotId") (One leaf.Text) ∷
+    required_member (codes "ElectionId") (One leaf.Text) ∷
+    optional_member (codes "PartyIds") (Array leaf.Text 0 any key.Free) ∷
+    required_member (codes "UniqueId") (One leaf.Name) ∷
     []
 table class.CvrSnapshot =
-    required (codes "@id") (One leaf.Name) ∷
-    optional (codes "Annotation") (Array (leaf.Object group.Annotations) 0 any key.Free) ∷
-    optional (codes "CVRContest") (Array (leaf.Object group.CvrContests) 0 any key.Contest) ∷
-    optional (codes "OtherStatus") (One leaf.Text) ∷
-    optional (codes "Status") (Array (leaf.Listed listing.CvrStatus) 0 any key.Free) ∷
-    required (codes "Type") (One (leaf.Listed listing.CvrType)) ∷
+    required_member (codes "@id") (One leaf.Name) ∷
+    optional_member (codes "Annotation") (Array (leaf.Object group.Annotations) 0 any key.Free) ∷
+    optional_member (codes "CVRContest") (Array (leaf.Object group.CvrContests) 0 any key.Contest) ∷
+    optional_member (codes "OtherStatus") (One leaf.Text) ∷
+    optional_member (codes "Status") (Array (leaf.Listed listing.CvrStatus) 0 any key.Free) ∷
+    required_member (codes "Type") (One (leaf.Listed listing.CvrType)) ∷
     []
 table class.Annotation =
-    optional (codes "AdjudicatorName") (Array leaf.Text 0 any key.Free) ∷
-    optional (codes "Message") (Array leaf.Text 0 any key.Free) ∷
-    optional (codes "TimeStamp") (One leaf.Moment) ∷
+    optional_member (codes "AdjudicatorName") (Array leaf.Text 0 any key.Free) ∷
+    optional_member (codes "Message") (Array leaf.Text 0 any key.Free) ∷
+    optional_member (codes "TimeStamp") (One leaf.Moment) ∷
     []
 table class.CvrContest =
-    optional (codes "CVRContestSelection") (Array (leaf.Object group.CvrContestSelections) 0 65536 key.Free) ∷
-    required (codes "ContestId") (One leaf.Text) ∷
-    optional (codes "OtherStatus") (One leaf.Text) ∷
-    optional (codes "Overvotes") (One leaf.Count) ∷
-    optional (codes "Selections") (One leaf.Count) ∷
-    optional (codes "Status") (Array (leaf.Listed listing.ContestStatus) 0 any key.Free) ∷
-    optional (codes "Undervotes") (One leaf.Count) ∷
-    optional (codes "WriteIns") (One leaf.Count) ∷
+    optional_member (codes "CVRContestSelection")
+    (Array (leaf.Object group.CvrContestSelections) 0 65536 key.Free) ∷
+    required_member (codes "ContestId") (One leaf.Text) ∷
+    optional_member (codes "OtherStatus") (One leaf.Text) ∷
+    optional_member (codes "Overvotes") (One leaf.Count) ∷
+    optional_member (codes "Selections") (One leaf.Count) ∷
+    optional_member (codes "Status") (Array (leaf.Listed listing.ContestStatus) 0 any key.Free) ∷
+    optional_member (codes "Undervotes") (One leaf.Count) ∷
+    optional_member (codes "WriteIns") (One leaf.Count) ∷
     []
 table class.CvrContestSelection =
-    optional (codes "ContestSelectionId") (One leaf.Text) ∷
-    optional (codes "OptionPosition") (One leaf.Whole) ∷
-    optional (codes "OtherStatus") (One leaf.Text) ∷
-    optional (codes "Rank") (One leaf.Whole) ∷
-    required (codes "SelectionPosition") (Array (leaf.Object group.SelectionPositions) 1 64 key.Free) ∷
-    optional (codes "Status") (Array (leaf.Listed listing.ContestSelectionStatus) 0 any key.Free) ∷
-    optional (codes "TotalFractionalVotes") (One leaf.Fractional) ∷
-    optional (codes "TotalNumberVotes") (One leaf.Count) ∷
+    optional_member (codes "ContestSelectionId") (One leaf.Text) ∷
+    optional_member (codes "OptionPosition") (One leaf.Whole) ∷
+    optional_member (codes "OtherStatus") (One leaf.Text) ∷
+    optional_member (codes "Rank") (One leaf.Whole) ∷
+    required_member (codes "SelectionPosition")
+    (Array (leaf.Object group.SelectionPositions) 1 64 key.Free) ∷
+    optional_member (codes "Status") (Array (leaf.Listed listing.ContestSelectionStatus) 0 any
+    key.Free) ∷
+    optional_member (codes "TotalFractionalVotes") (One leaf.Fractional) ∷
+    optional_member (codes "TotalNumberVotes") (One leaf.Count) ∷
     []
 table class.SelectionPosition =
-    optional (codes "CVRWriteIn") (One (leaf.Object group.WriteIns)) ∷
-    optional (codes "FractionalVotes") (One leaf.Fractional) ∷
-    required (codes "HasIndication") (One (leaf.Listed listing.IndicationStatus)) ∷
-    optional (codes "IsAllocable") (One (leaf.Listed listing.AllocationStatus)) ∷
-    optional (codes "MarkMetricValue") (Array leaf.Text 0 any key.Free) ∷
-    required (codes "NumberVotes") (One leaf.Count) ∷
-    optional (codes "OtherStatus") (One leaf.Text) ∷
-    optional (codes "Position") (One leaf.Whole) ∷
-    optional (codes "Rank") (One leaf.Whole) ∷
-    optional (codes "Status") (Array (leaf.Listed listing.PositionStatus) 0 any key.Free) ∷
+    optional_member (codes "CVRWriteIn") (One (leaf.Object group.WriteIns)) ∷
+    optional_member (codes "FractionalVotes") (One leaf.Fractional) ∷
+    required_member (codes "HasIndication") (One (leaf.Listed listing.IndicationStatus)) ∷
+    optional_member (codes "IsAllocable") (One (leaf.Listed listing.AllocationStatus)) ∷
+    optional_member (codes "MarkMetricValue") (Array leaf.Text 0 any key.Free) ∷
+    required_member (codes "NumberVotes") (One leaf.Count) ∷
+    optional_member (codes "OtherStatus") (One leaf.Text) ∷
+    optional_member (codes "Position") (One leaf.Whole) ∷
+    optional_member (codes "Rank") (One leaf.Whole) ∷
+    optional_member (codes "Status") (Array (leaf.Listed listing.PositionStatus) 0 any key.Free) ∷
     []
 table class.CvrWriteIn =
     []
 table class.Election =
-    required (codes "@id") (One leaf.Name) ∷
-    optional (codes "Candidate") (Array (leaf.Object group.Candidates) 0 any key.Id) ∷
-    required (codes "Contest") (Array (leaf.Object group.Contests) 0 any key.Id) ∷
-    required (codes "ElectionScopeId") (One leaf.Text) ∷
-    optional (codes "Name") (One leaf.Text) ∷
+    required_member (codes "@id") (One leaf.Name) ∷
+    optional_member (codes "Candidate") (Array (leaf.Object group.Candidates) 0 any key.Id) ∷
+    required_member (codes "Contest") (Array (leaf.Object group.Contests) 0 any key.Id) ∷
+    required_member (codes "ElectionScopeId") (One leaf.Text) ∷
+    optional_member (codes "Name") (One leaf.Text) ∷
     []
 table class.BallotMeasureContest =
-    required (codes "@id") (One leaf.Name) ∷
-    optional (codes "ContestSelection") (Array (leaf.Object group.ContestSelections) 0 any key.Id) ∷
-    optional (codes "VoteVariation") (One (leaf.Listed listing.VoteVariation)) ∷
+    required_member (codes "@id") (One leaf.Name) ∷
+    optional_member (codes "ContestSelection")
+    (Array (leaf.Object group.ContestSelections) 0 any key.Id) ∷
+    optional_member (codes "VoteVariation") (One (leaf.Listed listing.VoteVariation)) ∷
     []
 table class.CandidateContest =
-    required (codes "@id") (One leaf.Name) ∷
-    optional (codes "ContestSelection") (Array (leaf.Object group.ContestSelections) 0 any key.Id) ∷
-    optional (codes "VoteVariation") (One (leaf.Listed listing.VoteVariation)) ∷
+    required_member (codes "@id") (One leaf.Name) ∷
+    optional_member (codes "ContestSelection")
+    (Array (leaf.Object group.ContestSelections) 0 any key.Id) ∷
+    optional_member (codes "VoteVariation") (One (leaf.Listed listing.VoteVariation)) ∷
     []
 table class.Contest =
-    required (codes "@id") (One leaf.Name) ∷
-    optional (codes "ContestSelection") (Array (leaf.Object group.ContestSelections) 0 any key.Id) ∷
-    optional (codes "VoteVariation") (One (leaf.Listed listing.VoteVariation)) ∷
+    required_member (codes "@id") (One leaf.Name) ∷
+    optional_member (codes "ContestSelection")
+    (Array (leaf.Object group.ContestSelections) 0 any key.Id) ∷
+    optional_member (codes "VoteVariation") (One (leaf.Listed listing.VoteVariation)) ∷
     []
 table class.PartyContest =
-    required (codes "@id") (One leaf.Name) ∷
-    optional (codes "ContestSelection") (Array (leaf.Object group.ContestSelections) 0 any key.Id) ∷
-    optional (codes "VoteVariation") (One (leaf.Listed listing.VoteVariation)) ∷
+    required_member (codes "@id") (One leaf.Name) ∷
+    optional_member (codes "ContestSelection")
+    (Array (leaf.Object group.ContestSelections) 0 any key.Id) ∷
+    optional_member (codes "VoteVariation") (One (leaf.Listed listing.VoteVariation)) ∷
     []
 table class.RetentionContest =
-    required (codes "@id") (One leaf.Name) ∷
-    optional (codes "ContestSelection") (Array (leaf.Object group.ContestSelections) 0 any key.Id) ∷
-    optional (codes "VoteVariation") (One (leaf.Listed listing.VoteVariation)) ∷
+    required_member (codes "@id") (One leaf.Name) ∷
+    optional_member (codes "ContestSelection")
+    (Array (leaf.Object group.ContestSelections) 0 any key.Id) ∷
+    optional_member (codes "VoteVariation") (One (leaf.Listed listing.VoteVariation)) ∷
     []
 table class.BallotMeasureSelection =
-    required (codes "@id") (One leaf.Name) ∷
+    required_member (codes "@id") (One leaf.Name) ∷
     []
 table class.CandidateSelection =
-    required (codes "@id") (One leaf.Name) ∷
-    optional (codes "CandidateIds") (Array leaf.Text 0 any key.Free) ∷
-    optional (codes "IsWriteIn") (One leaf.Truth) ∷
+    required_member (codes "@id") (One leaf.Name) ∷
+    optional_member (codes "CandidateIds") (Array leaf.Text 0 any key.Free) ∷
+    optional_member (codes "IsWriteIn") (One leaf.Truth) ∷
     []
 table class.ContestSelection =
-    required (codes "@id") (One leaf.Name) ∷
+    required_member (codes "@id") (One leaf.Name) ∷
     []
 table class.PartySelection =
-    required (codes "@id") (One leaf.Name) ∷
-    optional (codes "PartyIds") (Array leaf.Text 0 any key.Free) ∷
+    required_member (codes "@id") (One leaf.Name) ∷
+    optional_member (codes "PartyIds") (Array leaf.Text 0 any key.Free) ∷
     []
 table class.Candidate =
-    required (codes "@id") (One leaf.Name) ∷
-    optional (codes "PartyId") (One leaf.Text) ∷
+    required_member (codes "@id") (One leaf.Name) ∷
+    optional_member (codes "PartyId") (One leaf.Text) ∷
     []
 table class.GpUnit =
-    required (codes "@id") (One leaf.Name) ∷
+    required_member (codes "@id") (One leaf.Name) ∷
     []
 table class.Party =
-    required (codes "@id") (One leaf.Name) ∷
+    required_member (codes "@id") (One leaf.Name) ∷
     []
 table class.ReportingDevice =
-    required (codes "@id") (One leaf.Name) ∷
+    required_member (codes "@id") (One leaf.Name) ∷
     []
 
 -- a member of the code's tables

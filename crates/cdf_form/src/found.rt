@@ -26,12 +26,12 @@ pub struct Found<'a> {
     pub path: Path<'a>,
 }
 
-/// Why a walk stops: at a fault, or for want of memory.
+/// Why a walk stops: at a fault, or out of memory.
 #[derive(Drop)]
 pub enum Stop<'a> {
     /// The first fault.
     Fault(Found<'a>),
-    /// Want of memory.
+    /// Out of memory.
     Memory,
 }
 
@@ -59,7 +59,7 @@ impl<'a> Path<'a> {
         }
     }
 
-    /// The same path, told from the value that the step leads out of.
+    /// The same path, from the value that the step starts at.
     ///
     /// # Errors
     /// An `AllocError` where a growth was refused.
@@ -74,7 +74,7 @@ impl<'a> Path<'a> {
 
 impl<'a> Stop<'a> {
     ghost use Rattle.std.specs.Prelude.{Some, option_map, Option};
-    ghost use Rattle.cdf_form.specs.Form.{Fault, here, deeper};
+    ghost use Rattle.cdf_form.specs.Form.{Fault, here, deeper_fault};
     ghost use Rattle.cdf_form.specs.Found.{StopsAt, step_of};
 
     /// A fault at the value itself. Takes no memory.
@@ -87,11 +87,11 @@ impl<'a> Stop<'a> {
         })
     }
 
-    /// The same cause, told from the value that the step leads out of; want of memory where the
-    /// path can't grow.
+    /// The same cause, from the value that the step starts at; out of memory where the path can't
+    /// grow.
     pub fn under(self, step: Step<'a>) -> Stop<'a>
         ensures { (o : Option Fault) → StopsAt self.entry o
-            → StopsAt result (option_map (deeper (step_of step.entry)) o) }
+            → StopsAt result (option_map (deeper_fault (step_of step.entry)) o) }
     {
         match self {
             Stop::Memory => Stop::Memory,

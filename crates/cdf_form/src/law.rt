@@ -18,6 +18,8 @@ ghost use Rattle.cdf_form.specs.ByRow.{MomentFormLaw, ListedFormLaw, CountFormLa
 ghost use Rattle.cdf_form.specs.ByRow.{ItemsLaw, FewLaw, SomeLaw, ApartLaw};
 
 /// A value has no fault exactly where it has the form of its kind.
+///
+/// Premise: each rule on repeats is of a member of the classes below. The class tables meet it.
 pub fn form_law()
     ensures { FormLaw }
 {}
@@ -35,7 +37,7 @@ pub fn whole_law()
 {}
 
 /// Records stand first in a report's table: where all else that the table says of its records
-/// holds, the first fault of one of them is the first of the report's form.
+/// holds, the first fault of the records is the report's first fault of form.
 pub fn records_first()
     ensures { RecordsFirstLaw }
 {}
@@ -45,8 +47,8 @@ pub fn records_apart()
     ensures { RecordsApartLaw }
 {}
 
-/// An object that has the form of a group has a class of it, and what each row of that class's
-/// table says.
+/// An object that has the form of a group has a class of it, and each row of that class's table
+/// holds of it.
 pub fn rows_hold()
     ensures its_class { HasClassLaw }
     ensures only_class { OnlyClassLaw }

@@ -18,6 +18,9 @@ pub const MAX_FILE: usize = 67_108_864;
 
 /// Looks for the first fault of a document: of its numbers, then of its form.
 ///
+/// That there is no fault here doesn't say that a file is accepted: its references, and its
+/// agreement with a definition, are looked at apart.
+///
 /// # Errors
 /// `Fault` at the first fault; `Memory` where a growth was refused.
 pub fn document_fault<'t>(alloc: Global, value: &Node<'t>) -> Result<(), Stop<'t>>
@@ -30,7 +33,7 @@ pub fn document_fault<'t>(alloc: Global, value: &Node<'t>) -> Result<(), Stop<'t
 }
 
 /// Looks for the first fault of the form of a cast vote record by itself (class CVR). Where there
-/// is none, tells whether a number that isn't whole stands in it.
+/// is none, answers whether a number that isn't whole stands in it.
 ///
 /// # Errors
 /// `Fault` at the first fault of form; `Memory` where a growth was refused.

@@ -26,7 +26,7 @@ fn key_text<'t>(key: Key, value: &Node<'t>) -> Option<&'t str>
     }
 }
 
-// The key, if its text was seen before; now it has been.
+// The key, if its text was seen before; from now on it counts as seen.
 fn note_key<'t>(seen: &mut BTreeSet<&'t str>, key: Key, item: &Node<'t>) -> Result<Key, AllocError>
     ensures { IfOk result (λ mark. (texts : List (List ℕ)) → HasTexts seen.old texts
         → (mark ≡ mark_of key texts (view item.now))
@@ -120,8 +120,8 @@ fn walk_one(alloc: Global, value: &Node<'_>, leaf: Leaf, mark: Key) -> Result<()
     }
 }
 
-// Objects have few members, and most names differ in length: to look each row's member up costs
-// little more than to hold both in order against each other.
+// Objects have few members, and most names differ in length: looking up each row's member costs
+// little more than walking both in order.
 #[cycle(walk)]
 #[tactic(auto, using(crate::proofs::Parts::part_is_lighter))]
 fn walk_rows(

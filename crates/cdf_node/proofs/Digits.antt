@@ -1,5 +1,6 @@
 -- What a number is, by what its readers give, and that the text of one below 0 reads as it.
-use Rattle.std.proofs.Common.{◌≡◌, ℤ, pos, negsuc, Bool, true, Some, int_lt, SFits, w64, refl, arith}
+use Rattle.std.proofs.Common.{◌≡◌, ℤ, pos, negsuc, Bool, true, Some, int_lt, SFits, w64, refl}
+use Rattle.std.proofs.Common.{arith}
 use Rattle.std.specs.Fmt.{signed_decimal}
 use Rattle.std.specs.Float.{float_is_finite}
 use Rattle.std.specs.Option.{MatchOption}
@@ -11,7 +12,8 @@ use Rattle.serde_json.specs.declared.number.N.{N}
 use Rattle.serde_json.specs.declared.number.N.TheVariants as made
 use Rattle.serde_json.proofs.Numbers.{number_of-negative}
 
-pub kind_of : (n : Num) → MatchOption (as_u64 n) (MatchOption (as_i64 n) (float (to_float n) ≡ n) (λ z. negative z ≡ n)) (λ w. unsigned w ≡ n)
+pub kind_of : (n : Num) → MatchOption (as_u64 n)
+    (MatchOption (as_i64 n) (float (to_float n) ≡ n) (λ z. negative z ≡ n)) (λ w. unsigned w ≡ n)
 kind_of (unsigned w) = refl
 kind_of (negative z) = refl
 kind_of (float x) = refl
@@ -26,6 +28,7 @@ in_range-valid (made.PosInt w) = refl
 in_range-valid (made.NegInt z) = refl
 in_range-valid (made.Float x) = refl
 
-pub number_of_below_zero : (z : ℤ) → int_lt z (pos 0) ≡ true → SFits w64 z → number_of (signed_decimal z) ≡ Some (negative z)
+pub number_of_below_zero : (z : ℤ) → int_lt z (pos 0) ≡ true → SFits w64 z
+    → number_of (signed_decimal z) ≡ Some (negative z)
 number_of_below_zero (pos n) e fits = absurd (grind arith)
 number_of_below_zero (negsuc n) e fits = number_of-negative n (grind arith)

@@ -22,7 +22,8 @@ view-String s = search (rules, made.the_lemmas)
 pub view-Array : (v : Bor (List Node)) → view (made.Array v) ≡ array (items_view v.now)
 view-Array v = search (rules, made.the_lemmas)
 
-pub view-Object : (m : Bor (List (Bor (List ℕ) × Node))) → view (made.Object m) ≡ object (members_view m.now)
+pub view-Object : (m : Bor (List (Bor (List ℕ) × Node)))
+    → view (made.Object m) ≡ object (members_view m.now)
 view-Object m = search (rules, made.the_lemmas)
 
 abbrev pub Entry : Type 0

@@ -1,4 +1,4 @@
--- Members in byte order of their names.
+-- Members in byte order of their names. (This project's own.)
 use Rattle.std.specs.Prelude.{◌≡◌, ⊤, ℕ, List, IfSome}
 use Rattle.std.specs.Borrow.{Bor}
 use Rattle.std.specs.Cmp.Lexicographic.{slice_cmp}
@@ -6,7 +6,8 @@ use Rattle.std.specs.List.{fold}
 use Rattle.std.specs.Ordering.{nat_cmp}
 use Rattle.std.specs.declared.cmp.Ordering.TheVariants.{Less}
 use Rattle.json.specs.Token.{Token}
-use Rattle.serde_json.specs.Data.{Data, array, object, Items, no_items, item, Members, no_members, member, put}
+use Rattle.serde_json.specs.Data.{Data, array, object, Items, no_items, item, Members, no_members}
+use Rattle.serde_json.specs.Data.{member, put}
 use Rattle.serde_json.specs.Read.{read}
 use Rattle.cdf_node.specs.Next.{next_value}
 use Rattle.cdf_node.specs.View.{view}

@@ -28,7 +28,7 @@ pub fn in_order<'t>(
     last_of_each(bump, found)
 }
 
-// The same of members that are sorted, where a name may come twice.
+// The same for members that are sorted, where a name may come twice.
 #[tactic(auto, using(crate::proofs::Placing::placed_rising))]
 fn last_of_each<'t>(
     bump: &'t Bump,

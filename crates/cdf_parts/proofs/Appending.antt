@@ -29,7 +29,8 @@ Under-trans : (done : Members) (k l : List ℕ) → Under done k → Before k l 
 Under-trans no_members k l h p = tt
 Under-trans (member j e ms) k l h p = (Before-trans j k l h.0 p, Under-trans ms k l h.1 p)
 
-Under-append : (done more : Members) (k : List ℕ) → Under done k → Under more k → Under (append done more) k
+Under-append : (done more : Members) (k : List ℕ) → Under done k → Under more k
+    → Under (append done more) k
 Under-append no_members more k h p = p
 Under-append (member j e ms) more k h p = (h.0, Under-append ms more k h.1 p)
 
@@ -37,7 +38,8 @@ pub put_above : (k : List ℕ) (d : Data) (done : Members)
     → Under done k → put k d done ≡ append done (member k d no_members)
 put_above k d no_members h = refl
 put_above k d (member l e ms) h =
-    ap (λ o. match_ordering o (member k d (member l e ms)) (member l d ms) (member l e (put k d ms))) (after_is l k h.0)
+    ap (λ o. match_ordering o (member k d (member l e ms)) (member l d ms)
+    (member l e (put k d ms))) (after_is l k h.0)
     ∙ ap (member l e) (put_above k d ms h.1)
 
 pub append_assoc : (a b c : Members) → append (append a b) c ≡ append a (append b c)

@@ -1,5 +1,6 @@
 -- A part's text is no longer than the whole's.
-use Rattle.std.proofs.Common.{◌≡◌, ◌≤◌, ◌<◌, ◌+◌, ◌++◌, ℕ, zero, suc, List, ◌∷◌, length, Bool, true, false}
+use Rattle.std.proofs.Common.{◌≡◌, ◌≤◌, ◌<◌, ◌+◌, ◌++◌, ℕ, zero, suc, List, ◌∷◌, length, Bool, true}
+use Rattle.std.proofs.Common.{false}
 use Rattle.std.proofs.Common.{Some, nat_cmp}
 use Rattle.std.proofs.Common.{subst, arith, length-append}
 use Rattle.std.specs.Cmp.Lexicographic.{slice_cmp}
@@ -46,7 +47,8 @@ item_short b (suc i) (item d ds) e is =
     omega (arith, p, item_parts b d ds)
 
 member_parts : (b : Bool) (k : List ℕ) (d : Data) (ms : Members)
-    → length (compact_text d) + length (members_text true ms) ≤ length (members_text b (member k d ms))
+    → length (compact_text d) + length (members_text true ms)
+    ≤ length (members_text b (member k d ms))
 member_parts b k d ms =
     omega (
       arith,
@@ -76,10 +78,12 @@ member_within k (number x) e is = absurd (cc)
 member_within k (string s) e is = absurd (cc)
 member_within k (array ds) e is = absurd (cc)
 member_within k (object ms) e is =
-    let p : length (compact_text e) ≤ length (members_text false ms) = member_short false k ms e is in
+    let p : length (compact_text e) ≤ length (members_text false ms) =
+    member_short false k ms e is in
     omega (arith, p)
 
-item_within : (i : ℕ) (d e : Data) → at i d ≡ Some e → length (compact_text e) ≤ length (compact_text d)
+item_within : (i : ℕ) (d e : Data) → at i d ≡ Some e
+    → length (compact_text e) ≤ length (compact_text d)
 item_within i null e is = absurd (cc)
 item_within i (boolean b) e is = absurd (cc)
 item_within i (number x) e is = absurd (cc)

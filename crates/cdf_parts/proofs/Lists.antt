@@ -25,7 +25,8 @@ pub well_items : (n : ℕ) (xs : List Data) → All (IsProper n) xs → ItemsAre
 well_items n [] h = tt
 well_items n (x ∷ xs) h = ((first n x xs h).well, well_items n xs (rest n x xs h))
 
-pub whole_items : (n : ℕ) (xs : List Data) → All (IsProper n) xs → items_have_float (items_of xs) ≡ false
+pub whole_items : (n : ℕ) (xs : List Data) → All (IsProper n) xs
+    → items_have_float (items_of xs) ≡ false
 whole_items n [] h = refl
 whole_items n (x ∷ xs) h =
     rw ((first n x xs h).whole, whole_items n xs (rest n x xs h))
@@ -37,7 +38,8 @@ depth_items n (x ∷ xs) h =
     let q : items_depth (items_of xs) ≤ n = depth_items n xs (rest n x xs h) in
     omega (arith, p, q)
 
-pub array_proper : (n : ℕ) (xs : List Data) → All (IsProper n) xs → IsProper (suc n) (array (items_of xs))
+pub array_proper : (n : ℕ) (xs : List Data) → All (IsProper n) xs
+    → IsProper (suc n) (array (items_of xs))
 array_proper n xs h = record {
   well = well_items n xs h;
   whole = whole_items n xs h;

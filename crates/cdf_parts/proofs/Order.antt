@@ -1,5 +1,6 @@
 -- Names in byte order.
-use Rattle.std.proofs.Common.{◌≡◌, ℕ, List, Ordering, Less, Equal, Greater, nat_cmp, is_eq, refl, sym, ap, ◌∙◌}
+use Rattle.std.proofs.Common.{◌≡◌, ℕ, List, Ordering, Less, Equal, Greater, nat_cmp, is_eq, refl}
+use Rattle.std.proofs.Common.{sym, ap, ◌∙◌}
 use Rattle.std.proofs.lemmas.Cmp.{nat_list_cmp_total, tied_itself}
 use Rattle.std.proofs.lemmas.Map.Text.{is_eq-slice_cmp}
 use Rattle.std.proofs.lemmas.Slice.Eq.{bytes_eq-Decides}
@@ -29,19 +30,22 @@ Below-trans a b (member l e ms) p h = (Before-trans a b l p h.0, Below-trans a b
 
 Below-put_at : (o : Ordering) (q k l : List ℕ) (d e : Data) (ms : Members)
     → Before q k → Before q l → Below q ms → Below q (put k d ms)
-    → Below q (match_ordering o (member k d (member l e ms)) (member l d ms) (member l e (put k d ms)))
+    → Below q (match_ordering o (member k d (member l e ms)) (member l d ms)
+    (member l e (put k d ms)))
 Below-put_at Less q k l d e ms p r h later = (p, (r, h))
 Below-put_at Equal q k l d e ms p r h later = (r, h)
 Below-put_at Greater q k l d e ms p r h later = (r, later)
 
-pub Below-put : (q k : List ℕ) (d : Data) (ms : Members) → Before q k → Below q ms → Below q (put k d ms)
+pub Below-put : (q k : List ℕ) (d : Data) (ms : Members) → Before q k → Below q ms
+    → Below q (put k d ms)
 Below-put q k d no_members p h = (p, tt)
 Below-put q k d (member l e ms) p h =
     Below-put_at (slice_cmp nat_cmp k l) q k l d e ms p h.0 h.1 (Below-put q k d ms p h.1)
 
 put_well_at : (o : Ordering) (k l : List ℕ) (d e : Data) (ms : Members) → slice_cmp nat_cmp k l ≡ o
     → IsWell d → IsWell e → Below l ms → MembersAreWell ms → MembersAreWell (put k d ms)
-    → MembersAreWell (match_ordering o (member k d (member l e ms)) (member l d ms) (member l e (put k d ms)))
+    → MembersAreWell (match_ordering o (member k d (member l e ms)) (member l d ms)
+    (member l e (put k d ms)))
 put_well_at Less k l d e ms is well old above rest later =
     (well, (is, Below-trans k l ms is above), (old, above, rest))
 put_well_at Equal k l d e ms is well old above rest later = (well, above, rest)
@@ -49,7 +53,8 @@ put_well_at Greater k l d e ms is well old above rest later =
     (old, Below-put l k d ms (greater_is k l is) above, later)
 
 -- well members are well with well data put in
-pub put_well : (k : List ℕ) (d : Data) (ms : Members) → IsWell d → MembersAreWell ms → MembersAreWell (put k d ms)
+pub put_well : (k : List ℕ) (d : Data) (ms : Members) → IsWell d → MembersAreWell ms
+    → MembersAreWell (put k d ms)
 put_well k d no_members well h = (well, tt, tt)
 put_well k d (member l e ms) well h =
     put_well_at (slice_cmp nat_cmp k l) k l d e ms refl well h.0 h.1 h.2 (put_well k d ms well h.2)

@@ -1,5 +1,6 @@
 -- Members, items and parts of a value.
-use Rattle.std.proofs.Common.{◌≡◌, ◌≤◌, ◌<◌, ℕ, zero, suc, List, [], length, slice_index_or, Contains}
+use Rattle.std.proofs.Common.{◌≡◌, ◌≤◌, ◌<◌, ℕ, zero, suc, List, [], length, slice_index_or}
+use Rattle.std.proofs.Common.{Contains}
 use Rattle.std.proofs.Common.{false, Option, Some, None, option_map, option_and_then, unwrap_or}
 use Rattle.std.proofs.Common.{Ordering, Less, Equal, Greater, nat_cmp, refl, subst, arith}
 use Rattle.std.proofs.lemmas.Bool.{or_parts}
@@ -28,7 +29,8 @@ found_at P Less d e rest here later is = later is
 found_at P Equal d e rest here later is = subst P (inside d e is) here
 found_at P Greater d e rest here later is = later is
 
-pub well_member : (k : List ℕ) (ms : Members) (e : Data) → MembersAreWell ms → get_member k ms ≡ Some e → IsWell e
+pub well_member : (k : List ℕ) (ms : Members) (e : Data) → MembersAreWell ms
+    → get_member k ms ≡ Some e → IsWell e
 well_member k no_members e h is = absurd (cc)
 well_member k (member l d ms) e h is =
     found_at IsWell (slice_cmp nat_cmp k l) d e (get_member k ms) h.0 (well_member k ms e h.2) is
@@ -38,7 +40,8 @@ pub whole_member : (k : List ℕ) (ms : Members) (e : Data)
 whole_member k no_members e h is = absurd (cc)
 whole_member k (member l d ms) e h is =
     let p = or_parts (has_float d) _ h in
-    found_at (λ x. has_float x ≡ false) (slice_cmp nat_cmp k l) d e (get_member k ms) p.0 (whole_member k ms e p.1) is
+    found_at (λ x. has_float x ≡ false) (slice_cmp nat_cmp k l) d e (get_member k ms) p.0
+    (whole_member k ms e p.1) is
 
 pub depth_member : (k : List ℕ) (ms : Members) (e : Data) (n : ℕ)
     → members_depth ms ≤ n → get_member k ms ≡ Some e → depth e ≤ n
@@ -49,7 +52,8 @@ depth_member k (member l d ms) e n h is =
     (depth_member k ms e n (omega arith))
     is
 
-pub member_proper : (n : ℕ) (k : List ℕ) (d e : Data) → get k d ≡ Some e → IsProper (suc n) d → IsProper n e
+pub member_proper : (n : ℕ) (k : List ℕ) (d e : Data) → get k d ≡ Some e → IsProper (suc n) d
+    → IsProper n e
 member_proper n k null e is h = absurd (cc)
 member_proper n k (boolean b) e is h = absurd (cc)
 member_proper n k (number x) e is h = absurd (cc)
@@ -65,7 +69,8 @@ member_proper n k (object ms) e is h = record {
 
 -- ---- items
 
-pub well_item : (i : ℕ) (ds : Items) (e : Data) → ItemsAreWell ds → get_item i ds ≡ Some e → IsWell e
+pub well_item : (i : ℕ) (ds : Items) (e : Data) → ItemsAreWell ds → get_item i ds ≡ Some e
+    → IsWell e
 well_item i no_items e h is = absurd (cc)
 well_item zero (item d ds) e h is = subst IsWell (inside d e is) h.0
 well_item (suc i) (item d ds) e h is = well_item i ds e h.1 is
@@ -73,10 +78,12 @@ well_item (suc i) (item d ds) e h is = well_item i ds e h.1 is
 pub whole_item : (i : ℕ) (ds : Items) (e : Data)
     → items_have_float ds ≡ false → get_item i ds ≡ Some e → has_float e ≡ false
 whole_item i no_items e h is = absurd (cc)
-whole_item zero (item d ds) e h is = subst (λ x. has_float x ≡ false) (inside d e is) (or_parts (has_float d) _ h).0
+whole_item zero (item d ds) e h is =
+    subst (λ x. has_float x ≡ false) (inside d e is) (or_parts (has_float d) _ h).0
 whole_item (suc i) (item d ds) e h is = whole_item i ds e (or_parts (has_float d) _ h).1 is
 
-pub depth_item : (i : ℕ) (ds : Items) (e : Data) (n : ℕ) → items_depth ds ≤ n → get_item i ds ≡ Some e → depth e ≤ n
+pub depth_item : (i : ℕ) (ds : Items) (e : Data) (n : ℕ) → items_depth ds ≤ n
+    → get_item i ds ≡ Some e → depth e ≤ n
 depth_item i no_items e n h is = absurd (cc)
 depth_item zero (item d ds) e n h is = subst (λ x. depth x ≤ n) (inside d e is) (omega arith)
 depth_item (suc i) (item d ds) e n h is = depth_item i ds e n (omega arith) is
@@ -120,7 +127,8 @@ part_of_part a b c p (of_item i d f is q) = of_item i d f is (part_of_part a b f
 
 pub part_reads_back : (text : List ℕ) (d e : Data)
     → read text ≡ Some d → has_float d ≡ false → IsPart e d → read (compact_text e) ≡ Some e
-part_reads_back text d e is whole p = read-proper e (part_proper max_depth e d p (proper_read text d is whole))
+part_reads_back text d e is whole p =
+    read-proper e (part_proper max_depth e d p (proper_read text d is whole))
 
 -- ---- lists under a name
 
@@ -139,13 +147,16 @@ listed_in (Some (number x)) d e h a = absurd (omega (arith, a.1))
 listed_in (Some (string s)) d e h a = absurd (omega (arith, a.1))
 listed_in (Some (object ms)) d e h a = absurd (omega (arith, a.1))
 listed_in (Some (array ds)) d e h a =
-    part_of_part e (array ds) d (of_item a.0 (array ds) e (item_in_list ds a.0 e a.1 a.2) itself) (h (array ds) refl)
+    part_of_part e (array ds) d (of_item a.0 (array ds) e (item_in_list ds a.0 e a.1 a.2) itself)
+    (h (array ds) refl)
 
 pub listed_part : (name : List ℕ) (d e : Data) → Contains (array_at name d) e → IsPart e d
 listed_part name d e a = listed_in (get name d) d e (λ f is. of_member name d f is itself) a
 
 pub listed_reads_back : (text outer inner : List ℕ) (d c s : Data)
-    → read text ≡ Some d → has_float d ≡ false → Contains (array_at outer d) c → Contains (array_at inner c) s
+    → read text ≡ Some d → has_float d ≡ false → Contains (array_at outer d) c
+    → Contains (array_at inner c) s
     → read (compact_text s) ≡ Some s
 listed_reads_back text outer inner d c s is whole a b =
-    part_reads_back text d s is whole (part_of_part s c d (listed_part inner c s b) (listed_part outer d c a))
+    part_reads_back text d s is whole (part_of_part s c d (listed_part inner c s b)
+    (listed_part outer d c a))

@@ -1,6 +1,7 @@
 -- The compact text of data reads as that data.
 use Rattle.std.proofs.Common.{◌≡◌, ◌≤◌, suc, pos, negsuc, List, [], false, Option, Some}
-use Rattle.std.proofs.Common.{option_map, option_and_then, max, refl, sym, ap, ap₂, ◌∙◌, arith, append-nil}
+use Rattle.std.proofs.Common.{option_map, option_and_then, max, refl, sym, ap, ap₂, ◌∙◌, arith}
+use Rattle.std.proofs.Common.{append-nil}
 use Rattle.std.proofs.lemmas.Bool.{or_parts}
 use Rattle.json.specs.Json as json
 use Rattle.json.specs.Tree as tree
@@ -17,12 +18,14 @@ use Rattle.serde_json.specs.Data.{Items, no_items, item, Members, no_members, me
 use Rattle.serde_json.specs.Data.{depth, items_depth, members_depth}
 use Rattle.serde_json.specs.Find.{is_float}
 use Rattle.serde_json.specs.Read.{number_of, of_json, of_items, of_members, read, max_depth}
-use Rattle.serde_json.specs.Written.{number_text, outline, items_outline, members_outline, compact_text}
+use Rattle.serde_json.specs.Written.{number_text, outline, items_outline, members_outline}
+use Rattle.serde_json.specs.Written.{compact_text}
 use Rattle.serde_json.specs.Written.{has_float, items_have_float, members_have_float}
 use Rattle.serde_json.proofs.Numbers.{number_of-decimal, number_of-negative}
 use Rattle.serde_json.proofs.Texts.{print-outline}
 use Rattle.cdf_parts.specs.Proper.{NumFits, IsWell, ItemsAreWell, MembersAreWell, IsProper}
-use Rattle.cdf_parts.proofs.Appending.{append, UnderFirst, from_none, put_above, append_assoc, append_none, next_first}
+use Rattle.cdf_parts.proofs.Appending.{append, UnderFirst, from_none, put_above, append_assoc}
+use Rattle.cdf_parts.proofs.Appending.{append_none, next_first}
 
 pub number_back : (n : Num) → NumFits n → is_float n ≡ false → number_of (number_text n) ≡ Some n
 number_back (unsigned n) h f = number_of-decimal n h
@@ -51,7 +54,8 @@ mutual
   of_items-outline no_items h f = refl
   of_items-outline (item d ds) h f =
       let p = or_parts (has_float d) _ f in
-      ap (option_and_then (λ e. option_map (item e) (of_items (items_outline ds)))) (of_json-outline d h.0 p.0)
+      ap (option_and_then (λ e. option_map (item e) (of_items (items_outline ds))))
+      (of_json-outline d h.0 p.0)
       ∙ ap (option_map (item d)) (of_items-outline ds h.1 p.1)
 
   of_members-outline : (done ms : Members) → UnderFirst done ms → MembersAreWell ms
@@ -59,9 +63,11 @@ mutual
   of_members-outline done no_members u h f = ap Some (sym (append_none done))
   of_members-outline done (member k d ms) u h f =
       let p = or_parts (has_float d) _ f in
-      ap (option_and_then (λ e. of_members (members_outline ms) (put k e done))) (of_json-outline d h.0 p.0)
+      ap (option_and_then (λ e. of_members (members_outline ms) (put k e done)))
+      (of_json-outline d h.0 p.0)
       ∙ ap (of_members (members_outline ms)) (put_above k d done u)
-      ∙ of_members-outline (append done (member k d no_members)) ms (next_first done k d ms u h.1) h.2 p.1
+      ∙ of_members-outline (append done (member k d no_members)) ms (next_first done k d ms u h.1)
+      h.2 p.1
       ∙ ap Some (append_assoc done (member k d no_members) ms)
 
 mutual
@@ -100,7 +106,8 @@ mutual
   items_depth-outline no_items = refl
   items_depth-outline (item d ds) = ap₂ max (depth-outline d) (items_depth-outline ds)
 
-  members_depth-outline : (ms : Members) → tree.members_depth (members_outline ms) ≡ members_depth ms
+  members_depth-outline : (ms : Members)
+      → tree.members_depth (members_outline ms) ≡ members_depth ms
   members_depth-outline no_members = refl
   members_depth-outline (member k d ms) = ap₂ max (depth-outline d) (members_depth-outline ms)
 
@@ -108,7 +115,8 @@ pub tokens-compact_text : (d : Data)
     → IsWell d → has_float d ≡ false → tokens (compact_text d) ≡ json_tokens (outline d)
 tokens-compact_text d h f =
     ap tokens (sym (print-outline d))
-    ∙ tokens-print (json_tokens (outline d)) (ArePrintable-json_tokens (outline d) (HasNumbers-outline d h f))
+    ∙ tokens-print (json_tokens (outline d))
+    (ArePrintable-json_tokens (outline d) (HasNumbers-outline d h f))
 
 -- what `read` makes of a value and the tokens after it
 abbrev data_read : Option (json.Json × List Token) → Option Data

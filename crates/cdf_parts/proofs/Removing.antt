@@ -5,7 +5,8 @@ use Rattle.std.proofs.Common.{refl, sym, ap, ◌∙◌, subst, arith}
 use Rattle.std.proofs.lemmas.Bool.{or_parts}
 use Rattle.std.specs.Cmp.Lexicographic.{slice_cmp}
 use Rattle.std.specs.Ordering.{match_ordering}
-use Rattle.serde_json.specs.Data.{Data, object, Members, no_members, member, put, depth, members_depth}
+use Rattle.serde_json.specs.Data.{Data, object, Members, no_members, member, put, depth}
+use Rattle.serde_json.specs.Data.{members_depth}
 use Rattle.serde_json.specs.Find.{get_member}
 use Rattle.serde_json.specs.Written.{has_float, members_have_float}
 use Rattle.cdf_parts.specs.Proper.{Below, MembersAreWell, IsProper}
@@ -18,16 +19,21 @@ use Rattle.cdf_parts.proofs.ReadsBack.{inside}
 absent_below : (l : List ℕ) (ms : Members) → Below l ms → get_member l ms ≡ None
 absent_below l no_members h = refl
 absent_below l (member k d ms) h =
-    ap (λ o. match_ordering o (get_member l ms) (Some d) (get_member l ms)) h.0 ∙ absent_below l ms h.1
+    ap (λ o. match_ordering o (get_member l ms) (Some d) (get_member l ms)) h.0
+    ∙ absent_below l ms h.1
 
 gone_at : (o : Ordering) (k l : List ℕ) (e : Data) (ms : Members)
     → slice_cmp nat_cmp k l ≡ o → Below l ms → get_member k (without k ms) ≡ None
-    → get_member k (match_ordering o (member l e (without k ms)) ms (member l e (without k ms))) ≡ None
+    → get_member k (match_ordering o (member l e (without k ms)) ms (member l e (without k ms)))
+    ≡ None
 gone_at Less k l e ms is h ih =
-    ap (λ o. match_ordering o (get_member k (without k ms)) (Some e) (get_member k (without k ms))) is ∙ ih
-gone_at Equal k l e ms is h ih = absent_below k ms (subst (λ n. Below n ms) (sym (equal_is k l is)) h)
+    ap (λ o. match_ordering o (get_member k (without k ms)) (Some e) (get_member k (without k ms)))
+    is ∙ ih
+gone_at Equal k l e ms is h ih =
+    absent_below k ms (subst (λ n. Below n ms) (sym (equal_is k l is)) h)
 gone_at Greater k l e ms is h ih =
-    ap (λ o. match_ordering o (get_member k (without k ms)) (Some e) (get_member k (without k ms))) is ∙ ih
+    ap (λ o. match_ordering o (get_member k (without k ms)) (Some e) (get_member k (without k ms)))
+    is ∙ ih
 
 -- what was taken out is not there
 pub gone : (k : List ℕ) (ms : Members) → MembersAreWell ms → get_member k (without k ms) ≡ None
@@ -46,11 +52,14 @@ other_at Equal q k l e ms is n ih = skip (slice_cmp nat_cmp q l) refl
     skip Less w = refl
     skip Equal w = absurd (n (equal_is q l w ∙ sym (equal_is k l is)))
     skip Greater w = refl
-other_at Greater q k l e ms is n ih = ap (λ r. match_ordering (slice_cmp nat_cmp q l) r (Some e) r) ih
+other_at Greater q k l e ms is n ih =
+    ap (λ r. match_ordering (slice_cmp nat_cmp q l) r (Some e) r) ih
 
-pub others_stay : (q k : List ℕ) (ms : Members) → (q ≡ k → ⊥) → get_member q (without k ms) ≡ get_member q ms
+pub others_stay : (q k : List ℕ) (ms : Members) → (q ≡ k → ⊥)
+    → get_member q (without k ms) ≡ get_member q ms
 others_stay q k no_members n = refl
-others_stay q k (member l e ms) n = other_at (slice_cmp nat_cmp k l) q k l e ms refl n (others_stay q k ms n)
+others_stay q k (member l e ms) n =
+    other_at (slice_cmp nat_cmp k l) q k l e ms refl n (others_stay q k ms n)
 
 absent_at : (o : Ordering) (k : List ℕ) (e : Data) (ms : Members)
     → match_ordering o (get_member k ms) (Some e) (get_member k ms) ≡ None
@@ -76,7 +85,8 @@ without_absent k (member l e ms) h =
 
 out_at : (o : Ordering) (k l : List ℕ) (d e : Data) (ms : Members)
     → slice_cmp nat_cmp k l ≡ o → (o ≡ Equal → ⊥) → without k (put k d ms) ≡ ms
-    → without k (match_ordering o (member k d (member l e ms)) (member l d ms) (member l e (put k d ms)))
+    → without k (match_ordering o (member k d (member l e ms)) (member l d ms)
+    (member l e (put k d ms)))
     ≡ member l e ms
 out_at Less k l d e ms is other ih =
     let rest = member k d (without k (member l e ms)) in
@@ -86,9 +96,11 @@ out_at Greater k l d e ms is other ih =
     let rest = member l e (without k (put k d ms)) in
     ap (λ o. match_ordering o rest (put k d ms) rest) is ∙ ap (member l e) ih
 
-pub without-put : (k : List ℕ) (d : Data) (ms : Members) → get_member k ms ≡ None → without k (put k d ms) ≡ ms
+pub without-put : (k : List ℕ) (d : Data) (ms : Members) → get_member k ms ≡ None
+    → without k (put k d ms) ≡ ms
 without-put k d no_members h =
-    ap (λ o. match_ordering o (member k d no_members) no_members (member k d no_members)) (same_name k)
+    ap (λ o. match_ordering o (member k d no_members) no_members (member k d no_members))
+    (same_name k)
 without-put k d (member l e ms) h =
     let p = absent_at (slice_cmp nat_cmp k l) k e ms h in
     out_at (slice_cmp nat_cmp k l) k l d e ms refl p.0 (without-put k d ms p.1)
@@ -98,13 +110,15 @@ without-put k d (member l e ms) h =
 put_below : (k : List ℕ) (d : Data) (ms : Members) → Below k ms → put k d ms ≡ member k d ms
 put_below k d no_members h = refl
 put_below k d (member l e ms) h =
-    ap (λ o. match_ordering o (member k d (member l e ms)) (member l d ms) (member l e (put k d ms))) h.0
+    ap (λ o. match_ordering o (member k d (member l e ms)) (member l d ms)
+    (member l e (put k d ms))) h.0
 
 back_at : (o : Ordering) (k l : List ℕ) (d e : Data) (ms : Members)
     → slice_cmp nat_cmp k l ≡ o → Below l ms
     → match_ordering o (get_member k ms) (Some e) (get_member k ms) ≡ Some d
     → (get_member k ms ≡ Some d → put k d (without k ms) ≡ ms)
-    → put k d (match_ordering o (member l e (without k ms)) ms (member l e (without k ms))) ≡ member l e ms
+    → put k d (match_ordering o (member l e (without k ms)) ms (member l e (without k ms)))
+    ≡ member l e ms
 back_at Less k l d e ms is h found ih =
     let none = absent_below k ms (Below-trans k l ms is h) in
     absurd (cc)
@@ -115,7 +129,8 @@ back_at Equal k l d e ms is h found ih =
     ∙ ap (λ x. member l x ms) (sym (inside e d found))
 back_at Greater k l d e ms is h found ih =
     let rest = without k ms in
-    ap (λ o. match_ordering o (member k d (member l e rest)) (member l d rest) (member l e (put k d rest))) is
+    ap (λ o. match_ordering o (member k d (member l e rest)) (member l d rest)
+    (member l e (put k d rest))) is
     ∙ ap (member l e) (ih found)
 
 pub put-without : (k : List ℕ) (d : Data) (ms : Members)
@@ -138,10 +153,12 @@ Below-without q k (member l e ms) h = go (Below-without q k ms h.1) (slice_cmp n
 
 pub without_well : (k : List ℕ) (ms : Members) → MembersAreWell ms → MembersAreWell (without k ms)
 without_well k no_members h = tt
-without_well k (member l e ms) h = go (without_well k ms h.2) (Below-without l k ms h.1) (slice_cmp nat_cmp k l)
+without_well k (member l e ms) h =
+    go (without_well k ms h.2) (Below-without l k ms h.1) (slice_cmp nat_cmp k l)
   where
     go : MembersAreWell (without k ms) → Below l (without k ms) → (o : Ordering)
-        → MembersAreWell (match_ordering o (member l e (without k ms)) ms (member l e (without k ms)))
+        → MembersAreWell (match_ordering o (member l e (without k ms)) ms
+        (member l e (without k ms)))
     go ih b Less = (h.0, b, ih)
     go ih b Equal = h.2
     go ih b Greater = (h.0, b, ih)
@@ -163,8 +180,10 @@ whole-without k (member l e ms) h =
     whole_at (slice_cmp nat_cmp k l) l e ms (without k ms) p.0 p.1 (whole-without k ms p.1)
 
 whole-put_at : (o : Ordering) (k l : List ℕ) (d e : Data) (ms rest : Members)
-    → has_float d ≡ false → has_float e ≡ false → members_have_float ms ≡ false → members_have_float rest ≡ false
-    → members_have_float (match_ordering o (member k d (member l e ms)) (member l d ms) (member l e rest)) ≡ false
+    → has_float d ≡ false → has_float e ≡ false → members_have_float ms ≡ false
+    → members_have_float rest ≡ false
+    → members_have_float (match_ordering o (member k d (member l e ms)) (member l d ms)
+    (member l e rest)) ≡ false
 whole-put_at Less k l d e ms rest p q r s = rw (p, q, r)
 whole-put_at Equal k l d e ms rest p q r s = rw (p, r)
 whole-put_at Greater k l d e ms rest p q r s = rw (q, s)
@@ -178,19 +197,23 @@ whole-put k d (member l e ms) p h =
 
 -- ---- depth stays
 
-pub without_depth : (k : List ℕ) (ms : Members) (n : ℕ) → members_depth ms ≤ n → members_depth (without k ms) ≤ n
+pub without_depth : (k : List ℕ) (ms : Members) (n : ℕ) → members_depth ms ≤ n
+    → members_depth (without k ms) ≤ n
 without_depth k no_members n h = omega arith
-without_depth k (member l e ms) n h = go (without_depth k ms n (omega arith)) (slice_cmp nat_cmp k l)
+without_depth k (member l e ms) n h =
+    go (without_depth k ms n (omega arith)) (slice_cmp nat_cmp k l)
   where
     go : members_depth (without k ms) ≤ n → (o : Ordering)
-        → members_depth (match_ordering o (member l e (without k ms)) ms (member l e (without k ms))) ≤ n
+        → members_depth (match_ordering o (member l e (without k ms)) ms
+        (member l e (without k ms))) ≤ n
     go ih Less = omega arith
     go ih Equal = omega arith
     go ih Greater = omega arith
 
 depth-put_at : (o : Ordering) (k l : List ℕ) (d e : Data) (ms rest : Members) (n : ℕ)
     → depth d ≤ n → depth e ≤ n → members_depth ms ≤ n → members_depth rest ≤ n
-    → members_depth (match_ordering o (member k d (member l e ms)) (member l d ms) (member l e rest)) ≤ n
+    → members_depth (match_ordering o (member k d (member l e ms)) (member l d ms)
+    (member l e rest)) ≤ n
 depth-put_at Less k l d e ms rest n p q r s = omega arith
 depth-put_at Equal k l d e ms rest n p q r s = omega arith
 depth-put_at Greater k l d e ms rest n p q r s = omega arith
@@ -204,13 +227,15 @@ depth-put k d (member l e ms) n p h =
 
 -- ---- a proper object stays proper
 
-pub without_proper : (n : ℕ) (k : List ℕ) (ms : Members) → IsProper n (object ms) → IsProper n (object (without k ms))
+pub without_proper : (n : ℕ) (k : List ℕ) (ms : Members) → IsProper n (object ms)
+    → IsProper n (object (without k ms))
 without_proper n k ms h = record {
   well = without_well k ms h.well;
   whole = whole-without k ms h.whole;
   shallow =
       let p : suc (members_depth ms) ≤ n = h.shallow in
-      let q : members_depth (without k ms) ≤ members_depth ms = without_depth k ms (members_depth ms) (omega arith) in
+      let q : members_depth (without k ms) ≤ members_depth ms =
+      without_depth k ms (members_depth ms) (omega arith) in
       omega (arith, p, q);
 }
 
@@ -221,6 +246,7 @@ put_proper n k d ms p h = record {
   whole = whole-put k d ms p.whole h.whole;
   shallow =
       let above : suc (members_depth ms) ≤ suc n = h.shallow in
-      let q : members_depth (put k d ms) ≤ n = depth-put k d ms n p.shallow (omega (arith, above)) in
+      let q : members_depth (put k d ms) ≤ n =
+      depth-put k d ms n p.shallow (omega (arith, above)) in
       omega (arith, q);
 }

@@ -1,6 +1,8 @@
 -- What `read` gives has its names in order and its numbers in range.
-use Rattle.std.proofs.Common.{◌≡◌, ◌==◌, ◌<◌, ◌≤◌, ◌^◌, ◌&&◌, ℕ, zero, suc, List, drop, slice_index, nat_lt, nat_le}
-use Rattle.std.proofs.Common.{Bool, true, false, cond, Option, Some, None, option_map, option_and_then, Float}
+use Rattle.std.proofs.Common.{◌≡◌, ◌==◌, ◌<◌, ◌≤◌, ◌^◌, ◌&&◌, ℕ, zero, suc, List, drop, slice_index}
+use Rattle.std.proofs.Common.{nat_lt, nat_le}
+use Rattle.std.proofs.Common.{Bool, true, false, cond, Option, Some, None, option_map}
+use Rattle.std.proofs.Common.{option_and_then, Float}
 use Rattle.std.proofs.Common.{refl, subst, arith}
 use Rattle.std.specs.Prelude.{⊤}
 use Rattle.fast_float.specs.Text.{minus, Parts, scan, digits_of, with_sign}
@@ -8,7 +10,8 @@ use Rattle.json.specs.Json as json
 use Rattle.json.specs.Lex.{tokens}
 use Rattle.serde_json.specs.Data.{unsigned, negative, float, Data, number, array, object}
 use Rattle.serde_json.specs.Data.{item, Members, no_members, put}
-use Rattle.serde_json.specs.Read.{number_of, number_from, float_of, is_integer, of_json, of_items, of_members}
+use Rattle.serde_json.specs.Read.{number_of, number_from, float_of, is_integer, of_json, of_items}
+use Rattle.serde_json.specs.Read.{of_members}
 use Rattle.serde_json.specs.Read.{read, max_depth}
 use Rattle.serde_json.specs.Written.{has_float, compact_text}
 use Rattle.serde_json.proofs.Nesting.{depth-read}
@@ -27,7 +30,8 @@ Within-map P Q h k None x = tt
 Within-map P Q h k (Some a) x = k a x
 
 Within-and_then : {A B : Type 0} (P : A → Type 0) (Q : B → Type 0) (h : A → Option B)
-    → ((a : A) → P a → Within Q (h a)) → (o : Option A) → Within P o → Within Q (option_and_then h o)
+    → ((a : A) → P a → Within Q (h a)) → (o : Option A) → Within P o
+    → Within Q (option_and_then h o)
 Within-and_then P Q h k None x = tt
 Within-and_then P Q h k (Some a) x = k a x
 
@@ -45,8 +49,10 @@ negative_fits : (n : ℕ) → 0 < n → n ≤ 2 ^ 63 → NumFits (negative (with
 negative_fits zero h k = absurd (omega arith)
 negative_fits (suc n) h k = omega arith
 
-from_true : (p : Parts) (a b c : Bool) → b ≡ nat_lt 0 (digits_of p) → c ≡ nat_le (digits_of p) (2 ^ 63)
-    → Within NumFits (cond (a && b && c) (Some (negative (with_sign true (digits_of p)))) (float_of true p))
+from_true : (p : Parts) (a b c : Bool) → b ≡ nat_lt 0 (digits_of p)
+    → c ≡ nat_le (digits_of p) (2 ^ 63)
+    → Within NumFits (cond (a && b && c) (Some (negative (with_sign true (digits_of p))))
+    (float_of true p))
 from_true p true true true e f = negative_fits (digits_of p) (grind arith) (grind arith)
 from_true p true true false e f = floats _ _
 from_true p true false c e f = floats _ _
@@ -64,7 +70,8 @@ either P false x y p q = q
 number_fits : (s : List ℕ) → Within NumFits (number_of s)
 unfolding number_of
 number_fits s =
-    either NumFits (slice_index s 0 == minus) (number_from true (scan (drop 1 s))) (number_from false (scan s))
+    either NumFits (slice_index s 0 == minus) (number_from true (scan (drop 1 s)))
+    (number_from false (scan s))
     (from_fits true (scan (drop 1 s)))
     (from_fits false (scan s))
 
@@ -72,17 +79,21 @@ mutual
   well-of_json : (j : json.Json) → Within IsWell (of_json j)
   well-of_json json.null = tt
   well-of_json (json.boolean b) = tt
-  well-of_json (json.number s) = Within-map NumFits IsWell number (λ n h. h) (number_of s) (number_fits s)
+  well-of_json (json.number s) =
+      Within-map NumFits IsWell number (λ n h. h) (number_of s) (number_fits s)
   well-of_json (json.string s) = tt
-  well-of_json (json.array js) = Within-map ItemsAreWell IsWell array (λ ds h. h) (of_items js) (well-of_items js)
+  well-of_json (json.array js) =
+      Within-map ItemsAreWell IsWell array (λ ds h. h) (of_items js) (well-of_items js)
   well-of_json (json.object ms) =
-      Within-map MembersAreWell IsWell object (λ ds h. h) (of_members ms no_members) (well-of_members ms no_members tt)
+      Within-map MembersAreWell IsWell object (λ ds h. h) (of_members ms no_members)
+      (well-of_members ms no_members tt)
 
   well-of_items : (js : json.Items) → Within ItemsAreWell (of_items js)
   well-of_items json.no_items = tt
   well-of_items (json.item j js) =
       Within-and_then IsWell ItemsAreWell _
-      (λ d h. Within-map ItemsAreWell ItemsAreWell (item d) (λ ds k. (h, k)) (of_items js) (well-of_items js))
+      (λ d h. Within-map ItemsAreWell ItemsAreWell (item d) (λ ds k. (h, k)) (of_items js)
+      (well-of_items js))
       (of_json j)
       (well-of_json j)
 
@@ -101,10 +112,13 @@ always (Some a) = tt
 
 pub well_read : (text : List ℕ) (d : Data) → read text ≡ Some d → IsWell d
 well_read text d e =
-    let o : Option json.Json = option_and_then (λ p. json.if_last p.0 p.1) (json.value max_depth (tokens text)) in
-    subst (Within IsWell) e (Within-and_then (λ _. ⊤) IsWell of_json (λ j x. well-of_json j) o (always o))
+    let o : Option json.Json =
+    option_and_then (λ p. json.if_last p.0 p.1) (json.value max_depth (tokens text)) in
+    subst (Within IsWell) e (Within-and_then (λ _. ⊤) IsWell of_json (λ j x. well-of_json j) o
+    (always o))
 
-pub proper_read : (text : List ℕ) (d : Data) → read text ≡ Some d → has_float d ≡ false → IsProper max_depth d
+pub proper_read : (text : List ℕ) (d : Data) → read text ≡ Some d → has_float d ≡ false
+    → IsProper max_depth d
 proper_read text d is whole = record {
   well = well_read text d is;
   whole = whole;

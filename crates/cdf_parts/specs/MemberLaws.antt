@@ -1,4 +1,4 @@
--- Laws of an object's members: one taken out, and one put in.
+-- Laws of an object's members: one taken out, and one put in. (This project's own.)
 use Rattle.std.specs.Prelude.{◌≡◌, ◌≢◌, ℕ, suc, List, Some, None, false}
 use Rattle.serde_json.specs.Data.{Data, object, Members, put}
 use Rattle.serde_json.specs.Find.{get_member}
@@ -12,7 +12,8 @@ GoneLaw = (k : List ℕ) (ms : Members) → MembersAreWell ms → get_member k (
 
 -- The other members stay where one is taken out.
 abbrev pub OthersStayLaw : Type 0
-OthersStayLaw = (q k : List ℕ) (ms : Members) → q ≢ k → get_member q (without k ms) ≡ get_member q ms
+OthersStayLaw = (q k : List ℕ) (ms : Members) → q ≢ k
+    → get_member q (without k ms) ≡ get_member q ms
 
 -- Taking out a member that is not there changes nothing.
 abbrev pub AbsentLaw : Type 0
@@ -24,11 +25,13 @@ FoundLaw = (k : List ℕ) (d : Data) (ms : Members) → get_member k (put k d ms
 
 -- The other members stay where one is put in.
 abbrev pub OthersKeptLaw : Type 0
-OthersKeptLaw = (q k : List ℕ) (d : Data) (ms : Members) → q ≢ k → get_member q (put k d ms) ≡ get_member q ms
+OthersKeptLaw = (q k : List ℕ) (d : Data) (ms : Members) → q ≢ k
+    → get_member q (put k d ms) ≡ get_member q ms
 
 -- A member put in where it was absent and taken out again leaves the members as they were.
 abbrev pub TakenOutLaw : Type 0
-TakenOutLaw = (k : List ℕ) (d : Data) (ms : Members) → get_member k ms ≡ None → without k (put k d ms) ≡ ms
+TakenOutLaw = (k : List ℕ) (d : Data) (ms : Members) → get_member k ms ≡ None
+    → without k (put k d ms) ≡ ms
 
 -- A member taken out and put in again leaves the members as they were.
 abbrev pub PutBackLaw : Type 0
@@ -39,14 +42,16 @@ PutBackLaw =
 -- A proper object is proper without a member.
 abbrev pub WithoutIsProperLaw : Type 0
 WithoutIsProperLaw =
-    (n : ℕ) (k : List ℕ) (ms : Members) → IsProper n (object ms) → IsProper n (object (without k ms))
+    (n : ℕ) (k : List ℕ) (ms : Members) → IsProper n (object ms)
+    → IsProper n (object (without k ms))
 
--- Members that are well, or hold no float, do so without one of them.
+-- Members that are well, or hold no float, stay so without one of them.
 abbrev pub WithoutIsWellLaw : Type 0
 WithoutIsWellLaw = (k : List ℕ) (ms : Members) → MembersAreWell ms → MembersAreWell (without k ms)
 
 abbrev pub WithoutIsWholeLaw : Type 0
-WithoutIsWholeLaw = (k : List ℕ) (ms : Members) → members_have_float ms ≡ false → members_have_float (without k ms) ≡ false
+WithoutIsWholeLaw = (k : List ℕ) (ms : Members) → members_have_float ms ≡ false
+    → members_have_float (without k ms) ≡ false
 
 -- A proper object is proper with proper data put in, one level less deep.
 abbrev pub PutIsProperLaw : Type 0

@@ -1,4 +1,4 @@
--- Laws of the parts of a value.
+-- Laws of the parts of a value. (This project's own.)
 use Rattle.std.specs.Prelude.{◌≡◌, ◌≤◌, ℕ, suc, List, length, All, Contains, Some, false}
 use Rattle.serde_json.specs.Data.{Data, array, Items}
 use Rattle.serde_json.specs.Events.{items_len}
@@ -13,7 +13,8 @@ use Rattle.cdf_parts.specs.PartOf.{IsPart}
 
 -- A member of a proper value is proper, one level less deep.
 abbrev pub MemberIsProperLaw : Type 0
-MemberIsProperLaw = (n : ℕ) (k : List ℕ) (d e : Data) → get k d ≡ Some e → IsProper (suc n) d → IsProper n e
+MemberIsProperLaw = (n : ℕ) (k : List ℕ) (d e : Data) → get k d ≡ Some e → IsProper (suc n) d
+    → IsProper n e
 
 -- An item of a proper value is proper, one level less deep.
 abbrev pub ItemIsProperLaw : Type 0
@@ -21,7 +22,8 @@ ItemIsProperLaw = (n i : ℕ) (d e : Data) → at i d ≡ Some e → IsProper (s
 
 -- An array of proper values is proper, one level deeper.
 abbrev pub ArrayIsProperLaw : Type 0
-ArrayIsProperLaw = (n : ℕ) (ds : List Data) → All (IsProper n) ds → IsProper (suc n) (array (items_of ds))
+ArrayIsProperLaw = (n : ℕ) (ds : List Data) → All (IsProper n) ds
+    → IsProper (suc n) (array (items_of ds))
 
 -- An array's items, as a list, are those that it was made of.
 abbrev pub ArrayListLaw : Type 0
@@ -57,10 +59,11 @@ PartReadsBackLaw =
     (text : List ℕ) (d e : Data)
     → read text ≡ Some d → has_float d ≡ false → IsPart e d → read (compact_text e) ≡ Some e
 
--- Each item of an array in each item of an array, as each snapshot of each CVR of a report, is read again
--- from its own compact text.
+-- Each item of an array in each item of an array, such as each snapshot of each CVR of a report, is
+-- read again from its own compact text.
 abbrev pub ListedReadsBackLaw : Type 0
 ListedReadsBackLaw =
     (text outer inner : List ℕ) (d c s : Data)
-    → read text ≡ Some d → has_float d ≡ false → Contains (array_at outer d) c → Contains (array_at inner c) s
+    → read text ≡ Some d → has_float d ≡ false → Contains (array_at outer d) c
+    → Contains (array_at inner c) s
     → read (compact_text s) ≡ Some s

@@ -1,4 +1,4 @@
--- What stands anywhere within a value.
+-- What stands anywhere within a value. (This project's own.)
 use Rattle.std.specs.Prelude.{◌≡◌, ℕ, List, Some}
 use Rattle.serde_json.specs.Data.{Data}
 use Rattle.serde_json.specs.Find.{get, at}

@@ -1,5 +1,7 @@
--- The parts of a value, with a default where one is absent or of another kind.
-use Rattle.std.specs.Prelude.{ℕ, ℤ, List, [], ◌∷◌, length, map, Option, Some, None, option_map, option_and_then, unwrap_or, Result, Ok, Err, codes}
+-- The parts of a value, with a default where one is absent or of another kind. (This project's
+-- own.)
+use Rattle.std.specs.Prelude.{ℕ, ℤ, List, [], ◌∷◌, length, map, Option, Some, None, option_map}
+use Rattle.std.specs.Prelude.{option_and_then, unwrap_or, Result, Ok, Err, codes}
 use Rattle.serde_json.specs.Data.{Data, null}
 use Rattle.serde_json.specs.Find.{get, as_str, as_array}
 use Rattle.cdf_node.specs.Items.{list_of}
@@ -43,6 +45,7 @@ abbrev pub ok_of : {E : Type 0} → Result ℤ E → Option ℤ
 ok_of (Ok n) = Some n
 ok_of (Err e) = None
 
--- the instant of a date-time text, in nanoseconds since 1970-01-01T00:00:00Z, as `jiff` reads it
+-- the instant of a date-time text (RFC 3339), in nanoseconds since 1970-01-01T00:00:00Z, as `jiff`
+-- reads it: it reads more than RFC 3339, and of fractions and years less (docs/DECISIONS.md)
 abbrev pub instant_of : List ℕ → Option ℤ
 instant_of s = ok_of (parse_timestamp s)

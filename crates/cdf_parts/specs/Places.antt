@@ -1,4 +1,5 @@
--- Ids by place and by text, and contests with the ids of their selections. (NIST SP 1500-103, classes Contest and ContestSelection.)
+-- Ids by place and by text, and contests with the ids of their selections. (NIST SP 1500-103,
+-- classes Contest and ContestSelection.)
 use Rattle.std.specs.Prelude.{ℕ, zero, suc, List, [], ◌∷◌, map, bytes_eq, Option, option_map, codes}
 use Rattle.std.specs.List.{position_from}
 use Rattle.serde_json.specs.Data.{Data}
@@ -31,4 +32,5 @@ selections_at (c ∷ cs) (suc place) = selections_at cs place
 
 -- the ids of the selections of the contest that is named, if there is one
 abbrev pub selections_of : List Contest → List ℕ → Option Texts
-selections_of contests id = option_map (λ place. selections_at contests place) (place_in (contest_ids contests) id)
+selections_of contests id =
+    option_map (λ place. selections_at contests place) (place_in (contest_ids contests) id)

@@ -1,4 +1,5 @@
--- What data that was read is: numbers in range, and the names of each object strictly in byte order.
+-- What data that was read is: numbers in range, and the names of each object strictly in byte
+-- order. (This project's own.)
 use Rattle.std.specs.Prelude.{◌≡◌, ◌≤◌, ◌<◌, ◌^◌, ℕ, pos, negsuc, false, ⊤}
 use Rattle.serde_json.specs.Data.{Num, unsigned, negative, float}
 use Rattle.serde_json.specs.Data.{Data, number, array, object, depth}

@@ -1,4 +1,4 @@
--- An object's members without one of them.
+-- An object's members without one of them. (This project's own.)
 use Rattle.std.specs.Prelude.{ℕ, List}
 use Rattle.std.specs.Ordering.{nat_cmp, match_ordering}
 use Rattle.std.specs.Cmp.Lexicographic.{slice_cmp}
@@ -8,4 +8,5 @@ use Rattle.serde_json.specs.Data.{Members, no_members, member}
 abbrev pub without : List ℕ → Members → Members
 without k no_members = no_members
 without k (member l e ms) =
-    match_ordering (slice_cmp nat_cmp k l) (member l e (without k ms)) ms (member l e (without k ms))
+    match_ordering (slice_cmp nat_cmp k l) (member l e (without k ms)) ms
+    (member l e (without k ms))

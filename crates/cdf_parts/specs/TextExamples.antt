@@ -28,21 +28,25 @@ report = object (member (codes "CVR") (array (item (object cvr_members) no_items
 
 -- the report's compact text
 abbrev pub report_text : List ℕ
-report_text = codes "{\"CVR\":[{\"CVRSnapshot\":[{\"@id\":\"s\",\"Count\":-2}],\"UniqueId\":\"a\\\"b\"}]}"
+report_text =
+    codes "{\"CVR\":[{\"CVRSnapshot\":[{\"@id\":\"s\",\"Count\":-2}],\"UniqueId\":\"a\\\"b\"}]}"
 
--- the report as another writer may spell it: with spaces, other escapes, and members in another order
+-- the report as another writer may spell it: with spaces, other escapes, and members in another
+-- order
 abbrev pub other_text : List ℕ
 other_text = codes "{ \"CVR\" : [{\"UniqueId\":\"a\\u0022b\",\"CVRSnapshot\":[{\"Count\":-2,\"\\u0040id\":\"s\"}]}] }"
 
 -- an object whose names stand out of order, as `read` gives none
 abbrev pub unordered : Data
 unordered =
-    object (member (codes "b") (number (unsigned 1)) (member (codes "a") (number (unsigned 2)) no_members))
+    object (member (codes "b") (number (unsigned 1))
+    (member (codes "a") (number (unsigned 2)) no_members))
 
 -- The report has the compact text, and is read from it.
 abbrev pub ReportExample : Type 0
 ReportExample =
-    IsProper max_depth report × (compact_text report ≡ report_text) × (read report_text ≡ Some report)
+    IsProper max_depth report × (compact_text report ≡ report_text)
+    × (read report_text ≡ Some report)
 
 -- It is read from the other text too.
 abbrev pub SpellingExample : Type 0
@@ -59,8 +63,10 @@ PartExample =
 -- The snapshots are taken out of the CVR and put in again.
 abbrev pub RemovingExample : Type 0
 RemovingExample =
-    (without (codes "CVRSnapshot") cvr_members ≡ member (codes "UniqueId") (string (codes "a\"b")) no_members)
-    × (put (codes "CVRSnapshot") (array (item snapshot no_items)) (without (codes "CVRSnapshot") cvr_members)
+    (without (codes "CVRSnapshot") cvr_members
+    ≡ member (codes "UniqueId") (string (codes "a\"b")) no_members)
+    × (put (codes "CVRSnapshot") (array (item snapshot no_items))
+    (without (codes "CVRSnapshot") cvr_members)
     ≡ cvr_members)
 
 -- Names out of order are not well, and their text reads as other data: the laws need their premise.
@@ -70,7 +76,8 @@ UnorderedExample = (IsWell unordered → ⊥) × (read (compact_text unordered) 
 -- Of two members of one name the last is read.
 abbrev pub RepeatedExample : Type 0
 RepeatedExample =
-    read (codes "{\"a\":1,\"a\":2}") ≡ Some (object (member (codes "a") (number (unsigned 2)) no_members))
+    read (codes "{\"a\":1,\"a\":2}") ≡ Some
+    (object (member (codes "a") (number (unsigned 2)) no_members))
 
 -- A fraction, `-0` and 2 to the power 64 are read as floats.
 abbrev pub FloatExample : Type 0

@@ -1,4 +1,4 @@
-ghost use Rattle.std.specs.Prelude.{◌≡◌, OnOk, ℕ, List, cond, Some, None, bytes_eq};
+ghost use Rattle.std.specs.Prelude.{◌≡◌, OnOk, ℕ, List, if◌then◌else◌, Some, None, bytes_eq};
 ghost use Rattle.std.specs.Option.{option_or};
 ghost use Rattle.std.specs.BTreeMap.{get_by_text};
 
@@ -17,7 +17,7 @@ pub fn note_place(
     place: usize,
 ) -> Result<(), Memory>
     ensures { OnOk result ((q : List ℕ) → get_by_text places.new q
-        ≡ option_or (get_by_text places.old q) (cond (bytes_eq q id.now) (Some place) None)) }
+        ≡ option_or (get_by_text places.old q) (if bytes_eq q id.now then Some place else None)) }
 {
     if places.contains_key(id) {
         return Ok(());

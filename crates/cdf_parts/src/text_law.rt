@@ -53,7 +53,7 @@ pub fn put_back()
 {}
 
 /// An object that reads back still does without a member, and with one put in; members that are
-/// well, or hold no float, do so without one of them.
+/// well, or hold no float, stay so without one of them.
 pub fn members_stay_proper()
     ensures well { WithoutIsWellLaw }
     ensures whole { WithoutIsWholeLaw }

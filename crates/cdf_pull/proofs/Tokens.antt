@@ -1,9 +1,14 @@
 -- A text has at most one token more than it has bytes.
 use Rattle.std.proofs.Common.{ℕ, suc, ◌≤◌, List, [], ◌∷◌, length, Bool, true, false, arith}
-use Rattle.json.specs.Token.{Token, begin_object, end_object, begin_array, end_array, key, string, number, boolean, null, bad}
-use Rattle.json.specs.Lex.{Lexeme, token, comma, colon, Class, quote, backslash, operator, space, other, Mode, between, in_word, in_string, in_escape, class, lex_byte, lex, Place, fresh, after_value, after_comma, after_key, begins_colon, if_allowed, may_begin, may_close, place_token, punctuate, tokens}
+use Rattle.json.specs.Token.{Token, begin_object, end_object, begin_array, end_array, key, string}
+use Rattle.json.specs.Token.{number, boolean, null, bad}
+use Rattle.json.specs.Lex.{Lexeme, token, comma, colon, Class, quote, backslash, operator, space}
+use Rattle.json.specs.Lex.{other, Mode, between, in_word, in_string, in_escape, class, lex_byte}
+use Rattle.json.specs.Lex.{lex, Place, fresh, after_value, after_comma, after_key, begins_colon}
+use Rattle.json.specs.Lex.{if_allowed, may_begin, may_close, place_token, punctuate, tokens}
 
-byte_few : (m : Mode) (c : Class) (x : ℕ) (xs : List ℕ) (k : Mode → List Lexeme) → ((next : Mode) → length (k next) ≤ length xs) → length (lex_byte m c x xs k) ≤ suc (length xs)
+byte_few : (m : Mode) (c : Class) (x : ℕ) (xs : List ℕ) (k : Mode → List Lexeme)
+    → ((next : Mode) → length (k next) ≤ length xs) → length (lex_byte m c x xs k) ≤ suc (length xs)
 byte_few between quote x xs k few = omega (arith, few in_string)
 byte_few between backslash x xs k few = omega (arith, few in_word)
 byte_few between operator x xs k few = omega (arith, few between)
@@ -24,22 +29,31 @@ byte_few in_escape c x xs k few = omega (arith, few in_string)
 lexemes_few : (m : Mode) (xs : List ℕ) → length (lex m xs) ≤ length xs
 unfolding lex
 lexemes_few m [] = omega arith
-lexemes_few m (x ∷ xs) = byte_few m (class x) x xs (λ next. lex next xs) (λ next. lexemes_few next xs)
+lexemes_few m (x ∷ xs) =
+    byte_few m (class x) x xs (λ next. lex next xs) (λ next. lexemes_few next xs)
 
-allowed_few : (b : Bool) (t : Token) (k : Place → List Token) (next : Place) (n : ℕ) → length (k next) ≤ n → length (if_allowed b t k next) ≤ suc n
+allowed_few : (b : Bool) (t : Token) (k : Place → List Token) (next : Place) (n : ℕ)
+    → length (k next) ≤ n → length (if_allowed b t k next) ≤ suc n
 allowed_few true t k next n few = omega (arith, few)
 allowed_few false t k next n few = omega arith
 
-token_few : (p : Place) (t : Token) (b : Bool) (k : Place → List Token) (n : ℕ) → ((next : Place) → length (k next) ≤ n) → length (place_token p t b k) ≤ suc n
+token_few : (p : Place) (t : Token) (b : Bool) (k : Place → List Token) (n : ℕ)
+    → ((next : Place) → length (k next) ≤ n) → length (place_token p t b k) ≤ suc n
 token_few p begin_object b k n few = allowed_few (may_begin p) begin_object k fresh n (few fresh)
-token_few p end_object b k n few = allowed_few (may_close p) end_object k after_value n (few after_value)
+token_few p end_object b k n few =
+    allowed_few (may_close p) end_object k after_value n (few after_value)
 token_few p begin_array b k n few = allowed_few (may_begin p) begin_array k fresh n (few fresh)
-token_few p end_array b k n few = allowed_few (may_close p) end_array k after_value n (few after_value)
+token_few p end_array b k n few =
+    allowed_few (may_close p) end_array k after_value n (few after_value)
 token_few p (key s) b k n few = omega arith
-token_few p (string s) true k n few = allowed_few (may_begin p) (key s) k after_key n (few after_key)
-token_few p (string s) false k n few = allowed_few (may_begin p) (string s) k after_value n (few after_value)
-token_few p (number s) b k n few = allowed_few (may_begin p) (number s) k after_value n (few after_value)
-token_few p (boolean v) b k n few = allowed_few (may_begin p) (boolean v) k after_value n (few after_value)
+token_few p (string s) true k n few =
+    allowed_few (may_begin p) (key s) k after_key n (few after_key)
+token_few p (string s) false k n few =
+    allowed_few (may_begin p) (string s) k after_value n (few after_value)
+token_few p (number s) b k n few =
+    allowed_few (may_begin p) (number s) k after_value n (few after_value)
+token_few p (boolean v) b k n few =
+    allowed_few (may_begin p) (boolean v) k after_value n (few after_value)
 token_few p null b k n few = allowed_few (may_begin p) null k after_value n (few after_value)
 token_few p bad b k n few = omega arith
 
@@ -49,10 +63,14 @@ punctuated_few fresh [] = omega arith
 punctuated_few after_value [] = omega arith
 punctuated_few after_comma [] = omega arith
 punctuated_few after_key [] = omega arith
-punctuated_few fresh (token t ∷ ls) = token_few fresh t (begins_colon ls) (λ next. punctuate next ls) (suc (length ls)) (λ next. punctuated_few next ls)
-punctuated_few after_value (token t ∷ ls) = token_few after_value t (begins_colon ls) (λ next. punctuate next ls) (suc (length ls)) (λ next. punctuated_few next ls)
-punctuated_few after_comma (token t ∷ ls) = token_few after_comma t (begins_colon ls) (λ next. punctuate next ls) (suc (length ls)) (λ next. punctuated_few next ls)
-punctuated_few after_key (token t ∷ ls) = token_few after_key t (begins_colon ls) (λ next. punctuate next ls) (suc (length ls)) (λ next. punctuated_few next ls)
+punctuated_few fresh (token t ∷ ls) = token_few fresh t (begins_colon ls)
+    (λ next. punctuate next ls) (suc (length ls)) (λ next. punctuated_few next ls)
+punctuated_few after_value (token t ∷ ls) = token_few after_value t (begins_colon ls)
+    (λ next. punctuate next ls) (suc (length ls)) (λ next. punctuated_few next ls)
+punctuated_few after_comma (token t ∷ ls) = token_few after_comma t (begins_colon ls)
+    (λ next. punctuate next ls) (suc (length ls)) (λ next. punctuated_few next ls)
+punctuated_few after_key (token t ∷ ls) = token_few after_key t (begins_colon ls)
+    (λ next. punctuate next ls) (suc (length ls)) (λ next. punctuated_few next ls)
 punctuated_few fresh (comma ∷ ls) = omega arith
 punctuated_few after_value (comma ∷ ls) = omega (arith, punctuated_few after_comma ls)
 punctuated_few after_comma (comma ∷ ls) = omega arith

@@ -6,7 +6,8 @@ ghost use Rattle.serde_json.specs.Find.{get_member};
 ghost use Rattle.serde_json.specs.Read.{read as read_data};
 ghost use Rattle.cdf_node.specs.Next.{next_value, next_last};
 ghost use Rattle.cdf_node.specs.View.{view, items_of, members_view};
-ghost use Rattle.cdf_pull.specs.Fold.{items_in, emptied, emptied_at, items_found, items_under};
+ghost use Rattle.cdf_pull.specs.Fold.{items_in, without_items, emptied_at, items_found};
+ghost use Rattle.cdf_pull.specs.Fold.{items_under};
 ghost use Rattle.cdf_pull.specs.Fold.{left_beside, IsOrdered, IsFolded, most_tokens};
 
 use bumpalo::Bump;
@@ -40,8 +41,8 @@ pub trait Fold {
             → keeps self.now (ds ++ view item.entry ∷ []) kept.new) };
 }
 
-// What is kept of the items of the array whose first bracket was read, each of which is taken, and
-// its memory given back, before the next one is read.
+// What is kept of the items of the array whose first bracket was read. Each is taken, and its
+// memory given back, before the next one is read.
 #[tactic(auto, using(cdf_node::proofs::Lemmas::array_flat, cdf_node::proofs::Lemmas::array_shorter))]
 fn fold_items<F: Fold>(
     alloc: Global,
@@ -76,7 +77,7 @@ where
     Ok(kept)
 }
 
-// The next value, and what is kept of its items, of which it has none any more.
+// The next value, without its items, and what is kept of these.
 #[tactic(auto, using(cdf_node::proofs::Lemmas::next_value_nothing))]
 fn read_emptied<'t, 'a: 't, F: Fold>(
     alloc: Global,
@@ -90,7 +91,7 @@ where
     requires { length reader.now ≤ most_tokens }
     ensures value { IfOk result (λ p. (d : Data)
         × (next_value depth reader.old ≡ Some (d, reader.new))
-        × (view p.0 ≡ emptied d)
+        × (view p.0 ≡ without_items d)
         × F.keeps fold.now (items_in d) p.1) }
     ensures unread { result ≡ Err Stop.Unread → next_value depth reader.old ≡ None }
     ensures shorter { OnOk result (length reader.new < length reader.old) }
@@ -124,14 +125,14 @@ where
     requires { length reader.now ≤ most_tokens }
     ensures value { IfOk result (λ p. (d : Data)
         × (next_value depth reader.old ≡ Some (d, reader.new))
-        × (view p.0 ≡ (if is_folded then emptied d else d))
+        × (view p.0 ≡ (if is_folded then without_items d else d))
         × ((ds : List Data) → F.keeps fold.now ds kept
         → F.keeps fold.now (if is_folded then items_in d else ds) p.1)) }
     ensures unread { result ≡ Err Stop.Unread → next_value depth reader.old ≡ None }
     ensures shorter { OnOk result (length reader.new < length reader.old) }
 {
     if is_folded {
-        // What was kept of an array before this one of the same name is freed first.
+        // What was kept of an earlier array of the same name is freed first.
         drop(kept);
         read_emptied(alloc, bump, reader, depth, fold)
     } else {
@@ -139,8 +140,8 @@ where
     }
 }
 
-// The members of the object whose first brace was read, that under the name emptied, and what is
-// kept of its items.
+// The members of the object whose first brace was read, with that under the name emptied, and what
+// is kept of its items.
 #[tactic(auto, using(cdf_node::proofs::Lemmas::object_flat))]
 fn read_members<'t, 'a: 't, F: Fold>(
     alloc: Global,

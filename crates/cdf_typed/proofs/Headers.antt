@@ -1,5 +1,8 @@
 -- A record without its snapshots and the name of the current one.
-use Rattle.std.proofs.Common.{◌≡◌, ℕ, suc, ◌+◌, ◌≤◌, List, [], ◌∷◌, ◌++◌, length, Bool, true, false, not, cond, Some, None, option_map, bytes_eq, codes, nat_cmp, Ordering, Less, Equal, Greater, is_eq, Bor, refl, sym, ap, ap₂, ◌∙◌, rules, arith}
+use Rattle.std.proofs.Common.{◌≡◌, ℕ, suc, ◌+◌, ◌≤◌, List, [], ◌∷◌, ◌++◌, length, Bool, true, false}
+use Rattle.std.proofs.Common.{not, cond, Some, None, option_map, bytes_eq, codes, nat_cmp, Ordering}
+use Rattle.std.proofs.Common.{Less, Equal, Greater, is_eq, Bor, refl, sym, ap, ap₂, ◌∙◌, rules}
+use Rattle.std.proofs.Common.{arith}
 use Rattle.std.specs.Prelude.{unwrap_or}
 use Rattle.std.specs.List.{prefix_len, position, remove}
 use Rattle.std.specs.Ordering.{match_ordering}
@@ -7,7 +10,8 @@ use Rattle.std.specs.Cmp.Lexicographic.{slice_cmp}
 use Rattle.std.proofs.lemmas.Bool.{ltb-false}
 use Rattle.std.proofs.lemmas.List.{take_all, drop_all}
 use Rattle.std.proofs.lemmas.Map.Text.{is_eq-slice_cmp}
-use Rattle.serde_json.specs.Data.{Data, null, boolean, number, string, array, object, Members, member}
+use Rattle.serde_json.specs.Data.{Data, null, boolean, number, string, array, object, Members}
+use Rattle.serde_json.specs.Data.{member}
 use Rattle.serde_json.specs.Find.{as_object}
 use Rattle.serde_json.specs.Written.{has_float}
 use Rattle.cdf_node.specs.View.{view, members_view}
@@ -27,20 +31,29 @@ without_at Less a b = refl
 without_at Equal a b = refl
 without_at Greater a b = refl
 
-removed_at : (b : Bool) (e : Entry) (es : List Entry) (k : ℕ) (rest : Members) → members_view (remove es k) ≡ rest
-    → members_view (remove (e ∷ es) (cond (not b) (1 + k) 0)) ≡ cond b (members_view es) (member e.0.now (view e.1) rest)
+removed_at : (b : Bool) (e : Entry) (es : List Entry) (k : ℕ) (rest : Members)
+    → members_view (remove es k) ≡ rest
+    → members_view (remove (e ∷ es) (cond (not b) (1 + k) 0))
+    ≡ cond b (members_view es) (member e.0.now (view e.1) rest)
 removed_at true e es k rest h = refl
-removed_at false e es k rest h = let one : 1 + k ≡ suc k = omega arith in ap (λ n. members_view (remove (e ∷ es) n)) one ∙ ap (member e.0.now (view e.1)) h
+removed_at false e es k rest h = let one : 1 + k ≡ suc k = omega arith in
+    ap (λ n. members_view (remove (e ∷ es) n)) one ∙ ap (member e.0.now (view e.1)) h
 
-removed : (name : List ℕ) (es : List Entry) → members_view (remove es (prefix_len (λ e. not (bytes_eq name e.0.now)) es)) ≡ without name (members_view es)
+removed : (name : List ℕ) (es : List Entry)
+    → members_view (remove es (prefix_len (λ e. not (bytes_eq name e.0.now)) es))
+    ≡ without name (members_view es)
 removed name [] = refl
 removed name (e ∷ es) =
     removed_at (bytes_eq name e.0.now) e es _ _ (removed name es)
-    ∙ ap (λ b. cond b (members_view es) (member e.0.now (view e.1) (without name (members_view es)))) (sym (is_eq-slice_cmp name e.0.now))
-    ∙ sym (without_at (slice_cmp nat_cmp name e.0.now) (member e.0.now (view e.1) (without name (members_view es))) (members_view es))
+    ∙ ap (λ b. cond b (members_view es)
+    (member e.0.now (view e.1) (without name (members_view es))))
+    (sym (is_eq-slice_cmp name e.0.now))
+    ∙ sym (without_at (slice_cmp nat_cmp name e.0.now)
+    (member e.0.now (view e.1) (without name (members_view es))) (members_view es))
 
 remove_past : (es : List Entry) (k : ℕ) → length es ≤ k → remove es k ≡ es
-remove_past es k h = ap₂ (λ xs ys. xs ++ ys) (take_all k es h) (drop_all (suc k) es (omega arith)) ∙ append_nil es
+remove_past es k h =
+    ap₂ (λ xs ys. xs ++ ys) (take_all k es h) (drop_all (suc k) es (omega arith)) ∙ append_nil es
   where
     append_nil : (xs : List Entry) → xs ++ [] ≡ xs
     append_nil [] = refl
@@ -54,13 +67,17 @@ none_at : (b : Bool) (k : ℕ) → cond b (Some k) None ≡ None → b ≡ false
 none_at true k e = absurd (cc)
 none_at false k e = refl
 
-pub taken_out : (name : List ℕ) (es : List Entry) (i : ℕ) → position (λ e. bytes_eq name e.0.now) es ≡ Some i → members_view (remove es i) ≡ without name (members_view es)
+pub taken_out : (name : List ℕ) (es : List Entry) (i : ℕ)
+    → position (λ e. bytes_eq name e.0.now) es ≡ Some i
+    → members_view (remove es i) ≡ without name (members_view es)
 taken_out name es i is = ap (λ k. members_view (remove es k)) (found_at _ _ i is) ∙ removed name es
 
-pub absent : (name : List ℕ) (es : List Entry) → position (λ e. bytes_eq name e.0.now) es ≡ None → members_view es ≡ without name (members_view es)
+pub absent : (name : List ℕ) (es : List Entry) → position (λ e. bytes_eq name e.0.now) es ≡ None
+    → members_view es ≡ without name (members_view es)
 absent name es is =
     let k = prefix_len (λ e. not (bytes_eq name e.0.now)) es in
-    sym (ap members_view (remove_past es k (ltb-false k (length es) (none_at _ k is)))) ∙ removed name es
+    sym (ap members_view (remove_past es k (ltb-false k (length es) (none_at _ k is))))
+    ∙ removed name es
 
 -- ---- the header
 
@@ -68,13 +85,18 @@ view-Object : (m : Bor (List Entry)) → view (made.Object m) ≡ object (member
 view-Object m = search (rules, made.the_lemmas)
 
 -- what is left after the two were taken out of a copy
-pub header_left : (d : Data) (members all one two : List Entry) (m : Bor (List Entry)) → as_object d ≡ Some (members_view members) → all ≡ members
-    → members_view one ≡ without (codes "CVRSnapshot") (members_view all) → members_view two ≡ without (codes "CurrentSnapshotId") (members_view one)
+pub header_left : (d : Data) (members all one two : List Entry) (m : Bor (List Entry))
+    → as_object d ≡ Some (members_view members) → all ≡ members
+    → members_view one ≡ without (codes "CVRSnapshot") (members_view all)
+    → members_view two ≡ without (codes "CurrentSnapshotId") (members_view one)
     → m.now ≡ two → view (made.Object m) ≡ header_of d
 header_left d members all one two m is copied first second now =
     let gone = first ∙ ap (λ es. without (codes "CVRSnapshot") (members_view es)) copied in
-    view-Object m ∙ ap object (ap members_view now ∙ second ∙ ap (without (codes "CurrentSnapshotId")) gone)
-    ∙ sym (ap (λ o. unwrap_or (option_map (λ ms. object (without (codes "CurrentSnapshotId") (without (codes "CVRSnapshot") ms))) o) null) is)
+    view-Object m ∙ ap object (ap members_view now ∙ second
+    ∙ ap (without (codes "CurrentSnapshotId")) gone)
+    ∙ sym (ap (λ o. unwrap_or (option_map
+    (λ ms. object (without (codes "CurrentSnapshotId") (without (codes "CVRSnapshot") ms))) o)
+    null) is)
 
 pub whole-header_of : (d : Data) → has_float d ≡ false → has_float (header_of d) ≡ false
 whole-header_of null h = refl
@@ -82,4 +104,5 @@ whole-header_of (boolean b) h = refl
 whole-header_of (number n) h = refl
 whole-header_of (string s) h = refl
 whole-header_of (array ds) h = refl
-whole-header_of (object ms) h = whole-without (codes "CurrentSnapshotId") (without (codes "CVRSnapshot") ms) (whole-without (codes "CVRSnapshot") ms h)
+whole-header_of (object ms) h = whole-without (codes "CurrentSnapshotId")
+    (without (codes "CVRSnapshot") ms) (whole-without (codes "CVRSnapshot") ms h)

@@ -158,8 +158,8 @@ pub fn header_text(alloc: Global, cvr: &Node<'_>) -> Result<Body, Memory>
     compact(alloc, &Node::Object(&others))
 }
 
-/// The typed record of a value that has the form of a record (NIST SP 1500-103, class CVR), told as
-/// by `read_report`.
+/// The typed record of a value that has the form of a record (NIST SP 1500-103, class CVR), as
+/// `read_report` gives it.
 ///
 /// # Errors
 /// `Memory` where a growth was refused.
@@ -216,9 +216,13 @@ fn read_devices(alloc: Global, values: &[Node<'_>]) -> Result<Seq<ReportingDevic
 }
 
 /// The typed report of a value that has the form of a report (NIST SP 1500-103, class
-/// CastVoteRecordReport). Contests and selections are told by their places among those given.
-/// Where a part is absent or of another kind, a default stands for it: the empty text, 0, no mark,
-/// the kind `Original`, the first contest.
+/// CastVoteRecordReport). Contests and selections are given by their places in `contests`. Where a
+/// part is absent or of another kind, a default stands for it: the empty text, 0, no mark, the kind
+/// `Original`, the first contest.
+///
+/// The typed report has no CurrentSnapshotId: code above can't rely on what a file calls current.
+/// That no default stands for a part that is demanded is said of accepted files, by `defaults` of
+/// `cdf_check`.
 ///
 /// # Errors
 /// `Memory` where a growth was refused.

@@ -1,5 +1,7 @@
 -- What a source gave and a sink took, and whether it failed. (This project's own.)
-use Rattle.std.specs.Prelude.{◌≡◌, ◌≢◌, ℕ, ◌≤◌, zero, suc, List, [], ◌++◌, length, take, drop, Bool, true, false, Option, None, Some, option_map, Result, Ok, Err, MatchOption}
+use Rattle.std.specs.Prelude.{◌≡◌, ◌≢◌, ℕ, ◌≤◌, zero, suc, List, [], ◌++◌, length, take, drop, Bool}
+use Rattle.std.specs.Prelude.{true, false, Option, None, Some, option_map, Result, Ok, Err}
+use Rattle.std.specs.Prelude.{MatchOption}
 
 -- the count that a call answered: an Err moves no byte
 abbrev pub count : {E : Type 0} → Result ℕ E → ℕ
@@ -23,34 +25,37 @@ pub record Taken : Type 0 where
   pub bytes : Option (List ℕ)
   pub failed : Bool
 
--- and of a source: the bytes that are left, if it shows them, whether a read has failed, and whether
--- one to come can
+-- what contracts see of a source: the bytes that are left, if it shows them, whether a read has
+-- failed, and whether one to come can
 pub record Left : Type 0 where
   pub bytes : Option (List ℕ)
   pub failed : Bool
   pub can_fail : Bool
 
--- these bytes more
-abbrev pub appended : Option (List ℕ) → List ℕ → Option (List ℕ)
-appended before bytes = option_map (λ taken. taken ++ bytes) before
+-- the bytes that a sink shows, with these at the end
+abbrev pub taken_with : Option (List ℕ) → List ℕ → Option (List ℕ)
+taken_with before bytes = option_map (λ taken. taken ++ bytes) before
 
--- a sink has taken these bytes more
+-- A sink has taken these bytes more, at the end. Of the bytes of a sink that doesn't show them this
+-- says nothing.
 abbrev pub Appends : Taken → Taken → List ℕ → Type 0
-Appends old new bytes = new.bytes ≡ appended old.bytes bytes
+Appends old new bytes = new.bytes ≡ taken_with old.bytes bytes
 
--- or some prefix of them
+-- a sink has taken a prefix of these bytes more: the bytes are that prefix and a rest
 abbrev pub AppendsPrefix : Taken → Taken → List ℕ → Type 0
-AppendsPrefix old new bytes = (prefix rest : List ℕ) × (bytes ≡ prefix ++ rest) × Appends old new prefix
+AppendsPrefix old new bytes = (prefix rest : List ℕ) × (bytes ≡ prefix ++ rest)
+    × Appends old new prefix
 
--- or some prefix that is not all of them
+-- a sink has taken a prefix of these bytes more, and not all of them: the rest has a byte
 abbrev pub AppendsProperPrefix : Taken → Taken → List ℕ → Type 0
 AppendsProperPrefix old new bytes =
     (prefix rest : List ℕ) × (bytes ≡ prefix ++ rest) × (rest ≢ []) × Appends old new prefix
 
--- a source that shows its bytes gave n of what was left, and 0 only at its end; the rest of the
--- buffer is as it was
+-- A source that shows its bytes gave the first n bytes of what was left. They stand at the start of
+-- the buffer; the rest of the buffer is as it was; n is 0 only at the end.
 abbrev pub Gives : Option (List ℕ) → Option (List ℕ) → List ℕ → List ℕ → ℕ → Type 0
 Gives before after old new n =
     MatchOption before (after ≡ None)
     (λ left.
-    (after ≡ Some (drop n left)) × (n ≤ length left) × (new ≡ take n left ++ drop n old) × (n ≡ 0 → left ≡ []))
+    (after ≡ Some (drop n left)) × (n ≤ length left) × (new ≡ take n left ++ drop n old)
+    × (n ≡ 0 → left ≡ []))

@@ -1,4 +1,4 @@
--- What a position tells of a mark and of its votes (NIST SP 1500-103, enumerations IndicationStatus
+-- What a position says of a mark and of its votes (NIST SP 1500-103, enumerations IndicationStatus
 -- and AllocationStatus).
 use Rattle.std.specs.Prelude.{ℕ, List, codes}
 use Rattle.cdf_types.specs.declared.mark.Indication.{Indication}

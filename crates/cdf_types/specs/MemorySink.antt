@@ -9,8 +9,8 @@ pub record SinkState : Type 0 where
   pub fails_in : ℕ
   pub has_failed : Bool
 
--- A call took n of the bytes: as many as there are and one call allows, from the front. Such a call
--- is counted.
+-- A call took n of the bytes, from the first on: as many as there are and one call allows. Such a
+-- call is counted.
 pub record TakesBytes (old new : SinkState) (bytes : List ℕ) (n : ℕ) : Type 0 where
   pub count : n ≡ min (length bytes) old.per_call
   pub sink : new ≡ record old { taken = old.taken ++ take n bytes; fails_in = old.fails_in - 1 }

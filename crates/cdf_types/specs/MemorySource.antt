@@ -1,5 +1,6 @@
 -- A source over bytes, and what a call makes of it. (This project's own.)
-use Rattle.std.specs.Prelude.{◌≡◌, ℕ, ◌-◌, List, [], ◌∷◌, ◌++◌, length, take, drop, min, ◌==◌, not, Bool, true, false}
+use Rattle.std.specs.Prelude.{◌≡◌, ℕ, ◌-◌, List, [], ◌∷◌, ◌++◌, length, take, drop, min, ◌==◌, not}
+use Rattle.std.specs.Prelude.{Bool, true, false}
 
 -- The bytes that are left, the most that a call gives, which of the calls to come fails (1: the
 -- next, 0: none), and whether one has failed.
@@ -13,7 +14,7 @@ pub record SourceState : Type 0 where
 abbrev pub can_fail : SourceState → Bool
 can_fail s = not (s.fails_in == 0)
 
--- as an example, a source of three bytes that was told which call fails
+-- as an example, a source of three bytes that fails at this call
 abbrev pub told_call : ℕ → SourceState
 told_call n = record { rest = 7 ∷ 8 ∷ 9 ∷ []; per_call = 2; fails_in = n; has_failed = false }
 

@@ -1,8 +1,12 @@
 -- The number of each rule of form. (This project's own.)
 use Rattle.std.specs.Prelude.{ℕ}
 use Rattle.cdf_types.specs.declared.rule.Rule.{Rule}
-use Rattle.cdf_types.specs.declared.rule.Rule.TheVariants.{NotObject, Missing, WrongKind, NotListed, WrongClass, EmptyText, OutOfRange, TooFew, TooMany, Fractional, NotMoment, RepeatedId, RepeatedContest, NotWhole}
+use Rattle.cdf_types.specs.declared.rule.Rule.TheVariants.{NotObject, Missing, WrongKind, NotListed}
+use Rattle.cdf_types.specs.declared.rule.Rule.TheVariants.{WrongClass, EmptyText, OutOfRange}
+use Rattle.cdf_types.specs.declared.rule.Rule.TheVariants.{TooFew, TooMany, Fractional, NotMoment}
+use Rattle.cdf_types.specs.declared.rule.Rule.TheVariants.{RepeatedId, RepeatedContest, NotWhole}
 
+-- the number of a rule, 1 to 14, as docs/FAULTS.md lists them
 abbrev pub number_of : Rule → ℕ
 number_of NotObject = 1
 number_of Missing = 2

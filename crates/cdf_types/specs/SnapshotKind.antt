@@ -1,7 +1,8 @@
 -- The kinds of a snapshot (NIST SP 1500-103, enumeration CVRType).
 use Rattle.std.specs.Prelude.{ℕ, List, codes}
 use Rattle.cdf_types.specs.declared.snapshot_kind.SnapshotKind.{SnapshotKind}
-use Rattle.cdf_types.specs.declared.snapshot_kind.SnapshotKind.TheVariants.{Original, Interpreted, Modified}
+use Rattle.cdf_types.specs.declared.snapshot_kind.SnapshotKind.TheVariants.{Original, Interpreted}
+use Rattle.cdf_types.specs.declared.snapshot_kind.SnapshotKind.TheVariants.{Modified}
 
 -- the text of each CVRType
 abbrev pub snapshot_kind_text : SnapshotKind → List ℕ
@@ -9,7 +10,7 @@ snapshot_kind_text Original = codes "original"
 snapshot_kind_text Interpreted = codes "interpreted"
 snapshot_kind_text Modified = codes "modified"
 
--- its place in the order of choosing, which is this project's own
+-- the rank of a kind in the order of choosing, which is this project's own: 0, 1 or 2
 abbrev pub snapshot_kind_rank : SnapshotKind → ℕ
 snapshot_kind_rank Original = 0
 snapshot_kind_rank Interpreted = 1

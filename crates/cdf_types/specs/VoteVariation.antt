@@ -1,7 +1,12 @@
 -- How the votes of a contest are counted (NIST SP 1500-103, enumeration VoteVariation).
 use Rattle.std.specs.Prelude.{ℕ, List, codes}
 use Rattle.cdf_types.specs.declared.vote_variation.VoteVariation.{VoteVariation}
-use Rattle.cdf_types.specs.declared.vote_variation.VoteVariation.TheVariants.{Approval, Borda, Cumulative, Majority, NOfM, Other, Plurality, Proportional, Range, Rcv, SuperMajority}
+use Rattle.cdf_types.specs.declared.vote_variation.VoteVariation.TheVariants.{Approval, Borda}
+use Rattle.cdf_types.specs.declared.vote_variation.VoteVariation.TheVariants.{Cumulative, Majority}
+use Rattle.cdf_types.specs.declared.vote_variation.VoteVariation.TheVariants.{NOfM, Other}
+use Rattle.cdf_types.specs.declared.vote_variation.VoteVariation.TheVariants.{Plurality}
+use Rattle.cdf_types.specs.declared.vote_variation.VoteVariation.TheVariants.{Proportional, Range}
+use Rattle.cdf_types.specs.declared.vote_variation.VoteVariation.TheVariants.{Rcv, SuperMajority}
 
 -- the text of each VoteVariation
 abbrev pub vote_variation_text : VoteVariation → List ℕ

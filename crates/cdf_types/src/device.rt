@@ -55,7 +55,7 @@ pub trait Sink {
     fn failed(&self) -> bool
         ensures { result ≡ (taken self.now).failed };
 
-    /// Whether somebody watches the run that writes here, and is shown more than it takes.
+    /// Whether somebody watches the run that writes here, and is shown more than what is written.
     fn is_watched(&self) -> bool {
         false
     }

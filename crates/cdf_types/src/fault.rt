@@ -6,7 +6,7 @@ use crate::rule::Rule;
 use std::alloc::{AllocError, AllocFailed};
 use thiserror::Error;
 
-/// Want of memory: a growth was refused.
+/// Out of memory: a growth was refused.
 #[derive(Clone, Copy, Debug, PartialEq, Eq, Error)]
 #[error("out of memory")]
 pub struct Memory;
@@ -48,7 +48,7 @@ pub enum ReadFault {
     /// The object at the path isn't the definition's.
     #[error("not the definition's object at `{path}`")]
     Disagrees { path: Body },
-    /// Want of memory; it stands in place of any other answer.
+    /// Out of memory; it stands in place of any other answer.
     #[error("out of memory")]
     Memory,
 }

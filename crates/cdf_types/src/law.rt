@@ -37,8 +37,8 @@ pub fn moments_are_ordered_by_time()
     ensures { (a b : ℤ) → ⟦<Moment as Ord>⟧.cmp a b ≡ int_cmp a b }
 {}
 
-/// Worked examples of sources in memory: one that was told no call can't fail, and one that was
-/// told its next call, or its fourth, can.
+/// Worked examples of sources in memory: one that fails at no call can't fail, and one that fails
+/// at its next call, or at its fourth, can.
 pub fn sources_fail_as_told()
     ensures none { can_fail (told_call 0) ≡ false }
     ensures next { can_fail (told_call 1) ≡ true }

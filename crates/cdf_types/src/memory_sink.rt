@@ -7,7 +7,7 @@ use crate::device::{DeviceFault, Sink};
 use std::alloc::Global;
 use std::marker::Model;
 
-/// A sink that keeps its bytes and tells them. It fails at one call, chosen beforehand.
+/// A sink that keeps its bytes and shows them. It fails at one call, chosen beforehand.
 #[derive(Drop)]
 pub struct MemorySink {
     bytes: Vec<u8>,
@@ -64,7 +64,7 @@ impl Sink for MemorySink {
     ghost taken = { λ s. record { bytes = Some s.taken; failed = s.has_failed } };
 
     /// Takes as many bytes as there are and one call allows, except at the call that `new` was
-    /// told, which fails. Grows by them.
+    /// given, which fails. Grows by them.
     ///
     /// # Errors
     /// `DeviceFault` at that call, and where the growth is refused. The sink has then failed, and

@@ -5,7 +5,7 @@ ghost use Rattle.cdf_types.specs.MemorySource.{can_fail, GivesBytes, ReadFails};
 use crate::device::{DeviceFault, Source};
 use std::marker::Model;
 
-/// A source over bytes that tells them. It fails at one call, chosen beforehand.
+/// A source over bytes that shows them. It fails at one call, chosen beforehand.
 #[derive(Drop)]
 pub struct MemorySource<'a> {
     rest: &'a [u8],
@@ -59,7 +59,7 @@ impl Source for MemorySource<'_> {
     } };
 
     /// Gives as many bytes as the buffer, one call and the rest allow, except at the call that
-    /// `new` was told, which fails. Takes no memory.
+    /// `new` was given, which fails. Takes no memory.
     ///
     /// # Errors
     /// `DeviceFault` exactly at that call. The source has then failed, and nothing else changed.

@@ -10,7 +10,7 @@ pub enum ReportKind {
     Aggregated,
     /// Of the device that made the records.
     OriginatingDeviceExport,
-    /// Another, told in `OtherReportType`.
+    /// Another, named in `OtherReportType`.
     Other,
     /// Of a round of ranked-choice counting.
     RcvRound,

@@ -4,7 +4,7 @@ ghost use Rattle.cdf_types.specs.Rule.{number_of};
 /// A rule of form that a place in a file breaks (this project's own numbering).
 #[derive(Clone, Copy, Debug, PartialEq, Eq)]
 pub enum Rule {
-    /// An object was wanted.
+    /// The value has to be an object, and isn't.
     NotObject,
     /// A required member is absent.
     Missing,

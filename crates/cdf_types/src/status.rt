@@ -7,7 +7,7 @@ ghost use Rattle.cdf_types.specs.Status.{selection_status_text, position_status_
 pub enum CvrStatus {
     /// Someone has to look at it.
     NeedsAdjudication,
-    /// Another, told in `OtherStatus`.
+    /// Another, named in `OtherStatus`.
     Other,
 }
 
@@ -42,7 +42,7 @@ pub enum ContestStatus {
     InvalidatedRules,
     /// No selection is marked.
     NotIndicated,
-    /// Another, told in `OtherStatus`.
+    /// Another, named in `OtherStatus`.
     Other,
     /// More selections are marked than may be.
     Overvoted,
@@ -90,7 +90,7 @@ pub enum SelectionStatus {
     InvalidatedRules,
     /// Someone has to look at it.
     NeedsAdjudication,
-    /// Another, told in `OtherStatus`.
+    /// Another, named in `OtherStatus`.
     Other,
 }
 
@@ -131,7 +131,7 @@ pub enum PositionStatus {
     GeneratedRules,
     /// Rules of the contest made it invalid.
     InvalidatedRules,
-    /// Another, told in `OtherStatus`.
+    /// Another, named in `OtherStatus`.
     Other,
 }
 

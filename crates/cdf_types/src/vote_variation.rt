@@ -4,7 +4,7 @@ ghost use Rattle.cdf_types.specs.VoteVariation.{vote_variation_text};
 /// How the votes of a contest are counted (NIST SP 1500-103, enumeration VoteVariation).
 #[derive(Clone, Copy, Debug, PartialEq, Eq)]
 pub enum VoteVariation {
-    /// Approve as many as wanted.
+    /// Any number of selections may be approved.
     Approval,
     /// Points by rank (Borda).
     Borda,
@@ -14,7 +14,7 @@ pub enum VoteVariation {
     Majority,
     /// N of M selections.
     NOfM,
-    /// Another, told in `OtherVoteVariation`.
+    /// Another, named in `OtherVoteVariation`.
     Other,
     /// Most of the votes.
     Plurality,

@@ -40,7 +40,7 @@ pub fn words_line(status: &Status) -> &'static str
     }
 }
 
-/// The words behind the program's name.
+/// The words after the program's name.
 pub fn behind_the_name(words: &[String]) -> &[String]
     ensures { result.now ≡ drop 1 words.now }
 {
@@ -50,7 +50,7 @@ pub fn behind_the_name(words: &[String]) -> &[String]
     }
 }
 
-/// Whether the line about files is shown, by how many stand behind the first.
+/// Whether the line about files is shown, by how many come after the first.
 pub fn shows(is_terminal: bool, files: usize) -> bool
     ensures quiet { is_terminal ≡ false → result ≡ false }
     ensures several { result ≡ true → 1 < files }

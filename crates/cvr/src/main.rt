@@ -20,7 +20,7 @@ use std::rt::{Env, Files, Stderr, Stdout};
 use std::{env, fs};
 use watched::{Log, Watched};
 
-// The files of the system, of which nothing is said.
+// The files of the system. Contracts leave open what they hold.
 #[derive(Drop)]
 struct System<'a, R> {
     rt: &'a R,
@@ -71,7 +71,7 @@ fn devices<'a>(
     (OverWrite::new(out), Log::new(rt.stderr(), progress, notes))
 }
 
-// The status of a run over the words behind the program's name.
+// The status of a run over the words after the program's name.
 fn work_on_words(rt: &HostRuntime, words: &[String]) -> Status {
     let is_terminal = rt.stderr().is_terminal();
     let progress = Progress::new(rt, is_terminal);
@@ -88,7 +88,7 @@ fn work_on_words(rt: &HostRuntime, words: &[String]) -> Status {
     status
 }
 
-// The status of a run without words, which standard error says.
+// Answers the status of a run without words, and prints its line to standard error.
 fn end_without_words<R: Eprint>(rt: &R, status: Status) -> Status
     ensures { result ≡ status }
 {

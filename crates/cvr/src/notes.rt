@@ -10,7 +10,7 @@ struct File {
     seen: Seen,
 }
 
-// What is said of a run at its end, where standard error is a terminal. Elsewhere nothing is kept.
+// What is printed at the end of a run, where standard error is a terminal; else nothing is kept.
 #[derive(Drop)]
 pub struct Notes<'a, R> {
     rt: &'a R,
@@ -32,7 +32,7 @@ pub struct Notes<'a, R> {
 }
 
 impl<'a, R: Eprint + AllocGlobal> Notes<'a, R> {
-    // Of a run that has read nothing.
+    // The notes of a run that has read nothing.
     pub fn new(rt: &'a R, is_terminal: bool, before: usize) -> Notes<'a, R> {
         Notes {
             rt,
@@ -52,7 +52,7 @@ impl<'a, R: Eprint + AllocGlobal> Notes<'a, R> {
         self.is_terminal
     }
 
-    // Where the bytes of a file are kept that is opened, if they are.
+    // Where the path and the bytes of an opened file are kept, if they are.
     pub fn open(&self, path: &str) -> Option<(String, Vec<u8>)> {
         if !self.is_terminal {
             return None;
@@ -112,7 +112,7 @@ impl<'a, R: Eprint + AllocGlobal> Notes<'a, R> {
         self.several.set(names);
     }
 
-    // Prints the notes of a run that has ended so. What the terminal answers is left.
+    // Prints the notes of a run that has ended so. What the terminal answers is ignored.
     pub fn print(&self, status: &Status) {
         if !self.is_terminal {
             return;

@@ -27,7 +27,7 @@ impl<'a, R: Eprint> Progress<'a, R> {
     }
 
     // Counts a file, and shows how many there are beside the first, which is the definition or a
-    // list of files. One alone is not shown. What the terminal answers is left.
+    // list of files. One alone is not shown. What the terminal answers is ignored.
     pub fn count(&self) {
         let files = self.closed.get();
         self.closed.set(files.saturating_add(1));
@@ -37,8 +37,8 @@ impl<'a, R: Eprint> Progress<'a, R> {
         }
     }
 
-    // Takes the line away, if it stands, by as many blanks as it may be long. What the terminal
-    // answers is left.
+    // Clears the line, if it stands, with as many blanks as it may be long. What the terminal
+    // answers is ignored.
     pub fn clear(&self) {
         if self.is_shown.replace(false) {
             let _ = eprint!(self.rt; "\r{:31}\r", "");
@@ -46,7 +46,7 @@ impl<'a, R: Eprint> Progress<'a, R> {
     }
 }
 
-// An output before whose bytes the line is taken away.
+// An output that clears the line before it takes bytes.
 #[derive(Drop)]
 pub struct Cleared<'a, W, R> {
     output: W,

@@ -5,7 +5,7 @@ use std::alloc::Global;
 #[derive(Drop, Deserialize)]
 struct Passed {}
 
-// A report, as far as a note speaks of it.
+// What notes need of a report.
 #[derive(Drop, Deserialize)]
 struct Report {
     #[serde(rename = "CVR", default)]
@@ -30,7 +30,7 @@ pub enum Seen {
     Other,
 }
 
-// What a file seems to be that is no JSON.
+// What a file that is no JSON seems to be.
 fn seeming(bytes: &[u8], is_cut: bool) -> &'static str {
     match bytes.trim_ascii_start() {
         [] => "; it is empty",

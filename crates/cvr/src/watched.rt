@@ -76,7 +76,7 @@ impl<F: Drop, R: Eprint + AllocGlobal> Drop for Watched<'_, F, R> {
     }
 }
 
-// The log, before whose bytes the line is taken away, and to which the notes listen.
+// The log: the line is cleared before it takes bytes, and the notes hear them.
 #[derive(Drop)]
 pub struct Log<'a, W, R> {
     inner: OverWrite<W>,

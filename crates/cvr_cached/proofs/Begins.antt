@@ -1,5 +1,6 @@
 -- What an office keeps that holds devices alone.
-use Rattle.std.proofs.Common.{◌≡◌, ◌<◌, ◌^◌, ℕ, List, [], length, map, Contains, inl, inr, None, sym, ap, ◌∙◌, subst, append-nil}
+use Rattle.std.proofs.Common.{◌≡◌, ◌<◌, ◌^◌, ℕ, List, [], length, map, Contains, inl, inr, None}
+use Rattle.std.proofs.Common.{sym, ap, ◌∙◌, subst, append-nil}
 use Rattle.std.specs.FinMap.{empty, same_map, get-empty}
 use Rattle.std.specs.Map.{keys_of}
 use Rattle.cdf_parts.specs.Places.{Contest}
@@ -15,17 +16,20 @@ use Rattle.cvr_office.specs.Place.{fact_of}
 use Rattle.cvr_office.specs.Plain.{set_of, IsPlain, IsPut}
 use Rattle.cvr_office.specs.Tallied.{rows, row_over}
 use Rattle.cvr_office.proofs.Laws.{rows_law}
-use Rattle.cvr_cached.specs.Contents.{Entries, listed}
+use Rattle.cvr_cached.specs.Contents.{Entries, fact_list}
 use Rattle.cvr_cached.specs.Held.{AreOwn, IsHeld, IsCached}
 use Rattle.cvr_cached.proofs.Listed.{sorted_nil}
 use Rattle.cvr_cached.proofs.Answering.{records_are}
 
-module _ (frame : Frame) (none more d : List AnyFact) (empty_is : none ≡ []) (are : map fact_of more ≡ map (λ (e : IdText). Device e.0 e.1) frame.devices) (put : IsPut none more d) (es : Entries) (no_entries : es ≡ []) where
+module _ (frame : Frame) (none more d : List AnyFact) (empty_is : none ≡ [])
+    (are : map fact_of more ≡ map (λ (e : IdText). Device e.0 e.1) frame.devices)
+    (put : IsPut none more d) (es : Entries) (no_entries : es ≡ []) where
   own_devices : (f : AnyFact) → Contains d f → record_of (fact_of f) ≡ None
   own_devices f at = elim (put.from f at) [
     | inl was ↦ absurd (none_listed f (subst (λ xs. Contains xs f) empty_is was))
     | inr came ↦
-        let e = from_map (λ (e : IdText). Device e.0 e.1) (fact_of f) frame.devices (subst (λ fs. Contains fs (fact_of f)) are (in_map fact_of f more came)) in
+        let e = from_map (λ (e : IdText). Device e.0 e.1) (fact_of f) frame.devices
+        (subst (λ fs. Contains fs (fact_of f)) are (in_map fact_of f more came)) in
         ap record_of (sym e.2)
   ]
 
@@ -39,21 +43,29 @@ module _ (frame : Frame) (none more d : List AnyFact) (empty_is : none ≡ []) (
     full = λ k facts is. Prim.cc is;
   }
 
-  pub alone : listed d es ≡ d
-  alone = ap (listed d) no_entries ∙ append-nil d
+  pub alone : fact_list d es ≡ d
+  alone = ap (fact_list d) no_entries ∙ append-nil d
 
-  no_rows : (contests : List Contest) (m : Rows) → m ≡ empty → m ≡ rows contests (set_of (listed d []))
-  no_rows contests m is = same_map keys_total keys_exact m (rows contests (set_of (listed d []))) (λ q.
+  no_rows : (contests : List Contest) (m : Rows) → m ≡ empty
+      → m ≡ rows contests (set_of (fact_list d []))
+  no_rows contests m is =
+      same_map keys_total keys_exact m (rows contests (set_of (fact_list d []))) (λ q.
       ap (λ m. Rattle.std.specs.FinMap.get m q) is ∙ (get-empty key_cmp q
-      ∙ sym (rows_law contests (set_of (listed d [])) q ∙ ap (row_over contests (set_of (listed d [])) q) (records_are d [] own_nil))))
+      ∙ sym (rows_law contests (set_of (fact_list d [])) q
+      ∙ ap (row_over contests (set_of (fact_list d [])) q) (records_are d [] own_nil))))
 
-  pub held_start : (t : TotalsValue) (count : ℕ) → t.rows ≡ empty → count ≡ length d → count < 2 ^ 64 → IsHeld (record { devices = d; records = es; totals = t }) count
-  held_start t count rows_are is fits = subst (λ (es : Entries). IsHeld (record { devices = d; records = es; totals = t }) count) (sym no_entries) record {
-    own = own_nil;
-    rows_are = no_rows t.contests t.rows rows_are;
-    counted = is ∙ ap length (sym (append-nil d));
-    fits = fits;
-  }
+  pub held_start : (t : TotalsValue) (count : ℕ) → t.rows ≡ empty → count ≡ length d
+      → count < 2 ^ 64 → IsHeld (record { devices = d; records = es; totals = t }) count
+  held_start t count rows_are is fits = subst
+      (λ (es : Entries). IsHeld (record { devices = d; records = es; totals = t }) count)
+      (sym no_entries) record {
+        own = own_nil;
+        rows_are = no_rows t.contests t.rows rows_are;
+        counted = is ∙ ap length (sym (append-nil d));
+        fits = fits;
+      }
 
-  pub cached_start : IsPlain frame d → (t : TotalsValue) → t.contests ≡ frame.contests → IsCached frame (record { devices = d; records = es; totals = t })
-  cached_start plain t same = record { plain = subst (IsPlain frame) (sym alone) plain; contests_are = same }
+  pub cached_start : IsPlain frame d → (t : TotalsValue) → t.contests ≡ frame.contests
+      → IsCached frame (record { devices = d; records = es; totals = t })
+  cached_start plain t same =
+      record { plain = subst (IsPlain frame) (sym alone) plain; contests_are = same }

@@ -1,4 +1,5 @@
--- Tests of keys and of names: a tie tells that two are the same, and where neither of two holds each doesn't.
+-- Tests of keys and of names: two that tie are the same, and where neither of two holds
+-- each doesn't.
 use Rattle.std.proofs.Common.{◌≡◌, Bool, true, false, ◌||◌, refl, sym}
 use Rattle.std.specs.Ordering.{is_eq}
 use Rattle.std.proofs.lemmas.Bool.{false≢true}

@@ -19,16 +19,19 @@ use Rattle.cvr_office.specs.Place.{fact_of, any_cmp}
 use Rattle.cvr_office.specs.Plain.{set_of, IsPlain, IsSpelled, Content, coded_content}
 use Rattle.cvr_office.specs.Adding.{AreSums}
 use Rattle.cvr_office.specs.Tallied.{rows}
-use Rattle.cvr_cached.specs.Contents.{Entries, content_at, listed}
+use Rattle.cvr_cached.specs.Contents.{Entries, content_at, fact_list}
 
 -- devices are of no record; each content is of its record, in order, and not empty
 pub record AreOwn (devices : List AnyFact) (es : Entries) : Type 0 where
   pub names_rise : IsStrictlySortedBy name_cmp (keys_of es)
   pub devices_rise : IsStrictlySortedBy any_cmp devices
   pub devices_are : (f : AnyFact) → Contains devices f → record_of (fact_of f) ≡ None
-  pub contents_rise : (k : RecordName) (facts : List AnyFact) → content_at es k ≡ Some facts → IsStrictlySortedBy any_cmp facts
-  pub contents_are : (k : RecordName) (facts : List AnyFact) → content_at es k ≡ Some facts → (f : AnyFact) → Contains facts f → record_of (fact_of f) ≡ Some k
-  pub full : (k : RecordName) (facts : List AnyFact) → content_at es k ≡ Some facts → 0 < length facts
+  pub contents_rise : (k : RecordName) (facts : List AnyFact) → content_at es k ≡ Some facts
+      → IsStrictlySortedBy any_cmp facts
+  pub contents_are : (k : RecordName) (facts : List AnyFact) → content_at es k ≡ Some facts
+      → (f : AnyFact) → Contains facts f → record_of (fact_of f) ≡ Some k
+  pub full : (k : RecordName) (facts : List AnyFact) → content_at es k ≡ Some facts
+      → 0 < length facts
 
 -- what is kept: the facts of devices, the contents of records by name, and the running totals
 pub record Stored : Type 0 where
@@ -38,9 +41,9 @@ pub record Stored : Type 0 where
 
 -- all its facts: the devices, then record by record
 abbrev pub facts_of : Stored → List AnyFact
-facts_of s = listed s.devices s.records
+facts_of s = fact_list s.devices s.records
 
--- the running totals have exactly the rows from the facts, and the facts are counted, fewer than 2^64
+-- the running totals are exactly the rows from the facts; the facts are counted, fewer than 2^64
 pub record IsHeld (s : Stored) (count : ℕ) : Type 0 where
   pub own : AreOwn s.devices s.records
   pub rows_are : s.totals.rows ≡ rows s.totals.contests (set_of (facts_of s))
@@ -74,4 +77,5 @@ pub record Holding : Type 0 where
   pub moves : ℕ
 
 abbrev pub coded_holding : Coded Holding
-coded_holding = code_by (Content × ℕ) (coded× coded_content coded_ℕ) (λ h. (h.content, h.moves)) (λ p. record { content = p.0; moves = p.1 }) (λ _. refl)
+coded_holding = code_by (Content × ℕ) (coded× coded_content coded_ℕ) (λ h. (h.content, h.moves))
+    (λ p. record { content = p.0; moves = p.1 }) (λ _. refl)

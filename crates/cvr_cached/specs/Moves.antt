@@ -17,19 +17,22 @@ abbrev pub contests_at : List Contest → Facts → RecordName → ℕ
 contests_at contests s r = length (option_map_or (sums_of_body contests) (current s r) [])
 
 -- the records that gain a fact from s to t: each has one in t that isn't in s
-abbrev pub gaining : Facts → Facts → List RecordName
-gaining s t = records (difference t s)
+abbrev pub gaining_records : Facts → Facts → List RecordName
+gaining_records s t = records (difference t s)
 
--- each of these is taken out once for each contest of its current snapshot in s, and added once for each of that in t
-abbrev pub moved : List Contest → Facts → Facts → ℕ
-moved contests s t = sum_by (λ r. contests_at contests s r + contests_at contests t r) (gaining s t)
+-- how often rows are changed where an office that held s comes to hold t: for each record that
+-- gains a fact, once for each contest of its current snapshot in s, and once for each of that in t
+abbrev pub move_count : List Contest → Facts → Facts → ℕ
+move_count contests s t =
+    sum_by (λ r. contests_at contests s r + contests_at contests t r) (gaining_records s t)
 
 -- ---- laws
 
--- of what an office keeps, these contests are as many as the rows that the record stands in
+-- in what an office holds, these contests are as many as the rows that the record stands in
 abbrev pub RowsOfRecordLaw : Type 0
-RowsOfRecordLaw = (frame : Frame) (s : Facts) (r : RecordName) → Keeps frame s → contests_at frame.contests s r ≡ length (keys_at frame.contests s r)
+RowsOfRecordLaw = (frame : Frame) (s : Facts) (r : RecordName) → Keeps frame s
+    → contests_at frame.contests s r ≡ length (keys_at frame.contests s r)
 
 -- where no fact is new, no row is changed
 abbrev pub NothingMovesLaw : Type 0
-NothingMovesLaw = (contests : List Contest) (s : Facts) → moved contests s s ≡ 0
+NothingMovesLaw = (contests : List Contest) (s : Facts) → move_count contests s s ≡ 0

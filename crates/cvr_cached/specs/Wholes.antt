@@ -19,6 +19,9 @@ whole_of held join nothing (p ∷ ps) = join (held p.1) (whole_of held join noth
 -- where the part of each name is the join of two others', the whole is the join of theirs
 abbrev pub WholesLaw : {P M : Type 0} → (P → M) → (M → M → M) → M → Type 0
 WholesLaw {P} held join nothing = (one other both : List (RecordName × P))
-    → IsStrictlySortedBy name_cmp (keys_of one) → IsStrictlySortedBy name_cmp (keys_of other) → IsStrictlySortedBy name_cmp (keys_of both)
-    → ((k : RecordName) → part held nothing both k ≡ join (part held nothing one k) (part held nothing other k))
-    → whole_of held join nothing both ≡ join (whole_of held join nothing one) (whole_of held join nothing other)
+    → IsStrictlySortedBy name_cmp (keys_of one) → IsStrictlySortedBy name_cmp (keys_of other)
+    → IsStrictlySortedBy name_cmp (keys_of both)
+    → ((k : RecordName) → part held nothing both k
+    ≡ join (part held nothing one k) (part held nothing other k))
+    → whole_of held join nothing both ≡ join (whole_of held join nothing one)
+    (whole_of held join nothing other)

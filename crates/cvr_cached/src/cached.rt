@@ -69,7 +69,7 @@ impl Office for CachedOffice {
     ghost use Rattle.cvr_facts.specs.Reports.{facts};
     ghost use Rattle.cvr_office.specs.Readers.{growth};
     ghost use Rattle.cvr_office.specs.declared.fault.JoinFault.TheVariants as join_fault;
-    ghost use Rattle.cvr_cached.specs.Moves.{moved};
+    ghost use Rattle.cvr_cached.specs.Moves.{move_count};
 
     ghost held = { λ o. o.content.facts };
 
@@ -94,6 +94,10 @@ impl Office for CachedOffice {
         &self.definition
     }
 
+    /// As `Office` has it. Moves count how often a row is changed: for each record that gains a
+    /// fact, once for each contest of the snapshot that was current, and once for each of the one
+    /// that is current then. So n new facts take at most 2 times n times the number of contests,
+    /// and a refused call takes none.
     fn import(&mut self, bytes: &[u8]) -> Result<Receipt, ReadFault>
         ensures content { OnOk result
             (self.new.content.facts ≡ union self.old.content.facts (facts bytes.now)) }
@@ -106,7 +110,8 @@ impl Office for CachedOffice {
         ensures unchanged { OnErr result (self.new.content.facts ≡ self.old.content.facts) }
         ensures definition { self.new.content.frame ≡ self.old.content.frame }
         ensures moves { OnOk result (self.new.moves ≡ self.old.moves
-            + moved self.old.content.frame.contests self.old.content.facts self.new.content.facts) }
+            + move_count self.old.content.frame.contests self.old.content.facts
+            self.new.content.facts) }
         ensures moves_rise { self.old.moves ≤ self.new.moves }
         ensures moves_few { IfOk result
             (λ r. self.new.moves ≤ self.old.moves
@@ -123,6 +128,7 @@ impl Office for CachedOffice {
         Ok(Receipt { cvrs, new_facts })
     }
 
+    /// As `Office` has it, and moves as those of `import`.
     fn join(&mut self, other: &Self) -> Result<usize, JoinFault>
         ensures content { OnOk result
             (self.new.content.facts ≡ union self.old.content.facts other.now.content.facts) }
@@ -136,7 +142,8 @@ impl Office for CachedOffice {
         ensures unchanged { OnErr result (self.new.content.facts ≡ self.old.content.facts) }
         ensures definition { self.new.content.frame ≡ self.old.content.frame }
         ensures moves { OnOk result (self.new.moves ≡ self.old.moves
-            + moved self.old.content.frame.contests self.old.content.facts self.new.content.facts) }
+            + move_count self.old.content.frame.contests self.old.content.facts
+            self.new.content.facts) }
         ensures moves_rise { self.old.moves ≤ self.new.moves }
         ensures moves_few { IfOk result
             (λ n. self.new.moves ≤ self.old.moves

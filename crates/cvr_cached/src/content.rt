@@ -103,7 +103,7 @@ impl RecordContent {
         snapshot_at(&self.facts, self.current)
     }
 
-    // Makes its rows, of zeros where there are none. After an Err some may be open.
+    // Makes those of its rows that aren't there, of zeros. After an Err some may be open.
     pub(crate) fn open_rows(&mut self, totals: &mut Totals) -> Result<(), Memory>
         requires { AreFit totals.old.contests (pairs_of self.old) }
         ensures same { self.new ≡ self.old }
@@ -188,8 +188,8 @@ impl RecordContent {
     }
 }
 
-// The set that a content holds is that of its facts. `put` tells besides that each of them, with
-// its fields, comes from one of the two.
+// The set that a content holds is that of its facts. `put` says besides that each of them, with its
+// fields, comes from one of the two.
 impl Join for RecordContent {
     ghost Set = { Facts };
 

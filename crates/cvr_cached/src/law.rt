@@ -6,9 +6,8 @@ ghost use Rattle.cvr_cached.specs.Wholes.{WholesLaw};
 use cvr_facts::Join;
 use cvr_office::Office;
 
-/// Parts stand under names of records. Where under each name stands the join of what two others
-/// have there, all parts together are the join of all of theirs. This follows from the laws of
-/// `Join` alone.
+/// Parts stand under names of records. Where the part of each name is the join of two others', all
+/// parts together are the join of all of theirs. This follows from the laws of `Join` alone.
 pub fn wholes_are_joined<J: Join>()
     ensures { WholesLaw J.held J.joined J.nothing }
 {}
@@ -20,7 +19,7 @@ pub fn kinds_hold_the_same<One: Office, Other: Office>()
     ensures { KindsLaw One.held One.defined Other.held Other.defined }
 {}
 
-/// The contests of a record's current snapshot, by which moves are told, are as many as the rows
+/// The contests of a record's current snapshot, by which moves are counted, are as many as the rows
 /// that the record stands in. Where no fact is new, no row is changed.
 pub fn moving()
     ensures rows { RowsOfRecordLaw }

@@ -31,8 +31,7 @@ pub(crate) struct Plan {
     pub(crate) new_facts: usize,
 }
 
-// What facts in order, all of records, change in the contents of these. The facts go there
-// record by record.
+// What facts of records, in order, change in these contents. The facts go there record by record.
 pub(crate) fn plan_of(
     alloc: Global,
     records: &BTreeMap<RecordName, RecordContent>,

@@ -36,7 +36,7 @@ pub(crate) fn current_place(facts: &[AnyFact]) -> Option<usize>
     greatest
 }
 
-// The place of the greatest snapshot from a place on, given that of those behind it.
+// The place of the greatest snapshot from a place on, given that of those after it.
 fn greater_place(facts: &[AnyFact], place: usize, behind: Option<usize>) -> Option<usize>
     requires within { place < length facts.now }
     requires behind { current_at facts.now behind ≡ current_in (drop (place + 1) facts.now) }

@@ -1,4 +1,4 @@
-// What is taken in, put in beside what stands: all of it, or none.
+// Puts what is taken in beside what stands: all of it, or none.
 ghost use Rattle.std.specs.Prelude.{◌≡◌, ◌+◌, OnOk, OnErr, IfOk, length};
 ghost use Rattle.std.specs.List.{sum_by};
 ghost use Rattle.std.specs.List.Sorted.{IsStrictlySortedBy};
@@ -11,7 +11,7 @@ ghost use Rattle.cvr_office.specs.Place.{any_cmp};
 ghost use Rattle.cvr_office.specs.Plain.{IsPut};
 ghost use Rattle.cvr_cached.specs.Contents.{facts_at};
 ghost use Rattle.cvr_cached.specs.Cells.{total, IsTableOf};
-ghost use Rattle.cvr_cached.specs.Plans.{laid, all_moves, AreTallied, IsRoomy};
+ghost use Rattle.cvr_cached.specs.Plans.{content_with, all_moves, AreTallied, IsRoomy};
 
 use crate::commit::commit_all;
 use crate::content::RecordContent;
@@ -26,8 +26,8 @@ use cvr_tally::Totals;
 use std::alloc::Global;
 use std::collections::BTreeMap;
 
-// A copy of the devices with others put in, where these are not all among them, and by how many it
-// is longer.
+// A copy of the devices with others put in, unless these are all among them, and by how many it is
+// longer.
 pub(crate) fn devices_with(
     alloc: Global,
     devices: &[AnyFact],
@@ -67,7 +67,7 @@ pub(crate) fn put_in(
     requires tallied { AreTallied records.old.entries totals.old.rows }
     requires room { IsRoomy totals.old.contests records.old.entries contents.items }
     ensures records { OnOk result ((q : RecordName)
-        → get name_cmp records.new q ≡ laid contents.items (get name_cmp records.old) q) }
+        → get name_cmp records.new q ≡ content_with contents.items (get name_cmp records.old) q) }
     ensures counted { OnOk result (sum_by length (values_of records.new.entries)
         + sum_by (λ c. length (facts_at (get name_cmp records.old c.0))) contents.items
         ≡ sum_by length (values_of records.old.entries) + sum_by (λ c. length c.1) contents.items) }

@@ -38,7 +38,7 @@ fn name_of(cause: &Cause) -> &'static str {
     }
 }
 
-// Tells the number of new facts, or the refusal.
+// Writes the number of new facts, or the refusal.
 fn tell_outcome(text: &mut String, outcome: &Outcome) -> Result<(), Memory> {
     let told = match outcome {
         Outcome::Accepted(count) => write!(text, "{count} "),
@@ -56,7 +56,7 @@ fn first_same<O: Office>(offices: &[O], office: &O) -> usize {
         .count()
 }
 
-// Tells what an office counts, and the first that is the same.
+// Writes what an office counts, and the first that is the same.
 fn tell_counts<O: Office>(text: &mut String, offices: &[O], office: &O) -> Result<(), Memory> {
     let (records, facts) = (office.record_count(), office.fact_count());
     let (bodies, same) = (office.greatest_count(), first_same(offices, office));
@@ -64,8 +64,7 @@ fn tell_counts<O: Office>(text: &mut String, offices: &[O], office: &O) -> Resul
     Ok(())
 }
 
-// Plays events. A function of its own, so that no other proof has to carry all that is said of
-// `play`.
+// Plays events. A function of its own, so that no other proof has to carry all that `play` ensures.
 fn played<O: Office>(
     alloc: Global,
     offices: &mut [O],
@@ -75,7 +74,7 @@ fn played<O: Office>(
     play(alloc, offices, files, events)
 }
 
-/// Plays the events of these words, and tells the outcomes and what the offices then count.
+/// Plays the events of these words, and writes the outcomes and what the offices then count.
 pub fn tell_events<O: Office>(
     alloc: Global,
     offices: &mut [O],
@@ -95,7 +94,7 @@ pub fn tell_events<O: Office>(
     Ok(())
 }
 
-/// Tells what offices answer, and which of them are the same as the first.
+/// Writes what offices answer, and which of them are the same as the first.
 pub fn tell_answers<O: Office>(
     alloc: Global,
     offices: &[O],

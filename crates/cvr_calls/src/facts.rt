@@ -21,7 +21,7 @@ fn facts_in(alloc: Global, definition: &Definition, bytes: &[u8]) -> Result<Fact
     Ok(facts_of(alloc, definition, &report)?)
 }
 
-// Tells a snapshot: its record, its id, its Type, and of each contest its place, overvotes,
+// Writes a snapshot: its record, its id, its Type, and of each contest its place, overvotes,
 // undervotes, write-ins, and the votes that are pending, unassigned and of each selection.
 fn tell_snapshot(text: &mut String, snapshot: &SnapshotFact) -> Result<(), Memory> {
     let key = &snapshot.key;
@@ -48,7 +48,7 @@ fn tell_snapshot(text: &mut String, snapshot: &SnapshotFact) -> Result<(), Memor
     Ok(())
 }
 
-// Tells the bodies of devices and headers, and each snapshot.
+// Writes the bodies of devices and headers, and each snapshot.
 fn tell_facts(text: &mut String, list: &FactList) -> Result<(), Memory> {
     for device in list.devices.as_slice() {
         writeln!(text, "{}", device.body)?;
@@ -62,7 +62,7 @@ fn tell_facts(text: &mut String, list: &FactList) -> Result<(), Memory> {
     Ok(())
 }
 
-// Tells the facts of a report, or why it is refused.
+// Writes the facts of a report, or why it is refused.
 fn tell_report(
     alloc: Global,
     text: &mut String,
@@ -77,7 +77,7 @@ fn tell_report(
     Ok(())
 }
 
-/// What is told of the facts of reports.
+/// What is written of the facts of reports.
 pub fn told_facts(alloc: Global, files: &Files) -> Result<String, ReadFault> {
     let definition = read_definition(alloc, files.definition.as_slice())?;
     let mut text = String::new(alloc);
@@ -87,7 +87,7 @@ pub fn told_facts(alloc: Global, files: &Files) -> Result<String, ReadFault> {
     Ok(text)
 }
 
-// Tells faults of a path.
+// Writes faults of a path.
 fn tell_faults_at(text: &mut String, alloc: Global, path: &str) -> Result<(), Memory> {
     let reference = ReadFault::Reference {
         path: Body::new(path.to_string(alloc)?),
@@ -100,7 +100,7 @@ fn tell_faults_at(text: &mut String, alloc: Global, path: &str) -> Result<(), Me
     Ok(())
 }
 
-/// How faults are printed that have another form.
+/// How faults of another form are printed.
 pub fn told_faults(alloc: Global) -> Result<String, ReadFault> {
     let mut text = String::new(alloc);
     tell_faults_at(&mut text, alloc, "/GpUnit/0")?;

@@ -6,7 +6,7 @@ use cvr_collect::{CachedOffice, Office, PlainOffice};
 use std::alloc::Global;
 use std::fs;
 
-// What histories are of, each a line of a file.
+// What histories are made of, each a line of a file.
 #[derive(Drop)]
 struct Pool {
     definitions: Vec<Vec<u8>>,
@@ -70,7 +70,7 @@ fn volumes_at<O: Office>(
 }
 
 // Plays a step, `0: 1=2 1>0` with volumes of the first office as files, or `1=2 1>0` with the
-// reports; and tells what became of it.
+// reports; and writes what became of it.
 fn tell_step<O: Office>(
     alloc: Global,
     pool: &Pool,
@@ -87,7 +87,7 @@ fn tell_step<O: Office>(
     }
 }
 
-// Plays steps, and tells what became of them, and what the offices then answer.
+// Plays steps, and writes what became of them, and what the offices then answer.
 fn tell_steps<O: Office>(
     alloc: Global,
     pool: &Pool,
@@ -102,7 +102,7 @@ fn tell_steps<O: Office>(
     Ok(())
 }
 
-// What is told of a history in offices of a kind.
+// What is written of a history in offices of a kind.
 fn told<O: Office + Drop>(alloc: Global, pool: &Pool, history: &str) -> Result<String, ReadFault> {
     let (places, steps) = history.split_once('\n').ok_or(ReadFault::NotJson)?;
     let mut offices: Vec<O> = offices_at(alloc, pool, places)?;
@@ -111,7 +111,7 @@ fn told<O: Office + Drop>(alloc: Global, pool: &Pool, history: &str) -> Result<S
     Ok(text)
 }
 
-// What offices tell of a history; what those that remember tell only where it is something else.
+// What is written of a history in plain offices; in those that remember only where it differs.
 fn told_by_both(alloc: Global, pool: &Pool, history: &str) -> Result<String, ReadFault> {
     let mut text = told::<PlainOffice>(alloc, pool, history)?;
     let cached = told::<CachedOffice>(alloc, pool, history)?;
@@ -122,8 +122,8 @@ fn told_by_both(alloc: Global, pool: &Pool, history: &str) -> Result<String, Rea
     Ok(text)
 }
 
-/// Plays histories, and prints what offices tell of each. In the file they have an empty line
-/// between them.
+/// Plays histories, and prints what is written of each. In the file an empty line stands between
+/// them.
 pub fn print_histories(rt: &HostRuntime) -> anyhow::Result<()> {
     let pool = Pool::read(rt)?;
     let text = fs::read_to_string(rt, "histories.txt")?;

@@ -1,8 +1,8 @@
 //! Calls of the libraries that can answer out of memory and that no command of `cvr` makes, made
 //! where tools/refuse refuses each allocation in turn. A script prints its name and reads a byte:
 //! `c` in a copy of the program, which makes the calls, reads again (`m` where memory was refused),
-//! prints what is wrong, and ends. At another byte, or none, it prints what the calls tell, and the
-//! next script follows. Behind them histories of offices are played.
+//! prints what is wrong, and ends. At another byte, or none, it prints what the calls answer, and
+//! the next script follows. After them histories of offices are played.
 #![tactic(auto)]
 
 mod events;

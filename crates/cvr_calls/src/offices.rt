@@ -17,12 +17,12 @@ pub fn new_office<O: Office>(alloc: Global, bytes: &[u8]) -> Result<O, ReadFault
 }
 
 // Has an office take in a file, and answers how many facts are new. A function of its own, so that
-// no other proof has to carry all that is said of `import`.
+// no other proof has to carry all that `import` ensures.
 fn import_once<O: Office>(office: &mut O, bytes: &[u8]) -> Result<usize, ReadFault> {
     Ok(office.import(bytes)?.new_facts)
 }
 
-// The same, and where memory is refused once more: the office is then as it was.
+// The same, once more where memory is refused: the office is then as it was.
 fn import<O: Office>(office: &mut O, bytes: &[u8]) -> Result<usize, ReadFault> {
     match import_once(office, bytes) {
         Err(ReadFault::Memory) => import_once(office, bytes),
@@ -39,7 +39,7 @@ fn join_once<O: Office>(office: &mut O, other: &O) -> Result<usize, ReadFault> {
     }
 }
 
-// The same, and where memory is refused once more.
+// The same, once more where memory is refused.
 fn join<O: Office>(office: &mut O, other: &O) -> Result<usize, ReadFault> {
     match join_once(office, other) {
         Err(ReadFault::Memory) => join_once(office, other),
@@ -47,7 +47,7 @@ fn join<O: Office>(office: &mut O, other: &O) -> Result<usize, ReadFault> {
     }
 }
 
-// Has an office take in reports, and tells how many facts of each are new.
+// Has an office take in reports, and writes how many facts of each are new.
 fn take<O: Office>(
     office: &mut O,
     reports: &[Vec<u8>],
@@ -60,7 +60,7 @@ fn take<O: Office>(
     Ok(())
 }
 
-/// Tells what an office answers: its counts of records, facts and most bodies of a name, current
+/// Writes what an office answers: its counts of records, facts and most bodies of a name, current
 /// snapshots, conflicts and the tally.
 pub fn tell<O: Office>(alloc: Global, office: &O, text: &mut String) -> Result<(), Memory> {
     let (records, facts) = (office.record_count(), office.fact_count());
@@ -79,7 +79,7 @@ pub fn office_of<O: Office + Drop>(alloc: Global, files: &Files) -> Result<O, Re
     Ok(office)
 }
 
-/// What an office tells that takes in the reports.
+/// What is written of an office that takes in the reports.
 pub fn told_imports<O: Office + Drop>(alloc: Global, files: &Files) -> Result<String, ReadFault> {
     let mut text = String::new(alloc);
     let mut office: O = new_office(alloc, files.definition.as_slice())?;
@@ -88,7 +88,7 @@ pub fn told_imports<O: Office + Drop>(alloc: Global, files: &Files) -> Result<St
     Ok(text)
 }
 
-/// What an office tells that took in the first report, and takes in what one of all reports holds.
+/// The same of one that took in the first report, and takes in what one of all reports holds.
 pub fn told_join<O: Office + Drop>(alloc: Global, files: &Files) -> Result<String, ReadFault> {
     let mut text = String::new(alloc);
     let other: O = office_of(alloc, files)?;

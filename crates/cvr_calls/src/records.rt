@@ -5,7 +5,7 @@ use cvr_collect::{Office, RecordFacts};
 use cvr_tally::{Row, RowKey, tally_text};
 use std::alloc::Global;
 
-// Tells the bodies of a record's headers, and each id with the number of its snapshots.
+// Writes the bodies of a record's headers, and each id with the number of its snapshots.
 fn tell_record(text: &mut String, record: &RecordFacts<'_>) -> Result<(), Memory> {
     for header in record.headers.as_slice() {
         writeln!(text, "{}", header.body)?;
@@ -16,7 +16,7 @@ fn tell_record(text: &mut String, record: &RecordFacts<'_>) -> Result<(), Memory
     Ok(())
 }
 
-// Tells all facts of the first record of an office.
+// Writes all facts of the first record of an office.
 fn tell_first<O: Office>(alloc: Global, office: &O, text: &mut String) -> Result<(), Memory> {
     if let Some(key) = office.next_record(None) {
         writeln!(text, "{} {}", key.device, key.unique)?;
@@ -27,7 +27,7 @@ fn tell_first<O: Office>(alloc: Global, office: &O, text: &mut String) -> Result
     Ok(())
 }
 
-/// What is told of all facts of a record that has several headers, ids and bodies under one id.
+/// What is written of all facts of a record with several headers, ids and bodies under one id.
 pub fn told_record<O: Office + Drop>(alloc: Global, files: &Files) -> Result<String, ReadFault> {
     let office: O = office_of(alloc, files)?;
     let mut text = String::new(alloc);
@@ -35,13 +35,13 @@ pub fn told_record<O: Office + Drop>(alloc: Global, files: &Files) -> Result<Str
     Ok(text)
 }
 
-// Tells the ballots of a row and its votes.
+// Writes the ballots of a row and its votes.
 fn tell_row(text: &mut String, row: &Row) -> Result<(), Memory> {
     writeln!(text, "{} {:?}", row.ballots, row.votes.as_slice())?;
     Ok(())
 }
 
-// Tells the row of the first contest in a unit, of no batch.
+// Writes the row of the first contest in a unit, of no batch.
 fn tell_row_in<O: Office>(
     alloc: Global,
     office: &O,
@@ -60,7 +60,7 @@ fn tell_row_in<O: Office>(
     Ok(())
 }
 
-/// What is told of rows, and of the totals.
+/// What is written of rows, and of the totals.
 pub fn told_rows<O: Office + Drop>(alloc: Global, files: &Files) -> Result<String, ReadFault> {
     let office: O = office_of(alloc, files)?;
     let mut text = String::new(alloc);

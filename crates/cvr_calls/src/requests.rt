@@ -36,7 +36,7 @@ impl Ran {
     }
 }
 
-// The text of bytes. Empty where they have none.
+// Bytes as text. Empty where they are none.
 fn text_in(bytes: &[u8]) -> &str {
     str::from_utf8(bytes).unwrap_or("")
 }
@@ -51,7 +51,7 @@ fn run_over(alloc: Global, request: &Request, files: &Files) -> Option<Ran> {
     Some(Ran { status, out, log })
 }
 
-// What a request prints and tells.
+// What a request prints and logs.
 fn told_of_request(alloc: Global, request: &Request, files: &Files) -> Result<String, ReadFault> {
     match run_over(alloc, request, files) {
         Some(ran) => ran.told(alloc),
@@ -59,7 +59,7 @@ fn told_of_request(alloc: Global, request: &Request, files: &Files) -> Result<St
     }
 }
 
-/// What the request of these words prints and tells, or why they give none.
+/// What the request of these words prints and logs, or why they give none.
 pub fn told_run(alloc: Global, words: &[&str], files: &Files) -> Result<String, ReadFault> {
     let words = texts_of(alloc, words)?;
     match read_words(alloc, words.as_slice()) {
@@ -87,7 +87,7 @@ fn work_over(alloc: Global, words: &[String], files: &[MemoryFile<'_>]) -> Ran {
     Ran { status, out, log }
 }
 
-/// What these words print and tell over files in memory: the definition and two reports.
+/// What these words print and log over files in memory: the definition and two reports.
 pub fn told_work(alloc: Global, words: &[&str], files: &Files) -> Result<String, ReadFault> {
     let words = texts_of(alloc, words)?;
     let [first, second, ..] = files.reports.as_slice() else {

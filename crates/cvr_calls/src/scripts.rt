@@ -27,7 +27,7 @@ pub enum Script {
 }
 
 impl Script {
-    /// What the calls tell, or out of memory. Another fault stands where they aren't right.
+    /// The text that the calls give, or out of memory. Any other fault says that they aren't right.
     pub fn told(self, alloc: Global, files: &Files) -> Result<String, ReadFault> {
         match self {
             Script::Facts => told_facts(alloc, files),

@@ -12,7 +12,7 @@ fn next_byte(rt: &HostRuntime) -> u8 {
     }
 }
 
-// Whether this is what was told.
+// Whether this is the text that the calls gave.
 fn is_told(told: &Result<String, ReadFault>, wanted: &str) -> bool {
     match told {
         Ok(text) => text.as_str() == wanted,
@@ -20,8 +20,8 @@ fn is_told(told: &Result<String, ReadFault>, wanted: &str) -> bool {
     }
 }
 
-// Makes the calls of a copy, and answers whether they told what they tell where nothing is refused,
-// or answered out of memory where it was, and told it when made again.
+// Makes the calls of a copy, and answers whether they gave what they give where nothing is refused,
+// or answered out of memory where it was, and gave it when made again.
 fn is_right(rt: &HostRuntime, script: Script, files: &Files, wanted: &str) -> bool {
     let told = script.told(rt.alloc(), files);
     let was_refused = next_byte(rt) == b'm';
@@ -31,7 +31,7 @@ fn is_right(rt: &HostRuntime, script: Script, files: &Files, wanted: &str) -> bo
     }
 }
 
-// Tries a script that tells this where nothing is refused.
+// Tries a script that gives this text where nothing is refused.
 fn try_told(rt: &HostRuntime, name: &str, script: Script, files: &Files, wanted: &str) -> bool {
     let _ = println!(rt; "script {name}");
     let is_copy = next_byte(rt) == b'c';

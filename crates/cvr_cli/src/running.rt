@@ -23,6 +23,10 @@ use std::alloc::Global;
 /// refused nothing else is done. Where memory ran out for a file or a step nothing is printed, and
 /// no fault of a merge is reported. That fault comes after the refused files, and nothing is
 /// printed then either.
+///
+/// How much was printed with status Memory no clause says: nothing, or, of `merge`, a prefix, or,
+/// where only the path of a line could not be spelled, the text or a prefix of it, is only tested.
+/// So is that Memory stands above all other statuses. That memory was really refused isn't said.
 pub fn run<W: Sink, L: Sink>(
     alloc: Global,
     request: &Request,
@@ -47,6 +51,12 @@ pub fn run<W: Sink, L: Sink>(
 /// log says so, and nothing else is opened or done. Words that ask for no request are reported in
 /// the log, and the status is `CommandLine`; those that ask for help have it printed; nothing is
 /// opened then. Where the opener says what stands at each path, the run is one over these files.
+///
+/// No clause says what a file of the system holds, nor that it was opened at its path. Over the
+/// opener of the system, which promises nothing of any path, a run that ends early is only said to
+/// log one of its paths, with K1 or K2, or `memory`; the order, and which path is first, are said
+/// of openers that say what stands at each path. That the texts of help and of refused words are
+/// not empty is only tested.
 pub fn work<O: Open, W: Sink, L: Sink>(
     alloc: Global,
     opener: &mut O,
@@ -76,6 +86,9 @@ pub fn work<O: Open, W: Sink, L: Sink>(
 /// code means, that is printed, and no file is opened. Where a list stands in the place of the
 /// files, it is read, and the request is done over the files of its paths. All other words go to
 /// `work`. What `work` says of words that ask for a request holds as it stands.
+///
+/// Only tested: that no words with a list ask for a request as they stand, and that the texts of
+/// codes are those of docs/FAULTS.md.
 pub fn respond<O: Open, W: Sink, L: Sink>(
     alloc: Global,
     opener: &mut O,

@@ -73,8 +73,8 @@ fn print_fault(rt: &HostRuntime, name: &str, fault: &ReadFault) -> anyhow::Resul
 }
 
 // The facts of a report. `check_report` answers what an accepted report has, as types, or its first
-// fault; of that `facts_of` makes the facts, each once: devices, headers of records, and their
-// snapshots.
+// fault; from those types `facts_of` makes the facts, each once: devices, headers of records, and
+// their snapshots.
 fn facts_in(alloc: Global, definition: &Definition, bytes: &[u8]) -> Result<FactList, ReadFault> {
     let report = check_report(alloc, definition, bytes)?;
     Ok(facts_of(alloc, definition, &report)?)
@@ -148,7 +148,7 @@ fn conflicts_of(alloc: Global, office: &PlainOffice) -> Result<String, Memory> {
     conflicts_text(alloc, &office.conflicts(alloc)?)
 }
 
-// Prints what an office tells. `current`, `row`, `record_facts` and others tell it of one record,
+// Prints what an office answers. `current`, `row`, `record_facts` and others answer for one record,
 // or one row.
 fn print_texts(rt: &HostRuntime, office: &PlainOffice) -> anyhow::Result<()> {
     print!(rt; "{}", currents_text(rt.alloc(), office)?)?;
@@ -220,7 +220,7 @@ fn write<O: Office>(
 }
 
 // Writes the volumes of an office, which show all that it holds, and has another office take them
-// in as files. One volume is enough where nothing has two texts.
+// in as files. One volume is enough where no name has two bodies.
 fn pass_on(rt: &HostRuntime, giver: &PlainOffice, taker: &mut PlainOffice) -> anyhow::Result<()> {
     let heading = Heading::new(rt.alloc(), giver.definition(), DATE, DEVICE)?;
     for i in 1..=volumes(giver) {
@@ -253,7 +253,7 @@ fn show(rt: &HostRuntime, definition: &Definition) -> anyhow::Result<()> {
     exchange(rt, definition, files.as_slice())
 }
 
-// What is held at each way out of a function makes its proof long. So each function here holds
+// What a function holds at each of its exits makes its proof long. So each function here holds
 // little, and hands it on.
 fn main(rt: HostRuntime) -> anyhow::Result<()> {
     let definition = read_definition(&rt)?;

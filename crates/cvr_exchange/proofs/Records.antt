@@ -1,5 +1,6 @@
 -- A header with snapshots and the id of one of them is a CVR of a report.
-use Rattle.std.proofs.Common.{◌≡◌, ◌≤◌, ℕ, List, [], ◌∷◌, map, Contains, Option, Some, None, IsSome, IsUtf8, inl, inr, ◌⊎◌, codes, refl, sym, ap, ◌∙◌, subst, true}
+use Rattle.std.proofs.Common.{◌≡◌, ◌≤◌, ℕ, List, [], ◌∷◌, map, Contains, Option, Some, None, IsSome}
+use Rattle.std.proofs.Common.{IsUtf8, inl, inr, ◌⊎◌, codes, refl, sym, ap, ◌∙◌, subst, true}
 use Rattle.std.specs.Prelude.{⊤, unwrap_or, option_map, option_and_then}
 use Rattle.json.proofs.Printed.Utf8.{are_ascii, IsUtf8-are_ascii}
 use Rattle.serde_json.specs.Data.{Data, string, array, object, Members, put}
@@ -12,7 +13,7 @@ use Rattle.cdf_form.specs.declared.table.Group.TheVariants as group
 use Rattle.cdf_form.specs.declared.table.Leaf.TheVariants as leaf
 use Rattle.cdf_form.specs.declared.table.Key.TheVariants as key
 use Rattle.cdf_form.specs.declared.table.Kind.TheVariants.{One, Array}
-use Rattle.cdf_form.specs.Tables.{Entry, table, classes_of, required, any}
+use Rattle.cdf_form.specs.Tables.{Entry, table, classes_of, required_member, any}
 use Rattle.cdf_form.specs.Form.{class_in, find_class}
 use Rattle.cdf_form.specs.HasForm.{HasForm, IsRow, text, class}
 use Rattle.cdf_node.specs.Items.{list_of}
@@ -47,10 +48,10 @@ all_rows P (x ∷ rs) r h (inr i) = all_rows P rs r h.1 i
 -- ---- the rows of a CVR: those that its header keeps, and two
 
 abbrev snapshots_row : Entry
-snapshots_row = required snapshots_name (Array (leaf.Object group.Snapshots) 1 any key.Id)
+snapshots_row = required_member snapshots_name (Array (leaf.Object group.Snapshots) 1 any key.Id)
 
 abbrev current_row : Entry
-current_row = required current_name (One leaf.Text)
+current_row = required_member current_name (One leaf.Text)
 
 abbrev Case : Entry → Type 0
 Case r = IsInHeader r.name ⊎ ((r ≡ snapshots_row) ⊎ (r ≡ current_row))
@@ -110,80 +111,119 @@ module _ (ms : Members) (ds : List Data) (current : List ℕ) where
   made = record_members ms (items_of ds) current
 
   pub at_snapshots : get_member snapshots_name made ≡ Some (array (items_of ds))
-  at_snapshots = get_member-put snapshots_name (array (items_of ds)) (put current_name (string current) ms)
+  at_snapshots =
+      get_member-put snapshots_name (array (items_of ds)) (put current_name (string current) ms)
 
   at_current : get_member current_name made ≡ Some (string current)
   at_current =
-      get_member-put_other current_name snapshots_name (array (items_of ds)) (put current_name (string current) ms) (differ current_name snapshots_name refl)
+      get_member-put_other current_name snapshots_name (array (items_of ds))
+      (put current_name (string current) ms) (differ current_name snapshots_name refl)
       ∙ get_member-put current_name (string current) ms
 
   at_other : (name : List ℕ) → IsInHeader name → get_member name made ≡ get_member name ms
   at_other name kept =
-      get_member-put_other name snapshots_name (array (items_of ds)) (put current_name (string current) ms) kept.0
+      get_member-put_other name snapshots_name (array (items_of ds))
+      (put current_name (string current) ms) kept.0
       ∙ get_member-put_other name current_name (string current) ms kept.1
 
   pub snapshots_are : array_at snapshots_name (object made) ≡ ds
   snapshots_are = ap list_in at_snapshots ∙ list_of-items_of ds
 
-  pub text_other : (name s : List ℕ) → IsInHeader name → get name (object ms) ≡ Some (string s) → text_at name (object made) ≡ s
-  text_other name s kept is = ap (λ o. unwrap_or (option_and_then as_str o) []) (at_other name kept ∙ is)
+  pub text_other : (name s : List ℕ) → IsInHeader name → get name (object ms) ≡ Some (string s)
+      → text_at name (object made) ≡ s
+  text_other name s kept is =
+      ap (λ o. unwrap_or (option_and_then as_str o) []) (at_other name kept ∙ is)
 
-  pub header_back : get snapshots_name (object ms) ≡ None → get current_name (object ms) ≡ None → header_of (object made) ≡ object ms
+  pub header_back : get snapshots_name (object ms) ≡ None → get current_name (object ms) ≡ None
+      → header_of (object made) ≡ object ms
   header_back no_snapshots no_current =
-      let absent = get_member-put_other snapshots_name current_name (string current) ms (differ snapshots_name current_name refl) ∙ no_snapshots in
-      ap (λ m. object (without current_name m)) (without-put snapshots_name (array (items_of ds)) (put current_name (string current) ms) absent)
+      let absent = get_member-put_other snapshots_name current_name (string current) ms
+      (differ snapshots_name current_name refl) ∙ no_snapshots in
+      ap (λ m. object (without current_name m))
+      (without-put snapshots_name (array (items_of ds)) (put current_name (string current) ms)
+      absent)
       ∙ ap object (without-put current_name (string current) ms no_current)
 
-  pub record_clean : IsClean 125 (object ms) → ((d : Data) → Contains ds d → IsClean 123 d) → IsUtf8 current → IsClean 125 (object made)
+  pub record_clean : IsClean 125 (object ms) → ((d : Data) → Contains ds d → IsClean 123 d)
+      → IsUtf8 current → IsClean 125 (object made)
   record_clean h each u =
-      clean_put 124 snapshots_name (array (items_of ds)) (put current_name (string current) ms) (name_utf8 snapshots_name refl) (clean_array 123 ds each)
-      (clean_put 124 current_name (string current) ms (name_utf8 current_name refl) (clean_string 124 current u) h)
+      clean_put 124 snapshots_name (array (items_of ds)) (put current_name (string current) ms)
+      (name_utf8 snapshots_name refl) (clean_array 123 ds each)
+      (clean_put 124 current_name (string current) ms (name_utf8 current_name refl)
+      (clean_string 124 current u) h)
 
   -- ---- its form and references
 
-  module _ (scope : Scope) (device unique : List ℕ) (head : HeaderStands scope device unique (object ms)) (each : (d : Data) → Contains ds d → SnapshotStands scope (id_of d) d) where
+  module _ (scope : Scope) (device unique : List ℕ)
+      (head : HeaderStands scope device unique (object ms))
+      (each : (d : Data) → Contains ds d → SnapshotStands scope (id_of d) d) where
     class_is : class_in group.Cvrs (object made) ≡ Some class_of.Cvr
     class_is =
-        ap (λ o. option_and_then (find_class (classes_of group.Cvrs)) (option_and_then as_str o)) (at_other (codes "@type") (is_kept (codes "@type") refl refl))
+        ap (λ o. option_and_then (find_class (classes_of group.Cvrs)) (option_and_then as_str o))
+        (at_other (codes "@type") (is_kept (codes "@type") refl refl))
         ∙ head.form.class_is
 
-    needed_at : (r : Entry) → IsRow (table class_of.Cvr) r → Case r → r.required ≡ true → IsSome (get r.name (object made))
-    needed_at r i (inl kept) q = subst IsSome (sym (at_other r.name kept)) (head.form.needed r i kept q)
-    needed_at r i (inr (inl e)) q = subst IsSome (sym (ap (λ n. get_member n made) (ap (λ x. x.name) e) ∙ at_snapshots)) refl
-    needed_at r i (inr (inr e)) q = subst IsSome (sym (ap (λ n. get_member n made) (ap (λ x. x.name) e) ∙ at_current)) refl
+    needed_at : (r : Entry) → IsRow (table class_of.Cvr) r → Case r → r.required ≡ true
+        → IsSome (get r.name (object made))
+    needed_at r i (inl kept) q =
+        subst IsSome (sym (at_other r.name kept)) (head.form.needed r i kept q)
+    needed_at r i (inr (inl e)) q =
+        subst IsSome (sym (ap (λ n. get_member n made) (ap (λ x. x.name) e) ∙ at_snapshots)) refl
+    needed_at r i (inr (inr e)) q =
+        subst IsSome (sym (ap (λ n. get_member n made) (ap (λ x. x.name) e) ∙ at_current)) refl
 
-    module _ (rises : IsRising (map id_of ds)) (some : 1 ≤ items_len (items_of ds)) (few : items_len (items_of ds) ≤ any) where
-      part_at : (r : Entry) → IsRow (table class_of.Cvr) r → Case r → (e : Data) → get r.name (object made) ≡ Some e → HasForm r.kind e
+    module _ (rises : IsRising (map id_of ds)) (some : 1 ≤ items_len (items_of ds))
+        (few : items_len (items_of ds) ≤ any) where
+      part_at : (r : Entry) → IsRow (table class_of.Cvr) r → Case r → (e : Data)
+          → get r.name (object made) ≡ Some e → HasForm r.kind e
       part_at r i (inl kept) e at = head.form.member r e i kept (sym (at_other r.name kept) ∙ at)
       part_at r i (inr (inl is)) e at =
-          let same : array (items_of ds) ≡ e = inside _ _ (sym (ap (λ n. get_member n made) (ap (λ x. x.name) is) ∙ at_snapshots) ∙ at) in
+          let same : array (items_of ds)
+          ≡ e = inside _ _ (sym (ap (λ n. get_member n made) (ap (λ x. x.name) is)
+          ∙ at_snapshots) ∙ at) in
           subst (λ k. HasForm k e) (sym (ap (λ x. x.kind) is))
           (subst (HasForm (Array (leaf.Object group.Snapshots) 1 any key.Id)) same
           (objects_form group.Snapshots 1 ds (refl, tt) (λ d a. (each d a).form) rises some few))
       part_at r i (inr (inr is)) e at =
-          let same : string current ≡ e = inside _ _ (sym (ap (λ n. get_member n made) (ap (λ x. x.name) is) ∙ at_current) ∙ at) in
-          subst (λ k. HasForm k e) (sym (ap (λ x. x.kind) is)) (subst (HasForm (One leaf.Text)) same (text {s = current} refl))
+          let same : string current ≡ e = inside _ _
+          (sym (ap (λ n. get_member n made) (ap (λ x. x.name) is) ∙ at_current) ∙ at) in
+          subst (λ k. HasForm k e) (sym (ap (λ x. x.kind) is))
+          (subst (HasForm (One leaf.Text)) same (text {s = current} refl))
 
       pub record_form : HasForm (One (leaf.Object group.Cvrs)) (object made)
-      record_form = class class_is (λ r i q. needed_at r i (all_rows Case (table class_of.Cvr) r cvr_cases i) q)
+      record_form = class class_is (λ r i q.
+          needed_at r i (all_rows Case (table class_of.Cvr) r cvr_cases i) q)
           (λ r e i at. part_at r i (all_rows Case (table class_of.Cvr) r cvr_cases i) e at)
 
-    kept_names : (ids : Texts) (name : List ℕ) → IsInHeader name → one ids name (object ms) ≡ [] → Names ids name (object made)
-    kept_names ids name kept e = λ s is. names_of ids name (object ms) e s (sym (ap (option_and_then as_str) (at_other name kept)) ∙ is)
+    kept_names : (ids : Texts) (name : List ℕ) → IsInHeader name → one ids name (object ms) ≡ []
+        → Names ids name (object made)
+    kept_names ids name kept e = λ s is.
+        names_of ids name (object ms) e s
+        (sym (ap (option_and_then as_str) (at_other name kept)) ∙ is)
 
-    kept_all : (ids : Texts) (name : List ℕ) → IsInHeader name → many ids name (object ms) ≡ [] → AllName ids name (object made)
-    kept_all ids name kept e = λ x s a is. all_name_of ids name (object ms) e x s (subst (λ xs. Contains xs x) (ap list_in (at_other name kept)) a) is
+    kept_all : (ids : Texts) (name : List ℕ) → IsInHeader name → many ids name (object ms) ≡ []
+        → AllName ids name (object made)
+    kept_all ids name kept e = λ x s a is.
+        all_name_of ids name (object ms) e x s
+        (subst (λ xs. Contains xs x) (ap list_in (at_other name kept)) a) is
 
     pub record_resolves : Contains (map id_of ds) current → CvrResolves scope (object made)
     record_resolves listed =
         let p = cvr_parts scope (object ms) head.references in
         record {
-          unit = kept_names scope.units (codes "BallotStyleUnitId") (is_kept (codes "BallotStyleUnitId") refl refl) p.unit;
-          snapshots = λ e a. snapshot_of scope e (each e (subst (λ xs. Contains xs e) snapshots_are a)).references;
-          device = kept_names scope.devices (codes "CreatingDeviceId") (is_kept (codes "CreatingDeviceId") refl refl) p.device;
+          unit = kept_names scope.units (codes "BallotStyleUnitId")
+              (is_kept (codes "BallotStyleUnitId") refl refl) p.unit;
+          snapshots = λ e a. snapshot_of scope e
+              (each e (subst (λ xs. Contains xs e) snapshots_are a)).references;
+          device = kept_names scope.devices (codes "CreatingDeviceId")
+              (is_kept (codes "CreatingDeviceId") refl refl) p.device;
           current = λ s is.
-              let same : current ≡ s = inside current s (sym (ap (option_and_then as_str) at_current) ∙ is) in
-              subst (Contains (ids_at snapshots_name (object made))) same (subst (λ xs. Contains (map id_of xs) current) (sym snapshots_are) listed);
-          election = kept_names scope.elections (codes "ElectionId") (is_kept (codes "ElectionId") refl refl) p.election;
-          parties = kept_all scope.parties (codes "PartyIds") (is_kept (codes "PartyIds") refl refl) p.parties;
+              let same : current ≡ s =
+              inside current s (sym (ap (option_and_then as_str) at_current) ∙ is) in
+              subst (Contains (ids_at snapshots_name (object made))) same
+              (subst (λ xs. Contains (map id_of xs) current) (sym snapshots_are) listed);
+          election = kept_names scope.elections (codes "ElectionId")
+              (is_kept (codes "ElectionId") refl refl) p.election;
+          parties = kept_all scope.parties (codes "PartyIds") (is_kept (codes "PartyIds") refl refl)
+              p.parties;
         }

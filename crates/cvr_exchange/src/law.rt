@@ -7,6 +7,8 @@ use cvr_office::Office;
 
 /// A volume that is short enough for a file is accepted beside the definition of the office that
 /// wrote it, and beside any that is the same, whatever conflicts stand in it.
+///
+/// No law says that a volume is short enough for a file: a longer one is refused with E1.
 pub fn valid_volumes()
     ensures own { ValidLaw }
     ensures same { ValidForSameLaw }
@@ -20,9 +22,9 @@ pub fn all_volumes()
     ensures any_order { AnyOrderLaw }
 {}
 
-/// The import of a volume into an office of the same definition is accepted, want of memory aside.
-/// Imports of all volumes leave each office with what an exchange would. Where volumes arrive among
-/// other events, the office holds at the end what it held before them and the facts of these
+/// The import of a volume into an office of the same definition is accepted, unless memory runs
+/// out. Imports of all volumes leave each office with what an exchange would. Where volumes arrive
+/// among other events, the office holds at the end what it held before them and the facts of these
 /// volumes: of all volumes, all that the giver held when it wrote them.
 pub fn imports()
     ensures accepted { AcceptedLaw }
@@ -32,6 +34,8 @@ pub fn imports()
 {}
 
 /// Offices that import volumes in place of exchanges hold what the exchanges would give.
+///
+/// Premise: the office that gives is one of the offices. That files arrive isn't said.
 pub fn by_files()
     ensures content { ByFilesLaw }
 {}

@@ -11,8 +11,8 @@ ghost use Rattle.cvr_report.specs.Volume.{volume};
 use cvr_office::Office;
 use cvr_report::Heading;
 
-/// That volume `i`, as `write_volume` writes it, is accepted beside the office's definition where
-/// it is short enough for a file, and has only facts of the office. It does nothing. Takes no
+/// Ensures that volume `i`, as `write_volume` writes it, is accepted beside the office's definition
+/// where it is short enough for a file, and has only facts of the office. Does nothing and takes no
 /// memory.
 pub fn can_be_read<O: Office>(office: &O, heading: &Heading, i: usize)
     requires number { 0 < i }

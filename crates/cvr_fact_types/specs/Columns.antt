@@ -1,5 +1,6 @@
--- The columns of a tally, and what a ballot adds to each. (NIST SP 1500-103, class CVRContest; that ballots, pending and unassigned votes are columns is this project's own.)
-use Rattle.std.specs.Prelude.{ℕ, List, [], ◌∷◌, get_or}
+-- The columns of a tally, and what a ballot adds to each. (NIST SP 1500-103, class CVRContest; that
+-- ballots, pending and unassigned votes are columns is this project's own.)
+use Rattle.std.specs.Prelude.{ℕ, List, [], ◌∷◌, slice_index}
 use Rattle.cvr_fact_types.specs.declared.sums.VoteSums.{VoteSums}
 
 -- a column of each row, or that of a selection, by its place in the contest
@@ -16,7 +17,7 @@ pub data Column : Type 0 where
 abbrev pub columns : List Column
 columns = Ballots ∷ Overvotes ∷ Undervotes ∷ WriteIns ∷ Pending ∷ Unassigned ∷ []
 
--- what the sums of a ballot add to a column
+-- what the sums of a ballot add to a column: 1 to ballots, and their own number to every other
 abbrev pub worth : Column → VoteSums → ℕ
 worth Ballots sums = 1
 worth Overvotes sums = sums.overvotes
@@ -24,4 +25,4 @@ worth Undervotes sums = sums.undervotes
 worth WriteIns sums = sums.write_ins
 worth Pending sums = sums.pending
 worth Unassigned sums = sums.unassigned
-worth (VotesFor place) sums = get_or sums.votes place 0
+worth (VotesFor place) sums = slice_index sums.votes place

@@ -1,4 +1,5 @@
--- What is held of files: facts. Texts and bodies are lists of bytes. (Classes ReportingDevice, CVR and CVRSnapshot of NIST SP 1500-103; that they are facts is this project's own.)
+-- What is held of files: facts. Texts and bodies are lists of bytes. (Classes ReportingDevice, CVR
+-- and CVRSnapshot of NIST SP 1500-103; that they are facts is this project's own.)
 use Rattle.std.specs.Prelude.{◌≡◌, ℕ, List, [], ◌∷◌}
 use Rattle.std.proofs.Common.{refl, ap, ◌∙◌, sym}
 use Rattle.std.specs.Coded.{Coded, code_by, coded_list, coded_ℕ}
@@ -11,7 +12,8 @@ use Rattle.std.specs.FinSet as set
 use Rattle.std.specs.FinMap.{IsAntisymmetric, nat_cmp-IsAntisymmetric, slice_cmp-IsAntisymmetric}
 use Rattle.cvr_fact_types.specs.declared.name.RecordName.{RecordName}
 
--- a device's object, a header of a record, a snapshot of a record
+-- A fact: a device (id and body), a header of a record (device, unique and body), or a snapshot of
+-- a record (device, unique, `@id` and body). Bodies are compact texts.
 pub data Fact : Type 0 where
   Device : (id body : List ℕ) → Fact
   Header : (device unique body : List ℕ) → Fact
@@ -25,7 +27,7 @@ text_cmp = slice_cmp nat_cmp
 abbrev pub name_cmp : RecordName → RecordName → Ordering
 name_cmp a b = ordering_then (text_cmp a.device b.device) (text_cmp a.unique b.unique)
 
--- a fact as the list of its texts, whose number tells the kind
+-- a fact as the list of its texts, whose number gives the kind
 abbrev pub texts : Fact → List (List ℕ)
 texts (Device i b) = i ∷ b ∷ []
 texts (Header d u b) = d ∷ u ∷ b ∷ []
@@ -56,9 +58,11 @@ fact_total = on_total texts (lists_total nat_list_cmp_total)
 
 pub fact_exact : IsAntisymmetric fact_cmp
 fact_exact f g e =
-    sym (of_texts-texts f) ∙ (ap of_texts (slice_cmp-IsAntisymmetric (slice_cmp-IsAntisymmetric nat_cmp-IsAntisymmetric) (texts f) (texts g) e) ∙ of_texts-texts g)
+    sym (of_texts-texts f) ∙ (ap of_texts
+    (slice_cmp-IsAntisymmetric (slice_cmp-IsAntisymmetric nat_cmp-IsAntisymmetric) (texts f)
+    (texts g) e) ∙ of_texts-texts g)
 
--- a finite set of facts
+-- A finite set of facts. To join two is to take their union.
 abbrev pub Facts : Type 0
 Facts = set.FinSet fact_cmp
 

@@ -16,4 +16,5 @@ header_cmp a b = ordering_then (name_cmp a.key b.key) (text_cmp a.body b.body)
 
 -- by record, then by id, then by body
 abbrev pub snapshot_cmp : SnapshotFact → SnapshotFact → Ordering
-snapshot_cmp a b = ordering_then (name_cmp a.key b.key) (ordering_then (text_cmp a.id b.id) (text_cmp a.body b.body))
+snapshot_cmp a b = ordering_then (name_cmp a.key b.key)
+    (ordering_then (text_cmp a.id b.id) (text_cmp a.body b.body))

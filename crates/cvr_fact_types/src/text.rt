@@ -50,7 +50,7 @@ pub fn push_quoted(alloc: Global, out: &mut Vec<u8>, text: &str) -> Result<(), M
 /// Adds a text as a JSON string, and a space.
 ///
 /// # Errors
-/// `Memory` where a growth was refused. The text is then as it was, or lacks the space alone.
+/// `Memory` where a growth was refused. The text is then as it was, or all but the space was added.
 pub fn push_word(alloc: Global, text: &mut String, name: &str) -> Result<(), Memory>
     ensures ok { OnOk result (string_bytes text.new ≡ string_bytes text.old ++ word name.now) }
     ensures err { OnErr result

@@ -1,5 +1,6 @@
 -- Tests joined by `||`, and ties of an order in which only equal keys tie.
-use Rattle.std.proofs.Common.{◌≡◌, Bool, true, false, ◌||◌, ◌⊎◌, inl, inr, refl, sym, subst, true≢false}
+use Rattle.std.proofs.Common.{◌≡◌, Bool, true, false, ◌||◌, ◌⊎◌, inl, inr, refl, sym, subst}
+use Rattle.std.proofs.Common.{true≢false}
 use Rattle.std.specs.Bool.{Decides}
 use Rattle.std.specs.declared.cmp.Ordering.{Ordering}
 use Rattle.std.specs.Ordering.{eq_by_cmp}
@@ -34,7 +35,9 @@ module _ {K : Type 0} {R : K → K → Ordering} where
   tie_is e x y h = e x y ((Equal-is (R x y)).0 h)
 
   pub tie_itself : IsTotalOrder R → (x y : K) → x ≡ y → eq_by_cmp R x y ≡ true
-  tie_itself t x y is = subst (λ z. eq_by_cmp R x z ≡ true) is ((Equal-is (R x x)).1 (tied_itself t x))
+  tie_itself t x y is =
+      subst (λ z. eq_by_cmp R x z ≡ true) is ((Equal-is (R x x)).1 (tied_itself t x))
 
-  pub tie_decides : IsTotalOrder R → IsAntisymmetric R → (x y : K) → Decides (eq_by_cmp R x y) (x ≡ y)
+  pub tie_decides : IsTotalOrder R → IsAntisymmetric R → (x y : K)
+      → Decides (eq_by_cmp R x y) (x ≡ y)
   tie_decides t e x y = (tie_is e x y, tie_itself t x y)

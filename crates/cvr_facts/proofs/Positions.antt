@@ -1,5 +1,6 @@
 -- Which positions count, and which are pending.
-use Rattle.std.proofs.Common.{◌≡◌, Bool, true, false, ◌&&◌, Option, Some, None, refl, sym, ap, ◌∙◌, true≢false}
+use Rattle.std.proofs.Common.{◌≡◌, Bool, true, false, ◌&&◌, Option, Some, None, refl, sym, ap, ◌∙◌}
+use Rattle.std.proofs.Common.{true≢false}
 use Rattle.std.specs.Option.{option_map_or}
 use Rattle.cdf_types.specs.declared.mark.Indication.{Indication}
 use Rattle.cdf_types.specs.declared.mark.Indication.TheVariants as indication
@@ -8,7 +9,8 @@ use Rattle.cdf_types.specs.declared.mark.Allocation.TheVariants as allocation
 use Rattle.cvr_facts.specs.Sums.{is_marked, is_allowed, is_unsettled}
 use Rattle.cvr_facts.specs.SumLaws.{EitherLaw, MarkedLaw, UnsetLaw}
 
-apart_at : (o : Option Allocation) (b : Bool) → option_map_or is_allowed o b ≡ true → (option_map_or is_unsettled o false && b) ≡ false
+apart_at : (o : Option Allocation) (b : Bool) → option_map_or is_allowed o b ≡ true
+    → (option_map_or is_unsettled o false && b) ≡ false
 apart_at None b h = refl
 apart_at (Some allocation.No) b h = refl
 apart_at (Some allocation.Unknown) b h = absurd (true≢false (sym h))
@@ -27,10 +29,12 @@ second true b h = h
 second false b h = absurd (true≢false (sym h))
 
 pub marked : MarkedLaw
-marked p pending = marked_is p.indication (second (option_map_or is_unsettled p.allocation false) (is_marked p.indication) pending)
+marked p pending = marked_is p.indication
+    (second (option_map_or is_unsettled p.allocation false) (is_marked p.indication) pending)
 
 pub absent : UnsetLaw
 absent p none = (
-  λ counted. marked_is p.indication (ap (λ o. option_map_or is_allowed o (is_marked p.indication)) (sym none) ∙ counted),
+  λ counted. marked_is p.indication (ap (λ o. option_map_or is_allowed o (is_marked p.indication))
+      (sym none) ∙ counted),
   λ is. ap (λ o. option_map_or is_allowed o (is_marked p.indication)) none ∙ ap is_marked is,
 )

@@ -1,9 +1,11 @@
--- What a typed report tells are the facts of its file.
-use Rattle.std.proofs.Common.{◌≡◌, ℕ, List, [], ◌∷◌, ◌++◌, map, Contains, inl, inr, refl, ap, ◌∙◌, subst}
+-- What a typed report gives is the facts of its file.
+use Rattle.std.proofs.Common.{◌≡◌, ℕ, List, [], ◌∷◌, ◌++◌, map, Contains, inl, inr, refl, ap, ◌∙◌}
+use Rattle.std.proofs.Common.{subst}
 use Rattle.std.specs.List.{flat_map}
 use Rattle.std.specs.FinSet.{from_list}
 use Rattle.std.proofs.lemmas.List.{map-append}
-use Rattle.std.proofs.lemmas.List.Elements.{Contains-append_left, Contains-append_right, Contains-append_cases}
+use Rattle.std.proofs.lemmas.List.Elements.{Contains-append_left, Contains-append_right}
+use Rattle.std.proofs.lemmas.List.Elements.{Contains-append_cases}
 use Rattle.serde_json.specs.Data.{Data}
 use Rattle.cdf_types.specs.declared.report.Report.{Report}
 use Rattle.cdf_parts.specs.Places.{Contest}
@@ -12,9 +14,12 @@ use Rattle.cdf_definition.specs.Frame.{Frame}
 use Rattle.cdf_definition.specs.Acceptance.{value_in}
 use Rattle.cvr_fact_types.specs.Facts.{Fact, fact_cmp, fact_total, fact_exact}
 use Rattle.cvr_facts.specs.Reports.{device_fact, header_fact, snapshot_fact, report_facts, facts}
-use Rattle.cvr_facts.specs.Lists.{told_device, told_header, told_snapshot, told_snapshots, fact_of_device, fact_of_header, fact_of_snapshot, told_facts, IsReportOf}
+use Rattle.cvr_facts.specs.Lists.{told_device, told_header, told_snapshot, told_snapshots}
+use Rattle.cvr_facts.specs.Lists.{fact_of_device, fact_of_header, fact_of_snapshot, told_facts}
+use Rattle.cvr_facts.specs.Lists.{IsReportOf}
 use Rattle.cvr_facts.proofs.Members.{in_map, from_map, in_flat, from_flat, same_from_list}
-use Rattle.cvr_facts.specs.Sources.{devices_in, cvrs_in, snapshots_in, Source, of_device, of_header, of_snapshot}
+use Rattle.cvr_facts.specs.Sources.{devices_in, cvrs_in, snapshots_in, Source, of_device, of_header}
+use Rattle.cvr_facts.specs.Sources.{of_snapshot}
 use Rattle.cvr_facts.proofs.Sources.{source_of, device_listed, header_listed, snapshot_listed}
 
 -- ---- the facts, kind by kind
@@ -29,35 +34,48 @@ of_records d = map header_fact (cvrs_in d) ++ flat_map snapshots_of (cvrs_in d)
 abbrev by_kind : Data → List Fact
 by_kind d = map device_fact (devices_in d) ++ of_records d
 
-devices_told : (es : List Data) → map (λ device. fact_of_device (told_device device)) (map device_of es) ≡ map device_fact es
+devices_told : (es : List Data) → map (λ device. fact_of_device (told_device device))
+    (map device_of es) ≡ map device_fact es
 devices_told [] = refl
 devices_told (e ∷ es) = ap (λ fs. device_fact e ∷ fs) (devices_told es)
 
-headers_told : (contests : List Contest) (cs : List Data) → map (λ cvr. fact_of_header (told_header cvr)) (map (cvr_of contests) cs) ≡ map header_fact cs
+headers_told : (contests : List Contest) (cs : List Data)
+    → map (λ cvr. fact_of_header (told_header cvr)) (map (cvr_of contests) cs) ≡ map header_fact cs
 headers_told contests [] = refl
 headers_told contests (c ∷ cs) = ap (λ fs. header_fact c ∷ fs) (headers_told contests cs)
 
 snapshots_told : (contests : List Contest) (c : Data) (ss : List Data)
-    → map fact_of_snapshot (map (told_snapshot contests (cvr_of contests c)) (map (snapshot_of contests) ss)) ≡ map (snapshot_fact c) ss
+    → map fact_of_snapshot (map (told_snapshot contests (cvr_of contests c))
+    (map (snapshot_of contests) ss)) ≡ map (snapshot_fact c) ss
 snapshots_told contests c [] = refl
-snapshots_told contests c (s ∷ ss) = ap (λ fs. snapshot_fact c s ∷ fs) (snapshots_told contests c ss)
+snapshots_told contests c (s ∷ ss) =
+    ap (λ fs. snapshot_fact c s ∷ fs) (snapshots_told contests c ss)
 
 all_snapshots_told : (contests : List Contest) (cs : List Data)
-    → map fact_of_snapshot (flat_map (told_snapshots contests) (map (cvr_of contests) cs)) ≡ flat_map snapshots_of cs
+    → map fact_of_snapshot (flat_map (told_snapshots contests) (map (cvr_of contests) cs))
+    ≡ flat_map snapshots_of cs
 all_snapshots_told contests [] = refl
 all_snapshots_told contests (c ∷ cs) =
-    map-append fact_of_snapshot (told_snapshots contests (cvr_of contests c)) (flat_map (told_snapshots contests) (map (cvr_of contests) cs))
+    map-append fact_of_snapshot (told_snapshots contests (cvr_of contests c))
+    (flat_map (told_snapshots contests) (map (cvr_of contests) cs))
     ∙ rw (snapshots_told contests c (snapshots_in c), all_snapshots_told contests cs) refl
 
-told_by_kind : (contests : List Contest) (d : Data) → told_facts contests (report_of contests d) ≡ by_kind d
-told_by_kind contests d = rw (devices_told (devices_in d), headers_told contests (cvrs_in d), all_snapshots_told contests (cvrs_in d)) refl
+told_by_kind : (contests : List Contest) (d : Data)
+    → told_facts contests (report_of contests d) ≡ by_kind d
+told_by_kind contests d = rw (
+  devices_told (devices_in d),
+  headers_told contests (cvrs_in d),
+  all_snapshots_told contests (cvrs_in d),
+) refl
 
 -- ---- the same members
 
 record_source : (d : Data) (f : Fact) → Contains (of_records d) f → Source d f
 record_source d f a =
-    elim (Contains-append_cases (map header_fact (cvrs_in d)) (flat_map snapshots_of (cvrs_in d)) f a) [
-      | inl here ↦ let r = from_map header_fact f (cvrs_in d) here in subst (Source d) r.2 (of_header r.0 r.1)
+    elim (Contains-append_cases (map header_fact (cvrs_in d)) (flat_map snapshots_of (cvrs_in d)) f
+    a) [
+      | inl here ↦ let r =
+          from_map header_fact f (cvrs_in d) here in subst (Source d) r.2 (of_header r.0 r.1)
       | inr there ↦
           let c = from_flat snapshots_of f (cvrs_in d) there in
           let s = from_map (snapshot_fact c.0) f (snapshots_in c.0) c.2 in
@@ -67,7 +85,8 @@ record_source d f a =
 told_source : (d : Data) (f : Fact) → Contains (by_kind d) f → Source d f
 told_source d f a =
     elim (Contains-append_cases (map device_fact (devices_in d)) (of_records d) f a) [
-      | inl here ↦ let r = from_map device_fact f (devices_in d) here in subst (Source d) r.2 (of_device r.0 r.1)
+      | inl here ↦ let r =
+          from_map device_fact f (devices_in d) here in subst (Source d) r.2 (of_device r.0 r.1)
       | inr there ↦ record_source d f there
     ]
 
@@ -81,14 +100,18 @@ of_record d f a = Contains-append_right (map device_fact (devices_in d)) (of_rec
 
 told : (d : Data) (f : Fact) → Source d f → Contains (by_kind d) f
 told d _ (of_device e a) =
-    Contains-append_left (map device_fact (devices_in d)) (of_records d) (device_fact e) (in_map device_fact e (devices_in d) a)
+    Contains-append_left (map device_fact (devices_in d)) (of_records d) (device_fact e)
+    (in_map device_fact e (devices_in d) a)
 told d _ (of_header c a) =
     of_record d (header_fact c)
-    (Contains-append_left (map header_fact (cvrs_in d)) (flat_map snapshots_of (cvrs_in d)) (header_fact c) (in_map header_fact c (cvrs_in d) a))
+    (Contains-append_left (map header_fact (cvrs_in d)) (flat_map snapshots_of (cvrs_in d))
+    (header_fact c) (in_map header_fact c (cvrs_in d) a))
 told d _ (of_snapshot c s a b) =
     of_record d (snapshot_fact c s)
-    (Contains-append_right (map header_fact (cvrs_in d)) (flat_map snapshots_of (cvrs_in d)) (snapshot_fact c s)
-    (in_flat snapshots_of c (snapshot_fact c s) (cvrs_in d) a (in_map (snapshot_fact c) s (snapshots_in c) b)))
+    (Contains-append_right (map header_fact (cvrs_in d)) (flat_map snapshots_of (cvrs_in d))
+    (snapshot_fact c s)
+    (in_flat snapshots_of c (snapshot_fact c s) (cvrs_in d) a
+    (in_map (snapshot_fact c) s (snapshots_in c) b)))
 
 same_facts : (d : Data) → from_list {R = fact_cmp} (by_kind d) ≡ from_list (report_facts d)
 same_facts d =

@@ -20,18 +20,20 @@ use Rattle.cvr_fact_types.specs.Facts.{Fact, Device, Header, Snapshot, fact_cmp}
 use Rattle.cvr_fact_types.specs.Orders.{device_cmp, header_cmp, snapshot_cmp}
 use Rattle.cvr_facts.specs.Sums.{sums_in}
 
--- ---- what a report tells
+-- ---- what a report says
 
 abbrev pub record_name : Cvr → RecordName
 record_name cvr = record { device = cvr.device; unique = cvr.unique }
 
+-- the device, the header and the snapshot of a typed report, as facts with their fields
 abbrev pub told_device : ReportingDevice → DeviceFact
 told_device device = record { id = device.id; body = device.body }
 
 abbrev pub told_header : Cvr → HeaderFact
-told_header cvr = record { key = record_name cvr; unit = cvr.unit; batch = cvr.batch; body = cvr.body }
+told_header cvr =
+    record { key = record_name cvr; unit = cvr.unit; batch = cvr.batch; body = cvr.body }
 
--- a snapshot of the record of a name
+-- a snapshot of the record with this name
 abbrev pub told_under : List Contest → RecordName → ReportSnapshot → SnapshotFact
 told_under contests key snapshot = record {
   key = key;
@@ -59,9 +61,12 @@ fact_of_header h = Header h.key.device h.key.unique h.body
 abbrev pub fact_of_snapshot : SnapshotFact → Fact
 fact_of_snapshot s = Snapshot s.key.device s.key.unique s.id s.body
 
+-- the facts that lists of devices, headers and snapshots stand for
 abbrev pub facts_in : FactList → List Fact
-facts_in list = map fact_of_device list.devices ++ (map fact_of_header list.headers ++ map fact_of_snapshot list.snapshots)
+facts_in list = map fact_of_device list.devices
+    ++ (map fact_of_header list.headers ++ map fact_of_snapshot list.snapshots)
 
+-- the facts that a typed report gives: of each device, each record and each snapshot
 abbrev pub told_facts : List Contest → Report → List Fact
 told_facts contests report =
     map (λ device. fact_of_device (told_device device)) report.devices
@@ -76,13 +81,16 @@ pub record ListsRise (list : FactList) : Type 0 where
   pub headers : IsStrictlySortedBy header_cmp list.headers
   pub snapshots : IsStrictlySortedBy snapshot_cmp list.snapshots
 
--- each is what the report tells
+-- each is what the report says
 pub record AreFactsOf (contests : List Contest) (report : Report) (list : FactList) : Type 0 where
-  pub devices : (d : DeviceFact) → Contains list.devices d → Contains (map told_device report.devices) d
-  pub headers : (h : HeaderFact) → Contains list.headers h → Contains (map told_header report.cvrs) h
-  pub snapshots : (s : SnapshotFact) → Contains list.snapshots s → Contains (flat_map (told_snapshots contests) report.cvrs) s
+  pub devices : (d : DeviceFact) → Contains list.devices d
+      → Contains (map told_device report.devices) d
+  pub headers : (h : HeaderFact) → Contains list.headers h
+      → Contains (map told_header report.cvrs) h
+  pub snapshots : (s : SnapshotFact) → Contains list.snapshots s
+      → Contains (flat_map (told_snapshots contests) report.cvrs) s
 
--- the list has the facts of the report, and each is what it tells
+-- the list has the facts of the report, and each is what the report says
 pub record HasFactsOf (contests : List Contest) (report : Report) (list : FactList) : Type 0 where
   pub facts : from_list {R = fact_cmp} (facts_in list) ≡ from_list (told_facts contests report)
   pub told : AreFactsOf contests report list
@@ -90,7 +98,8 @@ pub record HasFactsOf (contests : List Contest) (report : Report) (list : FactLi
 -- ---- records one by one
 
 -- the headers of these records, and their snapshots
-pub record AreOfRecords (contests : List Contest) (cvrs : List Cvr) (records : KeptFacts) : Type 0 where
+pub record AreOfRecords (contests : List Contest) (cvrs : List Cvr)
+    (records : KeptFacts) : Type 0 where
   pub headers : records.headers.items ≡ map told_header cvrs
   pub snapshots : records.snapshots.items ≡ flat_map (told_snapshots contests) cvrs
 
@@ -102,7 +111,8 @@ pub record IsReportOf (frame : Frame) (bytes : List ℕ) (report : Report) : Typ
   pub report_is : report ≡ report_in frame.contests bytes
 
 -- the devices of the report of such a file, and the facts that are kept of its records
-pub record IsKeptOf (frame : Frame) (bytes : List ℕ) (devices : List ReportingDevice) (kept : KeptFacts) : Type 0 where
+pub record IsKeptOf (frame : Frame) (bytes : List ℕ) (devices : List ReportingDevice)
+    (kept : KeptFacts) : Type 0 where
   pub accepted : first_refusal frame bytes ≡ None
   pub devices_are : devices ≡ (report_in frame.contests bytes).devices
   pub records : AreOfRecords frame.contests (report_in frame.contests bytes).cvrs kept

@@ -9,6 +9,6 @@ abbrev pub keys_of : {K : Type 0} (R : K → K → Ordering) → List K → FinM
 keys_of R [] = map.empty
 keys_of R (k ∷ ks) = map.insert (keys_of R ks) k tt
 
--- those keys, rising
-abbrev pub ordered : {K : Type 0} → (K → K → Ordering) → List K → List K
-ordered R ks = map.keys (keys_of R ks)
+-- the members of a list, each once, rising in the order
+abbrev pub keys_in_order : {K : Type 0} → (K → K → Ordering) → List K → List K
+keys_in_order R ks = map.keys (keys_of R ks)

@@ -1,4 +1,5 @@
--- Where in a file a fact comes from, and which facts the bodies of a record are. (This project's own.)
+-- Where in a file a fact comes from, and which facts the bodies of a record are. (This project's
+-- own.)
 use Rattle.std.specs.Prelude.{◌≡◌, ◌↔◌, ℕ, List, true, codes}
 use Rattle.std.specs.List.{Contains}
 use Rattle.std.specs.Cmp.{IsTotalOrder}
@@ -14,6 +15,7 @@ use Rattle.cvr_facts.specs.Choosing.{choice_cmp, header_bodies, snapshot_bodies}
 
 -- ---- facts of a file
 
+-- the ReportingDevices and the CVRs of a report, and the CVRSnapshots of a CVR
 abbrev pub devices_in : Data → List Data
 devices_in d = array_at (codes "ReportingDevice") d
 
@@ -27,24 +29,29 @@ snapshots_in c = array_at (codes "CVRSnapshot") c
 pub data Source (d : Data) : Fact → Type 0 where
   of_device : (e : Data) → Contains (devices_in d) e → Source d (device_fact e)
   of_header : (c : Data) → Contains (cvrs_in d) c → Source d (header_fact c)
-  of_snapshot : (c s : Data) → Contains (cvrs_in d) c → Contains (snapshots_in c) s → Source d (snapshot_fact c s)
+  of_snapshot : (c s : Data) → Contains (cvrs_in d) c → Contains (snapshots_in c) s
+      → Source d (snapshot_fact c s)
 
 -- each fact of a file comes from one of these
 abbrev pub FactSourceLaw : Type 0
-FactSourceLaw = (bytes : List ℕ) (f : Fact) → contains (facts bytes) f ≡ true → Source (value_in bytes) f
+FactSourceLaw = (bytes : List ℕ) (f : Fact) → contains (facts bytes) f ≡ true
+    → Source (value_in bytes) f
 
 -- and each of these gives one
 abbrev pub DeviceListedLaw : Type 0
-DeviceListedLaw = (d e : Data) → Contains (devices_in d) e → Contains (report_facts d) (device_fact e)
+DeviceListedLaw = (d e : Data) → Contains (devices_in d) e
+    → Contains (report_facts d) (device_fact e)
 
 abbrev pub HeaderListedLaw : Type 0
 HeaderListedLaw = (d c : Data) → Contains (cvrs_in d) c → Contains (report_facts d) (header_fact c)
 
 abbrev pub SnapshotListedLaw : Type 0
-SnapshotListedLaw = (d c s : Data) → Contains (cvrs_in d) c → Contains (snapshots_in c) s → Contains (report_facts d) (snapshot_fact c s)
+SnapshotListedLaw = (d c s : Data) → Contains (cvrs_in d) c → Contains (snapshots_in c) s
+    → Contains (report_facts d) (snapshot_fact c s)
 
 abbrev pub FactHeldLaw : Type 0
-FactHeldLaw = (bytes : List ℕ) (f : Fact) → Contains (report_facts (value_in bytes)) f → contains (facts bytes) f ≡ true
+FactHeldLaw = (bytes : List ℕ) (f : Fact) → Contains (report_facts (value_in bytes)) f
+    → contains (facts bytes) f ≡ true
 
 -- ---- bodies of a record
 
@@ -54,12 +61,14 @@ SetItemsLaw = (s : Facts) (f : Fact) → (contains s f ≡ true) ↔ Contains (i
 
 -- a record's header bodies are those of its facts of a header
 abbrev pub HeaderBodiesLaw : Type 0
-HeaderBodiesLaw = (s : Facts) (key : RecordName) (b : List ℕ) → Contains (header_bodies s key) b ↔ (contains s (Header key.device key.unique b) ≡ true)
+HeaderBodiesLaw = (s : Facts) (key : RecordName) (b : List ℕ)
+    → Contains (header_bodies s key) b ↔ (contains s (Header key.device key.unique b) ≡ true)
 
 -- and its snapshots' bodies those of its facts of a snapshot
 abbrev pub SnapshotBodiesLaw : Type 0
 SnapshotBodiesLaw = (s : Facts) (key : RecordName) (b : List ℕ)
-    → Contains (snapshot_bodies s key) b ↔ ((id : List ℕ) × (contains s (Snapshot key.device key.unique id b) ≡ true))
+    → Contains (snapshot_bodies s key) b
+    ↔ ((id : List ℕ) × (contains s (Snapshot key.device key.unique id b) ≡ true))
 
 -- ---- orders of texts and of bodies
 

@@ -1,4 +1,5 @@
--- What a fact of an accepted file keeps: its fields are those that its body spells, and its body would stand in a written report. (This project's own.)
+-- What a fact of an accepted file keeps: its fields are those that its body spells, and its body
+-- would stand in a written report. (This project's own.)
 use Rattle.std.specs.Prelude.{◌≡◌, ℕ, List, true, Some, codes, ⊤}
 use Rattle.std.specs.List.{Contains}
 use Rattle.std.specs.FinSet.{contains}
@@ -20,6 +21,7 @@ use Rattle.cvr_facts.specs.Sums.{sums_in}
 
 -- ---- fields by their bodies
 
+-- the fields of a device fact (header fact, snapshot fact) are those that its body spells
 pub record IsSpelledDevice (d : DeviceFact) : Type 0 where
   pub id : d.id ≡ id_of (data_of d.body)
 
@@ -36,6 +38,7 @@ pub record IsSpelledSnapshot (contests : List Contest) (s : SnapshotFact) : Type
   pub moment : s.moment ≡ moment_of (data_of s.body)
   pub votes : s.votes ≡ sums_in contests (snapshot_of contests (data_of s.body)).contests
 
+-- so it is with each fact of a list
 pub record ListIsSpelled (contests : List Contest) (list : FactList) : Type 0 where
   pub devices : (d : DeviceFact) → Contains list.devices d → IsSpelledDevice d
   pub headers : (h : HeaderFact) → Contains list.headers h → IsSpelledHeader h
@@ -50,18 +53,21 @@ Spells body d = (body ≡ compact_text d) × (read body ≡ Some d)
 -- its body would stand in a report, where references name objects of the scope
 abbrev pub Stands : Scope → Fact → Type 0
 Stands scope (Device id body) = (d : Data) × Spells body d × DeviceStands id d
-Stands scope (Header device unique body) = (d : Data) × Spells body d × HeaderStands scope device unique d
-Stands scope (Snapshot device unique id body) = (d : Data) × Spells body d × SnapshotStands scope id d
+Stands scope (Header device unique body) = (d : Data) × Spells body d
+    × HeaderStands scope device unique d
+Stands scope (Snapshot device unique id body) = (d : Data) × Spells body d
+    × SnapshotStands scope id d
 
 -- ---- records
 
 -- among the facts are a header of the record, a snapshot of it and its device
 pub record HasRecord (held : Facts) (device unique : List ℕ) : Type 0 where
   pub header : (body : List ℕ) × (contains held (Header device unique body) ≡ true)
-  pub snapshot : (id : List ℕ) × (body : List ℕ) × (contains held (Snapshot device unique id body) ≡ true)
+  pub snapshot : (id : List ℕ) × (body : List ℕ)
+      × (contains held (Snapshot device unique id body) ≡ true)
   pub creator : (body : List ℕ) × (contains held (Device device body) ≡ true)
 
--- so it is with the record that a fact is of, if it is of one
+-- so it is with the record that a fact belongs to, if it belongs to one
 abbrev pub IsOfRecord : Facts → Fact → Type 0
 IsOfRecord held (Device id body) = ⊤
 IsOfRecord held (Header device unique body) = HasRecord held device unique

@@ -1,4 +1,6 @@
--- The sums of a snapshot: for each of its contests the votes that count, are pending or name no selection. (NIST SP 1500-103, classes CVRContest, CVRContestSelection and SelectionPosition; which positions count is this project's own.)
+-- The sums of a snapshot: for each of its contests the votes that count, are pending or name no
+-- selection. (NIST SP 1500-103, classes CVRContest, CVRContestSelection and SelectionPosition;
+-- which positions count is this project's own.)
 use Rattle.std.specs.Prelude.{◌<◌, ◌==◌, ℕ, List, map, length, Bool, true, false, ◌&&◌, is_none}
 use Rattle.std.specs.List.{filter, flat_map, range_with_len, sum_by, Contains, IsDistinct}
 use Rattle.std.specs.Option.{option_map_or}
@@ -67,9 +69,11 @@ places_of xs = range_with_len 0 (length xs)
 abbrev pub votes_for : ℕ → ContestVote → ℕ
 votes_for place vote = sum_by (votes_of counts) (filter (names_place place) vote.selections)
 
+-- the counting votes of those contest selections that name no selection
 abbrev pub unassigned_in : ContestVote → ℕ
 unassigned_in vote = sum_by (votes_of counts) (filter names_none vote.selections)
 
+-- the votes of pending positions, of all contest selections
 abbrev pub pending_in : ContestVote → ℕ
 pending_in vote = sum_by (votes_of is_pending) vote.selections
 
@@ -89,7 +93,8 @@ sums_of contests vote = record {
 
 -- a snapshot's contests, in order of their places in the definition
 abbrev pub by_place : List Contest → List ContestVote → List ContestVote
-by_place contests votes = flat_map (λ place. filter (λ vote. vote.contest == place) votes) (places_of contests)
+by_place contests votes =
+    flat_map (λ place. filter (λ vote. vote.contest == place) votes) (places_of contests)
 
 -- their sums
 abbrev pub sums_in : List Contest → List ContestVote → List VoteSums
@@ -102,10 +107,11 @@ pub record AreInRange (contests : List Contest) (votes : List ContestVote) : Typ
 
 -- ---- bounds
 
--- the most that a sum can be: 65,536 selections with 64 positions of 4,294,967,295 votes stay below it
+-- the most that a sum can be: 65,536 selections with 64 positions of 4,294,967,295 votes stay below
+-- it
 abbrev pub sum_limit : ℕ
 sum_limit = 18_014_398_509_481_984
 
--- in each column they are below this limit
+-- the sums are below this limit in each column
 abbrev pub AreBelow : ℕ → VoteSums → Type 0
 AreBelow limit sums = (column : Column) → worth column sums < limit

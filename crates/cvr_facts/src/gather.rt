@@ -23,6 +23,8 @@ use std::alloc::Global;
 /// reporting device, of each cast vote record and of each of its snapshots, with the sums of its
 /// contests (NIST SP 1500-103, class CastVoteRecordReport).
 ///
+/// That the report is in range is what `check_report` ensures (`range`).
+///
 /// # Errors
 /// `Memory` where a growth was refused.
 pub fn facts_of(alloc: Global, definition: &Definition, report: &Report) -> Result<FactList, Memory>

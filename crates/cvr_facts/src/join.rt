@@ -4,7 +4,11 @@ ghost use Rattle.cvr_facts.specs.Sets.{JoinLaws};
 use cdf_types::Memory;
 
 /// What holds a set and takes in the members of another. Contracts may see more of it than that
-/// set, as a list in order: of joining they are told the set.
+/// set, such as a list in order; of joining they say only the set.
+///
+/// Each brings the proof (`laws`) that joining is commutative, associative and idempotent, and that
+/// to join nothing changes nothing. What becomes of what a type shows beside the set, the type says
+/// itself.
 pub trait Join {
     ghost Set: { Type 0 };
 
@@ -30,6 +34,8 @@ pub trait Join {
 }
 
 /// Takes in the members of two others.
+///
+/// Both are joined in by these laws alone.
 ///
 /// # Errors
 /// `Memory` where a growth was refused; the set then holds what it held, or that and the first's.

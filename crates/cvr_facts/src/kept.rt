@@ -103,7 +103,7 @@ fn header_in(alloc: Global, cvr: &Node<'_>) -> Result<HeaderFact, Memory>
     })
 }
 
-// A snapshot of the record of a name, straight from its value.
+// A snapshot of the record with this name, straight from its value.
 fn snapshot_in(
     alloc: Global,
     contests: &Contests,

@@ -15,7 +15,7 @@ ghost use Rattle.cvr_facts.specs.Sources.{BodiesAreExact};
 
 use cvr_fact_types::{DeviceFact, RecordName};
 
-/// To join facts is commutative, associative and idempotent, and to join nothing changes nothing.
+/// Joining facts is commutative, associative and idempotent, and joining nothing changes nothing.
 pub fn joining()
     ensures { JoiningLaw }
 {}

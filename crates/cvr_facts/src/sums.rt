@@ -1,4 +1,4 @@
-ghost use Rattle.std.specs.Prelude.{◌≡◌, ◌<◌, IfOk, cond, map};
+ghost use Rattle.std.specs.Prelude.{◌≡◌, ◌<◌, IfOk, if◌then◌else◌, map};
 ghost use Rattle.std.specs.List.{sum_by};
 ghost use Rattle.cdf_typed.specs.Range.{ContestInRange};
 ghost use Rattle.cvr_facts.specs.Sums.{counts, is_pending, votes_among, sums_of, sums_in};
@@ -29,7 +29,7 @@ fn is_pending(position: &Position) -> bool
 
 // The votes of a position where they are of a sort, else 0.
 fn votes_where(is: bool, position: &Position) -> u64
-    ensures { result ≡ cond is position.now.votes 0 }
+    ensures { result ≡ if is then position.now.votes else 0 }
 {
     if is { position.votes } else { 0 }
 }

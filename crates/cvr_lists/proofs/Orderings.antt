@@ -7,7 +7,8 @@ then-Equal Less = refl
 then-Equal Equal = refl
 then-Equal Greater = refl
 
-pub then-then : (q r s : Ordering) → ordering_then (ordering_then q r) s ≡ ordering_then q (ordering_then r s)
+pub then-then : (q r s : Ordering) → ordering_then (ordering_then q r) s
+    ≡ ordering_then q (ordering_then r s)
 then-then Less r s = refl
 then-then Equal r s = refl
 then-then Greater r s = refl

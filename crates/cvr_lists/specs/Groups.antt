@@ -17,7 +17,7 @@ abbrev pub snapshot_id : AnyFact → Option (List ℕ)
 snapshot_id (any.Snapshot s) = Some s.id
 snapshot_id fact = None
 
--- how a fact's snapshot id stands to this one, where what has none stands before all
+-- how a fact's snapshot id stands to this one; a fact that has none stands before all
 abbrev pub id_order : List ℕ → AnyFact → Ordering
 id_order id fact = option_cmp text_cmp (snapshot_id fact) (Some id)
 
@@ -30,7 +30,8 @@ ids facts = map (λ s. s.id) (snapshots facts)
 
 -- ids don't fall along the list
 abbrev pub RisesById : List AnyFact → Type 0
-RisesById facts = IsSortedBy (λ x y. is_lt (option_cmp text_cmp (snapshot_id x) (snapshot_id y))) facts
+RisesById facts =
+    IsSortedBy (λ x y. is_lt (option_cmp text_cmp (snapshot_id x) (snapshot_id y))) facts
 
 -- the same snapshots, falling by the order of choosing
 pub record IsFalling (given found : List SnapshotFact) : Type 0 where
@@ -42,4 +43,5 @@ pub record IsFalling (given found : List SnapshotFact) : Type 0 where
 -- the ids of a run, each with its snapshots
 pub record AreGrouped (run : List AnyFact) (groups : List IdFacts) : Type 0 where
   pub ids_are : map (λ i. i.id.now) groups ≡ dedup bytes_eq (ids run)
-  pub each : (i : IdFacts) → Contains groups i → IsFalling (snapshots (with_id i.id.now run)) (map (λ s. s.now) i.snapshots.items)
+  pub each : (i : IdFacts) → Contains groups i
+      → IsFalling (snapshots (with_id i.id.now run)) (map (λ s. s.now) i.snapshots.items)

@@ -11,14 +11,15 @@ use Rattle.cvr_lists.specs.AnyNames.{any_name, has_name}
 abbrev pub runs_from : ConflictName → ℕ → List AnyFact → List Conflict
 runs_from n bodies [] = record { name = n; bodies = bodies } ∷ []
 runs_from n bodies (fact ∷ facts) =
-    if has_name n fact then runs_from n (suc bodies) facts else record { name = n; bodies = bodies } ∷ runs_from (any_name fact) 1 facts
+    if has_name n fact then runs_from n (suc bodies) facts
+    else record { name = n; bodies = bodies } ∷ runs_from (any_name fact) 1 facts
 
 -- each name with how many facts stand there under it
 abbrev pub counted_runs : List AnyFact → List Conflict
 counted_runs [] = []
 counted_runs (fact ∷ facts) = runs_from (any_name fact) 1 facts
 
--- those of the runs that have at least two
+-- those of the runs that have at least two facts
 abbrev pub of_several : List Conflict → List Conflict
 of_several cs = filter (λ c. nat_le 2 c.bodies) cs
 

@@ -46,7 +46,7 @@ pub fn greatest_count_in(facts: &[AnyFact]) -> usize
     greatest
 }
 
-// How many facts in front have the name of the given one.
+// How many facts at the front have the name of the given one.
 fn run_len(first: &AnyFact, facts: &[AnyFact]) -> usize
     ensures count { result ≡ prefix_len (has_name (any_name first.now)) facts.now }
     ensures within { result ≤ length facts.now }

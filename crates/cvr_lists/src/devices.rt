@@ -5,7 +5,7 @@ ghost use Rattle.std.specs.List.Sorted.{IsStrictlySortedBy};
 ghost use Rattle.cvr_fact_types.specs.Facts.{text_cmp};
 ghost use Rattle.cvr_office.specs.Names.{body_of, bodies_under, count_under, device_in, devices};
 ghost use Rattle.cvr_office.specs.declared.conflict.ConflictName.TheVariants as name;
-ghost use Rattle.cvr_office.specs.Readers.{next, numbered, device_list};
+ghost use Rattle.cvr_office.specs.Readers.{next, nth_from_one, device_list};
 ghost use Rattle.cvr_office.specs.Place.{fact_of, any_cmp};
 ghost use Rattle.cvr_office.specs.Plain.{set_of};
 
@@ -33,7 +33,8 @@ pub fn device_count_in(facts: &[AnyFact], id: &str) -> usize
 // Body number `k` of the device with this id, from 1, greatest first. Takes no memory.
 pub fn device_body_in<'a>(facts: &'a [AnyFact], id: &str, k: usize) -> Option<&'a Body>
     requires { IsStrictlySortedBy any_cmp facts.now }
-    ensures { option_map (λ b. b.now) result ≡ numbered (device_list (set_of facts.now) id.now) k }
+    ensures { option_map (λ b. b.now) result
+        ≡ nth_from_one (device_list (set_of facts.now) id.now) k }
 {
     let bodies = devices_under(facts, id);
     let place = bodies.len().checked_sub(k)?;

@@ -7,7 +7,7 @@ ghost use Rattle.cvr_lists.specs.ListLaws.{ConflictRunsLaw, GreatestRunLaw};
 ghost use Rattle.cvr_lists.specs.SumLaws.{CurrentSumsLaw, SnapshotSumsLaw, SumsAtLaw, RowMoreLaw};
 ghost use Rattle.cvr_lists.specs.SumLaws.{AddedLaw, NoHeaderLaw, NoCurrentLaw};
 
-/// Lists with one set tell the same facts. A list grows by the facts that were not in it, and what
+/// Lists with one set hold the same facts. A list grows by the facts that were not in it, and what
 /// is spelled stays so.
 pub fn putting()
     ensures same { SameListsLaw }

@@ -32,7 +32,7 @@ pub fn put_in(facts: &mut Vec<AnyFact>, more: Vec<AnyFact>) -> Result<usize, Mem
 }
 
 // Puts facts behind those of a list. An empty list becomes theirs, with no more room than they
-// have: most records are told once, so that room for others would mostly stay unused.
+// have: most records come once, so that room for others would mostly stay unused.
 fn put_behind(facts: &mut Vec<AnyFact>, mut more: Vec<AnyFact>) -> Result<(), Memory>
     ensures items { OnOk result (facts.new.items ≡ facts.old.items ++ more.items) }
     ensures unchanged { OnErr result (facts.new.items ≡ facts.old.items) }

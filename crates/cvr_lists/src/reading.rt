@@ -14,8 +14,8 @@ use cvr_facts::{FactList, Facts, facts_of_kept};
 use std::alloc::Global;
 
 /// The number of cast vote records of a file that is accepted beside a definition, and its facts,
-/// as `facts_of` gives them of its report. They are made as the file is read, and no typed record
-/// of it.
+/// as `facts_of` gives them of its report. They are made as the file is read, without a typed
+/// record of it.
 ///
 /// # Errors
 /// As `check_report`.

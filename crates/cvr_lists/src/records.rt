@@ -13,7 +13,7 @@ ghost use Rattle.cvr_office.specs.Place.{fact_of, any_cmp};
 ghost use Rattle.cvr_office.specs.Plain.{set_of};
 ghost use Rattle.cvr_office.specs.Readers.{next, IsHeader, IsCurrent};
 ghost use Rattle.cvr_office.specs.Runs.{record_order, is_of, first_record, run, headers, snapshots};
-ghost use Rattle.cvr_office.specs.Runs.{chosen, IsChosen, AreSpelled};
+ghost use Rattle.cvr_office.specs.Runs.{chosen_snapshot, IsChosen, AreSpelled};
 
 use cdf_types::Memory;
 use cvr_facts::{HeaderFact, RecordName, SnapshotFact, choice_cmp};
@@ -171,7 +171,7 @@ fn greatest_snapshot(run: &[AnyFact]) -> Option<&SnapshotFact>
 
 // The greater of two snapshots, or the only one.
 fn greater<'a>(one: Option<&'a SnapshotFact>, other: &'a SnapshotFact) -> &'a SnapshotFact
-    ensures { result.now ≡ chosen (option_map (λ s. s.now) one.entry) other.now }
+    ensures { result.now ≡ chosen_snapshot (option_map (λ s. s.now) one.entry) other.now }
 {
     match one {
         Some(one) if choice_cmp(one, other).is_gt() => one,

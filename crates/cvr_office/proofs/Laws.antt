@@ -1,4 +1,5 @@
--- What proofs of other crates may cite: each is a clause of one of this crate's functions, which has the statement.
+-- What proofs of other crates may cite: each is a clause of one of this crate's functions, which
+-- has the statement.
 pub use Rattle.cvr_office.proofs.AnsweredAlike.{answer_alike}
 pub use Rattle.cvr_office.proofs.Included.{device_known, includes, known_device}
 pub use Rattle.cvr_office.proofs.Keeping.{import_keeps, join_keeps}

@@ -8,6 +8,8 @@ use Rattle.cvr_office.proofs.Rising.{set_is, len-union}
 
 pub growth_adds : GrowthLaw
 growth_adds s t =
-    let same = set_is fact_total fact_exact (items t) t (λ f. (contains_iff t f).1) (λ f. (contains_iff t f).0) in
-    let le : len s ≤ len (union s t) = subst (λ u. len s ≤ len (union s u)) same (len-union fact_total fact_exact s (items t)) in
+    let same = set_is fact_total fact_exact (items t) t (λ f. (contains_iff t f).1)
+    (λ f. (contains_iff t f).0) in
+    let le : len s ≤ len (union s t) =
+    subst (λ u. len s ≤ len (union s u)) same (len-union fact_total fact_exact s (items t)) in
     omega (arith, le)

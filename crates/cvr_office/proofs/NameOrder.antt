@@ -1,5 +1,6 @@
 -- The order of facts is that of their names, ties by body.
-use Rattle.std.proofs.Common.{◌≡◌, ℕ, List, [], ◌∷◌, Ordering, Less, Equal, Greater, inl, inr, refl, sym, ap, ◌∙◌}
+use Rattle.std.proofs.Common.{◌≡◌, ℕ, List, [], ◌∷◌, Ordering, Less, Equal, Greater, inl, inr, refl}
+use Rattle.std.proofs.Common.{sym, ap, ◌∙◌}
 use Rattle.std.specs.Prelude.{◌⊎◌, Bool, true, false, ◌&&◌, bytes_eq}
 use Rattle.std.specs.Ordering.{ordering_then}
 use Rattle.std.specs.Cmp.{IsTotalOrder, tied_itself}
@@ -35,11 +36,13 @@ keyed-name_key (name.Snapshot key i) = refl
 pub conflict_exact : IsAntisymmetric conflict_cmp
 conflict_exact n m e =
     sym (keyed-name_key n)
-    ∙ (ap keyed (slice_cmp-IsAntisymmetric (slice_cmp-IsAntisymmetric nat_cmp-IsAntisymmetric) (name_key n) (name_key m) e) ∙ keyed-name_key m)
+    ∙ (ap keyed (slice_cmp-IsAntisymmetric (slice_cmp-IsAntisymmetric nat_cmp-IsAntisymmetric)
+    (name_key n) (name_key m) e) ∙ keyed-name_key m)
 
 pub not_below : (n m : ConflictName) → conflict_cmp n m ≡ Less → n ≡ m → ⊥
 not_below n m less is =
-    let both : Less ≡ Equal = sym less ∙ (ap (conflict_cmp n) (sym is) ∙ tied_itself conflict_total n) in
+    let both : Less ≡ Equal =
+    sym less ∙ (ap (conflict_cmp n) (sym is) ∙ tied_itself conflict_total n) in
     cc
 
 -- ---- a fact has its name alone
@@ -54,7 +57,8 @@ join true true a b = refl
 join true false a b = Prim.cc b
 join false t a b = Prim.cc a
 
-record_is : (key : RecordName) (d u : List ℕ) → is_name key d u ≡ true → key ≡ record { device = d; unique = u }
+record_is : (key : RecordName) (d u : List ℕ) → is_name key d u ≡ true
+    → key ≡ record { device = d; unique = u }
 record_is key d u e =
     let parts = split (bytes_eq key.device d) (bytes_eq key.unique u) e in
     let device = (bytes_eq-Decides key.device d).0 parts.0 in
@@ -86,48 +90,57 @@ name_is (name.Snapshot key id) (Snapshot d u i b) e =
 
 -- ---- facts by name, then by body
 
-then_one : (i b : Ordering) → ordering_then i (ordering_then b Equal) ≡ ordering_then (ordering_then i Equal) b
+then_one : (i b : Ordering) → ordering_then i (ordering_then b Equal)
+    ≡ ordering_then (ordering_then i Equal) b
 then_one Less b = refl
 then_one Equal Less = refl
 then_one Equal Equal = refl
 then_one Equal Greater = refl
 then_one Greater b = refl
 
-then_two : (d u b : Ordering) → ordering_then d (ordering_then u (ordering_then b Equal)) ≡ ordering_then (ordering_then d (ordering_then u Equal)) b
+then_two : (d u b : Ordering) → ordering_then d (ordering_then u (ordering_then b Equal))
+    ≡ ordering_then (ordering_then d (ordering_then u Equal)) b
 then_two Less u b = refl
 then_two Equal u b = then_one u b
 then_two Greater u b = refl
 
 then_three : (d u i b : Ordering)
-    → ordering_then d (ordering_then u (ordering_then i (ordering_then b Equal))) ≡ ordering_then (ordering_then d (ordering_then u (ordering_then i Equal))) b
+    → ordering_then d (ordering_then u (ordering_then i (ordering_then b Equal)))
+    ≡ ordering_then (ordering_then d (ordering_then u (ordering_then i Equal))) b
 then_three Less u i b = refl
 then_three Equal u i b = then_two u i b
 then_three Greater u i b = refl
 
-then_less : (d u b : Ordering) → ordering_then d (ordering_then u Less) ≡ ordering_then (ordering_then d (ordering_then u Less)) b
+then_less : (d u b : Ordering) → ordering_then d (ordering_then u Less)
+    ≡ ordering_then (ordering_then d (ordering_then u Less)) b
 then_less Less u b = refl
 then_less Equal Less b = refl
 then_less Equal Equal b = refl
 then_less Equal Greater b = refl
 then_less Greater u b = refl
 
-then_greater : (d u b : Ordering) → ordering_then d (ordering_then u Greater) ≡ ordering_then (ordering_then d (ordering_then u Greater)) b
+then_greater : (d u b : Ordering) → ordering_then d (ordering_then u Greater)
+    ≡ ordering_then (ordering_then d (ordering_then u Greater)) b
 then_greater Less u b = refl
 then_greater Equal Less b = refl
 then_greater Equal Equal b = refl
 then_greater Equal Greater b = refl
 then_greater Greater u b = refl
 
-place_cmp-is : (f g : Fact) → place_cmp f g ≡ ordering_then (conflict_cmp (name_of f) (name_of g)) (text_cmp (body_of f) (body_of g))
+place_cmp-is : (f g : Fact) → place_cmp f g
+    ≡ ordering_then (conflict_cmp (name_of f) (name_of g)) (text_cmp (body_of f) (body_of g))
 place_cmp-is (Device i b) (Device j c) = then_one (text_cmp i j) (text_cmp b c)
 place_cmp-is (Device i b) (Header e v c) = refl
 place_cmp-is (Device i b) (Snapshot e v j c) = refl
 place_cmp-is (Header d u b) (Device j c) = refl
 place_cmp-is (Header d u b) (Header e v c) = then_two (text_cmp d e) (text_cmp u v) (text_cmp b c)
-place_cmp-is (Header d u b) (Snapshot e v j c) = then_less (text_cmp d e) (text_cmp u v) (text_cmp b c)
+place_cmp-is (Header d u b) (Snapshot e v j c) =
+    then_less (text_cmp d e) (text_cmp u v) (text_cmp b c)
 place_cmp-is (Snapshot d u i b) (Device j c) = refl
-place_cmp-is (Snapshot d u i b) (Header e v c) = then_greater (text_cmp d e) (text_cmp u v) (text_cmp b c)
-place_cmp-is (Snapshot d u i b) (Snapshot e v j c) = then_three (text_cmp d e) (text_cmp u v) (text_cmp i j) (text_cmp b c)
+place_cmp-is (Snapshot d u i b) (Header e v c) =
+    then_greater (text_cmp d e) (text_cmp u v) (text_cmp b c)
+place_cmp-is (Snapshot d u i b) (Snapshot e v j c) =
+    then_three (text_cmp d e) (text_cmp u v) (text_cmp i j) (text_cmp b c)
 
 -- one name is the other or below it
 abbrev pub Reaches : ConflictName → ConflictName → Type 0
@@ -140,13 +153,17 @@ first_less Greater b e = Prim.cc e
 
 pub names_reach : (f g : Fact) → place_cmp f g ≡ Less → Reaches (name_of f) (name_of g)
 names_reach f g e =
-    elim (first_less (conflict_cmp (name_of f) (name_of g)) (text_cmp (body_of f) (body_of g)) (sym (place_cmp-is f g) ∙ e)) [
+    elim (first_less (conflict_cmp (name_of f) (name_of g)) (text_cmp (body_of f) (body_of g))
+    (sym (place_cmp-is f g) ∙ e)) [
       | inl tie ↦ inl (conflict_exact (name_of f) (name_of g) tie)
       | inr less ↦ inr less
     ]
 
 -- under one name bodies rise
-pub bodies_less : (f g : Fact) → name_of f ≡ name_of g → place_cmp f g ≡ Less → text_cmp (body_of f) (body_of g) ≡ Less
+pub bodies_less : (f g : Fact) → name_of f ≡ name_of g → place_cmp f g ≡ Less
+    → text_cmp (body_of f) (body_of g) ≡ Less
 bodies_less f g same e =
-    let tie : conflict_cmp (name_of f) (name_of g) ≡ Equal = ap (conflict_cmp (name_of f)) (sym same) ∙ tied_itself conflict_total (name_of f) in
-    ap (λ r. ordering_then r (text_cmp (body_of f) (body_of g))) (sym tie) ∙ (sym (place_cmp-is f g) ∙ e)
+    let tie : conflict_cmp (name_of f) (name_of g) ≡ Equal =
+    ap (conflict_cmp (name_of f)) (sym same) ∙ tied_itself conflict_total (name_of f) in
+    ap (λ r. ordering_then r (text_cmp (body_of f) (body_of g))) (sym tie)
+    ∙ (sym (place_cmp-is f g) ∙ e)

@@ -1,5 +1,7 @@
 -- The next name is the least above the given one.
-use Rattle.std.proofs.Common.{◌≡◌, ◌≢◌, Bool, true, false, cond, List, [], ◌∷◌, Option, Some, None, Ordering, Less, Equal, Greater, is_lt, is_gt, inl, inr, refl, sym, ap, ◌∙◌, subst, true≢false}
+use Rattle.std.proofs.Common.{◌≡◌, ◌≢◌, Bool, true, false, cond, List, [], ◌∷◌, Option, Some, None}
+use Rattle.std.proofs.Common.{Ordering, Less, Equal, Greater, is_lt, is_gt, inl, inr, refl, sym, ap}
+use Rattle.std.proofs.Common.{◌∙◌, subst, true≢false}
 use Rattle.std.specs.List.{find, filter_map}
 use Rattle.std.specs.List.Sorted.{IsStrictlySortedBy}
 use Rattle.std.specs.Ordering.{ordering_reverse}
@@ -9,8 +11,9 @@ use Rattle.std.specs.FinSet.{items}
 use Rattle.std.proofs.lemmas.Bool.{false≢true}
 use Rattle.std.proofs.lemmas.Map.Keys.{sorted_tail}
 use Rattle.cvr_fact_types.specs.Facts.{Fact, Facts}
-use Rattle.cvr_facts.specs.Ordered.{ordered}
-use Rattle.cvr_facts.proofs.Lemmas.{none_listed, at_head, at_tail, head_or_tail, ordered_rises, Contains-filter_map, from-filter_map}
+use Rattle.cvr_facts.specs.Ordered.{keys_in_order}
+use Rattle.cvr_facts.proofs.Lemmas.{none_listed, at_head, at_tail, head_or_tail, ordered_rises}
+use Rattle.cvr_facts.proofs.Lemmas.{Contains-filter_map, from-filter_map}
 use Rattle.cvr_facts.proofs.Laws.{contains_iff}
 use Rattle.cvr_office.specs.Readers.{next}
 use Rattle.cvr_office.specs.Laws.{ListedLaw, IsAbove, NextLaw, NoNextLaw}
@@ -23,7 +26,8 @@ module _ {K : Type 0} {R : K → K → Ordering} (t : IsTotalOrder R) (p : K →
   not_below : (x y : K) → R x y ≡ Less → is_lt (R y x) ≡ false
   not_below x y less = ap is_lt (t.antisymm y x) ∙ ap (λ o. is_lt (ordering_reverse o)) less
 
-  here : (x : K) (ks : List K) → IsStrictlySortedBy R (x ∷ ks) → p x ≡ true → IsFirst R p (x ∷ ks) (Some x)
+  here : (x : K) (ks : List K) → IsStrictlySortedBy R (x ∷ ks) → p x ≡ true
+      → IsFirst R p (x ∷ ks) (Some x)
   here x ks rises passes = (
     at_head x ks,
     passes,
@@ -33,8 +37,10 @@ module _ {K : Type 0} {R : K → K → Ordering} (t : IsTotalOrder R) (p : K →
     ],
   )
 
-  later : (x : K) (ks : List K) → p x ≡ false → (r : Option K) → IsFirst R p ks r → IsFirst R p (x ∷ ks) r
-  later x ks fails None none = λ k at. elim (head_or_tail x k ks at) [ inl is ↦ ap p (sym is) ∙ fails | inr rest ↦ none k rest ]
+  later : (x : K) (ks : List K) → p x ≡ false → (r : Option K) → IsFirst R p ks r
+      → IsFirst R p (x ∷ ks) r
+  later x ks fails None none = λ k at. elim (head_or_tail x k ks at)
+      [ inl is ↦ ap p (sym is) ∙ fails | inr rest ↦ none k rest ]
   later x ks fails (Some k) (at, ok, least) = (
     at_tail x k ks at,
     ok,
@@ -80,42 +86,58 @@ module _ {K : Type 0} (R : K → K → Ordering) where
 
   not_above : (after : Option K) (k : K) → ¬ IsAbove R after k → is_above R after k ≡ false
   not_above after k never =
-      elim (is_above R after k) as (λ b. is_above R after k ≡ b → b ≡ false) [ true ↦ λ is. absurd (never (above_is after k is)) | false ↦ λ _. refl ] refl
+      elim (is_above R after k) as (λ b. is_above R after k ≡ b → b ≡ false)
+      [ true ↦ λ is. absurd (never (above_is after k is)) | false ↦ λ _. refl ] refl
 
 -- ---- the laws
 
-module _ {K : Type 0} {R : K → K → Ordering} (t : IsTotalOrder R) (e : IsAntisymmetric R) (told : Fact → Option K) where
-  -- what the facts tell, in order
+module _ {K : Type 0} {R : K → K → Ordering} (t : IsTotalOrder R) (e : IsAntisymmetric R)
+    (told : Fact → Option K) where
+  -- what the facts give, in order
   abbrev list : Facts → List K
-  list s = ordered R (filter_map told (items s))
+  list s = keys_in_order R (filter_map told (items s))
 
   pub listed : ListedLaw told list
   listed s k = (
-    λ at. let f = from-filter_map told (items s) k (from_ordered t e (filter_map told (items s)) k at) in (f.0, (contains_iff s f.0).1 f.1, f.2),
-    λ h. in_ordered t e (filter_map told (items s)) k (Contains-filter_map told (items s) h.0 k ((contains_iff s h.0).0 h.1) h.2),
+    λ at. let f = from-filter_map told (items s) k
+        (from_ordered t e (filter_map told (items s)) k at) in
+        (f.0, (contains_iff s f.0).1 f.1, f.2),
+    λ h. in_ordered t e (filter_map told (items s)) k
+        (Contains-filter_map told (items s) h.0 k ((contains_iff s h.0).0 h.1) h.2),
   )
 
   rises : (s : Facts) → IsStrictlySortedBy R (list s)
   rises s = ordered_rises R (filter_map told (items s))
 
-  first_is : (s : Facts) (after r : Option K) → IsFirst R (is_above R after) (list s) r → next R (list s) after ≡ r
-  first_is s after r first = next-find R (list s) after ∙ find_is R (is_above R after) (list s) (rises s) r first
+  first_is : (s : Facts) (after r : Option K) → IsFirst R (is_above R after) (list s) r
+      → next R (list s) after ≡ r
+  first_is s after r first =
+      next-find R (list s) after ∙ find_is R (is_above R after) (list s) (rises s) r first
 
-  is_first : (s : Facts) (after r : Option K) → next R (list s) after ≡ r → IsFirst R (is_above R after) (list s) r
-  is_first s after r is = subst (IsFirst R (is_above R after) (list s)) (sym (next-find R (list s) after) ∙ is) (found_first t (is_above R after) (list s) (rises s))
+  is_first : (s : Facts) (after r : Option K) → next R (list s) after ≡ r
+      → IsFirst R (is_above R after) (list s) r
+  is_first s after r is = subst (IsFirst R (is_above R after) (list s))
+      (sym (next-find R (list s) after) ∙ is) (found_first t (is_above R after) (list s) (rises s))
 
   pub next_is_least : NextLaw R list
   next_is_least s after k = (
     λ is. let first = is_first s after (Some k) is in record {
       listed = first.0;
       above = above_is R after k first.1;
-      least = λ other at above less. true≢false (ap is_lt (sym less) ∙ first.2 other at (is_above_of R after other above));
+      least = λ other at above less. true≢false
+          (ap is_lt (sym less) ∙ first.2 other at (is_above_of R after other above));
     },
-    λ h. first_is s after (Some k) (h.listed, is_above_of R after k h.above, λ y at above. not_lt (R y k) (h.least y at (above_is R after y above))),
+    λ h. first_is s after (Some k) (
+      h.listed,
+      is_above_of R after k h.above,
+      λ y at above.
+          not_lt (R y k) (h.least y at (above_is R after y above)),
+    ),
   )
 
   pub no_next : NoNextLaw R list
   no_next s after = (
-    λ none k at above. true≢false (sym (is_above_of R after k above) ∙ is_first s after None none k at),
+    λ none k at above. true≢false (sym (is_above_of R after k above)
+        ∙ is_first s after None none k at),
     λ never. first_is s after None (λ k at. not_above R after k (never k at)),
   )

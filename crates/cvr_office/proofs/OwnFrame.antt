@@ -11,7 +11,7 @@ use Rattle.std.proofs.lemmas.Map.Views.{lookup-from_Contains}
 use Rattle.serde_json.specs.Data.{Data}
 use Rattle.serde_json.specs.Written.{compact_text}
 use Rattle.cdf_parts.specs.Parts.{array_at, id_of}
-use Rattle.cdf_definition.specs.Named.{IdText, named, ids_of, text_of}
+use Rattle.cdf_definition.specs.Named.{IdText, id_and_text, ids_of, text_of}
 use Rattle.cdf_definition.specs.Frame.{frame_of, entries_at}
 use Rattle.cdf_definition.specs.Agreement.{AreListed, Agrees}
 use Rattle.cdf_definition.specs.Acceptance.{Holds, IsReport, Valid}
@@ -19,19 +19,24 @@ use Rattle.cdf_check.specs.Laws.{IsListOf}
 use Rattle.cdf_check.proofs.Laws.{lists}
 use Rattle.cvr_facts.proofs.Lemmas.{in_map, from_map}
 
-apart : (entries : List IdText) → IsStrictlySortedBy (slice_cmp nat_cmp) (ids_of entries) → IsDistinct bytes_eq (ids_of entries)
+apart : (entries : List IdText) → IsStrictlySortedBy (slice_cmp nat_cmp) (ids_of entries)
+    → IsDistinct bytes_eq (ids_of entries)
 apart entries rises =
     subst (λ eq. IsDistinct eq (ids_of entries)) (λ i x y. is_eq-slice_cmp x y i)
     (IsDistinct-from_sorted (slice_cmp nat_cmp) (ids_of entries) rises)
 
 -- where ids rise, each entry's text is found by its id
-pub text_of-listed : (entries : List IdText) (id text : List ℕ) → IsStrictlySortedBy (slice_cmp nat_cmp) (ids_of entries)
+pub text_of-listed : (entries : List IdText) (id text : List ℕ)
+    → IsStrictlySortedBy (slice_cmp nat_cmp) (ids_of entries)
     → Contains entries (id, text) → text_of entries id ≡ Some text
-text_of-listed entries id text rises a = lookup-from_Contains nat_list_eq_equiv id text entries (apart entries rises) a
+text_of-listed entries id text rises a =
+    lookup-from_Contains nat_list_eq_equiv id text entries (apart entries rises) a
 
-own_listed : (name : List ℕ) (d : Data) → IsListOf (entries_at name d) name d → AreListed (entries_at name d) name d
+own_listed : (name : List ℕ) (d : Data) → IsListOf (entries_at name d) name d
+    → AreListed (entries_at name d) name d
 own_listed name d l e a =
-    text_of-listed (entries_at name d) (id_of e) (compact_text e) l.rises ((l.members (named e)).1 (in_map named e (array_at name d) a))
+    text_of-listed (entries_at name d) (id_of e) (compact_text e) l.rises
+    ((l.members (id_and_text e)).1 (in_map id_and_text e (array_at name d) a))
 
 pub own_agrees : (d : Data) → IsReport d → Agrees (frame_of d) d
 own_agrees d r =
@@ -47,6 +52,7 @@ pub own_valid : (bytes : List ℕ) (d : Data) → Holds bytes d → IsReport d �
 own_valid bytes d held r = (d, held, r, own_agrees d r)
 
 -- an entry is of an object under the name
-pub entry_source : (name : List ℕ) (d : Data) → IsListOf (entries_at name d) name d → (e : IdText) → Contains (entries_at name d) e
-    → (x : Data) × Contains (array_at name d) x × (named x ≡ e)
-entry_source name d l e a = from_map named e (array_at name d) ((l.members e).0 a)
+pub entry_source : (name : List ℕ) (d : Data) → IsListOf (entries_at name d) name d → (e : IdText)
+    → Contains (entries_at name d) e
+    → (x : Data) × Contains (array_at name d) x × (id_and_text x ≡ e)
+entry_source name d l e a = from_map id_and_text e (array_at name d) ((l.members e).0 a)

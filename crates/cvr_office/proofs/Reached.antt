@@ -1,5 +1,6 @@
 -- What the offices hold is what has reached them: at first, and after one more event.
-use Rattle.std.proofs.Common.{◌≡◌, ℕ, ◌<◌, ◌==◌, true, false, cond, inl, inr, List, [], ◌∷◌, length, get_or, set, refl, sym, ap, ◌∙◌, subst, arith, ◌≢◌}
+use Rattle.std.proofs.Common.{◌≡◌, ℕ, ◌<◌, ◌==◌, true, false, cond, inl, inr, List, [], ◌∷◌, length}
+use Rattle.std.proofs.Common.{get_or, set, refl, sym, ap, ◌∙◌, subst, arith, ◌≢◌}
 use Rattle.std.proofs.lemmas.List.{get_or-set_same, get_or-set_other}
 use Rattle.std.proofs.lemmas.Bool.{cases_lt}
 use Rattle.std.specs.FinSet.{union, empty, insert, items}
@@ -10,7 +11,8 @@ use Rattle.std.specs.FinMap.{IsAntisymmetric, nat_cmp-IsAntisymmetric, slice_cmp
 use Rattle.cdf_definition.specs.Frame.{Frame}
 use Rattle.cvr_fact_types.specs.Facts.{Facts}
 use Rattle.cvr_facts.specs.Reports.{facts}
-use Rattle.cvr_office.specs.Reach.{Origin, Start, File, origin_numbers, origin_cmp, History, reached, brought, union_over, content}
+use Rattle.cvr_office.specs.Reach.{Origin, Start, File, origin_numbers, origin_cmp, History}
+use Rattle.cvr_office.specs.Reach.{origins_at, origin_facts, union_over, content}
 use Rattle.cvr_office.specs.Outcomes.{contents_after, IsOutcome}
 use Rattle.cvr_office.specs.declared.event.Event.{Event}
 use Rattle.cvr_office.specs.declared.event.Event.TheVariants.{Import, Exchange}
@@ -35,7 +37,9 @@ pub origin_total : IsTotalOrder origin_cmp
 origin_total = on_total origin_numbers nat_list_cmp_total
 
 pub origin_exact : IsAntisymmetric origin_cmp
-origin_exact x y e = sym (origin_of-numbers x) ∙ (ap origin_of (slice_cmp-IsAntisymmetric nat_cmp-IsAntisymmetric (origin_numbers x) (origin_numbers y) e) ∙ origin_of-numbers y)
+origin_exact x y e = sym (origin_of-numbers x)
+    ∙ (ap origin_of (slice_cmp-IsAntisymmetric nat_cmp-IsAntisymmetric (origin_numbers x)
+    (origin_numbers y) e) ∙ origin_of-numbers y)
 
 -- ---- the same place
 
@@ -47,8 +51,10 @@ is_eq o k = (unsigned_Decides o k).1
 
 -- ---- contents
 
-pub content-none : (starts : List Facts) (files : List (List ℕ)) (o : ℕ) → content starts files [] o ≡ get_or starts o empty
-content-none starts files o = over_one origin_total origin_exact (brought starts files) (Start o)
+pub content-none : (starts : List Facts) (files : List (List ℕ)) (o : ℕ)
+    → content starts files [] o ≡ get_or starts o empty
+content-none starts files o =
+    over_one origin_total origin_exact (origin_facts starts files) (Start o)
 
 module _ (starts : List Facts) (files : List (List ℕ)) (past : History) (held : List Facts) where
   -- these are the contents
@@ -56,39 +62,62 @@ module _ (starts : List Facts) (files : List (List ℕ)) (past : History) (held 
   AreContents = (o : ℕ) → o < length held → get_or held o empty ≡ content starts files past o
 
   content-imported : (k f n o : ℕ) → o < length held → AreContents
-      → get_or (contents_after files (Import k f) (Accepted n) held) o empty ≡ content starts files ((Import k f, Accepted n) ∷ past) o
+      → get_or (contents_after files (Import k f) (Accepted n) held) o empty
+      ≡ content starts files ((Import k f, Accepted n) ∷ past) o
   content-imported k f n o lt here =
-      elim (o == k) as (λ b. (o == k) ≡ b → get_or (set held k (union (get_or held k empty) (facts (get_or files f [])))) o empty ≡ union_over (brought starts files) (items (cond b (insert (reached past o) (File f)) (reached past o)))) [
+      elim (o == k) as (λ b. (o == k) ≡ b
+      → get_or (set held k (union (get_or held k empty) (facts (get_or files f [])))) o empty
+      ≡ union_over (origin_facts starts files)
+      (items (cond b (insert (origins_at past o) (File f)) (origins_at past o)))) [
         | true ↦ λ e. let same : o ≡ k = at_eq o k e in
-            subst (λ z. get_or (set held z (union (get_or held z empty) (facts (get_or files f [])))) o empty ≡ union_over (brought starts files) (items (insert (reached past o) (File f)))) same
-            (get_or-set_same held o (union (get_or held o empty) (facts (get_or files f []))) empty lt
-            ∙ (ap (λ s. union s (facts (get_or files f []))) (here o lt) ∙ sym (over_insert origin_total origin_exact (brought starts files) (reached past o) (File f))))
+            subst (λ z. get_or (set held z
+            (union (get_or held z empty) (facts (get_or files f [])))) o empty
+            ≡ union_over (origin_facts starts files)
+            (items (insert (origins_at past o) (File f)))) same
+            (get_or-set_same held o (union (get_or held o empty) (facts (get_or files f []))) empty
+            lt
+            ∙ (ap (λ s. union s (facts (get_or files f []))) (here o lt)
+            ∙ sym (over_insert origin_total origin_exact (origin_facts starts files)
+            (origins_at past o) (File f))))
         | false ↦ λ e. let ne : o ≢ k = λ same. Prim.cc (is_eq o k same) in
             get_or-set_other held k o _ empty ne ∙ here o lt
       ] refl
 
   content-exchanged : (p k n o : ℕ) → o < length held → p < length held → AreContents
-      → get_or (contents_after files (Exchange p k) (Accepted n) held) o empty ≡ content starts files ((Exchange p k, Accepted n) ∷ past) o
+      → get_or (contents_after files (Exchange p k) (Accepted n) held) o empty
+      ≡ content starts files ((Exchange p k, Accepted n) ∷ past) o
   content-exchanged p k n o lt lp here =
-      elim (o == k) as (λ b. (o == k) ≡ b → get_or (set held k (union (get_or held k empty) (get_or held p empty))) o empty ≡ union_over (brought starts files) (items (cond b (union (reached past o) (reached past p)) (reached past o)))) [
+      elim (o == k) as (λ b. (o == k) ≡ b
+      → get_or (set held k (union (get_or held k empty) (get_or held p empty))) o empty
+      ≡ union_over (origin_facts starts files)
+      (items (cond b (union (origins_at past o) (origins_at past p)) (origins_at past o)))) [
         | true ↦ λ e. let same : o ≡ k = at_eq o k e in
-            subst (λ z. get_or (set held z (union (get_or held z empty) (get_or held p empty))) o empty ≡ union_over (brought starts files) (items (union (reached past o) (reached past p)))) same
+            subst (λ z. get_or (set held z (union (get_or held z empty) (get_or held p empty))) o
+            empty ≡ union_over (origin_facts starts files)
+            (items (union (origins_at past o) (origins_at past p)))) same
             (get_or-set_same held o (union (get_or held o empty) (get_or held p empty)) empty lt
-            ∙ (ap (λ s. union s (get_or held p empty)) (here o lt) ∙ (ap (union (content starts files past o)) (here p lp)
-            ∙ sym (over_union origin_total origin_exact (brought starts files) (reached past o) (reached past p)))))
+            ∙ (ap (λ s. union s (get_or held p empty)) (here o lt)
+            ∙ (ap (union (content starts files past o)) (here p lp)
+            ∙ sym (over_union origin_total origin_exact (origin_facts starts files)
+            (origins_at past o) (origins_at past p)))))
         | false ↦ λ e. let ne : o ≢ k = λ same. Prim.cc (is_eq o k same) in
             get_or-set_other held k o _ empty ne ∙ here o lt
       ] refl
 
   -- after one event
-  pub content-more : (frames : List Frame) (e : Event) (r : Outcome) → length frames ≡ length held → AreContents
+  pub content-more : (frames : List Frame) (e : Event) (r : Outcome) → length frames ≡ length held
+      → AreContents
       → IsOutcome frames files (content starts files past) e r
-      → (o : ℕ) → o < length held → get_or (contents_after files e r held) o empty ≡ content starts files ((e, r) ∷ past) o
-  content-more frames (Import k f) (Accepted n) same here out o lt = content-imported k f n o lt here
-  content-more frames (Import k f) (Refused c) same here out o lt = ap (λ xs. get_or xs o empty) (contents_after-refused files (Import k f) c held) ∙ here o lt
+      → (o : ℕ) → o < length held → get_or (contents_after files e r held) o empty
+      ≡ content starts files ((e, r) ∷ past) o
+  content-more frames (Import k f) (Accepted n) same here out o lt =
+      content-imported k f n o lt here
+  content-more frames (Import k f) (Refused c) same here out o lt =
+      ap (λ xs. get_or xs o empty) (contents_after-refused files (Import k f) c held) ∙ here o lt
   content-more frames (Exchange p k) (Accepted n) same here out o lt =
       elim (cases_lt p (length held)) [
         | inl lp ↦ content-exchanged p k n o lt lp here
         | inr none ↦ let clash = out.no_from (omega arith) in Prim.cc clash
       ]
-  content-more frames (Exchange p k) (Refused c) same here out o lt = ap (λ xs. get_or xs o empty) (contents_after-refused files (Exchange p k) c held) ∙ here o lt
+  content-more frames (Exchange p k) (Refused c) same here out o lt =
+      ap (λ xs. get_or xs o empty) (contents_after-refused files (Exchange p k) c held) ∙ here o lt

@@ -1,5 +1,6 @@
 -- The facts under the names of a record.
-use Rattle.std.proofs.Common.{◌≡◌, ℕ, Bool, true, false, List, map, Contains, Some, None, refl, sym, ap, ◌∙◌, subst}
+use Rattle.std.proofs.Common.{◌≡◌, ℕ, Bool, true, false, List, map, Contains, Some, None, refl, sym}
+use Rattle.std.proofs.Common.{ap, ◌∙◌, subst}
 use Rattle.std.specs.Prelude.{◌&&◌, ◌↔◌, bytes_eq, if◌then◌else◌}
 use Rattle.std.specs.List.{filter, filter_map}
 use Rattle.std.specs.FinSet.{contains, items}
@@ -25,7 +26,8 @@ own_text : (a : List ℕ) → bytes_eq a a ≡ true
 own_text a = (bytes_eq-Decides a a).1 refl
 
 module _ (key : RecordName) where
-  of_name : (device unique : List ℕ) → is_name key device unique ≡ true → (key.device ≡ device) × (key.unique ≡ unique)
+  of_name : (device unique : List ℕ) → is_name key device unique ≡ true
+      → (key.device ≡ device) × (key.unique ≡ unique)
   of_name device unique e =
       let parts = both (bytes_eq key.device device) (bytes_eq key.unique unique) e in
       (same_text key.device device parts.0, same_text key.unique unique parts.1)
@@ -33,15 +35,19 @@ module _ (key : RecordName) where
   header_named : (b : List ℕ) → is_named (name.Header key) (Header key.device key.unique b) ≡ true
   header_named b = rw (own_text key.device, own_text key.unique) refl
 
-  named_header : (f : Fact) → is_named (name.Header key) f ≡ true → f ≡ Header key.device key.unique (body_of f)
+  named_header : (f : Fact) → is_named (name.Header key) f ≡ true
+      → f ≡ Header key.device key.unique (body_of f)
   named_header (Device i b) e = Prim.cc e
-  named_header (Header d u b) e = let names = of_name d u e in λ i. Header (sym names.0 i) (sym names.1 i) b
+  named_header (Header d u b) e =
+      let names = of_name d u e in λ i. Header (sym names.0 i) (sym names.1 i) b
   named_header (Snapshot d u i b) e = Prim.cc e
 
-  snapshot_named : (id b : List ℕ) → is_named (name.Snapshot key id) (Snapshot key.device key.unique id b) ≡ true
+  snapshot_named : (id b : List ℕ) → is_named (name.Snapshot key id)
+      (Snapshot key.device key.unique id b) ≡ true
   snapshot_named id b = rw (own_text key.device, own_text key.unique, own_text id) refl
 
-  named_snapshot : (id : List ℕ) (f : Fact) → is_named (name.Snapshot key id) f ≡ true → f ≡ Snapshot key.device key.unique id (body_of f)
+  named_snapshot : (id : List ℕ) (f : Fact) → is_named (name.Snapshot key id) f ≡ true
+      → f ≡ Snapshot key.device key.unique id (body_of f)
   named_snapshot id (Device i b) e = Prim.cc e
   named_snapshot id (Header d u b) e = Prim.cc e
   named_snapshot id (Snapshot d u j b) e =
@@ -57,7 +63,8 @@ module _ (key : RecordName) where
   own_id : (id b : List ℕ) → id_in key (Snapshot key.device key.unique id b) ≡ Some id
   own_id id b = rw (own_text key.device, own_text key.unique) refl
 
-  id_is : (id : List ℕ) (f : Fact) → id_in key f ≡ Some id → f ≡ Snapshot key.device key.unique id (body_of f)
+  id_is : (id : List ℕ) (f : Fact) → id_in key f ≡ Some id
+      → f ≡ Snapshot key.device key.unique id (body_of f)
   id_is id (Device i b) e = Prim.cc e
   id_is id (Header d u b) e = Prim.cc e
   id_is id (Snapshot d u j b) e =
@@ -66,27 +73,46 @@ module _ (key : RecordName) where
       λ i. Snapshot (sym names.0 i) (sym names.1 i) (had.1 i) b
 
   module _ (s : Facts) where
-    pub header_under : (b : List ℕ) → Contains (map body_of (filter (is_named (name.Header key)) (items s))) b ↔ (contains s (Header key.device key.unique b) ≡ true)
+    pub header_under : (b : List ℕ) → Contains
+        (map body_of (filter (is_named (name.Header key)) (items s))) b
+        ↔ (contains s (Header key.device key.unique b) ≡ true)
     header_under b = (
       λ at. let found = from_map body_of b (filter (is_named (name.Header key)) (items s)) at in
           let kept = from_filter (is_named (name.Header key)) (items s) found.0 found.1 in
-          (contains_iff s (Header key.device key.unique b)).1 (subst (Contains (items s)) (named_header found.0 kept.1 ∙ ap (Header key.device key.unique) found.2) kept.0),
-      λ has. in_map body_of (Header key.device key.unique b) (filter (is_named (name.Header key)) (items s))
-          (in_filter (is_named (name.Header key)) (items s) _ ((contains_iff s (Header key.device key.unique b)).0 has) (header_named b)),
+          (contains_iff s (Header key.device key.unique b)).1
+          (subst (Contains (items s))
+          (named_header found.0 kept.1 ∙ ap (Header key.device key.unique) found.2) kept.0),
+      λ has. in_map body_of (Header key.device key.unique b)
+          (filter (is_named (name.Header key)) (items s))
+          (in_filter (is_named (name.Header key)) (items s) _
+          ((contains_iff s (Header key.device key.unique b)).0 has) (header_named b)),
     )
 
-    pub snapshot_under : (id b : List ℕ) → Contains (map body_of (filter (is_named (name.Snapshot key id)) (items s))) b ↔ (contains s (Snapshot key.device key.unique id b) ≡ true)
+    pub snapshot_under : (id b : List ℕ)
+        → Contains (map body_of (filter (is_named (name.Snapshot key id)) (items s))) b
+        ↔ (contains s (Snapshot key.device key.unique id b) ≡ true)
     snapshot_under id b = (
-      λ at. let found = from_map body_of b (filter (is_named (name.Snapshot key id)) (items s)) at in
+      λ at. let found =
+          from_map body_of b (filter (is_named (name.Snapshot key id)) (items s)) at in
           let kept = from_filter (is_named (name.Snapshot key id)) (items s) found.0 found.1 in
-          (contains_iff s (Snapshot key.device key.unique id b)).1 (subst (Contains (items s)) (named_snapshot id found.0 kept.1 ∙ ap (Snapshot key.device key.unique id) found.2) kept.0),
-      λ has. in_map body_of (Snapshot key.device key.unique id b) (filter (is_named (name.Snapshot key id)) (items s))
-          (in_filter (is_named (name.Snapshot key id)) (items s) _ ((contains_iff s (Snapshot key.device key.unique id b)).0 has) (snapshot_named id b)),
+          (contains_iff s (Snapshot key.device key.unique id b)).1
+          (subst (Contains (items s))
+          (named_snapshot id found.0 kept.1 ∙ ap (Snapshot key.device key.unique id) found.2)
+          kept.0),
+      λ has. in_map body_of (Snapshot key.device key.unique id b)
+          (filter (is_named (name.Snapshot key id)) (items s))
+          (in_filter (is_named (name.Snapshot key id)) (items s) _
+          ((contains_iff s (Snapshot key.device key.unique id b)).0 has) (snapshot_named id b)),
     )
 
-    pub id_under : (id : List ℕ) → Contains (filter_map (id_in key) (items s)) id ↔ ((b : List ℕ) × (contains s (Snapshot key.device key.unique id b) ≡ true))
+    pub id_under : (id : List ℕ) → Contains (filter_map (id_in key) (items s)) id
+        ↔ ((b : List ℕ) × (contains s (Snapshot key.device key.unique id b) ≡ true))
     id_under id = (
-      λ at. let found = from-filter_map (id_in key) (items s) id at in
-          (body_of found.0, (contains_iff s (Snapshot key.device key.unique id (body_of found.0))).1 (subst (Contains (items s)) (id_is id found.0 found.2) found.1)),
-      λ has. Contains-filter_map (id_in key) (items s) (Snapshot key.device key.unique id has.0) id ((contains_iff s (Snapshot key.device key.unique id has.0)).0 has.1) (own_id id has.0),
+      λ at. let found = from-filter_map (id_in key) (items s) id at in (
+        body_of found.0,
+        (contains_iff s (Snapshot key.device key.unique id (body_of found.0))).1
+            (subst (Contains (items s)) (id_is id found.0 found.2) found.1),
+      ),
+      λ has. Contains-filter_map (id_in key) (items s) (Snapshot key.device key.unique id has.0) id
+          ((contains_iff s (Snapshot key.device key.unique id has.0)).0 has.1) (own_id id has.0),
     )

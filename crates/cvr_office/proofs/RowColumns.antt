@@ -15,8 +15,10 @@ module _ (contests : List Contest) (s : Facts) (c : ℕ) where
   pub row_of-none : row_of contests s c [] ≡ zero_row (length (selections_at contests c))
   row_of-none = refl
 
-  module _ (rs : List RecordName) (r : RecordName) (v : VoteSums) (is : sums_at contests s c r ≡ Some v) where
-    column_more : (column : Column) → column_over contests s c (rs ++ r ∷ []) column ≡ column_over contests s c rs column + worth column v
+  module _ (rs : List RecordName) (r : RecordName) (v : VoteSums)
+      (is : sums_at contests s c r ≡ Some v) where
+    column_more : (column : Column) → column_over contests s c (rs ++ r ∷ []) column
+        ≡ column_over contests s c rs column + worth column v
     column_more column =
         sum_by_push (λ r. option_map_or (worth column) (sums_at contests s c r) 0) rs r
         ∙ ap (λ o. column_over contests s c rs column + option_map_or (worth column) o 0) is
@@ -24,4 +26,5 @@ module _ (contests : List Contest) (s : Facts) (c : ℕ) where
     pub row_of-more : row_of contests s c (rs ++ r ∷ []) ≡ row_plus (row_of contests s c rs) v
     row_of-more =
         let n = length (selections_at contests c) in
-        row_by-same n _ _ (λ column here. column_more column) ∙ sym (row_plus-row_by n (column_over contests s c rs) v)
+        row_by-same n _ _ (λ column here. column_more column)
+        ∙ sym (row_plus-row_by n (column_over contests s c rs) v)

@@ -1,5 +1,6 @@
 -- Along a list in order, records don't fall: the facts of one stand together.
-use Rattle.std.proofs.Common.{◌≡◌, ◌+◌, false, List, get_or, Ordering, Less, Equal, Greater, Some, refl, ap, ◌∙◌, arith}
+use Rattle.std.proofs.Common.{◌≡◌, ◌+◌, false, List, get_or, Ordering, Less, Equal, Greater, Some}
+use Rattle.std.proofs.Common.{refl, ap, ◌∙◌, arith}
 use Rattle.std.specs.List.Sorted.{IsStrictlySortedBy, IsSortedBy, IsNonDecreasingBy}
 use Rattle.std.specs.Ordering.{is_lt, is_gt, ordering_then, ordering_reverse, ordering_index}
 use Rattle.std.specs.Option.{option_cmp}
@@ -24,7 +25,8 @@ name_total = then_total (on_total (λ k. k.device) text_total) (on_total (λ k. 
 abbrev record_in : AnyFact → Option RecordName
 record_in fact = record_of (fact_of fact)
 
-not_past : (q r s : Ordering) → ordering_then q (ordering_then r s) ≡ Less → is_gt (ordering_then q r) ≡ false
+not_past : (q r s : Ordering) → ordering_then q (ordering_then r s) ≡ Less
+    → is_gt (ordering_then q r) ≡ false
 not_past Less r s e = refl
 not_past Equal Less s e = refl
 not_past Equal Equal s e = refl
@@ -37,22 +39,31 @@ not_before Equal h = refl
 not_before Greater h = Prim.cc h
 
 -- a fact's record isn't past that of a later one
-pub records_rise : (x y : AnyFact) → any_cmp x y ≡ Less → is_gt (option_cmp name_cmp (record_in x) (record_in y)) ≡ false
+pub records_rise : (x y : AnyFact) → any_cmp x y ≡ Less
+    → is_gt (option_cmp name_cmp (record_in x) (record_in y)) ≡ false
 records_rise (any.Device d) (any.Device e) h = refl
 records_rise (any.Device d) (any.Header e) h = refl
 records_rise (any.Device d) (any.Snapshot e) h = refl
 records_rise (any.Header d) (any.Device e) h = Prim.cc h
-records_rise (any.Header d) (any.Header e) h = not_past (text_cmp d.key.device e.key.device) (text_cmp d.key.unique e.key.unique) _ h
-records_rise (any.Header d) (any.Snapshot e) h = not_past (text_cmp d.key.device e.key.device) (text_cmp d.key.unique e.key.unique) _ h
+records_rise (any.Header d) (any.Header e) h =
+    not_past (text_cmp d.key.device e.key.device) (text_cmp d.key.unique e.key.unique) _ h
+records_rise (any.Header d) (any.Snapshot e) h =
+    not_past (text_cmp d.key.device e.key.device) (text_cmp d.key.unique e.key.unique) _ h
 records_rise (any.Snapshot d) (any.Device e) h = Prim.cc h
-records_rise (any.Snapshot d) (any.Header e) h = not_past (text_cmp d.key.device e.key.device) (text_cmp d.key.unique e.key.unique) _ h
-records_rise (any.Snapshot d) (any.Snapshot e) h = not_past (text_cmp d.key.device e.key.device) (text_cmp d.key.unique e.key.unique) _ h
+records_rise (any.Snapshot d) (any.Header e) h =
+    not_past (text_cmp d.key.device e.key.device) (text_cmp d.key.unique e.key.unique) _ h
+records_rise (any.Snapshot d) (any.Snapshot e) h =
+    not_past (text_cmp d.key.device e.key.device) (text_cmp d.key.unique e.key.unique) _ h
 
 module _ (facts : List AnyFact) (rises : IsStrictlySortedBy any_cmp facts) where
   by_record : IsSortedBy (λ x y. is_lt (option_cmp name_cmp (record_in x) (record_in y))) facts
   by_record k d low high =
-      let h = records_rise (get_or facts k d) (get_or facts (k + 1) d) (Less-from_sorted any_cmp facts k (k + 1) d rises (omega arith) high) in
-      ap is_lt ((options_total name_total).antisymm (record_in (get_or facts (k + 1) d)) (record_in (get_or facts k d))) ∙ not_before _ h
+      let h = records_rise (get_or facts k d) (get_or facts (k + 1) d)
+      (Less-from_sorted any_cmp facts k (k + 1) d rises (omega arith) high) in
+      ap is_lt ((options_total name_total).antisymm (record_in (get_or facts (k + 1) d))
+      (record_in (get_or facts k d))) ∙ not_before _ h
 
-  pub record_order_rises : (key : RecordName) → IsNonDecreasingBy (λ y. ordering_index (record_order key y)) facts
-  record_order_rises key = searchable_from_sorted (options_total name_total) record_in facts (Some key) by_record
+  pub record_order_rises : (key : RecordName)
+      → IsNonDecreasingBy (λ y. ordering_index (record_order key y)) facts
+  record_order_rises key =
+      searchable_from_sorted (options_total name_total) record_in facts (Some key) by_record

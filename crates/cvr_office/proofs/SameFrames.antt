@@ -15,7 +15,8 @@ agrees_alike f g h d a = record {
 }
 
 -- and name the same
-pub scope_alike : (f g : Frame) → AreEqualButDevices f g → (devices : Texts) → scope_in f devices ≡ scope_in g devices
+pub scope_alike : (f g : Frame) → AreEqualButDevices f g → (devices : Texts)
+    → scope_in f devices ≡ scope_in g devices
 scope_alike f g h devices = λ i. scope_in (record {
   elections = h.elections i;
   units = h.units i;

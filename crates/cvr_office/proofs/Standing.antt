@@ -17,7 +17,8 @@ use Rattle.cvr_facts.proofs.Laws.{fact_source}
 abbrev scope_of_file : Frame → List ℕ → Scope
 scope_of_file frame bytes = scope_in frame (ids_at (codes "ReportingDevice") (value_in bytes))
 
-source_stands : (frame : Frame) (bytes : List ℕ) (f : Fact) → IsFrame frame → Valid frame bytes → Source (value_in bytes) f → Stands (scope_of_file frame bytes) f
+source_stands : (frame : Frame) (bytes : List ℕ) (f : Fact) → IsFrame frame → Valid frame bytes
+    → Source (value_in bytes) f → Stands (scope_of_file frame bytes) f
 source_stands frame bytes _ is valid (of_device e a) =
     let h = devices_stand frame bytes e valid a in
     (e, (refl, h.1), h.0)
@@ -29,4 +30,5 @@ source_stands frame bytes _ is valid (of_snapshot c s a b) =
     (s, (refl, h.1), h.0)
 
 pub facts_stand : FactsStandLaw
-facts_stand frame bytes f is valid held = source_stands frame bytes f is valid (fact_source bytes f held)
+facts_stand frame bytes f is valid held =
+    source_stands frame bytes f is valid (fact_source bytes f held)

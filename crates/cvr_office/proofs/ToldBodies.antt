@@ -1,5 +1,6 @@
--- What a device's body is known to be, without being given: its text tells it.
-use Rattle.std.proofs.Common.{◌≡◌, ◌≤◌, ℕ, List, [], ◌∷◌, Bool, true, false, Option, Some, None, IsUtf8, codes, nat_le, refl, sym, ap, ◌∙◌, subst, arith}
+-- What a device's body is known to be, without being given: its text says it.
+use Rattle.std.proofs.Common.{◌≡◌, ◌≤◌, ℕ, List, [], ◌∷◌, Bool, true, false, Option, Some, None}
+use Rattle.std.proofs.Common.{IsUtf8, codes, nat_le, refl, sym, ap, ◌∙◌, subst, arith}
 use Rattle.std.specs.Prelude.{option_and_then, unwrap_or}
 use Rattle.std.proofs.Math.Logic.{∥∥₁_elim}
 use Rattle.std.proofs.Math.Nat.{ℕ_set}
@@ -49,7 +50,8 @@ is_at_most : (n m : ℕ) → n ≤ m → nat_le n m ≡ true
 is_at_most n m h = grind (arith, nat_tests)
 
 -- what is read from a body that stands, though its value is not given
-module _ (id body : List ℕ) (known : ∥ IsDeviceBody id body ∥₁) (d : Data) (is : read body ≡ Some d) where
+module _ (id body : List ℕ) (known : ∥ IsDeviceBody id body ∥₁) (d : Data)
+    (is : read body ≡ Some d) where
   same : (q : IsDeviceBody id body) → q.0 ≡ d
   same q = inside q.0 d (sym q.1.1 ∙ is)
 
@@ -57,22 +59,30 @@ module _ (id body : List ℕ) (known : ∥ IsDeviceBody id body ∥₁) (d : Dat
   told_text = ∥∥₁_elim known (hlevel (ℕ_set, is_set)) (λ q. q.1.0 ∙ ap compact_text (same q))
 
   told_whole : has_float d ≡ false
-  told_whole = ∥∥₁_elim known (Bool-set _ _) (λ q. subst (λ x. has_float x ≡ false) (same q) q.2.proper.whole)
+  told_whole = ∥∥₁_elim known (Bool-set _ _)
+      (λ q. subst (λ x. has_float x ≡ false) (same q) q.2.proper.whole)
 
   told_depth : nat_le (depth d) 125 ≡ true
-  told_depth = ∥∥₁_elim known (Bool-set _ _) (λ q. subst (λ x. nat_le (depth x) 125 ≡ true) (same q) (is_at_most (depth q.0) 125 q.2.proper.shallow))
+  told_depth = ∥∥₁_elim known (Bool-set _ _)
+      (λ q. subst (λ x. nat_le (depth x) 125 ≡ true) (same q)
+      (is_at_most (depth q.0) 125 q.2.proper.shallow))
 
   told_none : is_none (faults d device_kind key.Free) ≡ true
-  told_none = ∥∥₁_elim known (Bool-set _ _) (λ q. subst (λ x. is_none (faults x device_kind key.Free) ≡ true) (same q) (ap is_none (no_faults q.2.form)))
+  told_none = ∥∥₁_elim known (Bool-set _ _)
+      (λ q. subst (λ x. is_none (faults x device_kind key.Free) ≡ true) (same q)
+      (ap is_none (no_faults q.2.form)))
 
   told_id : id_of d ≡ id
-  told_id = ∥∥₁_elim known (hlevel (ℕ_set, is_set)) (λ q. ap id_of (sym (same q)) ∙ ap (λ o. unwrap_or (option_and_then as_str o) []) q.2.id_is)
+  told_id = ∥∥₁_elim known (hlevel (ℕ_set, is_set))
+      (λ q. ap id_of (sym (same q)) ∙ ap (λ o. unwrap_or (option_and_then as_str o) []) q.2.id_is)
 
   told_form : HasForm device_kind d
-  told_form = fits_of d device_kind key.Free refl (none_is (faults d device_kind key.Free) told_none)
+  told_form =
+      fits_of d device_kind key.Free refl (none_is (faults d device_kind key.Free) told_none)
 
   told_at_id : get (codes "@id") d ≡ Some (string id)
-  told_at_id = must_be_text (row_of group.ReportingDevices id_row d (refl, tt) told_form) tt ∙ ap (λ s. Some (string s)) told_id
+  told_at_id = must_be_text (row_of group.ReportingDevices id_row d (refl, tt) told_form) tt
+      ∙ ap (λ s. Some (string s)) told_id
 
   told_proper : IsProper 125 d
   told_proper = record {
@@ -82,12 +92,19 @@ module _ (id body : List ℕ) (known : ∥ IsDeviceBody id body ∥₁) (d : Dat
   }
 
   told_body : IsDeviceBody id body
-  told_body = (d, (told_text, is), record { proper = told_proper; form = told_form; id_is = told_at_id })
+  told_body = (
+    d,
+    (told_text, is),
+    record
+        { proper = told_proper; form = told_form; id_is = told_at_id },
+  )
 
 never_read : (id body : List ℕ) → ∥ IsDeviceBody id body ∥₁ → read body ≡ None → ⊥
-never_read id body known is = ∥∥₁_elim known (λ x y. absurd x) (λ q. let e : Some q.0 ≡ None = sym q.1.1 ∙ is in absurd (cc))
+never_read id body known is =
+    ∥∥₁_elim known (λ x y. absurd x) (λ q. let e : Some q.0 ≡ None = sym q.1.1 ∙ is in absurd (cc))
 
-told_read : (id body : List ℕ) → ∥ IsDeviceBody id body ∥₁ → (o : Option Data) → read body ≡ o → IsDeviceBody id body
+told_read : (id body : List ℕ) → ∥ IsDeviceBody id body ∥₁ → (o : Option Data) → read body ≡ o
+    → IsDeviceBody id body
 told_read id body known None is = absurd (never_read id body known is)
 told_read id body known (Some d) is = told_body id body known d is
 
@@ -97,4 +114,5 @@ told_device id body known = told_read id body known (read body) refl
 
 -- a text that is known to be UTF-8 is UTF-8
 pub told_utf8 : (text : List ℕ) → ∥ IsUtf8 text ∥₁ → IsUtf8 text
-told_utf8 text known = IsUtf8-from_is_utf8 text (∥∥₁_elim known (Bool-set _ _) (λ u. is_utf8-from_IsUtf8 text u))
+told_utf8 text known =
+    IsUtf8-from_is_utf8 text (∥∥₁_elim known (Bool-set _ _) (λ u. is_utf8-from_IsUtf8 text u))

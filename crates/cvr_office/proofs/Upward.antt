@@ -1,5 +1,7 @@
--- In a plain office's list names rise with the facts: devices by id and then none, none and then records by name.
-use Rattle.std.proofs.Common.{◌≡◌, ℕ, ◌<◌, ◌≤◌, false, List, length, get_or, Option, Ordering, Less, Equal, Greater, inl, inr, refl, ap, subst}
+-- In a plain office's list names rise with the facts: devices by id and then none, none and then
+-- records by name.
+use Rattle.std.proofs.Common.{◌≡◌, ℕ, ◌<◌, ◌≤◌, false, List, length, get_or, Option, Ordering, Less}
+use Rattle.std.proofs.Common.{Equal, Greater, inl, inr, refl, ap, subst}
 use Rattle.std.specs.List.Sorted.{IsStrictlySortedBy}
 use Rattle.std.specs.Option.{option_cmp}
 use Rattle.std.specs.Ordering.{is_gt, ordering_then, flip_args}
@@ -11,7 +13,8 @@ use Rattle.cvr_fact_types.specs.Facts.{Fact, Device, Header, Snapshot, text_cmp,
 use Rattle.cvr_office.specs.Names.{record_of, device_in}
 use Rattle.cvr_office.specs.Place.{place_cmp}
 
-not_gt : (p q r : Ordering) → ordering_then p (ordering_then q r) ≡ Less → is_gt (ordering_then p q) ≡ false
+not_gt : (p q r : Ordering) → ordering_then p (ordering_then q r) ≡ Less
+    → is_gt (ordering_then p q) ≡ false
 not_gt Less q r e = refl
 not_gt Equal Less r e = refl
 not_gt Equal Equal r e = refl
@@ -26,7 +29,8 @@ first_not_gt Greater q e = Prim.cc e
 -- ---- of two facts
 
 -- none before all
-pub records_up : (f g : Fact) → place_cmp f g ≡ Less → is_gt (option_cmp name_cmp (record_of f) (record_of g)) ≡ false
+pub records_up : (f g : Fact) → place_cmp f g ≡ Less
+    → is_gt (option_cmp name_cmp (record_of f) (record_of g)) ≡ false
 records_up (Device i b) (Device j c) e = refl
 records_up (Device i b) (Header d u c) e = refl
 records_up (Device i b) (Snapshot d u j c) e = refl
@@ -41,7 +45,8 @@ records_up (Snapshot d u i b) (Snapshot d' u' j c) e = not_gt (text_cmp d d') (t
 abbrev pub none_last : {K : Type 0} → (K → K → Ordering) → Option K → Option K → Ordering
 none_last R a b = option_cmp (flip_args R) b a
 
-pub devices_up : (f g : Fact) → place_cmp f g ≡ Less → is_gt (none_last text_cmp (device_in f) (device_in g)) ≡ false
+pub devices_up : (f g : Fact) → place_cmp f g ≡ Less
+    → is_gt (none_last text_cmp (device_in f) (device_in g)) ≡ false
 devices_up (Device i b) (Device j c) e = first_not_gt (text_cmp i j) _ e
 devices_up (Device i b) (Header d u c) e = refl
 devices_up (Device i b) (Snapshot d u j c) e = refl
@@ -52,16 +57,20 @@ devices_up (Snapshot d u i b) (Device j c) e = Prim.cc e
 devices_up (Snapshot d u i b) (Header d' u' c) e = refl
 devices_up (Snapshot d u i b) (Snapshot d' u' j c) e = refl
 
-pub none_last_total : {K : Type 0} {R : K → K → Ordering} → IsTotalOrder R → IsTotalOrder (none_last R)
+pub none_last_total : {K : Type 0} {R : K → K → Ordering} → IsTotalOrder R
+    → IsTotalOrder (none_last R)
 none_last_total t = back_total (options_total (back_total t))
 
 -- ---- of a list
 
-module _ {X V : Type 0} (cmp : X → X → Ordering) (f : X → V) {O : V → V → Ordering} (o : IsTotalOrder O) (up : (x y : X) → cmp x y ≡ Less → is_gt (O (f x) (f y)) ≡ false)
+module _ {X V : Type 0} (cmp : X → X → Ordering) (f : X → V) {O : V → V → Ordering}
+    (o : IsTotalOrder O) (up : (x y : X) → cmp x y ≡ Less → is_gt (O (f x) (f y)) ≡ false)
     (xs : List X) (h : IsStrictlySortedBy cmp xs) where
-  pub up_at : (i j : ℕ) (d : X) → i ≤ j → j < length xs → is_gt (O (f (get_or xs i d)) (f (get_or xs j d))) ≡ false
+  pub up_at : (i j : ℕ) (d : X) → i ≤ j → j < length xs
+      → is_gt (O (f (get_or xs i d)) (f (get_or xs j d))) ≡ false
   up_at i j d le lt =
       elim (eq-or-lt_of_le le) [
-        | inl same ↦ subst (λ k. is_gt (O (f (get_or xs i d)) (f (get_or xs k d))) ≡ false) same (ap is_gt (tied_itself o (f (get_or xs i d))))
+        | inl same ↦ subst (λ k. is_gt (O (f (get_or xs i d)) (f (get_or xs k d))) ≡ false) same
+            (ap is_gt (tied_itself o (f (get_or xs i d))))
         | inr below ↦ up (get_or xs i d) (get_or xs j d) (Less-from_sorted cmp xs i j d h below lt)
       ]

@@ -1,5 +1,7 @@
--- What a tally needs of a record that is added to it, and what it makes of each row. (This project's own.)
-use Rattle.std.specs.Prelude.{◌≡◌, ◌==◌, ◌<◌, ℕ, List, map, length, find, cond, Option, Some, None, unwrap_or}
+-- What a tally needs of a record that is added to it, and what it makes of each row. (This
+-- project's own.)
+use Rattle.std.specs.Prelude.{◌≡◌, ◌==◌, ◌<◌, ℕ, List, map, length, find, if◌then◌else◌, Option}
+use Rattle.std.specs.Prelude.{Some, None, unwrap_or}
 use Rattle.std.specs.List.{Contains, IsDistinct}
 use Rattle.std.specs.Option.{IfSome}
 use Rattle.std.specs.FinMap as map_of
@@ -28,9 +30,10 @@ pub record AreSums (contests : List Contest) (votes : List VoteSums) : Type 0 wh
   pub once : IsDistinct ◌==◌ (map (λ v. v.contest) votes)
   pub each : (v : VoteSums) → Contains votes v → IsSums contests v
 
--- so are those of each current snapshot
+-- so are the sums of each current snapshot
 abbrev pub CurrentsAreSums : List Contest → Facts → Type 0
-CurrentsAreSums contests s = (key : RecordName) (body : List ℕ) → current s key ≡ Some body → AreSums contests (sums_of_body contests body)
+CurrentsAreSums contests s = (key : RecordName) (body : List ℕ) → current s key ≡ Some body
+    → AreSums contests (sums_of_body contests body)
 
 -- ---- what is added to a row
 
@@ -43,17 +46,19 @@ abbrev pub sums_for : Option (List ℕ) → Option (List ℕ) → RowKey → Lis
 sums_for unit batch q votes = find (λ v. is_key q (key_for unit batch v)) votes
 
 -- the sums that a record adds to a row
-abbrev pub added : List Contest → Facts → RowKey → RecordName → Option VoteSums
-added contests s q r = cond (is_headed q (header s r)) (sums_at contests s q.contest r) None
+abbrev pub added_sums : List Contest → Facts → RowKey → RecordName → Option VoteSums
+added_sums contests s q r =
+    if is_headed q (header s r) then sums_at contests s q.contest r else None
 
 -- what is at a key, once these sums are added
 abbrev pub row_with : List Contest → RowKey → Option Row → Option VoteSums → Option Row
 row_with contests q before None = before
-row_with contests q before (Some v) = Some (row_plus (unwrap_or before (zero_row (length (selections_at contests q.contest)))) v)
+row_with contests q before (Some v) =
+    Some (row_plus (unwrap_or before (zero_row (length (selections_at contests q.contest)))) v)
 
 -- ---- room
 
--- for one more ballot
+-- a row has room for one more ballot; each row of a map has
 pub record CanGrow (r : Row) : Type 0 where
   pub ballots : r.ballots < ballot_limit
   pub columns : IsBelow total_limit r

@@ -14,13 +14,15 @@ use Rattle.cvr_office.specs.Readers.{growth}
 use Rattle.cvr_office.specs.Keeps.{Keeps}
 use Rattle.cvr_office.specs.Tallied.{sums_at, rows}
 
--- the facts of a set, and those by which it grows, are those of the union
+-- the facts of a set and those by which it grows are as many as those of the union
 abbrev pub GrowthLaw : Type 0
 GrowthLaw = (s t : Facts) → len s + growth s t ≡ len (union s t)
 
--- a name with a number is among the conflicts exactly where that is the number of its bodies, and at least 2
+-- a name is among the conflicts with a number exactly where that is the number of its bodies, and
+-- at least 2
 abbrev pub ConflictsLaw : Type 0
-ConflictsLaw = (s : Facts) (n : ConflictName) (k : ℕ) → Contains (conflicts s) (record { name = n; bodies = k }) ↔ ((count_under s n ≡ k) × (2 ≤ k))
+ConflictsLaw = (s : Facts) (n : ConflictName) (k : ℕ)
+    → Contains (conflicts s) (record { name = n; bodies = k }) ↔ ((count_under s n ≡ k) × (2 ≤ k))
 
 -- ---- ballots
 
@@ -32,6 +34,7 @@ ballots_of rows c = sum_by (λ e. e.1.ballots) (filter (λ e. e.0.contest == c) 
 abbrev pub records_with : List Contest → Facts → ℕ → List RecordName
 records_with contests s c = filter (λ r. is_some (sums_at contests s c r)) (records s)
 
--- these ballots add up to these records
+-- these ballots are as many as these records
 abbrev pub AddUpLaw : Type 0
-AddUpLaw = (frame : Frame) (s : Facts) (c : ℕ) → Keeps frame s → ballots_of (rows frame.contests s) c ≡ length (records_with frame.contests s c)
+AddUpLaw = (frame : Frame) (s : Facts) (c : ℕ) → Keeps frame s
+    → ballots_of (rows frame.contests s) c ≡ length (records_with frame.contests s c)

@@ -1,5 +1,6 @@
 -- Facts in parts that have no record in common, and the sums of rows. (This project's own.)
-use Rattle.std.specs.Prelude.{◌≡◌, ◌≢◌, ◌+◌, ℕ, List, [], ◌∷◌, ◌++◌, map, length, slice_get, Option, Some, None}
+use Rattle.std.specs.Prelude.{◌≡◌, ◌≢◌, ◌+◌, ℕ, List, [], ◌∷◌, ◌++◌, map, length, slice_get, Option}
+use Rattle.std.specs.Prelude.{Some, None}
 use Rattle.std.specs.List.{Contains, flat_map}
 use Rattle.std.specs.List.Sorted.{IsPermutation, IsStrictlySortedBy}
 use Rattle.std.specs.FinSet.{union}
@@ -22,7 +23,8 @@ ShareNoRecord s t = (r : RecordName) → Contains (records s) r → ¬ Contains 
 
 -- no record is in two of them
 abbrev pub AreAllApart : List Facts → Type 0
-AreAllApart parts = (i j : ℕ) (s t : Facts) → slice_get parts i ≡ Some s → slice_get parts j ≡ Some t → i ≢ j → ShareNoRecord s t
+AreAllApart parts = (i j : ℕ) (s t : Facts) → slice_get parts i ≡ Some s
+    → slice_get parts j ≡ Some t → i ≢ j → ShareNoRecord s t
 
 -- all of them together
 abbrev pub whole : List Facts → Facts
@@ -49,19 +51,23 @@ sum_of_rows (r ∷ rs) = option_sum r (sum_of_rows rs)
 
 -- each row of both is the sum of theirs
 abbrev pub RowsOfPartsLaw : Type 0
-RowsOfPartsLaw = (contests : List Contest) (s t : Facts) → ShareNoRecord s t → (q : RowKey) → row contests (union s t) q ≡ option_sum (row contests s q) (row contests t q)
+RowsOfPartsLaw = (contests : List Contest) (s t : Facts) → ShareNoRecord s t → (q : RowKey)
+    → row contests (union s t) q ≡ option_sum (row contests s q) (row contests t q)
 
--- a record keeps the current snapshot of its part, whether the other part comes behind or before
+-- a record keeps the current snapshot of its part, whether the other part comes after or before
 abbrev pub CurrentsOfPartsLaw : Type 0
-CurrentsOfPartsLaw = (s t : Facts) → ShareNoRecord s t → (r : RecordName) → Contains (records s) r → (current (union s t) r ≡ current s r) × (current (union t s) r ≡ current s r)
+CurrentsOfPartsLaw = (s t : Facts) → ShareNoRecord s t → (r : RecordName) → Contains (records s) r
+    → (current (union s t) r ≡ current s r) × (current (union t s) r ≡ current s r)
 
 -- and the header
 abbrev pub HeadersOfPartsLaw : Type 0
-HeadersOfPartsLaw = (s t : Facts) → ShareNoRecord s t → (r : RecordName) → Contains (records s) r → (header (union s t) r ≡ header s r) × (header (union t s) r ≡ header s r)
+HeadersOfPartsLaw = (s t : Facts) → ShareNoRecord s t → (r : RecordName) → Contains (records s) r
+    → (header (union s t) r ≡ header s r) × (header (union t s) r ≡ header s r)
 
 -- the records of both are those of the one and those of the other, in some order
 abbrev pub RecordsOfPartsLaw : Type 0
-RecordsOfPartsLaw = (s t : Facts) → ShareNoRecord s t → IsPermutation (records s ++ records t) (records (union s t))
+RecordsOfPartsLaw = (s t : Facts) → ShareNoRecord s t
+    → IsPermutation (records s ++ records t) (records (union s t))
 
 -- records rise by name, each above the one before it
 abbrev pub RecordsRiseLaw : Type 0
@@ -71,16 +77,20 @@ RecordsRiseLaw = (s : Facts) → IsStrictlySortedBy name_cmp (records s)
 
 -- each row of all is the sum of theirs
 abbrev pub RowsOfManyLaw : Type 0
-RowsOfManyLaw = (contests : List Contest) (parts : List Facts) → AreAllApart parts → (q : RowKey) → row contests (whole parts) q ≡ sum_of_rows (map (λ s. row contests s q) parts)
+RowsOfManyLaw = (contests : List Contest) (parts : List Facts) → AreAllApart parts → (q : RowKey)
+    → row contests (whole parts) q ≡ sum_of_rows (map (λ s. row contests s q) parts)
 
 -- a record keeps the current snapshot of its part
 abbrev pub CurrentsOfManyLaw : Type 0
-CurrentsOfManyLaw = (parts : List Facts) (s : Facts) (r : RecordName) → AreAllApart parts → Contains parts s → Contains (records s) r → current (whole parts) r ≡ current s r
+CurrentsOfManyLaw = (parts : List Facts) (s : Facts) (r : RecordName) → AreAllApart parts
+    → Contains parts s → Contains (records s) r → current (whole parts) r ≡ current s r
 
 -- and the header
 abbrev pub HeadersOfManyLaw : Type 0
-HeadersOfManyLaw = (parts : List Facts) (s : Facts) (r : RecordName) → AreAllApart parts → Contains parts s → Contains (records s) r → header (whole parts) r ≡ header s r
+HeadersOfManyLaw = (parts : List Facts) (s : Facts) (r : RecordName) → AreAllApart parts
+    → Contains parts s → Contains (records s) r → header (whole parts) r ≡ header s r
 
 -- the records of all are those of each, in some order
 abbrev pub RecordsOfManyLaw : Type 0
-RecordsOfManyLaw = (parts : List Facts) → AreAllApart parts → IsPermutation (flat_map records parts) (records (whole parts))
+RecordsOfManyLaw = (parts : List Facts) → AreAllApart parts
+    → IsPermutation (flat_map records parts) (records (whole parts))

@@ -19,13 +19,14 @@ use Rattle.cvr_office.specs.declared.any_fact.AnyFact.TheVariants as any
 use Rattle.cvr_office.specs.Place.{fact_of, any_cmp}
 use Rattle.cvr_office.specs.Keeps.{Keeps}
 
--- the set of them
+-- the set of the facts of a list
 abbrev pub set_of : List AnyFact → Facts
 set_of items = from_list (map fact_of items)
 
--- the facts of a list of each kind
+-- the facts of the list, of each kind
 abbrev pub all_of : FactList → List AnyFact
-all_of list = map any.Device list.devices ++ (map any.Header list.headers ++ map any.Snapshot list.snapshots)
+all_of list =
+    map any.Device list.devices ++ (map any.Header list.headers ++ map any.Snapshot list.snapshots)
 
 -- a definition and facts
 pub record Content : Type 0 where
@@ -41,11 +42,28 @@ coded_entries = coded_list (coded× coded_text coded_text)
 abbrev pub coded_content : Coded Content
 coded_content =
     code_by (List IdText × (List IdText × (List IdText × (List IdText × (List Contest × Facts)))))
-    (coded× coded_entries (coded× coded_entries (coded× coded_entries (coded× coded_entries (coded× coded_contests coded_facts)))))
-    (λ c. (c.frame.elections, (c.frame.units, (c.frame.parties, (c.frame.devices, (c.frame.contests, c.facts))))))
-    (λ p. record { frame = record { elections = p.0; units = p.1.0; parties = p.1.1.0; devices = p.1.1.1.0; contests = p.1.1.1.1.0 }; facts = p.1.1.1.1.1 })
+    (coded× coded_entries (coded× coded_entries
+    (coded× coded_entries (coded× coded_entries (coded× coded_contests coded_facts)))))
+    (λ c. (
+      c.frame.elections,
+      (
+        c.frame.units,
+        (c.frame.parties, (c.frame.devices, (c.frame.contests, c.facts))),
+      ),
+    ))
+    (λ p. record {
+      frame = record {
+        elections = p.0;
+        units = p.1.0;
+        parties = p.1.1.0;
+        devices = p.1.1.1.0;
+        contests = p.1.1.1.1.0;
+      };
+      facts = p.1.1.1.1.1;
+    })
     (λ _. refl)
 
+-- the definition of a plain office, and the facts of its list
 abbrev pub content_of : Frame → List AnyFact → Content
 content_of frame items = record { frame = frame; facts = set_of items }
 
@@ -55,7 +73,7 @@ IsSpelled contests (any.Device d) = ⊤
 IsSpelled contests (any.Header h) = IsSpelledHeader h
 IsSpelled contests (any.Snapshot s) = IsSpelledSnapshot contests s
 
--- the list rises, each of it is spelled, and the set of them keeps what an office keeps
+-- the list rises, each fact in it is spelled, and their set keeps what an office keeps true
 pub record IsPlain (frame : Frame) (items : List AnyFact) : Type 0 where
   pub rises : IsStrictlySortedBy any_cmp items
   pub spelled : (fact : AnyFact) → Contains items fact → IsSpelled frame.contests fact
@@ -67,7 +85,7 @@ pub record IsPut (old more new : List AnyFact) : Type 0 where
   pub from : (fact : AnyFact) → Contains new fact → Contains old fact ⊎ Contains more fact
   pub set : set_of new ≡ union (set_of old) (set_of more)
 
--- the facts that a list tells of a file are the file's, and spelled
+-- the facts that a list has of a file are the file's, and spelled
 pub record IsTheFiles (frame : Frame) (bytes : List ℕ) (list : FactList) : Type 0 where
   pub file : from_list {R = fact_cmp} (facts_in list) ≡ facts bytes
   pub spelled : ListIsSpelled frame.contests list

@@ -1,5 +1,7 @@
--- Which files have reached which office, by the events and their outcomes, and what an office then holds. (This project's own.)
-use Rattle.std.specs.Prelude.{◌≡◌, ◌⊎◌, ◌↔◌, ◌==◌, ℕ, true, cond, List, [], ◌∷◌, ◌++◌, get_or, reverse}
+-- Which files have reached which office, by the events and their outcomes, and what an office then
+-- holds. (This project's own.)
+use Rattle.std.specs.Prelude.{◌≡◌, ◌⊎◌, ◌↔◌, ◌==◌, ℕ, true, if◌then◌else◌, List, [], ◌∷◌, ◌++◌}
+use Rattle.std.specs.Prelude.{slice_index_or, reverse}
 use Rattle.std.specs.List.{zip}
 use Rattle.std.specs.declared.cmp.Ordering.{Ordering}
 use Rattle.std.specs.Ordering.{nat_cmp, on}
@@ -36,21 +38,23 @@ abbrev pub history : List Event → List Outcome → History
 history events outcomes = reverse (zip events outcomes)
 
 -- what has reached the office o after one more event, where `before` says what had reached each
-abbrev pub reached_after : Event → Outcome → (ℕ → Origins) → ℕ → Origins
-reached_after (Import office file) (Accepted n) before o = cond (o == office) (insert (before o) (File file)) (before o)
-reached_after (Import office file) (Refused cause) before o = before o
-reached_after (Exchange from to) (Accepted n) before o = cond (o == to) (union (before o) (before from)) (before o)
-reached_after (Exchange from to) (Refused cause) before o = before o
+abbrev pub origins_after : Event → Outcome → (ℕ → Origins) → ℕ → Origins
+origins_after (Import office file) (Accepted n) before o =
+    if o == office then insert (before o) (File file) else before o
+origins_after (Import office file) (Refused cause) before o = before o
+origins_after (Exchange from to) (Accepted n) before o =
+    if o == to then union (before o) (before from) else before o
+origins_after (Exchange from to) (Refused cause) before o = before o
 
--- what has reached the office o: itself, and by the events the files and starting offices that came to it
-abbrev pub reached : History → ℕ → Origins
-reached [] o = from_list (Start o ∷ [])
-reached (e ∷ past) o = reached_after e.0 e.1 (reached past) o
+-- what has reached the office o: itself, and the files and starting offices that events brought
+abbrev pub origins_at : History → ℕ → Origins
+origins_at [] o = from_list (Start o ∷ [])
+origins_at (e ∷ past) o = origins_after e.0 e.1 (origins_at past) o
 
 -- the facts of an origin
-abbrev pub brought : List Facts → List (List ℕ) → Origin → Facts
-brought starts files (Start o) = get_or starts o empty
-brought starts files (File f) = facts (get_or files f [])
+abbrev pub origin_facts : List Facts → List (List ℕ) → Origin → Facts
+origin_facts starts files (Start o) = slice_index_or starts o empty
+origin_facts starts files (File f) = facts (slice_index_or files f [])
 
 -- the union over a list
 abbrev pub union_over : {X : Type 0} → (X → Facts) → List X → Facts
@@ -59,7 +63,7 @@ union_over f (x ∷ xs) = union (f x) (union_over f xs)
 
 -- what the office o holds: the facts of all that has reached it
 abbrev pub content : List Facts → List (List ℕ) → History → ℕ → Facts
-content starts files past o = union_over (brought starts files) (items (reached past o))
+content starts files past o = union_over (origin_facts starts files) (items (origins_at past o))
 
 -- ---- the way of a file
 
@@ -83,4 +87,5 @@ pub record Came (past : History) (f o : ℕ) : Type 0 where
 
 -- a file has reached an office exactly where it came to it
 abbrev pub ReachLaw : Type 0
-ReachLaw = (past : History) (f o : ℕ) → (contains (reached past o) (File f) ≡ true) ↔ Came past f o
+ReachLaw = (past : History) (f o : ℕ) → (contains (origins_at past o) (File f) ≡ true)
+    ↔ Came past f o

@@ -1,11 +1,11 @@
--- The run of a record: its facts in a list in order, which stand together. (This project's own.)
+-- The run of a record: its facts, which stand together in a list in order. (This project's own.)
 use Rattle.std.specs.Prelude.{◌≡◌, List, [], ◌∷◌, Bool, Option, Some, None}
 use Rattle.std.specs.List.{filter, filter_map, Contains}
 use Rattle.std.specs.declared.cmp.Ordering.{Ordering}
 use Rattle.std.specs.Ordering.{is_eq}
 use Rattle.std.specs.Option.{option_cmp}
 use Rattle.cdf_parts.specs.Places.{Contest}
-use Rattle.cdf_typed.specs.Greatest.{greater}
+use Rattle.cdf_typed.specs.Greatest.{max_of}
 use Rattle.cvr_fact_types.specs.declared.name.RecordName.{RecordName}
 use Rattle.cvr_fact_types.specs.declared.header.HeaderFact.{HeaderFact}
 use Rattle.cvr_fact_types.specs.declared.snapshot.SnapshotFact.{SnapshotFact}
@@ -17,7 +17,7 @@ use Rattle.cvr_office.specs.Names.{record_of}
 use Rattle.cvr_office.specs.Place.{fact_of}
 use Rattle.cvr_office.specs.Plain.{IsSpelled}
 
--- how a fact's record stands to this one, where a device stands before all records
+-- how a fact's record compares with this one; a device stands before all records
 abbrev pub record_order : RecordName → AnyFact → Ordering
 record_order key fact = option_cmp name_cmp (record_of (fact_of fact)) (Some key)
 
@@ -29,7 +29,7 @@ is_of key fact = is_eq (record_order key fact)
 abbrev pub run : RecordName → List AnyFact → List AnyFact
 run key facts = filter (is_of key) facts
 
--- the record of the first, if it is of one
+-- the record of the first fact, if it is of one
 abbrev pub first_record : List AnyFact → Option RecordName
 first_record [] = None
 first_record (fact ∷ facts) = record_of (fact_of fact)
@@ -54,9 +54,9 @@ abbrev pub AreSpelled : List Contest → List AnyFact → Type 0
 AreSpelled contests facts = (fact : AnyFact) → Contains facts fact → IsSpelled contests fact
 
 -- the greater of two snapshots by the order of choosing, or the only one
-abbrev pub chosen : Option SnapshotFact → SnapshotFact → SnapshotFact
-chosen None other = other
-chosen (Some one) other = greater fact_choice one other
+abbrev pub chosen_snapshot : Option SnapshotFact → SnapshotFact → SnapshotFact
+chosen_snapshot None other = other
+chosen_snapshot (Some one) other = max_of fact_choice one other
 
 -- the greatest of these, if there are any
 abbrev pub IsChosen : List SnapshotFact → Option SnapshotFact → Type 0

@@ -9,8 +9,8 @@ use cvr_facts::{DeviceFact, HeaderFact, RecordName, SnapshotFact};
 use std::alloc::Global;
 use std::cmp::Ordering;
 
-// A fact of any kind. Devices come before records, a record's headers before its snapshots; ties of
-// name go by body.
+// A fact of any kind. Devices come before records, a record's headers before its snapshots; facts
+// of one name go by body.
 #[derive(Drop)]
 pub enum AnyFact {
     Device(DeviceFact),

@@ -2,7 +2,7 @@ use crate::fault::JoinFault;
 use cdf_types::ReadFault;
 use thiserror::Error;
 
-/// Something that happens among offices and files, all told by their places, from 0.
+/// Something that happens among offices and files, each named by its place, from 0.
 #[derive(Clone, Copy, Debug, PartialEq, Eq)]
 pub enum Event {
     /// An office takes in a file.

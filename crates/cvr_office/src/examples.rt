@@ -20,7 +20,7 @@ pub fn rows_of_parts()
 {}
 
 /// Two offices import a file each, from two places of the list. The same files have reached both
-/// where the two have one value, and not where they have different ones.
+/// where the two files have one value, and not where their values differ.
 pub fn files_by_value()
     ensures same { SpelledTwice }
     ensures other { OtherFiles }

@@ -1,4 +1,4 @@
-//! Laws of offices: what they keep, how files reach them, and which hold and answer the same.
+//! Laws of offices: what they keep true, how files reach them, and which hold and answer the same.
 ghost use Rattle.cvr_office.specs.Reach.{ReachLaw};
 ghost use Rattle.cvr_fact_types.specs.Facts.{text_cmp, name_cmp};
 ghost use Rattle.cvr_office.specs.Under.{HeaderUnderLaw, SnapshotUnderLaw, IdUnderLaw};
@@ -48,8 +48,8 @@ pub fn same_files<O: Office>()
     ensures definition { SameDefinitionLaw O.held O.defined }
 {}
 
-/// Before any event an office holds what it began with. Where all began with the same, two that the
-/// same files have reached hold the same. The files at the same places are the same files.
+/// Before any event an office holds what it began with. Where all began with the same facts, two
+/// that the same files have reached hold the same. Files at the same places are the same files.
 pub fn same_starts()
     ensures no_event { NoEventLaw }
     ensures same { SameStartLaw }
@@ -68,23 +68,23 @@ pub fn new_office()
     ensures unit { NewOfficeLaw }
 {}
 
-/// What an office keeps of its facts holds at first, and after each import and join.
+/// What an office keeps true of its facts holds at first, and after each import and join.
 pub fn keeping()
     ensures start { StartLaw }
     ensures import { ImportLaw }
     ensures join { JoinLaw }
 {}
 
-/// A report agrees with the definition that is made of it, and with any that is the same but for
-/// its devices; each entry of a definition is that of an object.
+/// A report agrees with the definition that is made from it, and with any that is the same but for
+/// its devices; each entry of a definition is the id and the text of an object.
 pub fn own_definitions()
     ensures own { OwnAgreesLaw }
     ensures same { SameAgreesLaw }
     ensures entries { EntryLaw }
 {}
 
-/// The bodies and ids under the names of a record are those of its facts, and the ids of devices
-/// those of theirs.
+/// The bodies and ids under the names of a record are those of its facts; the ids of devices are
+/// those of the facts of devices.
 pub fn facts_under_names()
     ensures headers { HeaderUnderLaw }
     ensures snapshots { SnapshotUnderLaw }
@@ -103,7 +103,8 @@ pub fn names_are_ordered()
 {}
 
 /// The records are exactly those that some fact is of. The next one is the least above the given
-/// one, or the least of all; there is none exactly where none is above it. The same of the devices.
+/// one, or the least of all; there is none exactly where none is above it. The same holds of
+/// devices.
 pub fn next_names()
     ensures records { ListedLaw record_of records }
     ensures next_record { NextLaw name_cmp records }
@@ -114,18 +115,18 @@ pub fn next_names()
 {}
 
 /// The map of rows has the row of each key and nothing else. The ballots of a row are the records
-/// that stand in it, and there is one.
+/// that stand in it, of which there is at least one.
 pub fn rows()
     ensures rows { RowsLaw }
     ensures ballots { BallotsLaw }
 {}
 
-/// The number of a set's facts, and that by which it grows, add up to the number of the union.
+/// The number of a set's facts, and the number by which it grows, add up to that of the union.
 pub fn growing()
     ensures growth { GrowthLaw }
 {}
 
-/// A name with a number is among the conflicts exactly where that is the number of its bodies, and
+/// A name is among the conflicts with a number exactly where that is the number of its bodies, and
 /// at least 2.
 pub fn conflicting()
     ensures conflicts { ConflictsLaw }
@@ -148,7 +149,11 @@ pub fn parts()
     ensures order { RecordsRiseLaw }
 {}
 
-/// The same of any number of parts, where no record is in two of them.
+/// The same holds of any number of parts, where no record is in two of them.
+///
+/// Parts may share devices, and their facts may come from anywhere. No clause says how files are
+/// split, nor that a part of a file is accepted only where the file is: check a file before it is
+/// split.
 pub fn many_parts()
     ensures rows { RowsOfManyLaw }
     ensures currents { CurrentsOfManyLaw }

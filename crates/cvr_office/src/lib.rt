@@ -1,5 +1,5 @@
-//! What an office is that collects cast vote records, the events by which records come to it, and
-//! the laws of both.
+//! An office, which collects cast vote records; the events by which records come to it; and the
+//! laws of both.
 #![tactic(auto)]
 
 pub mod any_fact;

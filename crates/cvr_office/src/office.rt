@@ -14,8 +14,8 @@ ghost use Rattle.cvr_tally.specs.declared.key.RowKey.{RowKey};
 ghost use Rattle.cvr_office.specs.Names.{records, devices, count_under, conflicts, greatest_count};
 ghost use Rattle.cvr_office.specs.declared.conflict.ConflictName.TheVariants as name;
 ghost use Rattle.cvr_office.specs.declared.fault.JoinFault.TheVariants as join_fault;
-ghost use Rattle.cvr_office.specs.Keeps.{starting, Keeps};
-ghost use Rattle.cvr_office.specs.Readers.{next, numbered, growth, device_list, IsHeader};
+ghost use Rattle.cvr_office.specs.Keeps.{starting_content, Keeps};
+ghost use Rattle.cvr_office.specs.Readers.{next, nth_from_one, growth, device_list, IsHeader};
 ghost use Rattle.cvr_office.specs.Readers.{IsCurrent, AreRecordFacts};
 ghost use Rattle.cvr_office.specs.Tallied.{row, rows, tally, total_limit, IsBelow};
 
@@ -50,7 +50,7 @@ pub trait Office {
     /// # Errors
     /// `Memory` where a growth was refused; the definition is then dropped.
     fn new(alloc: Global, definition: Definition) -> Result<Self, Memory>
-        ensures content { IfOk result (λ o. held o ≡ starting definition) }
+        ensures content { IfOk result (λ o. held o ≡ starting_content definition) }
         ensures definition { IfOk result (λ o. defined o ≡ definition) };
 
     /// Its definition, which no call changes. Takes no memory.
@@ -136,7 +136,7 @@ pub trait Office {
     /// above their number. Takes no memory.
     fn device_body(&self, id: &str, k: usize) -> Option<&Body>
         ensures { option_map (λ b. b.now) result
-            ≡ numbered (device_list (held self.now) id.now) k };
+            ≡ nth_from_one (device_list (held self.now) id.now) k };
 
     /// The names with two bodies or more, in order.
     ///
@@ -145,9 +145,9 @@ pub trait Office {
     fn conflicts(&self, alloc: Global) -> Result<ConflictList, Memory>
         ensures { IfOk result (λ list. list ≡ conflicts (held self.now)) };
 
-    /// The row of the tally for a key: what the current snapshots of the records add up to whose
-    /// header has the key's unit and batch and whose current snapshot has its contest. None where
-    /// there is no such record. Each number is below 2^118.
+    /// The row of the tally for a key: the sums over those records whose header has the key's unit
+    /// and batch, and whose current snapshot has its contest. None where there is no such record.
+    /// Each number is below 2^118.
     ///
     /// # Errors
     /// `Memory` where a growth was refused.
@@ -156,7 +156,10 @@ pub trait Office {
             (λ found. found ≡ row (defined self.now).contests (held self.now) key.now) }
         ensures below { IfOk result (λ found. IfSome found (IsBelow total_limit)) };
 
-    /// The rows of the tally, each that has a ballot. Each number is below 2^118.
+    /// The rows of the tally: each one that has a ballot. Each number is below 2^118.
+    ///
+    /// How often rows were changed on the way is left open. That the numbers which a CVRContest
+    /// states agree with its positions is not said.
     ///
     /// # Errors
     /// `Memory` where a growth was refused.

@@ -1,4 +1,5 @@
-ghost use Rattle.std.specs.Prelude.{◌≡◌, ℕ, ◌<◌, ◌≢◌, ◌⊎◌, [], map, get_or, length, OnErr, IfOk};
+ghost use Rattle.std.specs.Prelude.{◌≡◌, ℕ, ◌<◌, ◌≢◌, ◌⊎◌, [], map, slice_index_or, length, OnErr};
+ghost use Rattle.std.specs.Prelude.{IfOk};
 ghost use Rattle.std.specs.FinSet.{empty};
 ghost use Rattle.cdf_types.specs.declared.fault.ReadFault.TheVariants as read;
 ghost use Rattle.cdf_definition.specs.Frame.{IsSame};
@@ -9,7 +10,7 @@ ghost use Rattle.cvr_office.specs.Readers.{growth};
 ghost use Rattle.cvr_office.specs.Reach.{content, history};
 ghost use Rattle.cvr_office.specs.Alike.{AreNewOfOne, AreAlikeByFiles};
 ghost use Rattle.cvr_office.specs.Outcomes.{IsOutcome, IsImportOutcome, IsExchangeOutcome};
-ghost use Rattle.cvr_office.specs.Outcomes.{AreOutcomes, contents_after, held_after, due};
+ghost use Rattle.cvr_office.specs.Outcomes.{AreOutcomes, contents_after, held_after, due_outcome};
 
 use crate::event::{Cause, Event, Outcome};
 use crate::office::Office;
@@ -25,6 +26,10 @@ use std::alloc::Global;
 /// are the same where their values are, as `serde_json` reads them, wherever they stand in the
 /// list.
 ///
+/// No clause says that any exchange takes place. Being out of memory may stand for an accepted
+/// event or for the first cause of a file; never for a missing office or file, another definition,
+/// or an exchange with itself.
+///
 /// # Errors
 /// `Memory` where there was no room for the outcomes. No event has then happened.
 pub fn play<O: Office>(
@@ -34,7 +39,8 @@ pub fn play<O: Office>(
     events: &[Event],
 ) -> Result<Vec<Outcome>, Memory>
     ensures content { IfOk result
-        (λ outcomes. (o : ℕ) → o < length offices.old → get_or (map O.held offices.new) o empty
+        (λ outcomes. (o : ℕ) → o < length offices.old
+        → slice_index_or (map O.held offices.new) o empty
         ≡ content (map O.held offices.old) (map (λ f. f.items) files.now)
         (history events.now outcomes.items) o) }
     ensures count { IfOk result (λ outcomes. length outcomes.items ≡ length events.now) }
@@ -61,7 +67,7 @@ fn happen<O: Office>(offices: &mut [O], files: &[Vec<u8>], event: Event) -> Outc
         ≡ contents_after (map (λ f. f.items) files.now) event result (map O.held offices.old) }
     ensures definitions { map O.defined offices.new ≡ map O.defined offices.old }
     ensures outcome { IsOutcome (map O.defined offices.old) (map (λ f. f.items) files.now)
-        (λ o. get_or (map O.held offices.old) o empty) event result }
+        (λ o. slice_index_or (map O.held offices.old) o empty) event result }
 {
     match event {
         Event::Import { office, file } => import_at(offices, files, office, file),
@@ -76,7 +82,7 @@ fn import_at<O: Office>(offices: &mut [O], files: &[Vec<u8>], office: usize, fil
         (map O.held offices.old) }
     ensures definitions { map O.defined offices.new ≡ map O.defined offices.old }
     ensures outcome { IsImportOutcome (map O.defined offices.old) (map (λ f. f.items) files.now)
-        (λ o. get_or (map O.held offices.old) o empty) office file result }
+        (λ o. slice_index_or (map O.held offices.old) o empty) office file result }
 {
     if office >= offices.len() {
         return Outcome::Refused(Cause::NoOffice);
@@ -93,7 +99,7 @@ fn exchange<O: Office>(offices: &mut [O], from: usize, to: usize) -> Outcome
         ≡ contents_after [] (Event.Exchange from to) result (map O.held offices.old) }
     ensures definitions { map O.defined offices.new ≡ map O.defined offices.old }
     ensures outcome { IsExchangeOutcome (map O.defined offices.old)
-        (λ o. get_or (map O.held offices.old) o empty) from to result }
+        (λ o. slice_index_or (map O.held offices.old) o empty) from to result }
 {
     if from >= offices.len() || to >= offices.len() {
         return Outcome::Refused(Cause::NoOffice);
@@ -113,7 +119,7 @@ fn join_apart<O: Office>(offices: &mut [O], from: usize, to: usize) -> Outcome
         ≡ contents_after [] (Event.Exchange from to) result (map O.held offices.old) }
     ensures definitions { map O.defined offices.new ≡ map O.defined offices.old }
     ensures outcome { IsExchangeOutcome (map O.defined offices.old)
-        (λ o. get_or (map O.held offices.old) o empty) from to result }
+        (λ o. slice_index_or (map O.held offices.old) o empty) from to result }
 {
     if from < to {
         let (front, back) = offices.split_at_mut(to);
@@ -128,7 +134,7 @@ fn join_apart<O: Office>(offices: &mut [O], from: usize, to: usize) -> Outcome
 fn import_into<O: Office>(office: &mut O, bytes: &[u8]) -> Outcome
     ensures content { O.held office.new ≡ held_after result (O.held office.old) (facts bytes.now) }
     ensures outcome { (result
-        ≡ due (first_refusal (O.defined office.old) bytes.now)
+        ≡ due_outcome (first_refusal (O.defined office.old) bytes.now)
         (growth (O.held office.old) (facts bytes.now)))
         ⊎ (result ≡ Outcome.Refused (Cause.Read read.Memory)) }
     ensures definition { O.defined office.new ≡ O.defined office.old }

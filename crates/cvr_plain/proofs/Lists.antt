@@ -1,5 +1,6 @@
 -- A plain office's list of facts: what it keeps after each call, and when two are the same.
-use Rattle.std.proofs.Common.{◌≡◌, List, [], ◌∷◌, map, Contains, true, sym, ap, ◌∙◌, subst, ℕ, length}
+use Rattle.std.proofs.Common.{◌≡◌, List, [], ◌∷◌, map, Contains, true, sym, ap, ◌∙◌, subst, ℕ}
+use Rattle.std.proofs.Common.{length}
 use Rattle.std.specs.Cmp.Lexicographic.{pointwise, pointwise_decides}
 use Rattle.std.specs.FinSet.{from_list, union, len}
 use Rattle.std.specs.List.Sorted.{IsStrictlySortedBy}
@@ -31,21 +32,29 @@ unfolding IsStrictlySortedBy
 none_rise [] e = tt
 none_rise (x ∷ xs) e = Prim.cc e
 
-pub len-set_of : (frame : Frame) (xs : List AnyFact) → IsPlain frame xs → len (set_of xs) ≡ length xs
+pub len-set_of : (frame : Frame) (xs : List AnyFact) → IsPlain frame xs
+    → len (set_of xs) ≡ length xs
 len-set_of frame xs plain = len-from_list fact_of place_total fact_total fact_exact xs plain.rises
 
 -- ---- the same facts
 
-module _ (xs ys : List AnyFact) (h : IsStrictlySortedBy any_cmp xs) (k : IsStrictlySortedBy any_cmp ys) where
+module _ (xs ys : List AnyFact) (h : IsStrictlySortedBy any_cmp xs)
+    (k : IsStrictlySortedBy any_cmp ys) where
   pub same_iff : (pointwise (eq_by_cmp any_cmp) xs ys ≡ true) ↔ (set_of xs ≡ set_of ys)
   same_iff =
-      let decides = pointwise_decides (tie_decides place_total place_exact) (map fact_of xs) (map fact_of ys) in
-      let is = pointwise-on fact_of (eq_by_cmp place_cmp) xs ys in
-      (λ e. ap (from_list {R = fact_cmp}) (decides.0 (sym is ∙ e)), λ same. is ∙ decides.1 (same_facts xs ys h k same))
+      let decides = pointwise_decides (tie_decides place_total place_exact) (map fact_of xs)
+      (map fact_of ys) in
+      let is = pointwise-on fact_of (eq_by_cmp place_cmp) xs ys in (
+        λ e. ap (from_list {R = fact_cmp}) (decides.0 (sym is ∙ e)),
+        λ same. is
+            ∙ decides.1 (same_facts xs ys h k same),
+      )
 
 -- ---- the facts of a file
 
-module _ (frame : Frame) (bytes : List ℕ) (list : FactList) (old more new : List AnyFact) (files : IsTheFiles frame bytes list) (all_is : more ≡ all_of list) (put : IsPut old more new) where
+module _ (frame : Frame) (bytes : List ℕ) (list : FactList) (old more new : List AnyFact)
+    (files : IsTheFiles frame bytes list) (all_is : more ≡ all_of list)
+    (put : IsPut old more new) where
   pub told_is : set_of more ≡ facts bytes
   told_is = ap set_of all_is ∙ (ap (from_list {R = fact_cmp}) (map-all_of list) ∙ files.file)
 
@@ -55,23 +64,33 @@ module _ (frame : Frame) (bytes : List ℕ) (list : FactList) (old more new : Li
   pub plain_import : Valid frame bytes → IsPlain frame old → IsPlain frame new
   plain_import valid plain = record {
     rises = put.rises;
-    spelled = spelled_put frame.contests old more new put plain.spelled (λ f at. all_spelled frame.contests list files.spelled f (subst (λ xs. Contains xs f) all_is at));
-    keeps = subst (Keeps frame) (sym import_is) (import_keeps frame (set_of old) bytes valid plain.keeps);
+    spelled = spelled_put frame.contests old more new put plain.spelled
+        (λ f at. all_spelled frame.contests list files.spelled f
+        (subst (λ xs. Contains xs f) all_is at));
+    keeps = subst (Keeps frame) (sym import_is)
+        (import_keeps frame (set_of old) bytes valid plain.keeps);
   }
 
 -- ---- another office's facts
 
-pub plain_join : (frame other : Frame) (old theirs new : List AnyFact) → IsSame frame other → IsPlain frame old → IsPlain other theirs → IsPut old theirs new → IsPlain frame new
+pub plain_join : (frame other : Frame) (old theirs new : List AnyFact) → IsSame frame other
+    → IsPlain frame old → IsPlain other theirs → IsPut old theirs new → IsPlain frame new
 plain_join frame other old theirs new same mine plain put =
-    let contests : other.contests ≡ frame.contests = sym ((same_definitions frame other mine.keeps.sound plain.keeps.sound same).contests) in
+    let contests : other.contests ≡ frame.contests =
+    sym ((same_definitions frame other mine.keeps.sound plain.keeps.sound same).contests) in
     record {
       rises = put.rises;
-      spelled = spelled_put frame.contests old theirs new put mine.spelled (λ f at. subst (λ cs. IsSpelled cs f) contests (plain.spelled f at));
-      keeps = subst (Keeps frame) (sym put.set) (join_keeps frame other (set_of old) (set_of theirs) same mine.keeps plain.keeps);
+      spelled = spelled_put frame.contests old theirs new put mine.spelled
+          (λ f at. subst (λ cs. IsSpelled cs f) contests (plain.spelled f at));
+      keeps = subst (Keeps frame) (sym put.set)
+          (join_keeps frame other (set_of old) (set_of theirs) same mine.keeps plain.keeps);
     }
 
 -- whether they were put in or not
-pub plain_after : (r : Result ℕ Memory) (frame other : Frame) (old theirs new : List AnyFact) → IsSame frame other → IsPlain frame old → IsPlain other theirs
+pub plain_after : (r : Result ℕ Memory) (frame other : Frame) (old theirs new : List AnyFact)
+    → IsSame frame other → IsPlain frame old → IsPlain other theirs
     → OnOk r (IsPut old theirs new) → OnErr r (new ≡ old) → IsPlain frame new
-plain_after (Ok n) frame other old theirs new same mine plain put was = plain_join frame other old theirs new same mine plain put
-plain_after (Err e) frame other old theirs new same mine plain put was = subst (IsPlain frame) (sym was) mine
+plain_after (Ok n) frame other old theirs new same mine plain put was =
+    plain_join frame other old theirs new same mine plain put
+plain_after (Err e) frame other old theirs new same mine plain put was =
+    subst (IsPlain frame) (sym was) mine

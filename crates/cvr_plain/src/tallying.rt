@@ -7,7 +7,7 @@ ghost use Rattle.cvr_office.specs.Place.{any_cmp};
 ghost use Rattle.cvr_office.specs.Plain.{set_of, IsPlain};
 ghost use Rattle.cvr_office.specs.Runs.{AreSpelled};
 ghost use Rattle.cvr_office.specs.Tallied.{row, rows, tally, total_limit, IsBelow};
-ghost use Rattle.cvr_office.specs.Adding.{AreSums, CurrentsAreSums, key_for, sums_for, added};
+ghost use Rattle.cvr_office.specs.Adding.{AreSums, CurrentsAreSums, key_for, sums_for, added_sums};
 ghost use Rattle.cvr_office.specs.Adding.{row_with, HaveRoom};
 
 use cdf_check::Definition;
@@ -79,7 +79,7 @@ fn add_record(totals: &mut Totals, facts: &[AnyFact], name: &RecordName) -> Resu
     requires room { HaveRoom totals.old.rows }
     ensures rows { OnOk result ((q : RowKey) → get totals.new.rows q
         ≡ row_with totals.old.contests q (get totals.old.rows q)
-        (added totals.old.contests (set_of facts.now) q name.now)) }
+        (added_sums totals.old.contests (set_of facts.now) q name.now)) }
     ensures contests { OnOk result (totals.new.contests ≡ totals.old.contests) }
 {
     let Some(header) = header_in(facts, name) else {

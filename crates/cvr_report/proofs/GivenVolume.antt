@@ -1,5 +1,6 @@
 -- The volumes of a set of facts that is given by a list.
-use Rattle.std.proofs.Common.{◌≡◌, ℕ, Bool, List, [], ◌∷◌, map, reverse, length, max, Contains, Option, Ordering, nat_le, refl, ap, ◌∙◌, subst}
+use Rattle.std.proofs.Common.{◌≡◌, ℕ, Bool, List, [], ◌∷◌, map, reverse, length, max, Contains}
+use Rattle.std.proofs.Common.{Option, Ordering, nat_le, refl, ap, ◌∙◌, subst}
 use Rattle.std.specs.List.{filter, filter_map}
 use Rattle.std.specs.Cmp.{IsTotalOrder}
 use Rattle.std.specs.FinMap as map_of
@@ -9,45 +10,57 @@ use Rattle.serde_json.specs.Written.{compact_text}
 use Rattle.cdf_definition.specs.Frame.{Frame}
 use Rattle.cvr_fact_types.specs.declared.name.RecordName.{RecordName}
 use Rattle.cvr_fact_types.specs.Facts.{Fact, Facts, fact_total, fact_exact, text_cmp, name_cmp}
-use Rattle.cvr_facts.specs.Ordered.{keys_of, ordered}
+use Rattle.cvr_facts.specs.Ordered.{keys_of, keys_in_order}
 use Rattle.cvr_facts.specs.Choosing.{choice_cmp}
 use Rattle.cvr_facts.proofs.Laws.{text_total, text_exact, choice_total, choice_exact, contains_iff}
-use Rattle.cvr_facts.proofs.Lemmas.{in_map, from_map, in_set, from_set, ordered_rises, Contains-filter_map, from-filter_map}
+use Rattle.cvr_facts.proofs.Lemmas.{in_map, from_map, in_set, from_set, ordered_rises}
+use Rattle.cvr_facts.proofs.Lemmas.{Contains-filter_map, from-filter_map}
 use Rattle.cvr_tally.proofs.Lemmas.{entries-given}
 use Rattle.cvr_office.specs.declared.conflict.ConflictName.{ConflictName}
 use Rattle.cvr_office.specs.declared.conflict.ConflictName.TheVariants as name
-use Rattle.cvr_office.specs.Names.{name_of, body_of, is_named, conflict_cmp, device_in, id_in, record_of, devices, snapshot_ids, most}
+use Rattle.cvr_office.specs.Names.{name_of, body_of, is_named, conflict_cmp, device_in, id_in}
+use Rattle.cvr_office.specs.Names.{record_of, devices, snapshot_ids, most}
 use Rattle.cvr_office.specs.Readers.{device_list, header_list, snapshot_list}
 use Rattle.cvr_office.proofs.Laws.{conflict_total, conflict_exact}
-use Rattle.cvr_office.proofs.Lemmas.{sorted, records-given, in_ordered, from_ordered, ordered-members, in_filter, from_filter}
+use Rattle.cvr_office.proofs.Lemmas.{sorted, records-given, in_ordered, from_ordered}
+use Rattle.cvr_office.proofs.Lemmas.{keys_in_order-members, in_filter, from_filter}
 use Rattle.cvr_report.specs.Head.{Head}
-use Rattle.cvr_report.specs.Page.{Page, RecordPage, Shown, shown, current_id, shown_record, page, volumes}
+use Rattle.cvr_report.specs.Page.{Page, RecordPage, Shown, shown_body, current_id, shown_record}
+use Rattle.cvr_report.specs.Page.{page, volumes}
 use Rattle.cvr_report.specs.Volume.{volume_data, volume}
 
 -- ---- lists in order
 
-keys_given : {K : Type 0} (R : K → K → Ordering) (ks : List K) → keys_of R ks ≡ from_entries (map (λ k. (k, tt {0})) ks)
+keys_given : {K : Type 0} (R : K → K → Ordering) (ks : List K)
+    → keys_of R ks ≡ from_entries (map (λ k. (k, tt {0})) ks)
 keys_given R [] = refl
 keys_given R (k ∷ ks) = ap (λ m. map_of.insert m k tt) (keys_given R ks)
 
-ordered-is : {K : Type 0} {R : K → K → Ordering} → IsTotalOrder R → (ks : List K) → ordered R ks ≡ sorted R ks
-ordered-is {R = R} t ks = ap map_of.keys (keys_given R ks) ∙ ap (map (λ e. e.0)) (entries-given t (map (λ k. (k, tt {0})) ks))
+keys_in_order-is : {K : Type 0} {R : K → K → Ordering} → IsTotalOrder R → (ks : List K)
+    → keys_in_order R ks ≡ sorted R ks
+keys_in_order-is {R = R} t ks = ap map_of.keys (keys_given R ks)
+    ∙ ap (map (λ e. e.0)) (entries-given t (map (λ k. (k, tt {0})) ks))
 
 -- more facts make all that fewer make
 abbrev Grows : {K : Type 0} → (List Fact → List K) → Type 0
-Grows {K} make = (xs ys : List Fact) → ((f : Fact) → Contains xs f → Contains ys f) → (k : K) → Contains (make xs) k → Contains (make ys) k
+Grows {K} make = (xs ys : List Fact) → ((f : Fact) → Contains xs f → Contains ys f) → (k : K)
+    → Contains (make xs) k → Contains (make ys) k
 
 picking : {K : Type 0} (pick : Fact → Option K) → Grows (filter_map pick)
-picking pick xs ys more k at = let f = from-filter_map pick xs k at in Contains-filter_map pick ys f.0 k (more f.0 f.1) f.2
+picking pick xs ys more k at =
+    let f = from-filter_map pick xs k at in Contains-filter_map pick ys f.0 k (more f.0 f.1) f.2
 
 naming : Grows (map name_of)
-naming xs ys more n at = let f = from_map name_of n xs at in subst (Contains (map name_of ys)) f.2 (in_map name_of f.0 ys (more f.0 f.1))
+naming xs ys more n at = let f = from_map name_of n xs at in
+    subst (Contains (map name_of ys)) f.2 (in_map name_of f.0 ys (more f.0 f.1))
 
 under : (n : ConflictName) → Grows (λ fs. map body_of (filter (is_named n) fs))
 under n xs ys more b at =
     let f = from_map body_of b (filter (is_named n) xs) at in
     let own = from_filter (is_named n) xs f.0 f.1 in
-    subst (Contains (map body_of (filter (is_named n) ys))) f.2 (in_map body_of f.0 (filter (is_named n) ys) (in_filter (is_named n) ys f.0 (more f.0 own.0) own.1))
+    subst (Contains (map body_of (filter (is_named n) ys))) f.2
+    (in_map body_of f.0 (filter (is_named n) ys)
+    (in_filter (is_named n) ys f.0 (more f.0 own.0) own.1))
 
 module _ (fs : List Fact) where
   abbrev given : Facts
@@ -60,38 +73,52 @@ module _ (fs : List Fact) where
   back f at = (contains_iff given f).0 (in_set fact_total fact_exact fs f at)
 
   -- what facts make, in order
-  made : {K : Type 0} {R : K → K → Ordering} → IsTotalOrder R → IsAntisymmetric R → (make : List Fact → List K) → Grows make → ordered R (make (items given)) ≡ sorted R (make fs)
+  made : {K : Type 0} {R : K → K → Ordering} → IsTotalOrder R → IsAntisymmetric R
+      → (make : List Fact → List K) → Grows make
+      → keys_in_order R (make (items given)) ≡ sorted R (make fs)
   made {R = R} t e make grows =
-      ordered-members t e (make (items given)) (ordered R (make fs)) (ordered_rises R (make fs))
+      keys_in_order-members t e (make (items given)) (keys_in_order R (make fs))
+      (ordered_rises R (make fs))
       (λ k at. grows fs (items given) back k (from_ordered t e (make fs) k at))
       (λ k at. in_ordered t e (make fs) k (grows (items given) fs there k at))
-      ∙ ordered-is t (make fs)
+      ∙ keys_in_order-is t (make fs)
 
 -- ---- how many volumes
 
 abbrev number_in : List Fact → ℕ
-number_in fs = max 1 (most (map (λ n. length (sorted text_cmp (map body_of (filter (is_named n) fs)))) (sorted conflict_cmp (map name_of fs))))
+number_in fs = max 1 (most (map (λ n. length
+    (sorted text_cmp (map body_of (filter (is_named n) fs))))
+    (sorted conflict_cmp (map name_of fs))))
 
 pub volumes-given : (fs : List Fact) → volumes (from_list fs) ≡ number_in fs
 volumes-given fs =
-    λ i. max 1 (most (map (λ n. length (made fs text_total text_exact _ (under n) i)) (made fs conflict_total conflict_exact _ naming i)))
+    λ i. max 1 (most (map (λ n. length (made fs text_total text_exact _ (under n) i))
+    (made fs conflict_total conflict_exact _ naming i)))
 
 -- ---- what they show
 
 -- a page of these devices and records, by their bodies
-module _ (headers : RecordName → List (List ℕ)) (ids : RecordName → List (List ℕ)) (snapshots : RecordName → List ℕ → List (List ℕ)) (i : ℕ) where
+module _ (headers : RecordName → List (List ℕ)) (ids : RecordName → List (List ℕ))
+    (snapshots : RecordName → List ℕ → List (List ℕ)) (i : ℕ) where
   abbrev stands_by : RecordName → Bool
-  stands_by key = nat_le i (most (length (headers key) ∷ map (λ id. length (snapshots key id)) (ids key)))
+  stands_by key =
+      nat_le i (most (length (headers key) ∷ map (λ id. length (snapshots key id)) (ids key)))
 
   abbrev snapshots_by : RecordName → List Shown
-  snapshots_by key = map (λ id. record { id = id; body = shown i (snapshots key id) }) (ids key)
+  snapshots_by key =
+      map (λ id. record { id = id; body = shown_body i (snapshots key id) }) (ids key)
 
   abbrev record_by : RecordName → RecordPage
-  record_by key = record { key = key; header = shown i (headers key); snapshots = snapshots_by key; current = current_id (snapshots_by key) }
+  record_by key = record {
+    key = key;
+    header = shown_body i (headers key);
+    snapshots = snapshots_by key;
+    current = current_id (snapshots_by key);
+  }
 
   abbrev page_by : List (List ℕ) → (List ℕ → List (List ℕ)) → List RecordName → Page
   page_by devices device_bodies records = record {
-    devices = map (λ id. record { id = id; body = shown i (device_bodies id) }) devices;
+    devices = map (λ id. record { id = id; body = shown_body i (device_bodies id) }) devices;
     records = map record_by (filter stands_by records);
   }
 
@@ -116,7 +143,8 @@ module _ (fs : List Fact) where
   abbrev pub page_in : ℕ → Page
   page_in i =
       page_by headers_in ids_in snapshots_in i
-      (sorted text_cmp (filter_map device_in fs)) (λ id. falling text_cmp (name.Device id)) (sorted name_cmp (filter_map record_of fs))
+      (sorted text_cmp (filter_map device_in fs)) (λ id. falling text_cmp (name.Device id))
+      (sorted name_cmp (filter_map record_of fs))
 
   devices-given : devices (given fs) ≡ sorted text_cmp (filter_map device_in fs)
   devices-given = made fs text_total text_exact _ (picking device_in)
@@ -130,16 +158,23 @@ module _ (fs : List Fact) where
   ids-given : (key : RecordName) → snapshot_ids (given fs) key ≡ ids_in key
   ids-given key = made fs text_total text_exact _ (picking (id_in key))
 
-  snapshots-given : (key : RecordName) (id : List ℕ) → snapshot_list (given fs) key id ≡ snapshots_in key id
-  snapshots-given key id = ap reverse (made fs choice_total choice_exact _ (under (name.Snapshot key id)))
+  snapshots-given : (key : RecordName) (id : List ℕ)
+      → snapshot_list (given fs) key id ≡ snapshots_in key id
+  snapshots-given key id =
+      ap reverse (made fs choice_total choice_exact _ (under (name.Snapshot key id)))
 
-  pub record-given : (i : ℕ) (key : RecordName) → shown_record (from_list fs) i key ≡ record_in i key
-  record-given i key = λ j. record_by (λ k. headers-given k j) (λ k. ids-given k j) (λ k id. snapshots-given k id j) i key
+  pub record-given : (i : ℕ) (key : RecordName)
+      → shown_record (from_list fs) i key ≡ record_in i key
+  record-given i key = λ j. record_by (λ k. headers-given k j) (λ k. ids-given k j)
+      (λ k id. snapshots-given k id j) i key
 
   page-given : (i : ℕ) → page (from_list fs) i ≡ page_in i
   page-given i = λ j.
       page_by (λ k. headers-given k j) (λ k. ids-given k j) (λ k id. snapshots-given k id j) i
       (devices-given j) (λ id. device_list-given id j) (records-given fs j)
 
-  pub volume-given : (frame : Frame) (head : Head) (i : ℕ) → volume frame head (from_list fs) i ≡ compact_text (volume_data frame head.date head.device (page_in i))
-  volume-given frame head i = ap (λ p. compact_text (volume_data frame head.date head.device p)) (page-given i)
+  pub volume-given : (frame : Frame) (head : Head) (i : ℕ)
+      → volume frame head (from_list fs) i
+      ≡ compact_text (volume_data frame head.date head.device (page_in i))
+  volume-given frame head i =
+      ap (λ p. compact_text (volume_data frame head.date head.device p)) (page-given i)

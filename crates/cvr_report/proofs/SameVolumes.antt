@@ -22,11 +22,22 @@ same_volumes f g s t same is = record {
   }) (records_data (page (is n) i)));
 }
 
-pub same_files_law : {Office : Type 0} (held : Office → Facts) (defined : Office → Frame) → SameWritingLaw held defined
+pub same_files_law : {Office : Type 0} (held : Office → Facts) (defined : Office → Frame)
+    → SameWritingLaw held defined
 same_files_law held defined before after files past o p one other new played same at also =
-    let content = same_content held defined before after files past new played o p one other at also same in
-    let definition = same_definition held defined before after files past new played o p one other at also in (
-      record { contents = content; answers = answer_alike (defined one) (defined other) (held one) (held other) (ap (λ f. f.contests) definition) content },
+    let content =
+    same_content held defined before after files past new played o p one other at also same in
+    let definition =
+    same_definition held defined before after files past new played o p one other at also in (
+      record {
+        contents = content;
+        answers = answer_alike (defined one) (defined other) (held one)
+            (held other) (ap (λ f. f.contests) definition) content;
+      },
       same_volumes (defined one) (defined other) (held one) (held other)
-          (record { elections = ap (λ f. texts_of f.elections) definition; units = ap (λ f. texts_of f.units) definition; parties = ap (λ f. texts_of f.parties) definition }) content,
+          (record {
+            elections = ap (λ f. texts_of f.elections) definition;
+            units = ap (λ f. texts_of f.units) definition;
+            parties = ap (λ f. texts_of f.parties) definition;
+          }) content,
     )

@@ -1,11 +1,15 @@
 -- The pass goes over a whole value.
-use Rattle.std.proofs.Common.{◌≡◌, ℕ, zero, suc, ◌<◌, ◌≤◌, ◌^◌, Bool, true, false, pos, negsuc, List, [], ◌∷◌, ◌++◌, length, get_or, decimal, inl, inr, ◌⊎◌, refl, sym, ap, ◌∙◌, subst, arith, append_assoc}
+use Rattle.std.proofs.Common.{◌≡◌, ℕ, zero, suc, ◌<◌, ◌≤◌, ◌^◌, Bool, true, false, pos, negsuc}
+use Rattle.std.proofs.Common.{List, [], ◌∷◌, ◌++◌, length, get_or, decimal, inl, inr, ◌⊎◌, refl}
+use Rattle.std.proofs.Common.{sym, ap, ◌∙◌, subst, arith, append_assoc}
 use Rattle.std.proofs.lemmas.Bool.{cases_eq, cases_lt, ne_eqb}
 use Rattle.std.proofs.lemmas.Fmt.{decimal_is_IsNumeral}
 use Rattle.std.proofs.lemmas.Str.Parse.{digit_at}
 use Rattle.json.specs.Print.{escape, escape_byte, quoted}
 use Rattle.json.proofs.Printed.Strings.{escape_byte_plain}
-use Rattle.serde_json.specs.Data.{Num, unsigned, negative, float, Data, null, boolean, number, string, array, object, Items, no_items, item, Members, no_members, member}
+use Rattle.serde_json.specs.Data.{Num, unsigned, negative, float, Data, null, boolean, number}
+use Rattle.serde_json.specs.Data.{string, array, object, Items, no_items, item, Members, no_members}
+use Rattle.serde_json.specs.Data.{member}
 use Rattle.serde_json.specs.Written.{number_text, compact_text, items_text, members_text, comma_if}
 use Rattle.cdf_parts.specs.Proper.{NumFits, IsWell, ItemsAreWell, MembersAreWell}
 use Rattle.cvr_report.specs.Scan.{Between, InString, left_after, stops, next_mode, next_depth}
@@ -13,7 +17,8 @@ use Rattle.cvr_report.specs.Scan.{Between, InString, left_after, stops, next_mod
 -- ---- strings
 
 abbrev Passes : ℕ → Type 0
-Passes x = (n : ℕ) (r : List ℕ) → left_after InString n (escape_byte x ++ r) ≡ left_after InString n r
+Passes x = (n : ℕ) (r : List ℕ) → left_after InString n (escape_byte x ++ r)
+    ≡ left_after InString n r
 
 abbrev pub Each : (ℕ → Type 0) → ℕ → Type 0
 Each P zero = Unit {0}
@@ -77,7 +82,25 @@ controls = (
                                               λ n r. refl,
                                               (
                                                 λ n r. refl,
-                                                (λ n r. refl, (λ n r. refl, (λ n r. refl, (λ n r. refl, (λ n r. refl, (λ n r. refl, (λ n r. refl, (λ n r. refl, tt)))))))),
+                                                (
+                                                  λ n r. refl,
+                                                  (
+                                                    λ n r. refl,
+                                                    (
+                                                      λ n r. refl,
+                                                      (
+                                                        λ n r. refl,
+                                                        (
+                                                          λ n r. refl,
+                                                          (
+                                                            λ n r. refl,
+                                                            (λ n r. refl, (λ n r. refl, tt)),
+                                                          ),
+                                                        ),
+                                                      ),
+                                                    ),
+                                                  ),
+                                                ),
                                               ),
                                             ),
                                           ),
@@ -111,12 +134,14 @@ backslash_passes : Passes 92
 unfolding left_after escape_byte
 backslash_passes n r = refl
 
-inside : (x n : ℕ) (r : List ℕ) → (x ≡ 34 → ⊥) → (x ≡ 92 → ⊥) → left_after InString n (x ∷ r) ≡ left_after InString n r
+inside : (x n : ℕ) (r : List ℕ) → (x ≡ 34 → ⊥) → (x ≡ 92 → ⊥)
+    → left_after InString n (x ∷ r) ≡ left_after InString n r
 unfolding left_after
 inside x n r q b = rw (ne_eqb x 34 q, ne_eqb x 92 b)
 
 plain_passes : (x : ℕ) → (x ≡ 34 → ⊥) → (x ≡ 92 → ⊥) → 32 ≤ x → Passes x
-plain_passes x q b l n r = ap (λ s. left_after InString n (s ++ r)) (escape_byte_plain x q b l) ∙ inside x n r q b
+plain_passes x q b l n r =
+    ap (λ s. left_after InString n (s ++ r)) (escape_byte_plain x q b l) ∙ inside x n r q b
 
 passes : (x : ℕ) → Passes x
 passes x = go (cases_eq x 34) (cases_eq x 92) (cases_lt x 32)
@@ -127,14 +152,17 @@ passes x = go (cases_eq x 34) (cases_eq x 92) (cases_lt x 32)
     go (inr q) (inr b) (inl c) = each_sound Passes 32 controls x c
     go (inr q) (inr b) (inr l) = plain_passes x q b l
 
-pub after-escape : (s : List ℕ) (n : ℕ) (r : List ℕ) → left_after InString n (escape s ++ 34 ∷ r) ≡ left_after Between n r
+pub after-escape : (s : List ℕ) (n : ℕ) (r : List ℕ)
+    → left_after InString n (escape s ++ 34 ∷ r) ≡ left_after Between n r
 unfolding left_after
 after-escape [] n r = refl
-after-escape (x ∷ s) n r = ap (left_after InString n) (append_assoc (escape_byte x) (escape s) (34 ∷ r)) ∙ passes x n _ ∙ after-escape s n r
+after-escape (x ∷ s) n r = ap (left_after InString n)
+    (append_assoc (escape_byte x) (escape s) (34 ∷ r)) ∙ passes x n _ ∙ after-escape s n r
 
 -- ---- plain bytes between
 
-opened : (x n : ℕ) (xs : List ℕ) → stops Between n x ≡ false → left_after Between n (x ∷ xs) ≡ left_after (next_mode Between x) (next_depth Between n x) xs
+opened : (x n : ℕ) (xs : List ℕ) → stops Between n x ≡ false
+    → left_after Between n (x ∷ xs) ≡ left_after (next_mode Between x) (next_depth Between n x) xs
 unfolding left_after
 opened x n xs e = rw e
 
@@ -142,46 +170,72 @@ no_stop : (n x : ℕ) → (x ≡ 44 → ⊥) → (x ≡ 125 → ⊥) → stops B
 no_stop zero x a b = rw (ne_eqb x 44 a, ne_eqb x 125 b)
 no_stop (suc n) x a b = refl
 
-plain : (x n : ℕ) (xs : List ℕ) → (x ≡ 34 → ⊥) → (x ≡ 44 → ⊥) → (x ≡ 91 → ⊥) → (x ≡ 93 → ⊥) → (x ≡ 123 → ⊥) → (x ≡ 125 → ⊥) → left_after Between n (x ∷ xs) ≡ left_after Between n xs
-plain x n xs q c o p s t = opened x n xs (no_stop n x c t) ∙ rw (ne_eqb x 34 q, ne_eqb x 91 o, ne_eqb x 123 s, ne_eqb x 93 p, ne_eqb x 125 t)
+plain : (x n : ℕ) (xs : List ℕ) → (x ≡ 34 → ⊥) → (x ≡ 44 → ⊥) → (x ≡ 91 → ⊥) → (x ≡ 93 → ⊥)
+    → (x ≡ 123 → ⊥) → (x ≡ 125 → ⊥) → left_after Between n (x ∷ xs) ≡ left_after Between n xs
+plain x n xs q c o p s t = opened x n xs (no_stop n x c t)
+    ∙ rw (ne_eqb x 34 q, ne_eqb x 91 o, ne_eqb x 123 s, ne_eqb x 93 p, ne_eqb x 125 t)
 
-letter : (x n : ℕ) (xs : List ℕ) → 96 < x → x < 123 → left_after Between n (x ∷ xs) ≡ left_after Between n xs
-letter x n xs l h = plain x n xs (λ e. omega arith) (λ e. omega arith) (λ e. omega arith) (λ e. omega arith) (λ e. omega arith) (λ e. omega arith)
+letter : (x n : ℕ) (xs : List ℕ) → 96 < x → x < 123
+    → left_after Between n (x ∷ xs) ≡ left_after Between n xs
+letter x n xs l h = plain x n xs (λ e. omega arith) (λ e. omega arith) (λ e. omega arith)
+    (λ e. omega arith) (λ e. omega arith) (λ e. omega arith)
 
-digit : (x n : ℕ) (xs : List ℕ) → 44 < x → x < 60 → left_after Between n (x ∷ xs) ≡ left_after Between n xs
-digit x n xs l h = plain x n xs (λ e. omega arith) (λ e. omega arith) (λ e. omega arith) (λ e. omega arith) (λ e. omega arith) (λ e. omega arith)
+digit : (x n : ℕ) (xs : List ℕ) → 44 < x → x < 60
+    → left_after Between n (x ∷ xs) ≡ left_after Between n xs
+digit x n xs l h = plain x n xs (λ e. omega arith) (λ e. omega arith) (λ e. omega arith)
+    (λ e. omega arith) (λ e. omega arith) (λ e. omega arith)
 
-digits_pass : (ds : List ℕ) (n : ℕ) (r : List ℕ) → ((i : ℕ) → i < length ds → (48 ≤ get_or ds i 0) × (get_or ds i 0 ≤ 57)) → left_after Between n (ds ++ r) ≡ left_after Between n r
+digits_pass : (ds : List ℕ) (n : ℕ) (r : List ℕ)
+    → ((i : ℕ) → i < length ds → (48 ≤ get_or ds i 0) × (get_or ds i 0 ≤ 57))
+    → left_after Between n (ds ++ r) ≡ left_after Between n r
 digits_pass [] n r h = refl
 digits_pass (d ∷ ds) n r h =
     let first = h 0 (omega arith) in
-    digit d n (ds ++ r) (omega arith) (omega arith) ∙ digits_pass ds n r (λ i l. h (suc i) (omega arith))
+    digit d n (ds ++ r) (omega arith) (omega arith)
+    ∙ digits_pass ds n r (λ i l. h (suc i) (omega arith))
 
-decimal_pass : (m n : ℕ) (r : List ℕ) → m < 2 ^ 64 → left_after Between n (decimal m ++ r) ≡ left_after Between n r
-decimal_pass m n r h = digits_pass (decimal m) n r (λ i l. digit_at (decimal m) i (decimal_is_IsNumeral m h).0.1 l)
+decimal_pass : (m n : ℕ) (r : List ℕ) → m < 2 ^ 64
+    → left_after Between n (decimal m ++ r) ≡ left_after Between n r
+decimal_pass m n r h =
+    digits_pass (decimal m) n r (λ i l. digit_at (decimal m) i (decimal_is_IsNumeral m h).0.1 l)
 
-number_pass : (x : Num) (n : ℕ) (r : List ℕ) → NumFits x → left_after Between n (number_text x ++ r) ≡ left_after Between n r
+number_pass : (x : Num) (n : ℕ) (r : List ℕ) → NumFits x
+    → left_after Between n (number_text x ++ r) ≡ left_after Between n r
 number_pass (unsigned m) n r h = decimal_pass m n r h
 number_pass (negative (pos m)) n r h = absurd h
-number_pass (negative (negsuc m)) n r h = digit 45 n (decimal (suc m) ++ r) (omega arith) (omega arith) ∙ decimal_pass (suc m) n r (omega arith)
+number_pass (negative (negsuc m)) n r h = digit 45 n (decimal (suc m) ++ r) (omega arith)
+    (omega arith) ∙ decimal_pass (suc m) n r (omega arith)
 number_pass (float x) n r h = refl
 
-word_pass : (a b c d n : ℕ) (r : List ℕ) → (96 < a) × (a < 123) → (96 < b) × (b < 123) → (96 < c) × (c < 123) → (96 < d) × (d < 123) → left_after Between n (a ∷ b ∷ c ∷ d ∷ r) ≡ left_after Between n r
-word_pass a b c d n r p q s t = letter a n _ p.0 p.1 ∙ letter b n _ q.0 q.1 ∙ letter c n _ s.0 s.1 ∙ letter d n _ t.0 t.1
+word_pass : (a b c d n : ℕ) (r : List ℕ) → (96 < a) × (a < 123) → (96 < b) × (b < 123)
+    → (96 < c) × (c < 123) → (96 < d) × (d < 123)
+    → left_after Between n (a ∷ b ∷ c ∷ d ∷ r) ≡ left_after Between n r
+word_pass a b c d n r p q s t =
+    letter a n _ p.0 p.1 ∙ letter b n _ q.0 q.1 ∙ letter c n _ s.0 s.1 ∙ letter d n _ t.0 t.1
 
-true_pass : (n : ℕ) (r : List ℕ) → left_after Between n (116 ∷ 114 ∷ 117 ∷ 101 ∷ r) ≡ left_after Between n r
-true_pass n r = word_pass 116 114 117 101 n r (omega arith, omega arith) (omega arith, omega arith) (omega arith, omega arith) (omega arith, omega arith)
+true_pass : (n : ℕ) (r : List ℕ) → left_after Between n (116 ∷ 114 ∷ 117 ∷ 101 ∷ r)
+    ≡ left_after Between n r
+true_pass n r = word_pass 116 114 117 101 n r (omega arith, omega arith) (omega arith, omega arith)
+    (omega arith, omega arith) (omega arith, omega arith)
 
-null_pass : (n : ℕ) (r : List ℕ) → left_after Between n (110 ∷ 117 ∷ 108 ∷ 108 ∷ r) ≡ left_after Between n r
-null_pass n r = word_pass 110 117 108 108 n r (omega arith, omega arith) (omega arith, omega arith) (omega arith, omega arith) (omega arith, omega arith)
+null_pass : (n : ℕ) (r : List ℕ) → left_after Between n (110 ∷ 117 ∷ 108 ∷ 108 ∷ r)
+    ≡ left_after Between n r
+null_pass n r = word_pass 110 117 108 108 n r (omega arith, omega arith) (omega arith, omega arith)
+    (omega arith, omega arith) (omega arith, omega arith)
 
-false_pass : (n : ℕ) (r : List ℕ) → left_after Between n (102 ∷ 97 ∷ 108 ∷ 115 ∷ 101 ∷ r) ≡ left_after Between n r
-false_pass n r = letter 102 n _ (omega arith) (omega arith) ∙ word_pass 97 108 115 101 n r (omega arith, omega arith) (omega arith, omega arith) (omega arith, omega arith) (omega arith, omega arith)
+false_pass : (n : ℕ) (r : List ℕ) → left_after Between n (102 ∷ 97 ∷ 108 ∷ 115 ∷ 101 ∷ r)
+    ≡ left_after Between n r
+false_pass n r = letter 102 n _ (omega arith) (omega arith)
+    ∙ word_pass 97 108 115 101 n r (omega arith, omega arith) (omega arith, omega arith)
+    (omega arith, omega arith) (omega arith, omega arith)
 
-pub quoted_pass : (s : List ℕ) (n : ℕ) (r : List ℕ) → left_after Between n (quoted s ++ r) ≡ left_after Between n r
-quoted_pass s n r = opened 34 n _ (no_stop n 34 (λ e. omega arith) (λ e. omega arith)) ∙ ap (left_after InString n) (append_assoc (escape s) (34 ∷ []) r) ∙ after-escape s n r
+pub quoted_pass : (s : List ℕ) (n : ℕ) (r : List ℕ)
+    → left_after Between n (quoted s ++ r) ≡ left_after Between n r
+quoted_pass s n r = opened 34 n _ (no_stop n 34 (λ e. omega arith) (λ e. omega arith))
+    ∙ ap (left_after InString n) (append_assoc (escape s) (34 ∷ []) r) ∙ after-escape s n r
 
-comma_pass : (later : Bool) (n : ℕ) (r : List ℕ) → left_after Between (suc n) (comma_if later ++ r) ≡ left_after Between (suc n) r
+comma_pass : (later : Bool) (n : ℕ) (r : List ℕ)
+    → left_after Between (suc n) (comma_if later ++ r) ≡ left_after Between (suc n) r
 unfolding left_after
 comma_pass true n r = refl
 comma_pass false n r = refl
@@ -204,27 +258,34 @@ unfolding left_after
 close_object n r = refl
 
 mutual
-  pub value_pass : (d : Data) (n : ℕ) (r : List ℕ) → IsWell d → left_after Between n (compact_text d ++ r) ≡ left_after Between n r
+  pub value_pass : (d : Data) (n : ℕ) (r : List ℕ) → IsWell d
+      → left_after Between n (compact_text d ++ r) ≡ left_after Between n r
   value_pass null n r h = null_pass n r
   value_pass (boolean true) n r h = true_pass n r
   value_pass (boolean false) n r h = false_pass n r
   value_pass (number x) n r h = number_pass x n r h
   value_pass (string s) n r h = quoted_pass s n r
   value_pass (array ds) n r h = open_array n (items_text false ds ++ r) ∙ items_pass false ds n r h
-  value_pass (object ms) n r h = open_object n (members_text false ms ++ r) ∙ members_pass false ms n r h
+  value_pass (object ms) n r h =
+      open_object n (members_text false ms ++ r) ∙ members_pass false ms n r h
 
-  items_pass : (later : Bool) (ds : Items) (n : ℕ) (r : List ℕ) → ItemsAreWell ds → left_after Between (suc n) (items_text later ds ++ r) ≡ left_after Between n r
+  items_pass : (later : Bool) (ds : Items) (n : ℕ) (r : List ℕ) → ItemsAreWell ds
+      → left_after Between (suc n) (items_text later ds ++ r) ≡ left_after Between n r
   items_pass later no_items n r h = close_array n r
   items_pass later (item d ds) n r h =
       ap (left_after Between (suc n)) (append_assoc (comma_if later) _ r) ∙ comma_pass later n _
-      ∙ ap (left_after Between (suc n)) (append_assoc (compact_text d) _ r) ∙ value_pass d (suc n) _ h.0 ∙ items_pass true ds n r h.1
+      ∙ ap (left_after Between (suc n)) (append_assoc (compact_text d) _ r)
+      ∙ value_pass d (suc n) _ h.0 ∙ items_pass true ds n r h.1
 
-  members_pass : (later : Bool) (ms : Members) (n : ℕ) (r : List ℕ) → MembersAreWell ms → left_after Between (suc n) (members_text later ms ++ r) ≡ left_after Between n r
+  members_pass : (later : Bool) (ms : Members) (n : ℕ) (r : List ℕ) → MembersAreWell ms
+      → left_after Between (suc n) (members_text later ms ++ r) ≡ left_after Between n r
   members_pass later no_members n r h = close_object n r
   members_pass later (member k d ms) n r h =
       ap (left_after Between (suc n)) (append_assoc (comma_if later) _ r) ∙ comma_pass later n _
-      ∙ ap (left_after Between (suc n)) (append_assoc (quoted k) _ r) ∙ quoted_pass k (suc n) _ ∙ colon_pass (suc n) _
-      ∙ ap (left_after Between (suc n)) (append_assoc (compact_text d) _ r) ∙ value_pass d (suc n) _ h.0 ∙ members_pass true ms n r h.2
+      ∙ ap (left_after Between (suc n)) (append_assoc (quoted k) _ r) ∙ quoted_pass k (suc n) _
+      ∙ colon_pass (suc n) _
+      ∙ ap (left_after Between (suc n)) (append_assoc (compact_text d) _ r)
+      ∙ value_pass d (suc n) _ h.0 ∙ members_pass true ms n r h.2
 
 -- at the front of the members that follow, it stops
 stops_there : (ms : Members) → left_after Between 0 (members_text true ms) ≡ members_text true ms
@@ -233,5 +294,7 @@ stops_there no_members = refl
 stops_there (member k d ms) = refl
 
 -- from within a member's name to its end
-pub member_pass : (k : List ℕ) (d : Data) (ms : Members) → IsWell d → left_after InString 0 (escape k ++ 34 ∷ 58 ∷ (compact_text d ++ members_text true ms)) ≡ members_text true ms
+pub member_pass : (k : List ℕ) (d : Data) (ms : Members) → IsWell d
+    → left_after InString 0 (escape k ++ 34 ∷ 58 ∷ (compact_text d ++ members_text true ms))
+    ≡ members_text true ms
 member_pass k d ms h = after-escape k 0 _ ∙ colon_pass 0 _ ∙ value_pass d 0 _ h ∙ stops_there ms

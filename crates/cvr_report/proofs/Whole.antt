@@ -1,5 +1,6 @@
 -- A volume's text, from the texts that are kept.
-use Rattle.std.proofs.Common.{◌≡◌, ℕ, ◌<◌, List, ◌++◌, map, length, Bool, true, false, Some, None, Contains, unwrap_or, codes, refl, sym, ap, ◌∙◌, subst, append_assoc}
+use Rattle.std.proofs.Common.{◌≡◌, ℕ, ◌<◌, List, ◌++◌, map, length, Bool, true, false, Some, None}
+use Rattle.std.proofs.Common.{Contains, unwrap_or, codes, refl, sym, ap, ◌∙◌, subst, append_assoc}
 use Rattle.std.proofs.Math.Logic.{∥∥₁_elim}
 use Rattle.std.proofs.Math.Nat.{ℕ_set}
 use mathlib.Core.List.{is_set}
@@ -17,7 +18,7 @@ use Rattle.cdf_form.specs.Reading.{value_of}
 use Rattle.cdf_parts.proofs.Laws.{part_reads_back, listed_part}
 use Rattle.cdf_definition.specs.Frame.{Frame}
 use Rattle.cdf_check.specs.Laws.{IsListOf}
-use Rattle.cdf_definition.specs.Named.{IdText, named, texts_of}
+use Rattle.cdf_definition.specs.Named.{IdText, id_and_text, texts_of}
 use Rattle.cdf_definition.specs.Sound.{IsFrame}
 use Rattle.cdf_check.proofs.Laws.{lists}
 use Rattle.cdf_definition.proofs.Laws.{sound}
@@ -31,11 +32,12 @@ use Rattle.cvr_office.specs.Names.{records, devices, device_in, is_named, body_o
 use Rattle.cvr_office.specs.Readers.{device_list}
 use Rattle.cvr_office.specs.Keeps.{Keeps, content_scope}
 use Rattle.cvr_office.proofs.Lemmas.{from_ordered, in_ordered, map-map, from_filter, in_filter}
-use Rattle.cvr_report.specs.Record.{joined, item_texts}
+use Rattle.cvr_report.specs.Record.{comma_list, item_texts}
 use Rattle.cvr_report.specs.Writes.{list_text}
-use Rattle.cvr_report.specs.Page.{Shown, shown, shown_record, stands, page}
+use Rattle.cvr_report.specs.Page.{Shown, shown_body, shown_record, stands, page}
 use Rattle.cvr_report.specs.Volume.{values_of, record_data, records_data, cover_of, volume}
-use Rattle.cvr_report.specs.Pieces.{head_text, middle_text, end_text, party_text, record_texts, device_texts}
+use Rattle.cvr_report.specs.Pieces.{head_text, middle_text, end_text, party_text, record_texts}
+use Rattle.cvr_report.specs.Pieces.{device_texts}
 use Rattle.cvr_report.proofs.Kept.{unreversed, some_listed, shown_listed, texts_back}
 use Rattle.cvr_report.proofs.Report.{volume_text, records_text}
 
@@ -45,14 +47,18 @@ IsSpelled t = compact_text (data_of t) ≡ t
 
 -- ---- the texts of a definition
 
-read_of : (b : Bool) (bytes : List ℕ) (d : Data) → is_utf8 bytes ≡ b → value_of bytes ≡ Some d → read bytes ≡ Some d
+read_of : (b : Bool) (bytes : List ℕ) (d : Data) → is_utf8 bytes ≡ b → value_of bytes ≡ Some d
+    → read bytes ≡ Some d
 read_of true bytes d u e = sym (rw u refl) ∙ e
-read_of false bytes d u e = let none : value_of bytes ≡ None = rw u refl in absurd (let same : Some d ≡ None = sym e ∙ none in Prim.cc same)
+read_of false bytes d u e = let none : value_of bytes ≡ None = rw u refl in
+    absurd (let same : Some d ≡ None = sym e ∙ none in Prim.cc same)
 
-listed_spelled : (bytes : List ℕ) (d : Data) → read bytes ≡ Some d → has_float d ≡ false → (name : List ℕ) (entries : List IdText) → IsListOf entries name d → (t : List ℕ) → Contains (texts_of entries) t → IsSpelled t
+listed_spelled : (bytes : List ℕ) (d : Data) → read bytes ≡ Some d → has_float d ≡ false
+    → (name : List ℕ) (entries : List IdText) → IsListOf entries name d → (t : List ℕ)
+    → Contains (texts_of entries) t → IsSpelled t
 listed_spelled bytes d is whole name entries list t at =
     let e = from_map (λ (e : IdText). e.1) t entries at in
-    let x = from_map named e.0 (array_at name d) ((list.members e.0).0 e.1) in
+    let x = from_map id_and_text e.0 (array_at name d) ((list.members e.0).0 e.1) in
     let text : compact_text x.0 ≡ t = ap (λ (e : IdText). e.1) x.2 ∙ e.2 in
     let back = part_reads_back bytes d x.0 is whole (listed_part name d x.0 x.1) in
     subst IsSpelled text (ap (λ o. compact_text (unwrap_or o null)) back)
@@ -61,22 +67,29 @@ module _ (frame : Frame) (known : IsFrame frame) where
   pub elections_spelled : (t : List ℕ) → Contains (texts_of frame.elections) t → IsSpelled t
   elections_spelled t at = ∥∥₁_elim known (hlevel (ℕ_set, is_set)) (λ q.
       let report = (sound q.0).0 q.2 in
-      listed_spelled q.1.0 q.0 (read_of (is_utf8 q.1.0) q.1.0 q.0 refl q.1.1.1) report.whole (codes "Election") _ (lists q.0 report).0 t (subst (λ (f : Frame). Contains (texts_of f.elections) t) q.3 at))
+      listed_spelled q.1.0 q.0 (read_of (is_utf8 q.1.0) q.1.0 q.0 refl q.1.1.1) report.whole
+      (codes "Election") _ (lists q.0 report).0 t
+      (subst (λ (f : Frame). Contains (texts_of f.elections) t) q.3 at))
 
   pub units_spelled : (t : List ℕ) → Contains (texts_of frame.units) t → IsSpelled t
   units_spelled t at = ∥∥₁_elim known (hlevel (ℕ_set, is_set)) (λ q.
       let report = (sound q.0).0 q.2 in
-      listed_spelled q.1.0 q.0 (read_of (is_utf8 q.1.0) q.1.0 q.0 refl q.1.1.1) report.whole (codes "GpUnit") _ (lists q.0 report).1 t (subst (λ (f : Frame). Contains (texts_of f.units) t) q.3 at))
+      listed_spelled q.1.0 q.0 (read_of (is_utf8 q.1.0) q.1.0 q.0 refl q.1.1.1) report.whole
+      (codes "GpUnit") _ (lists q.0 report).1 t
+      (subst (λ (f : Frame). Contains (texts_of f.units) t) q.3 at))
 
   pub parties_spelled : (t : List ℕ) → Contains (texts_of frame.parties) t → IsSpelled t
   parties_spelled t at = ∥∥₁_elim known (hlevel (ℕ_set, is_set)) (λ q.
       let report = (sound q.0).0 q.2 in
-      listed_spelled q.1.0 q.0 (read_of (is_utf8 q.1.0) q.1.0 q.0 refl q.1.1.1) report.whole (codes "Party") _ (lists q.0 report).2 t (subst (λ (f : Frame). Contains (texts_of f.parties) t) q.3 at))
+      listed_spelled q.1.0 q.0 (read_of (is_utf8 q.1.0) q.1.0 q.0 refl q.1.1.1) report.whole
+      (codes "Party") _ (lists q.0 report).2 t
+      (subst (λ (f : Frame). Contains (texts_of f.parties) t) q.3 at))
 
 -- ---- the bodies of devices
 
 module _ (frame : Frame) (s : Facts) (keeps : Keeps frame s) where
-  device_spelled : (id b : List ℕ) (f : Fact) → contains s f ≡ true → is_named (name.Device id) f ≡ true → body_of f ≡ b → IsSpelled b
+  device_spelled : (id b : List ℕ) (f : Fact) → contains s f ≡ true
+      → is_named (name.Device id) f ≡ true → body_of f ≡ b → IsSpelled b
   device_spelled id b (Device i c) at is e =
       let stands : Stands (content_scope frame s) (Device i c) = keeps.stand (Device i c) at in
       subst IsSpelled e (ap (λ o. compact_text (unwrap_or o null)) stands.1.1 ∙ sym stands.1.0)
@@ -85,7 +98,8 @@ module _ (frame : Frame) (s : Facts) (keeps : Keeps frame s) where
 
   body_spelled : (id b : List ℕ) → Contains (device_list s id) b → IsSpelled b
   body_spelled id b at =
-      let f = from_map body_of b (filter (is_named (name.Device id)) (items s)) (from_ordered text_total text_exact _ b (unreversed _ b at)) in
+      let f = from_map body_of b (filter (is_named (name.Device id)) (items s))
+      (from_ordered text_total text_exact _ b (unreversed _ b at)) in
       let g = from_filter (is_named (name.Device id)) (items s) f.0 f.1 in
       device_spelled id b f.0 ((contains_iff s f.0).1 g.0) g.1 f.2
 
@@ -97,34 +111,58 @@ module _ (frame : Frame) (s : Facts) (keeps : Keeps frame s) where
   device_shows : (id : List ℕ) → Contains (devices s) id → 0 < length (device_list s id)
   device_shows id at =
       let f = from-filter_map device_in (items s) id (from_ordered text_total text_exact _ id at) in
-      some_listed _ (body_of f.0) (in_ordered text_total text_exact _ (body_of f.0) (in_map body_of f.0 _ (in_filter (is_named (name.Device id)) (items s) f.0 f.1 (named_by id f.0 f.2))))
+      some_listed _ (body_of f.0) (in_ordered text_total text_exact _ (body_of f.0)
+      (in_map body_of f.0 _ (in_filter (is_named (name.Device id)) (items s) f.0 f.1
+      (named_by id f.0 f.2))))
 
-  pub devices_spelled : (i : ℕ) → 0 < i → (b : List ℕ) → Contains (device_texts s i (devices s)) b → IsSpelled b
+  pub devices_spelled : (i : ℕ) → 0 < i → (b : List ℕ) → Contains (device_texts s i (devices s)) b
+      → IsSpelled b
   devices_spelled i q b at =
-      let id = from_map (λ id. shown i (device_list s id)) b (devices s) at in
-      body_spelled id.0 b (subst (Contains (device_list s id.0)) id.2 (shown_listed i (device_list s id.0) q (device_shows id.0 id.1)))
+      let id = from_map (λ id. shown_body i (device_list s id)) b (devices s) at in
+      body_spelled id.0 b (subst (Contains (device_list s id.0)) id.2
+      (shown_listed i (device_list s id.0) q (device_shows id.0 id.1)))
 
 -- ---- the whole
 
-regroup : (a b c d e f g h i j k m : List ℕ) → a ++ (b ++ (c ++ (d ++ (e ++ (f ++ (g ++ (h ++ (i ++ (j ++ (k ++ m)))))))))) ≡ (a ++ (b ++ (c ++ (d ++ (e ++ (f ++ (g ++ (h ++ (i ++ (j ++ k)))))))))) ++ m
+regroup : (a b c d e f g h i j k m : List ℕ)
+    → a ++ (b ++ (c ++ (d ++ (e ++ (f ++ (g ++ (h ++ (i ++ (j ++ (k ++ m))))))))))
+    ≡ (a ++ (b ++ (c ++ (d ++ (e ++ (f ++ (g ++ (h ++ (i ++ (j ++ k)))))))))) ++ m
 regroup a b c d e f g h i j k m = simp append_assoc
 
 pub whole_text : (frame : Frame) (date device : List ℕ) (s : Facts) (i : ℕ) → Keeps frame s → 0 < i
-    → volume frame (record { date = date; device = device }) s i ≡ head_text ++ (list_text false (record_texts s i (records s)) ++ (middle_text frame date device ++ (joined false (device_texts s i (devices s)) ++ end_text)))
+    → volume frame (record { date = date; device = device }) s i
+    ≡ head_text ++ (list_text false (record_texts s i (records s))
+    ++ (middle_text frame date device
+    ++ (comma_list false (device_texts s i (devices s)) ++ end_text)))
 whole_text frame date device s i keeps q =
     let p = page s i in
     let elections = texts_back (texts_of frame.elections) (elections_spelled frame keeps.sound) in
     let units = texts_back (texts_of frame.units) (units_spelled frame keeps.sound) in
     let parties = texts_back (texts_of frame.parties) (parties_spelled frame keeps.sound) in
-    let bodies : map (λ (s : Shown). s.body) p.devices ≡ device_texts s i (devices s) = sym (map-map (λ id. record { id = id; body = shown i (device_list s id) }) (λ (s : Shown). s.body) (devices s)) in
-    let devices_are : item_texts (values_of (map (λ (s : Shown). s.body) p.devices)) ≡ device_texts s i (devices s) = ap (λ bs. item_texts (values_of bs)) bodies ∙ texts_back (device_texts s i (devices s)) (devices_spelled frame s keeps i q) in
+    let bodies : map (λ (s : Shown). s.body) p.devices
+    ≡ device_texts s i (devices s) = sym
+    (map-map (λ id. record { id = id; body = shown_body i (device_list s id) })
+    (λ (s : Shown). s.body) (devices s)) in
+    let devices_are : item_texts (values_of (map (λ (s : Shown). s.body) p.devices))
+    ≡ device_texts s i (devices s) = ap (λ bs. item_texts (values_of bs)) bodies
+    ∙ texts_back (device_texts s i (devices s)) (devices_spelled frame s keeps i q) in
     let texts : item_texts (records_data p) ≡ record_texts s i (records s) =
-    ap (λ ds. item_texts (items_of ds)) (sym (map-map (shown_record s i) record_data (filter (stands s i) (records s)))) ∙ records_text s i (records s) in
+    ap (λ ds. item_texts (items_of ds))
+    (sym (map-map (shown_record s i) record_data (filter (stands s i) (records s))))
+    ∙ records_text s i (records s) in
     volume_text (cover_of frame date device p) (records_data p)
     ∙ ((λ n. head_text ++ (list_text false (texts n) ++
-    (codes ",\"Election\":[" ++ (joined false (elections n) ++ (codes "],\"GeneratedDate\":" ++ (quoted date
-    ++ (codes ",\"GpUnit\":[" ++ (joined false (units n) ++ (codes "]" ++ (party_text (parties n)
-    ++ (codes ",\"ReportGeneratingDeviceIds\":[" ++ (quoted device ++ (codes "],\"ReportType\":[\"aggregated\"],\"ReportingDevice\":[" ++ (joined false (devices_are n) ++ end_text))))))))))))))
+    (codes ",\"Election\":[" ++ (comma_list false (elections n)
+    ++ (codes "],\"GeneratedDate\":" ++ (quoted date
+    ++ (codes ",\"GpUnit\":[" ++ (comma_list false (units n)
+    ++ (codes "]" ++ (party_text (parties n)
+    ++ (codes ",\"ReportGeneratingDeviceIds\":["
+    ++ (quoted device ++ (codes "],\"ReportType\":[\"aggregated\"],\"ReportingDevice\":["
+    ++ (comma_list false (devices_are n) ++ end_text))))))))))))))
     ∙ ap (λ t. head_text ++ (list_text false (record_texts s i (records s)) ++ t))
-    (regroup (codes ",\"Election\":[") (joined false (texts_of frame.elections)) (codes "],\"GeneratedDate\":") (quoted date) (codes ",\"GpUnit\":[") (joined false (texts_of frame.units)) (codes "]")
-    (party_text (texts_of frame.parties)) (codes ",\"ReportGeneratingDeviceIds\":[") (quoted device) (codes "],\"ReportType\":[\"aggregated\"],\"ReportingDevice\":[") (joined false (device_texts s i (devices s)) ++ end_text)))
+    (regroup (codes ",\"Election\":[") (comma_list false (texts_of frame.elections))
+    (codes "],\"GeneratedDate\":") (quoted date) (codes ",\"GpUnit\":[")
+    (comma_list false (texts_of frame.units)) (codes "]")
+    (party_text (texts_of frame.parties)) (codes ",\"ReportGeneratingDeviceIds\":[") (quoted device)
+    (codes "],\"ReportType\":[\"aggregated\"],\"ReportingDevice\":[")
+    (comma_list false (device_texts s i (devices s)) ++ end_text)))

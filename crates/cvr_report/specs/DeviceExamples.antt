@@ -1,4 +1,5 @@
--- Worked examples: the volumes of two devices, of which one has two bodies, and the one volume of devices alone. (This project's own.)
+-- Worked examples: the volumes of two devices, of which one has two bodies, and the one volume of
+-- devices alone. (This project's own.)
 use Rattle.std.specs.Prelude.{◌≡◌, ℕ, List, [], ◌∷◌, ◌++◌, codes}
 use Rattle.std.specs.FinSet.{from_list}
 use Rattle.cdf_definition.specs.Frame.{Frame}
@@ -16,7 +17,11 @@ town = record {
   elections = (codes "e6", codes "{\"@id\":\"e6\",\"@type\":\"CVR.Election\",\"Contest\":[{\"@id\":\"clerk\",\"@type\":\"CVR.Contest\"}],\"ElectionScopeId\":\"p2\"}") ∷ [];
   units = (codes "p2", codes "{\"@id\":\"p2\",\"@type\":\"CVR.GpUnit\"}") ∷ [];
   parties = [];
-  devices = (codes "s5", codes "{\"@id\":\"s5\",\"@type\":\"CVR.ReportingDevice\",\"SerialNumber\":\"61\"}") ∷ [];
+  devices = (
+    codes "s5",
+    codes
+        "{\"@id\":\"s5\",\"@type\":\"CVR.ReportingDevice\",\"SerialNumber\":\"61\"}",
+  ) ∷ [];
   contests = (codes "clerk", []) ∷ [];
 }
 
@@ -24,15 +29,19 @@ abbrev pub town_heading : Head
 town_heading = record { date = codes "2024-11-08T09:30:00Z"; device = codes "s5" }
 
 abbrev pub with_serial : List ℕ → Fact
-with_serial serial = Device (codes "s5") (codes "{\"@id\":\"s5\",\"@type\":\"CVR.ReportingDevice\",\"SerialNumber\":\"" ++ serial ++ codes "\"}")
+with_serial serial = Device (codes "s5")
+    (codes "{\"@id\":\"s5\",\"@type\":\"CVR.ReportingDevice\",\"SerialNumber\":\"" ++ serial
+    ++ codes "\"}")
 
 -- of s5 the definition's body and another one; of t8 one body; and one record
 abbrev pub of_town : List Fact
 of_town =
-    device (codes "t8") ∷ with_serial (codes "61") ∷ Snapshot (codes "t8") (codes "u9") (codes "k41") (body (codes "k41") (codes "") (codes "clerk") (codes "18") (codes "original")) ∷
+    device (codes "t8") ∷ with_serial (codes "61")
+    ∷ Snapshot (codes "t8") (codes "u9") (codes "k41")
+    (body (codes "k41") (codes "") (codes "clerk") (codes "18") (codes "original")) ∷
     with_serial (codes "62") ∷ Header (codes "t8") (codes "u9") (codes "{\"@type\":\"CVR.CVR\",\"CreatingDeviceId\":\"t8\",\"ElectionId\":\"e6\",\"UniqueId\":\"u9\"}") ∷ []
 
--- what both volumes have behind their records, as far as their devices: no Party
+-- what both volumes have after their records, as far as their devices: no Party
 abbrev pub town_text : List ℕ
 town_text =
     codes ",\"Election\":[{\"@id\":\"e6\",\"@type\":\"CVR.Election\",\"Contest\":[{\"@id\":\"clerk\",\"@type\":\"CVR.Contest\"}],\"ElectionScopeId\":\"p2\"}]" ++

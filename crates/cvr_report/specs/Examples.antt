@@ -18,8 +18,10 @@ county = record {
     codes "{\"@id\":\"e5\",\"@type\":\"CVR.Election\",\"Contest\":[{\"@id\":\"mayor\",\"@type\":\"CVR.CandidateContest\"}," ++
         codes "{\"@id\":\"judge\",\"@type\":\"CVR.RetentionContest\"}],\"ElectionScopeId\":\"p10\"}",
   ) ∷ [];
-  units = (codes "p10", codes "{\"@id\":\"p10\",\"@type\":\"CVR.GpUnit\"}") ∷ (codes "p9", codes "{\"@id\":\"p9\",\"@type\":\"CVR.GpUnit\"}") ∷ [];
-  parties = (codes "y1", codes "{\"@id\":\"y1\",\"@type\":\"CVR.Party\"}") ∷ (codes "y2", codes "{\"@id\":\"y2\",\"@type\":\"CVR.Party\"}") ∷ [];
+  units = (codes "p10", codes "{\"@id\":\"p10\",\"@type\":\"CVR.GpUnit\"}")
+      ∷ (codes "p9", codes "{\"@id\":\"p9\",\"@type\":\"CVR.GpUnit\"}") ∷ [];
+  parties = (codes "y1", codes "{\"@id\":\"y1\",\"@type\":\"CVR.Party\"}")
+      ∷ (codes "y2", codes "{\"@id\":\"y2\",\"@type\":\"CVR.Party\"}") ∷ [];
   devices = (codes "g7", codes "{\"@id\":\"g7\",\"@type\":\"CVR.ReportingDevice\"}") ∷ [];
   contests = (codes "mayor", []) ∷ (codes "judge", []) ∷ [];
 }
@@ -48,60 +50,77 @@ device id = Device id (codes "{\"@id\":\"" ++ id ++ codes "\",\"@type\":\"CVR.Re
 abbrev pub header : RecordName → List ℕ → Fact
 header key place =
     Header key.device key.unique
-    (codes "{\"@type\":\"CVR.CVR\"," ++ place ++ codes ",\"CreatingDeviceId\":\"" ++ key.device ++ codes "\",\"ElectionId\":\"e5\",\"UniqueId\":\"" ++ key.unique ++ codes "\"}")
+    (codes "{\"@type\":\"CVR.CVR\"," ++ place ++ codes ",\"CreatingDeviceId\":\"" ++ key.device
+    ++ codes "\",\"ElectionId\":\"e5\",\"UniqueId\":\"" ++ key.unique ++ codes "\"}")
 
 abbrev pub at_time : List ℕ → List ℕ
-at_time time = codes "\"Annotation\":[{\"@type\":\"CVR.Annotation\",\"TimeStamp\":\"" ++ time ++ codes "\"}],"
+at_time time =
+    codes "\"Annotation\":[{\"@type\":\"CVR.Annotation\",\"TimeStamp\":\"" ++ time ++ codes "\"}],"
 
--- the body of a snapshot, with the text of its annotations as a member, and with these overvotes in one contest
+-- the body of a snapshot, with the text of its annotations as a member, and with these overvotes in
+-- one contest
 abbrev pub body : List ℕ → List ℕ → List ℕ → List ℕ → List ℕ → List ℕ
 body id annotations contest overvotes kind =
     codes "{\"@id\":\"" ++ id ++ codes "\",\"@type\":\"CVR.CVRSnapshot\"," ++ annotations ++
-    codes "\"CVRContest\":[{\"@type\":\"CVR.CVRContest\",\"ContestId\":\"" ++ contest ++ codes "\",\"Overvotes\":" ++ overvotes ++ codes "}]," ++
+    codes "\"CVRContest\":[{\"@type\":\"CVR.CVRContest\",\"ContestId\":\"" ++ contest
+    ++ codes "\",\"Overvotes\":" ++ overvotes ++ codes "}]," ++
     codes "\"Type\":\"" ++ kind ++ codes "\"}"
 
 abbrev pub snapshot : RecordName → List ℕ → List ℕ → List ℕ → List ℕ → List ℕ → Fact
-snapshot key id annotations contest overvotes kind = Snapshot key.device key.unique id (body id annotations contest overvotes kind)
+snapshot key id annotations contest overvotes kind =
+    Snapshot key.device key.unique id (body id annotations contest overvotes kind)
 
 -- ---- what six files bring, in no order
 
 -- of the first record: two files put it into different units, and have a snapshot each
 abbrev pub of_scanner : List Fact
 of_scanner =
-    snapshot example_record (codes "k34") (codes "") (codes "mayor") (codes "11") (codes "original") ∷
+    snapshot example_record (codes "k34") (codes "") (codes "mayor") (codes "11") (codes "original")
+    ∷
     header example_record (codes "\"BallotStyleUnitId\":\"p9\"") ∷ device (codes "s3") ∷ []
 
 abbrev pub of_board : List Fact
 of_board =
     device (codes "s3") ∷ header example_record (codes "\"BallotStyleUnitId\":\"p10\"") ∷
-    snapshot example_record (codes "k31") (codes "") (codes "judge") (codes "12") (codes "modified") ∷ []
+    snapshot example_record (codes "k31") (codes "") (codes "judge") (codes "12") (codes "modified")
+    ∷ []
 
--- of the second record: three files have a body each under k52, in another order by bytes than by choosing; two have one under k53 as well, of 13:00 and of 12:00 in UTC
+-- of the second record: three files have a body each under k52, in another order by bytes than by
+-- choosing; two have one under k53 as well, of 13:00 and of 12:00 in UTC
 abbrev pub of_first_reader : List Fact
 of_first_reader =
-    snapshot second_record (codes "k53") (at_time (codes "2024-11-05T08:00:00-05:00")) (codes "judge") (codes "16") (codes "interpreted") ∷
-    header second_record (codes "\"BatchId\":\"b16\"") ∷ snapshot second_record (codes "k52") (codes "") (codes "mayor") (codes "15") (codes "original") ∷ device (codes "s3") ∷ []
+    snapshot second_record (codes "k53") (at_time (codes "2024-11-05T08:00:00-05:00"))
+    (codes "judge") (codes "16") (codes "interpreted") ∷
+    header second_record (codes "\"BatchId\":\"b16\"")
+    ∷ snapshot second_record (codes "k52") (codes "") (codes "mayor") (codes "15")
+    (codes "original") ∷ device (codes "s3") ∷ []
 
 abbrev pub of_second_reader : List Fact
 of_second_reader =
-    device (codes "s3") ∷ snapshot second_record (codes "k52") (at_time (codes "2024-11-05T09:00:00Z")) (codes "mayor") (codes "14") (codes "interpreted") ∷
-    snapshot second_record (codes "k53") (at_time (codes "2024-11-05T07:00:00-05:00")) (codes "judge") (codes "19") (codes "interpreted") ∷
+    device (codes "s3") ∷ snapshot second_record (codes "k52")
+    (at_time (codes "2024-11-05T09:00:00Z")) (codes "mayor") (codes "14") (codes "interpreted")
+    ∷
+    snapshot second_record (codes "k53") (at_time (codes "2024-11-05T07:00:00-05:00"))
+    (codes "judge") (codes "19") (codes "interpreted") ∷
     header second_record (codes "\"BatchId\":\"b16\"") ∷ []
 
 abbrev pub of_third_reader : List Fact
 of_third_reader =
     header second_record (codes "\"BatchId\":\"b17\"") ∷ device (codes "s3") ∷
-    snapshot second_record (codes "k52") (codes "") (codes "judge") (codes "13") (codes "modified") ∷ []
+    snapshot second_record (codes "k52") (codes "") (codes "judge") (codes "13") (codes "modified")
+    ∷ []
 
 -- of the third record: it has no conflict; the id of its snapshot has a quote
 abbrev pub of_other_scanner : List Fact
 of_other_scanner =
-    Snapshot (codes "s10") (codes "u7") (codes "k\"29") (body (codes "k\\\"29") (codes "") (codes "mayor") (codes "17") (codes "original")) ∷
+    Snapshot (codes "s10") (codes "u7") (codes "k\"29")
+    (body (codes "k\\\"29") (codes "") (codes "mayor") (codes "17") (codes "original")) ∷
     device (codes "s10") ∷ header third_record (codes "\"BallotStyleUnitId\":\"p10\"") ∷ []
 
 -- all of them, and the device of the definition
 abbrev pub of_six : List Fact
-of_six = of_third_reader ++ of_scanner ++ device (codes "g7") ∷ of_other_scanner ++ of_first_reader ++ of_board ++ of_second_reader
+of_six = of_third_reader ++ of_scanner ++ device (codes "g7") ∷ of_other_scanner ++ of_first_reader
+    ++ of_board ++ of_second_reader
 
 -- ---- their volumes
 
@@ -109,7 +128,7 @@ of_six = of_third_reader ++ of_scanner ++ device (codes "g7") ∷ of_other_scann
 abbrev pub NumberOfSix : Type 0
 NumberOfSix = volumes (from_list of_six) ≡ 3
 
--- what each volume has behind its records, as far as its devices
+-- what each volume has after its records, as far as its devices
 abbrev pub county_text : List ℕ
 county_text =
     codes ",\"Election\":[{\"@id\":\"e5\",\"@type\":\"CVR.Election\",\"Contest\":[{\"@id\":\"mayor\",\"@type\":\"CVR.CandidateContest\"}," ++
@@ -122,10 +141,12 @@ county_text =
 -- every device, in each of them
 abbrev pub end_of_six : List ℕ
 end_of_six =
-    county_text ++ codes ",\"ReportingDevice\":[{\"@id\":\"g7\",\"@type\":\"CVR.ReportingDevice\"}," ++
+    county_text ++ codes ",\"ReportingDevice\":[{\"@id\":\"g7\",\"@type\":\"CVR.ReportingDevice\"},"
+    ++
     codes "{\"@id\":\"s10\",\"@type\":\"CVR.ReportingDevice\"},{\"@id\":\"s3\",\"@type\":\"CVR.ReportingDevice\"}],\"Version\":\"1.0.0\"}"
 
--- volume 1 has all three records: the first record with its greater header, the second with its adjudicated body, which is current
+-- volume 1 has all three records: the first record with its greater header, the second with its
+-- adjudicated body, which is current
 abbrev pub first_text : List ℕ
 first_text =
     codes "{\"@type\":\"CVR.CastVoteRecordReport\",\"CVR\":[" ++
@@ -145,7 +166,8 @@ first_text =
 abbrev pub FirstOfSix : Type 0
 FirstOfSix = volume county heading (from_list of_six) 1 ≡ first_text
 
--- volume 2 has the two records with several bodies under a name: of the second record the readings of 09:00 and of 12:00, of which the later is current
+-- volume 2 has the two records with several bodies under a name: of the second record the readings
+-- of 09:00 and of 12:00, of which the later is current
 abbrev pub second_text : List ℕ
 second_text =
     codes "{\"@type\":\"CVR.CastVoteRecordReport\",\"CVR\":[" ++
@@ -163,7 +185,8 @@ second_text =
 abbrev pub SecondOfSix : Type 0
 SecondOfSix = volume county heading (from_list of_six) 2 ≡ second_text
 
--- volume 3 has the second record alone: its scan, and once more its last header and the reading of 12:00
+-- volume 3 has the second record alone: its scan, and once more its last header and the reading of
+-- 12:00
 abbrev pub third_text : List ℕ
 third_text =
     codes "{\"@type\":\"CVR.CastVoteRecordReport\",\"CVR\":[" ++
@@ -181,4 +204,5 @@ abbrev pub called_current : Facts → RecordName → List (List ℕ)
 called_current facts key = map (λ i. (shown_record facts i key).current) (1 ∷ 2 ∷ 3 ∷ [])
 
 abbrev pub CurrentsOfSix : Type 0
-CurrentsOfSix = called_current (from_list of_six) second_record ≡ codes "k52" ∷ codes "k53" ∷ codes "k53" ∷ []
+CurrentsOfSix =
+    called_current (from_list of_six) second_record ≡ codes "k52" ∷ codes "k53" ∷ codes "k53" ∷ []

@@ -1,16 +1,23 @@
 -- What volume i shows of the facts of a record that an office answered. (This project's own.)
-use Rattle.std.specs.Prelude.{◌<◌, ◌-◌, ℕ, List, [], ◌∷◌, map, length, min, get_or, None}
+use Rattle.std.specs.Prelude.{◌<◌, ◌-◌, ℕ, List, [], ◌∷◌, map, length, min, slice_index_or, None}
 use Rattle.std.specs.List.{Contains}
 use Rattle.cdf_types.specs.declared.snapshot_kind.SnapshotKind.TheVariants.{Original}
 use Rattle.cvr_fact_types.specs.declared.header.HeaderFact.{HeaderFact}
 use Rattle.cvr_fact_types.specs.declared.snapshot.SnapshotFact.{SnapshotFact}
 use Rattle.cvr_office.specs.declared.record_facts.IdFacts.{IdFacts}
 use Rattle.cvr_office.specs.declared.record_facts.RecordFacts.{RecordFacts}
-use Rattle.cvr_report.specs.Page.{Shown, shown}
+use Rattle.cvr_report.specs.Page.{Shown, shown_body}
 
 -- a snapshot that stands for an absent one
 abbrev pub none : SnapshotFact
-none = record { key = record { device = []; unique = [] }; id = []; kind = Original; moment = None; votes = []; body = [] }
+none = record {
+  key = record { device = []; unique = [] };
+  id = [];
+  kind = Original;
+  moment = None;
+  votes = [];
+  body = [];
+}
 
 abbrev pub bodies : IdFacts → List (List ℕ)
 bodies g = map (λ s. s.now.body) g.snapshots.items
@@ -19,7 +26,7 @@ abbrev pub own_header_bodies : RecordFacts → List (List ℕ)
 own_header_bodies r = map (λ h. h.now.body) r.headers.items
 
 abbrev pub shown_of : ℕ → IdFacts → Shown
-shown_of i g = record { id = g.id.now; body = shown i (bodies g) }
+shown_of i g = record { id = g.id.now; body = shown_body i (bodies g) }
 
 abbrev pub shown_all : ℕ → List IdFacts → List Shown
 shown_all i ids = map (shown_of i) ids
@@ -29,7 +36,8 @@ shown_bodies i ids = map (λ s. s.body) (shown_all i ids)
 
 -- snapshot number i under an id, or the last
 abbrev pub pick : ℕ → IdFacts → SnapshotFact
-pick i g = get_or (map (λ s. s.now) g.snapshots.items) (min i (length g.snapshots.items) - 1) none
+pick i g =
+    slice_index_or (map (λ s. s.now) g.snapshots.items) (min i (length g.snapshots.items) - 1) none
 
 abbrev pub picks : ℕ → List IdFacts → List (List ℕ × SnapshotFact)
 picks i ids = map (λ g. (g.id.now, pick i g)) ids
@@ -42,7 +50,7 @@ counts_of r = length r.headers.items ∷ map (λ g. length g.snapshots.items) r.
 abbrev pub HaveSnapshots : List IdFacts → Type 0
 HaveSnapshots ids = (g : IdFacts) → Contains ids g → 0 < length g.snapshots.items
 
--- there is a header, each with a text
+-- there is a header, each header has a text, and each id a snapshot
 pub record CanShow (r : RecordFacts) : Type 0 where
   pub headed : 0 < length r.headers.items
   pub texts : (h : HeaderFact) → Contains (map (λ h. h.now) r.headers.items) h → 0 < length h.body

@@ -22,10 +22,12 @@ pub record IsHeading (h : Head) : Type 0 where
 abbrev pub is_device_of : Frame → List ℕ → Bool
 is_device_of frame device = list_any (bytes_eq device) (ids_of frame.devices)
 
--- the fault that applies
+-- which fault applies: the date is no moment; else the definition has no such device; else memory
+-- ran out
 abbrev pub IsHeadFault : Frame → List ℕ → List ℕ → HeadFault → Type 0
 IsHeadFault frame date device NotMoment = is_moment date ≡ false
-IsHeadFault frame date device NoDevice = (is_moment date ≡ true) × (is_device_of frame device ≡ false)
+IsHeadFault frame date device NoDevice = (is_moment date ≡ true)
+    × (is_device_of frame device ≡ false)
 IsHeadFault frame date device Memory = (is_moment date ≡ true) × (is_device_of frame device ≡ true)
 
 -- the heading of a moment and a device of the definition

@@ -1,6 +1,8 @@
--- A written volume: the compact text of a report made of a page. (NIST SP 1500-103, classes CastVoteRecordReport and CVR; which members it has is this project's own.)
+-- A written volume: the compact text of a report made of a page. (NIST SP 1500-103, classes
+-- CastVoteRecordReport and CVR; which members it has is this project's own.)
 use Rattle.std.specs.Prelude.{ℕ, List, map, codes, option_and_then, unwrap_or}
-use Rattle.serde_json.specs.Data.{Data, object, array, string, Items, no_items, item, Members, no_members, member}
+use Rattle.serde_json.specs.Data.{Data, object, array, string, Items, no_items, item, Members}
+use Rattle.serde_json.specs.Data.{no_members, member}
 use Rattle.serde_json.specs.Find.{as_object}
 use Rattle.serde_json.specs.Read.{read}
 use Rattle.serde_json.specs.View.{items_of}
@@ -52,11 +54,14 @@ values_of bodies = items_of (map data_of bodies)
 
 -- the header with its snapshots and the id of the current one
 abbrev pub record_data : RecordPage → Data
-record_data p = cvr_object (members_in p.header) (values_of (map (λ s. s.body) p.snapshots)) p.current
+record_data p =
+    cvr_object (members_in p.header) (values_of (map (λ s. s.body) p.snapshots)) p.current
 
+-- the objects of the records of a page
 abbrev pub records_data : Page → Items
 records_data p = items_of (map record_data p.records)
 
+-- what a volume has beside its records, of a definition, a date, a device and a page
 abbrev pub cover_of : Frame → List ℕ → List ℕ → Page → Cover
 cover_of frame date device p = record {
   elections = values_of (texts_of frame.elections);
@@ -67,9 +72,11 @@ cover_of frame date device p = record {
   devices = values_of (map (λ s. s.body) p.devices);
 }
 
+-- the report of a page under a definition, a date and a device, as docs/FORMAT.md has it
 abbrev pub volume_data : Frame → List ℕ → List ℕ → Page → Data
 volume_data frame date device p = volume_of (cover_of frame date device p) (records_data p)
 
--- volume i of these facts under a definition and a heading
+-- volume i of these facts, under a definition and a heading: the compact text of that report, and
+-- nothing after it
 abbrev pub volume : Frame → Head → Facts → ℕ → List ℕ
 volume frame head facts i = compact_text (volume_data frame head.date head.device (page facts i))

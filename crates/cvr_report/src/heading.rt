@@ -56,11 +56,11 @@ impl Heading {
     ghost use Rattle.cvr_report.specs.Head.{IsHead, IsHeadFault, IsHeading};
 
     /// The heading of a date and of a device that the definition lists. The date is a date-time
-    /// with an offset, as `2024-11-06T08:00:00Z` (RFC 3339, as `jiff` reads it), with no name of a
-    /// zone in brackets.
+    /// with an offset, as `2024-11-06T08:00:00Z` (RFC 3339, as `jiff` reads it), and no zone name
+    /// in brackets.
     ///
     /// # Errors
-    /// `NotMoment` exactly where the date is none, then `NoDevice` exactly where the definition
+    /// `NotMoment` exactly where the date isn't one, then `NoDevice` exactly where the definition
     /// lists no such device; else `Memory` where a growth was refused.
     pub fn new(
         alloc: Global,
@@ -99,7 +99,7 @@ impl Heading {
     }
 }
 
-// Whether a text is a date-time with an offset and no name of a zone.
+// Whether a text is a date-time with an offset and no zone name.
 fn is_moment(text: &str) -> bool
     ensures { result ≡ is_moment text.now }
 {

@@ -1,4 +1,4 @@
-//! Headings, and volumes of what an office holds as reports.
+//! Headings, and volumes: reports of what an office holds.
 #![tactic(auto)]
 
 pub mod examples;

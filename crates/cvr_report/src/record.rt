@@ -8,7 +8,7 @@ ghost use Rattle.cvr_fact_types.specs.declared.name.RecordName.{RecordName};
 ghost use Rattle.cvr_fact_types.specs.Facts.{Facts};
 ghost use Rattle.cvr_office.specs.Keeps.{Keeps};
 ghost use Rattle.cvr_office.specs.Readers.{AreAllFactsOf};
-ghost use Rattle.cvr_report.specs.Record.{HasHeaderMembers, cvr_object, item_texts, joined};
+ghost use Rattle.cvr_report.specs.Record.{HasHeaderMembers, cvr_object, item_texts, comma_list};
 ghost use Rattle.cvr_report.specs.Page.{shown_record};
 ghost use Rattle.cvr_report.specs.Volume.{record_data};
 ghost use Rattle.cvr_report.specs.Found.{HaveSnapshots, CanShow, shown_bodies};
@@ -33,7 +33,7 @@ fn push_later(out: &mut Vec<u8>, later: bool, text: &Body) -> Result<(), Memory>
 
 // Adds texts with commas between them.
 pub(crate) fn push_joined(out: &mut Vec<u8>, texts: &[Body]) -> Result<(), Memory>
-    ensures { OnOk result (out.new.items ≡ out.old.items ++ joined false texts.now) }
+    ensures { OnOk result (out.new.items ≡ out.old.items ++ comma_list false texts.now) }
 {
     let mut later = false;
     for text in texts {
@@ -47,7 +47,8 @@ pub(crate) fn push_joined(out: &mut Vec<u8>, texts: &[Body]) -> Result<(), Memor
 fn push_snapshots(out: &mut Vec<u8>, ids: &[IdFacts<'_>], i: usize) -> Result<(), Memory>
     requires number { 0 < i }
     requires some { HaveSnapshots ids.now }
-    ensures { OnOk result (out.new.items ≡ out.old.items ++ joined false (shown_bodies i ids.now)) }
+    ensures { OnOk result
+        (out.new.items ≡ out.old.items ++ comma_list false (shown_bodies i ids.now)) }
 {
     let mut later = false;
     for under in ids {
@@ -57,8 +58,8 @@ fn push_snapshots(out: &mut Vec<u8>, ids: &[IdFacts<'_>], i: usize) -> Result<()
     Ok(())
 }
 
-// Adds the record that a header, the snapshots that volume `i` shows and the id of the current one
-// make.
+// Adds a record, made of a header, the snapshots that volume `i` shows and the id of the current
+// one.
 fn push_record(
     alloc: Global,
     out: &mut Vec<u8>,

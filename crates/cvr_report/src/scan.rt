@@ -5,7 +5,7 @@ ghost use Rattle.cvr_report.specs.Scan.{is_before};
 ghost use Rattle.cvr_report.specs.Scan.{before_escaped, start_of, HasNoEscape};
 ghost use Rattle.cvr_report.specs.Record.{IsCut};
 
-// The depth of brackets behind a byte that stands between strings.
+// The depth of brackets after a byte that stands between strings.
 fn depth_after(depth: usize, byte: u8) -> usize
     requires { depth + 1 < 18446744073709551616 }
     ensures value { result ≡ next_depth Between depth byte }
@@ -27,7 +27,7 @@ fn stops_at(depth: usize, byte: u8) -> bool
     depth == 0 && (byte == b',' || byte == b'}')
 }
 
-// The place behind what stands at `at` within a string: one byte, or a backslash and the byte that
+// The place after what stands at `at` within a string: one byte, or a backslash and the byte that
 // it escapes.
 fn byte_end(text: &[u8], at: usize) -> usize
     requires inside { at < length text.now }
@@ -44,7 +44,7 @@ fn byte_end(text: &[u8], at: usize) -> usize
     }
 }
 
-// The place behind the string that goes on at `from`.
+// The place after the string that goes on at `from`.
 fn string_end(text: &[u8], from: usize) -> usize
     requires { from ≤ length text.now }
     ensures rest { (depth : ℕ) → left_after InString depth (drop from text.now)
@@ -62,7 +62,7 @@ fn string_end(text: &[u8], from: usize) -> usize
     at
 }
 
-// The place where the member ends that goes on at `from`, within the name. A string is passed
+// The place where the member ends that goes on at `from`, within its name. A string is skipped
 // whole.
 fn member_end(text: &[u8], from: usize) -> usize
     requires { from ≤ length text.now }
@@ -129,8 +129,8 @@ fn name_start(text: &[u8], at: usize) -> usize
     if text[at] == b',' { at + 2 } else { at + 1 }
 }
 
-// The place from which on an object's members have at least a name, in the object's compact text,
-// whose members go on at `from`.
+// The place where the members from a name on begin, in the compact text of an object whose members
+// go on at `from`.
 pub(crate) fn cut(text: &[u8], from: usize, name: &[u8]) -> usize
     requires within { from ≤ length text.now }
     requires plain { HasNoEscape name.now }

@@ -3,10 +3,10 @@ ghost use Rattle.std.specs.Prelude.{◌≡◌, ◌<◌, [], map, length, nat_le,
 ghost use Rattle.std.specs.Option.{option_map_or};
 ghost use Rattle.std.specs.List.{Contains};
 ghost use Rattle.std.specs.Ordering.{on};
-ghost use Rattle.cdf_typed.specs.Greatest.{greatest};
+ghost use Rattle.cdf_typed.specs.Greatest.{max_by};
 ghost use Rattle.cvr_facts.specs.Choosing.{fact_choice};
 ghost use Rattle.cvr_office.specs.Names.{most};
-ghost use Rattle.cvr_report.specs.Page.{shown};
+ghost use Rattle.cvr_report.specs.Page.{shown_body};
 ghost use Rattle.cvr_report.specs.Found.{counts_of, HaveSnapshots, pick, picks};
 
 use cvr_facts::{HeaderFact, SnapshotFact, choice_cmp};
@@ -37,7 +37,7 @@ fn has_many(ids: &[IdFacts<'_>], i: usize) -> bool
 pub(crate) fn shown_header<'a>(headers: &[&'a HeaderFact], i: usize) -> &'a HeaderFact
     requires number { 0 < i }
     requires some { 0 < length headers.now }
-    ensures body { result.now.body ≡ shown i (map (λ h. h.now.body) headers.now) }
+    ensures body { result.now.body ≡ shown_body i (map (λ h. h.now.body) headers.now) }
     ensures listed { Contains (map (λ h. h.now) headers.now) result.now }
 {
     headers[i.min(headers.len()) - 1]
@@ -64,7 +64,7 @@ fn greatest_shown<'a>(ids: &[IdFacts<'a>], i: usize) -> Option<Pick<'a>>
     requires number { 0 < i }
     requires some { HaveSnapshots ids.now }
     ensures { option_map (λ p. (p.id.now, p.fact.now)) result
-        ≡ greatest (on (λ p. p.1) fact_choice) (picks i ids.now) }
+        ≡ max_by (on (λ p. p.1) fact_choice) (picks i ids.now) }
 {
     let mut best: Option<Pick<'a>> = None;
     let mut at = ids.len();
@@ -89,7 +89,7 @@ pub(crate) fn shown_current<'a>(ids: &[IdFacts<'a>], i: usize) -> &'a str
     requires number { 0 < i }
     requires some { HaveSnapshots ids.now }
     ensures { result.now
-        ≡ option_map_or (λ p. p.0) (greatest (on (λ p. p.1) fact_choice) (picks i ids.now)) [] }
+        ≡ option_map_or (λ p. p.0) (max_by (on (λ p. p.1) fact_choice) (picks i ids.now)) [] }
 {
     match greatest_shown(ids, i) {
         Some(pick) => pick.id,

@@ -7,9 +7,9 @@ ghost use Rattle.cdf_types.specs.Device.{Appends, AppendsProperPrefix};
 ghost use Rattle.cvr_office.specs.Names.{records, devices};
 ghost use Rattle.cvr_office.specs.Readers.{device_list};
 ghost use Rattle.cvr_office.specs.Keeps.{Keeps};
-ghost use Rattle.cvr_report.specs.Record.{joined};
+ghost use Rattle.cvr_report.specs.Record.{comma_list};
 ghost use Rattle.cvr_report.specs.Head.{is_device_of};
-ghost use Rattle.cvr_report.specs.Page.{volumes, shown};
+ghost use Rattle.cvr_report.specs.Page.{volumes, shown_body};
 ghost use Rattle.cvr_report.specs.Volume.{volume};
 ghost use Rattle.cvr_report.specs.Writes.{Writes, WritesOrLess, is_write_device, list_text};
 ghost use Rattle.cvr_report.specs.Writes.{record_piece};
@@ -112,7 +112,7 @@ fn write_device<O: Office, W: Sink>(
 ) -> Result<(), WriteFault>
     requires working { (W.taken out.old).failed ≡ false }
     ensures { Writes (W.taken out.old) (W.taken out.new) result
-        (comma_if later ++ shown i (device_list (O.held office.now) id.now)) }
+        (comma_if later ++ shown_body i (device_list (O.held office.now) id.now)) }
 {
     let lead = if later { "," } else { "" };
     write_piece(out, lead.as_bytes())?;
@@ -126,7 +126,7 @@ fn write_device<O: Office, W: Sink>(
 fn write_devices<O: Office, W: Sink>(office: &O, i: usize, out: &mut W) -> Result<(), WriteFault>
     requires working { (W.taken out.old).failed ≡ false }
     ensures { Writes (W.taken out.old) (W.taken out.new) result
-        (joined false (device_texts (O.held office.now) i (devices (O.held office.now)))) }
+        (comma_list false (device_texts (O.held office.now) i (devices (O.held office.now)))) }
 {
     let mut later = false;
     let mut next = office.next_device(None);

@@ -7,10 +7,12 @@ use Rattle.cdf_definition.specs.Acceptance.{Sound, Valid, first_refusal, first_u
 use Rattle.cdf_definition.proofs.Laws.{sound_file, valid_file}
 use Rattle.cvr_words.specs.declared.request.Task.{Task}
 use Rattle.cvr_run.specs.Accepted.{is_unsound}
-use Rattle.cvr_run.specs.Outcome.{task_text, run_text, task_fault, run_fault, task_refused, any_refused}
+use Rattle.cvr_run.specs.Outcome.{task_text, run_text, task_fault, run_fault, task_refused}
+use Rattle.cvr_run.specs.Outcome.{any_refused}
 use Rattle.cvr_run.specs.Told.{refusal_lines, argument_texts, dues_of, run_lines, last_lines}
 
-pub none_refuses : (definition : Frame) (bytes : List ℕ) → Valid definition bytes → first_refusal definition bytes ≡ None
+pub none_refuses : (definition : Frame) (bytes : List ℕ) → Valid definition bytes
+    → first_refusal definition bytes ≡ None
 none_refuses definition bytes valid = (valid_file definition bytes).1 valid
 
 -- ---- a run beside a sound definition
@@ -18,23 +20,36 @@ none_refuses definition bytes valid = (valid_file definition bytes).1 valid
 pub is_sound : (def : List ℕ) → Sound def → is_unsound def ≡ false
 is_sound def s = rw ((sound_file def).1 s) refl
 
-pub text_beside : (task : Task) (def : List ℕ) (definition : Frame) (paths files : List (List ℕ)) → Sound def → definition ≡ frame_in def
+pub text_beside : (task : Task) (def : List ℕ) (definition : Frame) (paths files : List (List ℕ))
+    → Sound def → definition ≡ frame_in def
     → task_text definition task paths files ≡ run_text task def paths files
-text_beside task def definition paths files s is = ap (λ d. task_text d task paths files) is ∙ rw (is_sound def s) refl
+text_beside task def definition paths files s is =
+    ap (λ d. task_text d task paths files) is ∙ rw (is_sound def s) refl
 
-pub lines_beside : (task : Task) (what def : List ℕ) (definition : Frame) (paths files : List (List ℕ)) (out_failed : Bool) → Sound def → definition ≡ frame_in def
-    → refusal_lines (argument_texts task paths) (dues_of definition task files) ++ last_lines (task_fault definition task files) out_failed ≡ run_lines task what def paths files ++ last_lines (run_fault task def files) out_failed
+pub lines_beside : (task : Task) (what def : List ℕ) (definition : Frame)
+    (paths files : List (List ℕ)) (out_failed : Bool) → Sound def → definition ≡ frame_in def
+    → refusal_lines (argument_texts task paths) (dues_of definition task files)
+    ++ last_lines (task_fault definition task files) out_failed
+    ≡ run_lines task what def paths files ++ last_lines (run_fault task def files) out_failed
 lines_beside task what def definition paths files out_failed s is =
-    ap (λ d. refusal_lines (argument_texts task paths) (dues_of d task files) ++ last_lines (task_fault d task files) out_failed) is ∙ rw (is_sound def s) refl
+    ap (λ d. refusal_lines (argument_texts task paths) (dues_of d task files)
+    ++ last_lines (task_fault d task files) out_failed) is ∙ rw (is_sound def s) refl
 
-pub fault_beside : (task : Task) (def : List ℕ) (files : List (List ℕ)) → Sound def → task_fault (frame_in def) task files ≡ run_fault task def files
+pub fault_beside : (task : Task) (def : List ℕ) (files : List (List ℕ)) → Sound def
+    → task_fault (frame_in def) task files ≡ run_fault task def files
 fault_beside task def files s = rw (is_sound def s) refl
 
-pub refused_beside : (task : Task) (def : List ℕ) (definition : Frame) (files : List (List ℕ)) → Sound def → definition ≡ frame_in def → task_refused definition task files ≡ any_refused task def files
-refused_beside task def definition files s is = ap (λ d. task_refused d task files) is ∙ rw (is_sound def s) refl
+pub refused_beside : (task : Task) (def : List ℕ) (definition : Frame) (files : List (List ℕ))
+    → Sound def → definition ≡ frame_in def
+    → task_refused definition task files ≡ any_refused task def files
+refused_beside task def definition files s is =
+    ap (λ d. task_refused d task files) is ∙ rw (is_sound def s) refl
 
 -- ---- and beside one that is refused
 
--- nothing is told after its line
-pub none_last : (task : Task) (def : List ℕ) (files : List (List ℕ)) (out_failed : Bool) (fault : ReadFault) → out_failed ≡ false → first_unsound def ≡ Some fault → last_lines (run_fault task def files) out_failed ≡ []
-none_last task def files out_failed fault working is = λ i. last_lines (if is_some (is i) then None else task_fault (frame_in def) task files) (working i)
+-- nothing is logged after its line
+pub none_last : (task : Task) (def : List ℕ) (files : List (List ℕ)) (out_failed : Bool)
+    (fault : ReadFault) → out_failed ≡ false → first_unsound def ≡ Some fault
+    → last_lines (run_fault task def files) out_failed ≡ []
+none_last task def files out_failed fault working is = λ i.
+    last_lines (if is_some (is i) then None else task_fault (frame_in def) task files) (working i)

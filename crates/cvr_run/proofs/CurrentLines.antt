@@ -1,5 +1,6 @@
 -- The lines of current snapshots, from one record on.
-use Rattle.std.proofs.Common.{◌≡◌, ℕ, ◌<◌, length, List, ◌∷◌, ◌++◌, Option, Some, None, IfSome, Contains, ap, sym, ◌∙◌, subst, append_assoc, arith}
+use Rattle.std.proofs.Common.{◌≡◌, ℕ, ◌<◌, length, List, ◌∷◌, ◌++◌, Option, Some, None, IfSome}
+use Rattle.std.proofs.Common.{Contains, ap, sym, ◌∙◌, subst, append_assoc, arith}
 use Rattle.std.specs.List.{flat_map}
 use Rattle.std.specs.Cmp.{IsTotalOrder}
 use Rattle.std.proofs.lemmas.Cmp.{on_total, then_total}
@@ -26,14 +27,19 @@ records_from facts key = from name_cmp key (records facts)
 abbrev pub lines_from : Facts → Option RecordName → List ℕ
 lines_from facts key = flat_map (record_line facts) (records_from facts key)
 
-pub lines_from-first : (facts : Facts) (first : Option RecordName) → first ≡ next name_cmp (records facts) None → lines_from facts first ≡ currents facts
-lines_from-first facts first is = rw is (ap (flat_map (record_line facts)) (from-next_none name_cmp name_total (records facts)))
+pub lines_from-first : (facts : Facts) (first : Option RecordName)
+    → first ≡ next name_cmp (records facts) None → lines_from facts first ≡ currents facts
+lines_from-first facts first is =
+    rw is (ap (flat_map (record_line facts)) (from-next_none name_cmp name_total (records facts)))
 
 -- what comes next is one of the records
-pub next_record_listed : (facts : Facts) (after found : Option RecordName) → found ≡ next name_cmp (records facts) after → IfSome found (Contains (records facts))
-next_record_listed facts after found is = subst (λ o. IfSome o (Contains (records facts))) (sym is) (next_listed name_cmp (records facts) after)
+pub next_record_listed : (facts : Facts) (after found : Option RecordName)
+    → found ≡ next name_cmp (records facts) after → IfSome found (Contains (records facts))
+next_record_listed facts after found is = subst (λ o. IfSome o (Contains (records facts))) (sym is)
+    (next_listed name_cmp (records facts) after)
 
-module _ (facts : Facts) (here : Option RecordName) (key : RecordName) (above : Option RecordName) (at : here ≡ Some key) (listed : IfSome here (Contains (records facts)))
+module _ (facts : Facts) (here : Option RecordName) (key : RecordName) (above : Option RecordName)
+    (at : here ≡ Some key) (listed : IfSome here (Contains (records facts)))
     (is : above ≡ next name_cmp (records facts) (Some key)) where
   key_listed : Contains (records facts) key
   key_listed = subst (λ o. IfSome o (Contains (records facts))) at listed
@@ -41,12 +47,15 @@ module _ (facts : Facts) (here : Option RecordName) (key : RecordName) (above : 
   records_from-here : records_from facts here ≡ key ∷ records_from facts above
   records_from-here =
       ap (records_from facts) at
-      ∙ (from-some name_cmp name_total (records facts) key (ordered_rises name_cmp _) key_listed ∙ ap (λ o. key ∷ records_from facts o) (sym is))
+      ∙ (from-some name_cmp name_total (records facts) key (ordered_rises name_cmp _) key_listed
+      ∙ ap (λ o. key ∷ records_from facts o) (sym is))
 
   -- one fewer is left
   pub fewer_from : length (records_from facts above) < length (records_from facts here)
   fewer_from = let is = ap length records_from-here in omega (arith, is)
 
   -- and its line is taken off
-  pub line_more : (before after : List ℕ) → after ≡ before ++ record_line facts key → after ++ lines_from facts above ≡ before ++ lines_from facts here
-  line_more before after more = rw (more, append_assoc) (ap (λ keys. before ++ flat_map (record_line facts) keys) (sym records_from-here))
+  pub line_more : (before after : List ℕ) → after ≡ before ++ record_line facts key
+      → after ++ lines_from facts above ≡ before ++ lines_from facts here
+  line_more before after more = rw (more, append_assoc)
+      (ap (λ keys. before ++ flat_map (record_line facts) keys) (sym records_from-here))

@@ -1,5 +1,6 @@
 -- A run over an opener that says what stands at each path.
-use Rattle.std.proofs.Common.{◌≡◌, ℕ, List, [], ◌∷◌, ◌++◌, map, ◌⊎◌, inl, inr, refl, ◌∙◌, subst, sym}
+use Rattle.std.proofs.Common.{◌≡◌, ℕ, List, [], ◌∷◌, ◌++◌, map, ◌⊎◌, inl, inr, refl, ◌∙◌, subst}
+use Rattle.std.proofs.Common.{sym}
 use Rattle.cvr_words.specs.declared.request.Request.{Request}
 use Rattle.cvr_run.specs.declared.status.Status.{Status}
 use Rattle.cvr_run.specs.declared.status.Status.TheVariants.{Device, Memory}
@@ -24,7 +25,8 @@ not_whole answer (inr is) (inr refused) = cc
 
 -- ---- what was read is what is held of the files
 
-read_known : (at : List ℕ → At) (paths read files : List (List ℕ)) → AreRead at paths read → AreAt at paths files → read ≡ map held_part files
+read_known : (at : List ℕ → At) (paths read files : List (List ℕ)) → AreRead at paths read
+    → AreAt at paths files → read ≡ map held_part files
 read_known at [] [] [] are there = refl
 read_known at [] [] (file ∷ files) are there = absurd (cc)
 read_known at [] (r ∷ read) files are there = absurd are
@@ -39,10 +41,13 @@ read_known at (path ∷ paths) (r ∷ read) (file ∷ files) are there =
 
 -- ---- a run over what was read is one over the files
 
-module _ (request : Request) (answer : Status) (old new : Devices) (run : Runs request answer old new)
-    (def : List ℕ) (files : List (List ℕ)) (there : AreAt old.opener.at (request.def ∷ request.paths) (def ∷ files)) where
+module _ (request : Request) (answer : Status) (old new : Devices)
+    (run : Runs request answer old new)
+    (def : List ℕ) (files : List (List ℕ))
+    (there : AreAt old.opener.at (request.def ∷ request.paths) (def ∷ files)) where
   all_read : run.def ∷ run.files ≡ held_part def ∷ map held_part files
-  all_read = read_known old.opener.at (request.def ∷ request.paths) (run.def ∷ run.files) (def ∷ files) run.read there
+  all_read = read_known old.opener.at (request.def ∷ request.paths) (run.def ∷ run.files)
+      (def ∷ files) run.read there
 
   def_read : run.def ≡ held_part def
   def_read = let is = all_read in cc
@@ -50,29 +55,45 @@ module _ (request : Request) (answer : Status) (old new : Devices) (run : Runs r
   files_read : run.files ≡ map held_part files
   files_read = let is = all_read in cc
 
-  text_is : run_text request.task run.def request.paths run.files ≡ run_text request.task def request.paths files
-  text_is = (λ i. run_text request.task (def_read i) request.paths (files_read i)) ∙ held_text request.task def request.paths files
+  text_is : run_text request.task run.def request.paths run.files
+      ≡ run_text request.task def request.paths files
+  text_is = (λ i. run_text request.task (def_read i) request.paths (files_read i))
+      ∙ held_text request.task def request.paths files
 
-  lines_are : run_lines request.task request.def run.def request.paths run.files ≡ run_lines request.task request.def def request.paths files
-  lines_are = (λ i. run_lines request.task request.def (def_read i) request.paths (files_read i)) ∙ held_lines request.task request.def def request.paths files
+  lines_are : run_lines request.task request.def run.def request.paths run.files
+      ≡ run_lines request.task request.def def request.paths files
+  lines_are = (λ i. run_lines request.task request.def (def_read i) request.paths (files_read i))
+      ∙ held_lines request.task request.def def request.paths files
 
   fault_is : run_fault request.task run.def run.files ≡ run_fault request.task def files
-  fault_is = (λ i. run_fault request.task (def_read i) (files_read i)) ∙ held_fault request.task def files
+  fault_is = (λ i. run_fault request.task (def_read i) (files_read i))
+      ∙ held_fault request.task def files
 
   refused_is : any_refused request.task run.def run.files ≡ any_refused request.task def files
-  refused_is = (λ i. any_refused request.task (def_read i) (files_read i)) ∙ held_refused request.task def files
+  refused_is = (λ i. any_refused request.task (def_read i) (files_read i))
+      ∙ held_refused request.task def files
 
-  ran_known : IsWhole answer → Ran (record { request = request; def = def; files = files }) answer (outputs old) (outputs new)
+  ran_known : IsWhole answer → Ran (record { request = request; def = def; files = files }) answer
+      (outputs old) (outputs new)
   ran_known whole = record {
     ends =
-        subst (λ text. Ends old.out new.out text (any_refused request.task def files) answer) text_is
-        (subst (λ refused. Ends old.out new.out (run_text request.task run.def request.paths run.files) refused answer) refused_is run.ran.ends);
-    log = λ some. subst (Logs old.log new.log) (λ i. lines_are i ++ last_lines (fault_is i) new.out.failed) (run.ran.log some);
+        subst (λ text. Ends old.out new.out text (any_refused request.task def files) answer)
+        text_is
+        (subst (λ refused. Ends old.out new.out
+        (run_text request.task run.def request.paths run.files) refused answer) refused_is
+        run.ran.ends);
+    log = λ some. subst (Logs old.log new.log)
+        (λ i. lines_are i ++ last_lines (fault_is i) new.out.failed) (run.ran.log some);
     cut_short = λ memory. absurd (not_whole answer (inr memory) whole);
   }
 
-pub job_known : (request : Request) (answer : Status) (old new : Devices) → Runs request answer old new → (job : Job) → job.request ≡ request
-    → AreAt old.opener.at (job.request.def ∷ job.request.paths) (job.def ∷ job.files) → IsWhole answer → Ran job answer (outputs old) (outputs new)
+pub job_known : (request : Request) (answer : Status) (old new : Devices)
+    → Runs request answer old new → (job : Job) → job.request ≡ request
+    → AreAt old.opener.at (job.request.def ∷ job.request.paths) (job.def ∷ job.files)
+    → IsWhole answer → Ran job answer (outputs old) (outputs new)
 job_known request answer old new run job is there whole =
-    subst (λ (q : Request). Ran (record { request = q; def = job.def; files = job.files }) answer (outputs old) (outputs new)) (sym is)
-    (ran_known request answer old new run job.def job.files (subst (λ (q : Request). AreAt old.opener.at (q.def ∷ q.paths) (job.def ∷ job.files)) is there) whole)
+    subst (λ (q : Request). Ran (record { request = q; def = job.def; files = job.files }) answer
+    (outputs old) (outputs new)) (sym is)
+    (ran_known request answer old new run job.def job.files
+    (subst (λ (q : Request). AreAt old.opener.at (q.def ∷ q.paths) (job.def ∷ job.files)) is
+    there) whole)

@@ -1,5 +1,7 @@
--- The facts that are held of files: those of the definition's devices, and those of the values of the accepted files.
-use Rattle.std.proofs.Common.{◌≡◌, ℕ, ◌<◌, List, [], ◌∷◌, length, get_or, true, ◌⊎◌, inl, inr, Option, Some, None, refl, sym, ap, ◌∙◌, subst}
+-- The facts that are held of files: those of the definition's devices, and those of the values of
+-- the accepted files.
+use Rattle.std.proofs.Common.{◌≡◌, ℕ, ◌<◌, List, [], ◌∷◌, length, get_or, true, ◌⊎◌, inl, inr}
+use Rattle.std.proofs.Common.{Option, Some, None, refl, sym, ap, ◌∙◌, subst}
 use Rattle.std.proofs.lemmas.Bool.{false≢true}
 use Rattle.std.proofs.lemmas.List.Folds.{list_any_at}
 use Rattle.std.proofs.lemmas.List.{get_or_default}
@@ -15,11 +17,11 @@ use Rattle.cdf_definition.proofs.Laws.{valid_file}
 use Rattle.cvr_fact_types.specs.Facts.{Fact, Facts, fact_cmp, fact_total, fact_exact}
 use Rattle.cvr_facts.specs.Reports.{report_facts, facts}
 use Rattle.cvr_facts.proofs.Lemmas.{at_head, at_tail}
-use Rattle.cvr_office.specs.Keeps.{starting}
+use Rattle.cvr_office.specs.Keeps.{starting_content}
 use Rattle.cvr_office.specs.Reach.{union_over}
 use Rattle.cvr_office.proofs.Lemmas.{or_cases, or_left, or_right, contains-union_over}
 use Rattle.cvr_run.specs.Laws.{HasAccepted, HaveSameBytes, HaveSameValues}
-use Rattle.cvr_run.specs.Outcome.{accepted_facts, held}
+use Rattle.cvr_run.specs.Outcome.{accepted_facts, content_of_files}
 
 -- ---- sets by values
 
@@ -29,10 +31,14 @@ value_facts v = from_list (report_facts v)
 
 -- these are the definition's devices, and the facts of these values
 abbrev pub AreFactsOf : Frame → (Data → Type 0) → Facts → Type 0
-AreFactsOf definition among s = (q : Fact) → (contains s q ≡ true) ↔ ((contains (starting definition) q ≡ true) ⊎ ((v : Data) × among v × (contains (value_facts v) q ≡ true)))
+AreFactsOf definition among s = (q : Fact)
+    → (contains s q ≡ true) ↔ ((contains (starting_content definition) q ≡ true)
+    ⊎ ((v : Data) × among v × (contains (value_facts v) q ≡ true)))
 
 module _ (definition : Frame) where
-  also_there : (P Q : Data → Type 0) (s t : Facts) → AreFactsOf definition P s → AreFactsOf definition Q t → ((v : Data) → P v → Q v) → (q : Fact) → contains s q ≡ true → contains t q ≡ true
+  also_there : (P Q : Data → Type 0) (s t : Facts) → AreFactsOf definition P s
+      → AreFactsOf definition Q t → ((v : Data) → P v → Q v) → (q : Fact) → contains s q ≡ true
+      → contains t q ≡ true
   also_there P Q s t of_s of_t more q h =
       elim ((of_s q).0 h) [
         | inl at_first ↦ (of_t q).1 (inl at_first)
@@ -40,15 +46,19 @@ module _ (definition : Frame) where
       ]
 
   -- those of the same values are the same
-  pub same_by_values : (P Q : Data → Type 0) (s t : Facts) → AreFactsOf definition P s → AreFactsOf definition Q t → ((v : Data) → P v ↔ Q v) → s ≡ t
+  pub same_by_values : (P Q : Data → Type 0) (s t : Facts) → AreFactsOf definition P s
+      → AreFactsOf definition Q t → ((v : Data) → P v ↔ Q v) → s ≡ t
   same_by_values P Q s t of_s of_t same =
       same_set fact_total fact_exact s t
-      (λ q. both_ways (contains s q) (contains t q) (also_there P Q s t of_s of_t (λ v. (same v).0) q) (also_there Q P t s of_t of_s (λ v. (same v).1) q))
+      (λ q. both_ways (contains s q) (contains t q)
+      (also_there P Q s t of_s of_t (λ v. (same v).0) q)
+      (also_there Q P t s of_t of_s (λ v. (same v).1) q))
 
 -- ---- what is held
 
 -- a member that passes a test
-pub one_that_passes : {X : Type 0} (test : X → Bool) (xs : List X) → list_any test xs ≡ true → (x : X) × Contains xs x × (test x ≡ true)
+pub one_that_passes : {X : Type 0} (test : X → Bool) (xs : List X) → list_any test xs ≡ true
+    → (x : X) × Contains xs x × (test x ≡ true)
 one_that_passes test [] h = absurd (false≢true h)
 one_that_passes test (x ∷ xs) h =
     elim (or_cases (test x) (list_any test xs) h) [
@@ -56,67 +66,93 @@ one_that_passes test (x ∷ xs) h =
       | inr rest ↦ let w = one_that_passes test xs rest in (w.0, at_tail x w.0 xs w.1, w.2)
     ]
 
-pub passes_by : {X : Type 0} (test : X → Bool) (xs : List X) (x : X) → Contains xs x → test x ≡ true → list_any test xs ≡ true
+pub passes_by : {X : Type 0} (test : X → Bool) (xs : List X) (x : X) → Contains xs x → test x ≡ true
+    → list_any test xs ≡ true
 passes_by test xs x at h = list_any_at test xs at.0 x at.1 (ap test at.2 ∙ h)
 
 -- a fact of the accepted file is one of the file, which is accepted
-of_accepted : (first : Option ReadFault) (some : Facts) (q : Fact) → contains (if is_some first then empty else some) q ≡ true → (first ≡ None) × (contains some q ≡ true)
+of_accepted : (first : Option ReadFault) (some : Facts) (q : Fact)
+    → contains (if is_some first then empty else some) q ≡ true
+    → (first ≡ None) × (contains some q ≡ true)
 of_accepted None some q h = (refl, h)
 of_accepted (Some fault) some q h = absurd (false≢true (sym (contains-empty fact_cmp q) ∙ h))
 
-in_accepted : (first : Option ReadFault) (some : Facts) (q : Fact) → first ≡ None → contains some q ≡ true → contains (if is_some first then empty else some) q ≡ true
+in_accepted : (first : Option ReadFault) (some : Facts) (q : Fact) → first ≡ None
+    → contains some q ≡ true → contains (if is_some first then empty else some) q ≡ true
 in_accepted None some q is h = h
 in_accepted (Some fault) some q is h = absurd (Prim.cc is)
 
 module _ (definition : Frame) (files : List (List ℕ)) where
   -- an accepted file of a value, by its place
   abbrev pub HasPlace : Data → Type 0
-  HasPlace v = (f : ℕ) × (f < length files) × Valid definition (get_or files f []) × (value_in (get_or files f []) ≡ v)
+  HasPlace v = (f : ℕ) × (f < length files) × Valid definition (get_or files f [])
+      × (value_in (get_or files f []) ≡ v)
 
   pub placed : (v : Data) → HasAccepted definition files v → HasPlace v
   placed v has =
       let at = has.1 in
-      let is : has.0 ≡ get_or files at.0 [] = sym (get_or_default files at.0 [] has.0 at.1 ∙ at.2) in
+      let is : has.0 ≡ get_or files at.0 [] =
+      sym (get_or_default files at.0 [] has.0 at.1 ∙ at.2) in
       (at.0, at.1, subst (Valid definition) is has.2, ap value_in (sym is) ∙ has.3)
 
   pub from_place : (v : Data) → HasPlace v → HasAccepted definition files v
-  from_place v has = let file = get_or files has.0 [] in (file, (has.0, has.1, get_or_default files has.0 file [] has.1), has.2, has.3)
+  from_place v has = let file = get_or files has.0 [] in
+      (file, (has.0, has.1, get_or_default files has.0 file [] has.1), has.2, has.3)
 
   abbrev gives : Fact → List ℕ → Bool
   gives q file = contains (accepted_facts definition file) q
 
-  in_held : (q : Fact) → contains (held definition files) q ≡ (contains (starting definition) q || list_any (gives q) files)
+  in_held : (q : Fact) → contains (content_of_files definition files) q
+      ≡ (contains (starting_content definition) q || list_any (gives q) files)
   in_held q =
-      contains-union fact_total (starting definition) (union_over (accepted_facts definition) files) q
-      ∙ ap (λ b. contains (starting definition) q || b) (contains-union_over (accepted_facts definition) files q)
+      contains-union fact_total (starting_content definition)
+      (union_over (accepted_facts definition) files) q
+      ∙ ap (λ b. contains (starting_content definition) q || b)
+      (contains-union_over (accepted_facts definition) files q)
 
-  held_from : (q : Fact) (file : List ℕ) → Contains files file → Valid definition file → contains (facts file) q ≡ true → contains (held definition files) q ≡ true
+  held_from : (q : Fact) (file : List ℕ) → Contains files file → Valid definition file
+      → contains (facts file) q ≡ true → contains (content_of_files definition files) q ≡ true
   held_from q file at valid h =
       in_held q
-      ∙ or_right (contains (starting definition) q) _ (passes_by (gives q) files file at (in_accepted (first_refusal definition file) (facts file) q ((valid_file definition file).1 valid) h))
+      ∙ or_right (contains (starting_content definition) q) _
+      (passes_by (gives q) files file at
+      (in_accepted (first_refusal definition file) (facts file) q
+      ((valid_file definition file).1 valid) h))
 
-  pub held_of : AreFactsOf definition (HasAccepted definition files) (held definition files)
+  pub held_of : AreFactsOf definition (HasAccepted definition files)
+      (content_of_files definition files)
   held_of q = (
     λ h. elim (or_cases _ _ (sym (in_held q) ∙ h)) [
       | inl at_first ↦ inl at_first
       | inr some ↦
           let one = one_that_passes (gives q) files some in
           let parts = of_accepted (first_refusal definition one.0) (facts one.0) q one.2 in
-          inr (value_in one.0, (one.0, one.1, (valid_file definition one.0).0 parts.0, refl), parts.1)
+          inr (
+            value_in one.0,
+            (one.0, one.1, (valid_file definition one.0).0 parts.0, refl),
+            parts.1,
+          )
     ],
     λ has. elim has [
       | inl at_first ↦ in_held q ∙ or_left _ _ at_first
-      | inr from ↦ let file = from.1 in held_from q file.0 file.1 file.2 (ap (λ (v : Data). contains (value_facts v) q) file.3 ∙ from.2)
+      | inr from ↦ let file = from.1 in
+          held_from q file.0 file.1 file.2
+          (ap (λ (v : Data). contains (value_facts v) q) file.3 ∙ from.2)
     ],
   )
 
 -- ---- the same values
 
-pub same_held : (definition : Frame) (files others : List (List ℕ)) → HaveSameValues definition files others → held definition files ≡ held definition others
+pub same_held : (definition : Frame) (files others : List (List ℕ))
+    → HaveSameValues definition files others
+    → content_of_files definition files ≡ content_of_files definition others
 same_held definition files others same =
-    same_by_values definition (HasAccepted definition files) (HasAccepted definition others) (held definition files) (held definition others) (held_of definition files) (held_of definition others) same
+    same_by_values definition (HasAccepted definition files) (HasAccepted definition others)
+    (content_of_files definition files) (content_of_files definition others)
+    (held_of definition files) (held_of definition others) same
 
-pub by_bytes : (definition : Frame) (files others : List (List ℕ)) → HaveSameBytes files others → HaveSameValues definition files others
+pub by_bytes : (definition : Frame) (files others : List (List ℕ)) → HaveSameBytes files others
+    → HaveSameValues definition files others
 by_bytes definition files others same v = (
   λ has. (has.0, (same has.0).0 has.1, has.2, has.3),
   λ has. (has.0, (same has.0).1 has.1, has.2, has.3),

@@ -14,6 +14,8 @@ fold-max n [] = omega arith
 fold-max n (m ∷ ns) = omega (arith, fold-max (max n m) ns, most-cons m ns)
 
 -- 1 where there is no conflict
-pub reduce-max : (list : List Conflict) → unwrap_or (reduce max (map (λ c. c.bodies) list)) 1 ≡ volumes_of list
+pub reduce-max : (list : List Conflict)
+    → unwrap_or (reduce max (map (λ c. c.bodies) list)) 1 ≡ volumes_of list
 reduce-max [] = refl
-reduce-max (c ∷ cs) = fold-max c.bodies (map (λ c. c.bodies) cs) ∙ sym (most-cons c.bodies (map (λ c. c.bodies) cs))
+reduce-max (c ∷ cs) =
+    fold-max c.bodies (map (λ c. c.bodies) cs) ∙ sym (most-cons c.bodies (map (λ c. c.bodies) cs))

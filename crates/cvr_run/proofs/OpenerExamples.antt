@@ -1,23 +1,31 @@
 -- Openers of worked examples.
-use Rattle.std.proofs.Common.{◌≡◌, ◌∙◌, ℕ, List, [], ◌∷◌, ◌++◌, codes, true, Some, option_map, refl, ap, subst, sym, true≢false}
+use Rattle.std.proofs.Common.{◌≡◌, ◌∙◌, ℕ, List, [], ◌∷◌, ◌++◌, codes, true, Some, option_map, refl}
+use Rattle.std.proofs.Common.{ap, subst, sym, true≢false}
 use Rattle.cvr_run.specs.declared.file.FileFault.TheVariants as fault
 use Rattle.cvr_run.specs.declared.status.Status.TheVariants as status
 use Rattle.cvr_run.specs.Opening.{Opener, AreRead, IsRead, FailedAt, Opens, FourAreShown}
-use Rattle.cvr_run.specs.Worked.{Stop, Unread, NoRoom, CanStop, stop_line, stop_status, unread_line, HasOnlyD, StopsAtA, TheMissingIsReported}
+use Rattle.cvr_run.specs.Worked.{Stop, Unread, NoRoom, CanStop, stop_line, stop_status, unread_line}
+use Rattle.cvr_run.specs.Worked.{HasOnlyD, StopsAtA, TheMissingIsReported}
 
 pub four_shown : FourAreShown
 four_shown old new before opens = record {
-  opened = ap (λ (o : Opener). o.opened) opens ∙ ap (λ o. option_map (λ opened. opened ++ (codes "c" ∷ codes "a" ∷ [])) o) before;
+  opened = ap (λ (o : Opener). o.opened) opens
+      ∙ ap (λ o. option_map (λ opened. opened ++ (codes "c" ∷ codes "a" ∷ [])) o) before;
   at = ap (λ (o : Opener). o.at) opens;
   may_fail = ap (λ (o : Opener). o.may_fail) opens;
 }
 
 module _ (old new : Opener) (line : List ℕ) (has : HasOnlyD old) where
-  stops_there : (before after files : List (List ℕ)) (path : List ℕ) → codes "d" ∷ codes "a" ∷ codes "b" ∷ [] ≡ before ++ path ∷ after → AreRead old.at before files
-      → FailedAt (old.at path) (old.may_fail path) → Opens old new (before ++ path ∷ []) → line ≡ unread_line path fault.Device → StopsAtA new line
+  stops_there : (before after files : List (List ℕ)) (path : List ℕ)
+      → codes "d" ∷ codes "a" ∷ codes "b" ∷ [] ≡ before ++ path ∷ after
+      → AreRead old.at before files
+      → FailedAt (old.at path) (old.may_fail path) → Opens old new (before ++ path ∷ [])
+      → line ≡ unread_line path fault.Device → StopsAtA new line
   stops_there [] after files path split read failed opened said =
       let is : path ≡ codes "d" = cc in
-      let never : old.may_fail (codes "d") ≡ true = subst (λ at. FailedAt at (old.may_fail (codes "d"))) has.d (subst (λ p. FailedAt (old.at p) (old.may_fail p)) is failed) in
+      let never : old.may_fail (codes "d")
+      ≡ true = subst (λ at. FailedAt at (old.may_fail (codes "d"))) has.d
+      (subst (λ p. FailedAt (old.at p) (old.may_fail p)) is failed) in
       absurd (true≢false (sym never ∙ has.reads))
   stops_there (x ∷ []) after files path split read failed opened said =
       let first : x ≡ codes "d" = cc in
@@ -26,7 +34,8 @@ module _ (old new : Opener) (line : List ℕ) (has : HasOnlyD old) where
         said = said ∙ ap (λ p. unread_line p fault.Device) is;
         opened =
             ap (λ (o : Opener). o.opened) opened
-            ∙ (ap (λ o. option_map (λ opened. opened ++ (x ∷ path ∷ [])) o) has.opened ∙ (λ i. Some (first i ∷ is i ∷ [])));
+            ∙ (ap (λ o. option_map (λ opened. opened ++ (x ∷ path ∷ [])) o) has.opened
+            ∙ (λ i. Some (first i ∷ is i ∷ [])));
       }
   stops_there (x ∷ y ∷ before) after [] path split read failed opened said = absurd read
   stops_there (x ∷ y ∷ before) after (f ∷ []) path split read failed opened said = absurd read.1
@@ -34,10 +43,13 @@ module _ (old new : Opener) (line : List ℕ) (has : HasOnlyD old) where
       let is : y ≡ codes "a" = cc in
       absurd (subst (λ at. IsRead at g) has.a (subst (λ p. IsRead (old.at p) g) is read.1.0))
 
-  stops_so : (stop : Stop) → CanStop old new (codes "d" ∷ codes "a" ∷ codes "b" ∷ []) stop → status.Device ≡ stop_status stop → line ≡ stop_line stop → StopsAtA new line
-  stops_so (Unread path fault.Device) u is said = stops_there u.before u.after u.files path u.split u.read (u.device refl) u.opened said
+  stops_so : (stop : Stop) → CanStop old new (codes "d" ∷ codes "a" ∷ codes "b" ∷ []) stop
+      → status.Device ≡ stop_status stop → line ≡ stop_line stop → StopsAtA new line
+  stops_so (Unread path fault.Device) u is said =
+      stops_there u.before u.after u.files path u.split u.read (u.device refl) u.opened said
   stops_so (Unread path fault.Memory) u is said = absurd (cc)
   stops_so NoRoom u is said = absurd (cc)
 
 pub missing_reported : TheMissingIsReported
-missing_reported old new line has stops = stops_so old new line has stops.stop stops.possible stops.status stops.said
+missing_reported old new line has stops =
+    stops_so old new line has stops.stop stops.possible stops.status stops.said

@@ -17,9 +17,12 @@ unfolding clap_on_literals
 short_unknown = refl
 
 pub unknown_version : UnknownVersionLaw
-unknown_version words (inl is) = subst (λ (w : List (List ℕ)). fault_of cvr_line (with_program w) ≡ UnknownArgument ∷ []) (sym is) long_unknown
-unknown_version words (inr is) = subst (λ (w : List (List ℕ)). fault_of cvr_line (with_program w) ≡ UnknownArgument ∷ []) (sym is) short_unknown
+unknown_version words (inl is) = subst (λ (w : List (List ℕ)). fault_of cvr_line (with_program w)
+    ≡ UnknownArgument ∷ []) (sym is) long_unknown
+unknown_version words (inr is) = subst (λ (w : List (List ℕ)). fault_of cvr_line (with_program w)
+    ≡ UnknownArgument ∷ []) (sym is) short_unknown
 
-pub version_asks_none : (words : List (List ℕ)) → AsksVersion words → (request : Request) → IsRequest (with_program words) request → ⊥
+pub version_asks_none : (words : List (List ℕ)) → AsksVersion words → (request : Request)
+    → IsRequest (with_program words) request → ⊥
 version_asks_none words version request asks =
     let bad : [] ≡ UnknownArgument ∷ [] = sym asks.0 ∙ unknown_version words version in cc

@@ -14,5 +14,5 @@ abbrev pub is_refused : Frame → List ℕ → Bool
 is_refused definition bytes = is_some (first_refusal definition bytes)
 
 -- the value of an accepted file
-abbrev pub accepted : Frame → List ℕ → Option Data
-accepted definition bytes = if is_refused definition bytes then None else value_of bytes
+abbrev pub accepted_value : Frame → List ℕ → Option Data
+accepted_value definition bytes = if is_refused definition bytes then None else value_of bytes

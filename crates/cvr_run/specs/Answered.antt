@@ -20,6 +20,7 @@ use Rattle.cvr_run.specs.Worked.{Stops, Runs}
 
 -- ---- words that ask for no request
 
+-- whether clap answered help
 abbrev pub is_help : LineFault → Bool
 is_help (Help text) = true
 is_help fault = false
@@ -29,6 +30,7 @@ abbrev pub help_text : LineFault → List ℕ
 help_text (Help text) = string_bytes text
 help_text fault = []
 
+-- the line of a step that has no form
 abbrev pub bad_step_line : List ℕ → List ℕ
 bad_step_line step = step ++ codes ": L3\n"
 
@@ -40,6 +42,7 @@ words_line (Help text) out_failed = out_line out_failed
 words_line (BadStep place step) out_failed = bad_step_line step
 words_line Memory out_failed = memory_line
 
+-- the status for words that ask for no request
 abbrev pub words_status : LineFault → Bool → Status
 words_status (Refused text) out_failed = status.CommandLine
 words_status (Help text) out_failed = if out_failed then status.Device else status.Done
@@ -47,7 +50,8 @@ words_status (BadStep place step) out_failed = status.CommandLine
 words_status Memory out_failed = status.Memory
 
 -- the fault is answered, and printed or logged; but for help the output stays unchanged
-pub record TellsWords (fault : LineFault) (answer : Status) (old new : Outputs) (unchanged : Type 0) : Type 0 where
+pub record TellsWords (fault : LineFault) (answer : Status) (old new : Outputs)
+    (unchanged : Type 0) : Type 0 where
   pub status : answer ≡ words_status fault new.out.failed
   pub quiet : is_help fault ≡ false → unchanged
   pub whole : new.out.failed ≡ false → Appends old.out new.out (help_text fault)
@@ -60,7 +64,8 @@ pub record TellsWords (fault : LineFault) (answer : Status) (old new : Outputs) 
 -- files
 abbrev pub Does : Request → Status → Devices → Devices → Type 0 → Type 0
 Does request answer old new unchanged =
-    (unchanged × LogsSome (Stops old.opener new.opener (request.def ∷ request.paths) answer) old.log new.log)
+    (unchanged × LogsSome (Stops old.opener new.opener (request.def ∷ request.paths) answer) old.log
+    new.log)
     ⊎ Runs request answer old new
 
 -- ---- both
@@ -69,7 +74,8 @@ Does request answer old new unchanged =
 -- nothing is opened
 abbrev pub Answers : List (List ℕ) → Status → Devices → Devices → Type 0 → Type 0
 Answers words answer old new unchanged =
-    ((request : Request) × IsRequest (with_program words) request × Does request answer old new unchanged)
+    ((request : Request) × IsRequest (with_program words) request
+    × Does request answer old new unchanged)
     ⊎ ((fault : LineFault) × IsLineFault (with_program words) fault × Opens old.opener new.opener []
     × TellsWords fault answer (outputs old) (outputs new) unchanged)
 

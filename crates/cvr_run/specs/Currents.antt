@@ -18,7 +18,9 @@ use Rattle.cvr_office.specs.Names.{records, most}
 -- device, unique, the snapshot's id, then the text of its Type without quotes
 abbrev pub line : RecordName → List ℕ → List ℕ
 line key body =
-    word key.device ++ (word key.unique ++ (word (id_of (data_of body)) ++ (snapshot_kind_text (kind_of (data_of body)) ++ 10 ∷ [])))
+    word key.device ++ (word key.unique
+    ++ (word (id_of (data_of body))
+    ++ (snapshot_kind_text (kind_of (data_of body)) ++ 10 ∷ [])))
 
 abbrev pub line_of : RecordName → Option (List ℕ) → List ℕ
 line_of key None = []
@@ -34,7 +36,8 @@ currents facts = flat_map (λ key. line_of key (current facts key)) (records fac
 abbrev pub words_of : ConflictName → List ℕ
 words_of (name.Device id) = codes "device " ++ word id
 words_of (name.Header key) = word key.device ++ (word key.unique ++ codes "header ")
-words_of (name.Snapshot key id) = word key.device ++ (word key.unique ++ (codes "snapshot " ++ word id))
+words_of (name.Snapshot key id) =
+    word key.device ++ (word key.unique ++ (codes "snapshot " ++ word id))
 
 -- the name, and the number of its bodies
 abbrev pub conflict_line : Conflict → List ℕ
@@ -47,4 +50,5 @@ volumes_of (c ∷ cs) = most (map (λ c. c.bodies) (c ∷ cs))
 
 -- a line for each conflict, then `volumes` and their number
 abbrev pub conflict_text : List Conflict → List ℕ
-conflict_text list = flat_map conflict_line list ++ (codes "volumes " ++ (decimal (volumes_of list) ++ 10 ∷ []))
+conflict_text list =
+    flat_map conflict_line list ++ (codes "volumes " ++ (decimal (volumes_of list) ++ 10 ∷ []))

@@ -12,7 +12,7 @@ three_texts = codes "a" ∷ codes "b" ∷ codes "c" ∷ []
 abbrev pub three_dues : List Due
 three_dues = file_due (Some NotJson) ∷ file_due None ∷ file_due (Some TooLong) ∷ []
 
--- a run over them, of `check` or not, whose output works may end so
+-- the log of a run over them, of `check` or not, may be this text where the output works
 abbrev pub MayTell : Bool → List ℕ → Type 0
 MayTell check text =
     IsCutShort (record { by_file = check; texts = three_texts; dues = three_dues }) None false text
@@ -27,10 +27,12 @@ AfterOne = MayTell true (codes "a: E2\nmemory\n") × (¬ MayTell false (codes "a
 
 -- after all: any but `check`
 abbrev pub AfterAll : Type 0
-AfterAll = MayTell false (codes "a: E2\nc: E1\nmemory\n") × (¬ MayTell true (codes "a: E2\nc: E1\nmemory\n"))
+AfterAll = MayTell false (codes "a: E2\nc: E1\nmemory\n")
+    × (¬ MayTell true (codes "a: E2\nc: E1\nmemory\n"))
 
--- where the second was lacking, the third is logged and nothing else
+-- where memory ran out for the second, the third is logged and nothing else
 abbrev pub AfterLacking : Type 0
 AfterLacking =
     (check : Bool) → MayTell check (codes "a: E2\nb: E6\nc: E1\n")
-    × (¬ MayTell check (codes "a: E2\nb: E6\nmemory\n")) × (¬ MayTell check (codes "a: E2\nb: E6\nc: E1\nmemory\n"))
+    × (¬ MayTell check (codes "a: E2\nb: E6\nmemory\n"))
+    × (¬ MayTell check (codes "a: E2\nb: E6\nc: E1\nmemory\n"))

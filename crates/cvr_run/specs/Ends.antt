@@ -10,8 +10,10 @@ use Rattle.cvr_run.specs.Log.{Logs}
 use Rattle.cvr_run.specs.Outcome.{run_text, run_fault, any_refused, IsWhole}
 use Rattle.cvr_run.specs.Told.{run_lines, last_lines, IsRunCutShort, LogsSome}
 
--- of an output, with the text that it was to take
-pub record Ends (old new : Taken) (text : List ℕ) (any_refused : Bool) (status : Status) : Type 0 where
+-- how a run ends, by its status: what the output took of this text, whether the output failed, and
+-- whether anything was refused
+pub record Ends (old new : Taken) (text : List ℕ) (any_refused : Bool)
+    (status : Status) : Type 0 where
   pub done : status ≡ Done → any_refused ≡ false
   pub refused : status ≡ Refused → any_refused ≡ true
   pub whole : IsWhole status → Appends old new text

@@ -23,7 +23,8 @@ election = record { elections = []; units = []; parties = []; devices = []; cont
 -- a header with the texts of its unit and its batch as members
 abbrev pub header : List ℕ → List ℕ → List ℕ → List ℕ
 header places device unique =
-    codes "{\"@type\":\"CVR.CVR\"," ++ places ++ codes "\"CreatingDeviceId\":\"" ++ device ++ codes "\",\"ElectionId\":\"e\",\"UniqueId\":\"" ++ unique ++ codes "\"}"
+    codes "{\"@type\":\"CVR.CVR\"," ++ places ++ codes "\"CreatingDeviceId\":\"" ++ device
+    ++ codes "\",\"ElectionId\":\"e\",\"UniqueId\":\"" ++ unique ++ codes "\"}"
 
 abbrev pub in_unit : List ℕ → List ℕ
 in_unit unit = codes "\"BallotStyleUnitId\":\"" ++ unit ++ codes "\","
@@ -33,18 +34,22 @@ in_batch = codes "\"BatchId\":\"b1\","
 
 -- the votes of a selection, and those of one that names none, which count or are pending
 abbrev pub unnamed : List ℕ → List ℕ → List ℕ
-unnamed unassigned pending = selection (codes "") (position (codes "") unassigned) ++ codes "," ++ selection (codes "") (position (codes "\"IsAllocable\":\"unknown\",") pending)
+unnamed unassigned pending = selection (codes "") (position (codes "") unassigned) ++ codes ","
+    ++ selection (codes "") (position (codes "\"IsAllocable\":\"unknown\",") pending)
 
 -- overvotes, undervotes and write-ins
 abbrev pub lost : List ℕ → List ℕ → List ℕ → List ℕ
-lost overvotes undervotes write_ins = codes ",\"Overvotes\":" ++ overvotes ++ codes ",\"Undervotes\":" ++ undervotes ++ codes ",\"WriteIns\":" ++ write_ins
+lost overvotes undervotes write_ins = codes ",\"Overvotes\":" ++ overvotes
+    ++ codes ",\"Undervotes\":" ++ undervotes ++ codes ",\"WriteIns\":" ++ write_ins
 
 -- for mayor, with these votes for Ann and for Bob
 abbrev pub mayor : List ℕ → List ℕ → List ℕ → List ℕ → List ℕ
-mayor ann bob others more = contest (codes "mayor") (choice (codes "ann") ann ++ codes "," ++ choice (codes "bob") bob ++ codes "," ++ others) more
+mayor ann bob others more = contest (codes "mayor")
+    (choice (codes "ann") ann ++ codes "," ++ choice (codes "bob") bob ++ codes "," ++ others) more
 
 abbrev pub at_time : List ℕ → List ℕ
-at_time time = codes "\"Annotation\":[{\"@type\":\"CVR.Annotation\",\"TimeStamp\":\"" ++ time ++ codes "\"}],"
+at_time time =
+    codes "\"Annotation\":[{\"@type\":\"CVR.Annotation\",\"TimeStamp\":\"" ++ time ++ codes "\"}],"
 
 -- ---- five records
 
@@ -53,56 +58,83 @@ at_time time = codes "\"Annotation\":[{\"@type\":\"CVR.Annotation\",\"TimeStamp\
 abbrev pub adjudicated : List ℕ → List ℕ
 adjudicated ann =
     snapshot (codes "m") (codes "")
-    (contest ballot_box (choice dot (codes "10") ++ codes "," ++ unnamed (codes "11") (codes "12")) (lost (codes "13") (codes "14") (codes "15")) ++ codes "," ++
-    mayor ann (codes "9") (unnamed (codes "4") (codes "5")) (lost (codes "1") (codes "35") (codes "3")))
+    (contest ballot_box (choice dot (codes "10") ++ codes "," ++ unnamed (codes "11") (codes "12"))
+    (lost (codes "13") (codes "14") (codes "15")) ++ codes "," ++
+    mayor ann (codes "9") (unnamed (codes "4") (codes "5"))
+    (lost (codes "1") (codes "35") (codes "3")))
     (codes "modified")
 
 abbrev pub scanned : List ℕ
-scanned = snapshot (codes "ms") (at_time (codes "2024-11-06T09:00:00Z")) (mayor (codes "90") (codes "91") (unnamed (codes "92") (codes "93")) (codes "")) (codes "original")
+scanned = snapshot (codes "ms") (at_time (codes "2024-11-06T09:00:00Z"))
+    (mayor (codes "90") (codes "91") (unnamed (codes "92") (codes "93")) (codes ""))
+    (codes "original")
 
 -- a scan alone
 abbrev pub only_scan : List ℕ
-only_scan = snapshot (codes "a") (codes "") (contest (codes "mayor") (choice (codes "ann") (codes "20")) (codes ",\"Overvotes\":30")) (codes "original")
+only_scan = snapshot (codes "a") (codes "")
+    (contest (codes "mayor") (choice (codes "ann") (codes "20")) (codes ",\"Overvotes\":30"))
+    (codes "original")
 
 -- a dated reading, and one without a date, whose text is greater
 abbrev pub dated_reading : List ℕ
 dated_reading =
     snapshot ballot_box (at_time (codes "2024-11-05T20:00:00Z"))
-    (contest (codes "q") (unnamed (codes "24") (codes "25")) (lost (codes "21") (codes "22") (codes "23")) ++ codes "," ++
-    mayor (codes "6") (codes "7") (unnamed (codes "8") (codes "16")) (lost (codes "17") (codes "18") (codes "19")))
+    (contest (codes "q") (unnamed (codes "24") (codes "25"))
+    (lost (codes "21") (codes "22") (codes "23")) ++ codes "," ++
+    mayor (codes "6") (codes "7") (unnamed (codes "8") (codes "16"))
+    (lost (codes "17") (codes "18") (codes "19")))
     (codes "interpreted")
 
 abbrev pub undated_reading : List ℕ
-undated_reading = snapshot (codes "z") (codes "") (mayor (codes "94") (codes "95") (unnamed (codes "96") (codes "97")) (codes "")) (codes "interpreted")
+undated_reading = snapshot (codes "z") (codes "")
+    (mayor (codes "94") (codes "95") (unnamed (codes "96") (codes "97")) (codes ""))
+    (codes "interpreted")
 
 -- adjudicated at 04:30 of the next day in UTC, and at 01:00
 abbrev pub at_half_past_eleven : List ℕ
 at_half_past_eleven =
     snapshot dot (at_time (codes "2024-11-05T23:30:00-05:00"))
-    (mayor (codes "26") (codes "27") (unnamed (codes "28") (codes "29")) (lost (codes "32") (codes "33") (codes "34")))
+    (mayor (codes "26") (codes "27") (unnamed (codes "28") (codes "29"))
+    (lost (codes "32") (codes "33") (codes "34")))
     (codes "modified")
 
 abbrev pub at_one : List ℕ
-at_one = snapshot (codes "m9") (at_time (codes "2024-11-06T01:00:00Z")) (mayor (codes "98") (codes "99") (unnamed (codes "100") (codes "101")) (codes "")) (codes "modified")
+at_one = snapshot (codes "m9") (at_time (codes "2024-11-06T01:00:00Z"))
+    (mayor (codes "98") (codes "99") (unnamed (codes "100") (codes "101")) (codes ""))
+    (codes "modified")
 
 -- a scan of a record in a batch and no unit
 abbrev pub scan_without_unit : List ℕ
 scan_without_unit =
     snapshot (codes "n") (codes "")
-    (mayor (codes "37") (codes "36") (unnamed (codes "38") (codes "39")) (lost (codes "41") (codes "42") (codes "43")))
+    (mayor (codes "37") (codes "36") (unnamed (codes "38") (codes "39"))
+    (lost (codes "41") (codes "42") (codes "43")))
     (codes "original")
 
--- of the first record two bodies of the header: unit p2 stands; all in no order, one twice
+-- of the first record two bodies of the header, of which that of unit p2 stands; all in no order,
+-- one twice
 abbrev pub of_five : List Fact
 of_five =
-    Snapshot (codes "s10") (codes "a") (codes "m9") at_one ∷ Header (codes "s1") (codes "u10") (header (in_unit (codes "p2")) (codes "s1") (codes "u10")) ∷
-    Snapshot (codes "s1") (codes "u1") (codes "m") (adjudicated (codes "50")) ∷ Header (codes "s1") ballot_box (header (in_unit (codes "p2") ++ in_batch) (codes "s1") ballot_box) ∷
-    Device (codes "s10") (codes "{\"@id\":\"s10\",\"@type\":\"CVR.ReportingDevice\"}") ∷ Snapshot (codes "s1") ballot_box (codes "z") undated_reading ∷
-    Header (codes "s1") (codes "u1") (header (in_unit (codes "p2")) (codes "s1") (codes "u1")) ∷ Snapshot (codes "s10") (codes "b") (codes "n") scan_without_unit ∷
-    Snapshot (codes "s1") (codes "u1") (codes "ms") scanned ∷ Header (codes "s10") (codes "b") (header in_batch (codes "s10") (codes "b")) ∷
-    Snapshot (codes "s10") (codes "a") dot at_half_past_eleven ∷ Header (codes "s1") (codes "u1") (header (in_unit (codes "p1")) (codes "s1") (codes "u1")) ∷
-    Snapshot (codes "s1") (codes "u10") (codes "a") only_scan ∷ Header (codes "s10") (codes "a") (header (in_unit (codes "p1")) (codes "s10") (codes "a")) ∷
-    Snapshot (codes "s1") (codes "u1") (codes "m") (adjudicated (codes "40")) ∷ Snapshot (codes "s1") ballot_box ballot_box dated_reading ∷
+    Snapshot (codes "s10") (codes "a") (codes "m9") at_one
+    ∷ Header (codes "s1") (codes "u10")
+    (header (in_unit (codes "p2")) (codes "s1") (codes "u10")) ∷
+    Snapshot (codes "s1") (codes "u1") (codes "m") (adjudicated (codes "50"))
+    ∷ Header (codes "s1") ballot_box
+    (header (in_unit (codes "p2") ++ in_batch) (codes "s1") ballot_box) ∷
+    Device (codes "s10") (codes "{\"@id\":\"s10\",\"@type\":\"CVR.ReportingDevice\"}")
+    ∷ Snapshot (codes "s1") ballot_box (codes "z") undated_reading ∷
+    Header (codes "s1") (codes "u1") (header (in_unit (codes "p2")) (codes "s1") (codes "u1"))
+    ∷ Snapshot (codes "s10") (codes "b") (codes "n") scan_without_unit ∷
+    Snapshot (codes "s1") (codes "u1") (codes "ms") scanned
+    ∷ Header (codes "s10") (codes "b") (header in_batch (codes "s10") (codes "b")) ∷
+    Snapshot (codes "s10") (codes "a") dot at_half_past_eleven
+    ∷ Header (codes "s1") (codes "u1") (header (in_unit (codes "p1")) (codes "s1") (codes "u1"))
+    ∷
+    Snapshot (codes "s1") (codes "u10") (codes "a") only_scan
+    ∷ Header (codes "s10") (codes "a") (header (in_unit (codes "p1")) (codes "s10") (codes "a"))
+    ∷
+    Snapshot (codes "s1") (codes "u1") (codes "m") (adjudicated (codes "40"))
+    ∷ Snapshot (codes "s1") ballot_box ballot_box dated_reading ∷
     Snapshot (codes "s1") (codes "u10") (codes "a") only_scan ∷ []
 
 abbrev pub expected_currents : List ℕ
@@ -123,7 +155,8 @@ expected_tally =
     codes "\"mayor\" \"p1\" null 1 32 33 34 29 28 \"ann\" 26 \"bob\" 27\n" ++
     codes "\"mayor\" \"p2\" null 2 31 35 3 5 4 \"ann\" 70 \"bob\" 9\n" ++
     codes "\"mayor\" \"p2\" \"b1\" 1 17 18 19 16 8 \"ann\" 6 \"bob\" 7\n" ++
-    codes "\"" ++ ballot_box ++ codes "\" \"p2\" null 1 13 14 15 12 11 \"" ++ dot ++ codes "\" 10\n" ++
+    codes "\"" ++ ballot_box ++ codes "\" \"p2\" null 1 13 14 15 12 11 \"" ++ dot ++ codes "\" 10\n"
+    ++
     codes "\"q\" \"p2\" \"b1\" 1 21 22 23 25 24\n"
 
 abbrev pub TallyOfFive : Type 0
@@ -138,11 +171,16 @@ each of_body bytes = map (λ byte. of_body (byte ∷ [])) bytes
 -- names with one body to twelve, in no order: two records, and three devices
 abbrev pub several_bodies : List Fact
 several_bodies =
-    each (Snapshot (codes "s1") ballot_box ballot_box) (codes "7164253") ++ (each (Header (codes "s1") (codes "u1")) (codes "4321") ++
-    (each (Snapshot (codes "s1") (codes "u1") dot) (codes "123456") ++ (each (Device ballot_box) (codes "312") ++
-    (each (Snapshot (codes "s1") (codes "u1") (codes "m")) (codes "1") ++ (each (Header (codes "s1") ballot_box) (codes "9") ++
-    (each (Snapshot (codes "s1") (codes "u1") (codes "ma")) (codes "cba987654321") ++ (each (Device (codes "s10")) (codes "55") ++
-    (each (Snapshot (codes "s1") ballot_box (codes "m")) (codes "54123") ++ each (Device (codes "s1")) (codes "121")))))))))
+    each (Snapshot (codes "s1") ballot_box ballot_box) (codes "7164253")
+    ++ (each (Header (codes "s1") (codes "u1")) (codes "4321") ++
+    (each (Snapshot (codes "s1") (codes "u1") dot) (codes "123456")
+    ++ (each (Device ballot_box) (codes "312") ++
+    (each (Snapshot (codes "s1") (codes "u1") (codes "m")) (codes "1")
+    ++ (each (Header (codes "s1") ballot_box) (codes "9") ++
+    (each (Snapshot (codes "s1") (codes "u1") (codes "ma")) (codes "cba987654321")
+    ++ (each (Device (codes "s10")) (codes "55") ++
+    (each (Snapshot (codes "s1") ballot_box (codes "m")) (codes "54123")
+    ++ each (Device (codes "s1")) (codes "121")))))))))
 
 abbrev pub expected_conflicts : List ℕ
 expected_conflicts =
@@ -161,8 +199,10 @@ ConflictsOfTwo = facts_text election Conflicts (from_list several_bodies) ≡ ex
 -- one body under each name, one of them twice
 abbrev pub one_body_each : List Fact
 one_body_each =
-    Device (codes "s1") (codes "1") ∷ Header (codes "s1") (codes "u1") (codes "2") ∷ Snapshot (codes "s1") (codes "u1") (codes "m") (codes "3") ∷
-    Snapshot (codes "s1") (codes "u1") (codes "ma") (codes "4") ∷ Header (codes "s1") (codes "u1") (codes "2") ∷ []
+    Device (codes "s1") (codes "1") ∷ Header (codes "s1") (codes "u1") (codes "2")
+    ∷ Snapshot (codes "s1") (codes "u1") (codes "m") (codes "3") ∷
+    Snapshot (codes "s1") (codes "u1") (codes "ma") (codes "4")
+    ∷ Header (codes "s1") (codes "u1") (codes "2") ∷ []
 
 abbrev pub NoConflict : Type 0
 NoConflict = facts_text election Conflicts (from_list one_body_each) ≡ codes "volumes 1\n"
@@ -171,12 +211,19 @@ NoConflict = facts_text election Conflicts (from_list one_body_each) ≡ codes "
 
 -- the election with a desk and a scanner
 abbrev pub with_devices : Frame
-with_devices = record { elections = []; units = []; parties = []; devices = (codes "desk", codes "1") ∷ (codes "s1", codes "2") ∷ []; contests = contests }
+with_devices = record {
+  elections = [];
+  units = [];
+  parties = [];
+  devices = (codes "desk", codes "1") ∷ (codes "s1", codes "2") ∷ [];
+  contests = contests;
+}
 
 -- under a date and a device, the volume of a number has this fault, or none, and these lines are
 -- logged
 abbrev pub MergeTells : List ℕ → List ℕ → ℕ → Option MergeFault → List ℕ → Type 0
-MergeTells date device i fault lines = (merge_fault with_devices date device i (from_list several_bodies) ≡ fault) × (merge_lines fault ≡ lines)
+MergeTells date device i fault lines = (merge_fault with_devices date device i
+    (from_list several_bodies) ≡ fault) × (merge_lines fault ≡ lines)
 
 abbrev pub at_eight : List ℕ
 at_eight = codes "2024-11-06T08:00:00Z"
@@ -206,10 +253,12 @@ LastVolume = MergeTells at_eight (codes "s1") 12 None []
 
 -- ---- a drill
 
--- headers of these uniques, and bodies under one id of a record that may be among them
+-- headers with each of these as UniqueId, and bodies under one id of a record that may be among
+-- them
 abbrev pub heads_and_bodies : List ℕ → List ℕ → List Fact
 heads_and_bodies uniques bodies =
-    each (λ unique. Header (codes "s1") unique (codes "1")) uniques ++ each (Snapshot (codes "s1") (codes "a") (codes "m")) bodies
+    each (λ unique. Header (codes "s1") unique (codes "1")) uniques
+    ++ each (Snapshot (codes "s1") (codes "a") (codes "m")) bodies
 
 -- a device, and a snapshot of a record without a header
 abbrev pub second_device : Fact
@@ -220,7 +269,8 @@ without_header = Snapshot (codes "s2") (codes "a") (codes "m") (codes "1")
 
 -- the facts of ten offices, the same ones in any order and some twice: of the first, the third and
 -- the eighth; of the second and the seventh, with another body; of the sixth and the ninth, which
--- hold none. The fourth lacks a header of the first, the fifth has two facts more than the second
+-- hold none. The fourth has one header less than the first, the fifth two facts more than the
+-- second
 abbrev pub ten_offices : List (List Fact)
 ten_offices =
     heads_and_bodies (codes "lkjihgfedcba") (codes "987654321") ∷

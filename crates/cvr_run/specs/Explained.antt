@@ -22,7 +22,8 @@ NoExplainLaw =
     → fault_of cvr_line (with_program words) ≡ UnknownArgument ∷ InvalidSubcommand ∷ []
 
 -- the word names no code, which is reported; the output stays unchanged
-pub record TellsNoCode (name : List ℕ) (answer : Status) (old new : Outputs) (unchanged : Type 0) : Type 0 where
+pub record TellsNoCode (name : List ℕ) (answer : Status) (old new : Outputs)
+    (unchanged : Type 0) : Type 0 where
   pub unknown : (code : Code) → name ≢ code_name code
   pub quiet : unchanged
   pub status : answer ≡ CommandLine
@@ -34,7 +35,7 @@ pub record PrintsCode (name : List ℕ) (answer : Status) (old new : Outputs) : 
   pub named : name ≡ code_name code
   pub printed : PrintsOwn (code_text code) answer old new
 
--- one of the two
+-- the words ask what a code means, and its text is printed; or it names no code, which is reported
 abbrev pub Explains : List ℕ → Status → Outputs → Outputs → Type 0 → Type 0
 Explains name answer old new unchanged =
     PrintsCode name answer old new ⊎ TellsNoCode name answer old new unchanged

@@ -7,6 +7,7 @@ use Rattle.cvr_run.specs.declared.file.FileFault.TheVariants.{Device, Memory}
 abbrev pub held_bytes : ℕ
 held_bytes = 67_108_865
 
+-- whether it was the device that failed
 abbrev pub is_file_device : FileFault → Bool
 is_file_device Device = true
 is_file_device Memory = false

@@ -73,10 +73,15 @@ bad_list_line path = path ++ codes ": L5\n"
 -- the request over the paths of a list of this text
 abbrev pub over_list : ListedRequest → List ℕ → Request
 over_list asked text =
-    record { task = asked.request.task; def = asked.request.def; paths = listed_paths (end_of asked.by_null) text }
+    record {
+      task = asked.request.task;
+      def = asked.request.def;
+      paths = listed_paths (end_of asked.by_null) text;
+    }
 
 -- what was read at a path is no list: that is logged, and nothing else is opened
-pub record IsNoList (old new : Opener) (path : List ℕ) (answer : Status) (line : List ℕ) : Type 0 where
+pub record IsNoList (old new : Opener) (path : List ℕ) (answer : Status)
+    (line : List ℕ) : Type 0 where
   pub text : List ℕ
   pub read : IsRead (old.at path) text
   pub bad : ¬ IsList text
@@ -95,12 +100,14 @@ DoesListed asked answer old new unchanged =
     let path = list_place asked.list in
     (unchanged × LogsSome (HasNoList old.opener new.opener path answer) old.log new.log)
     ⊎ ((text : List ℕ) × IsRead (old.opener.at path) text × IsList text
-    × Does (over_list asked text) answer (record old { opener = opened_more old.opener (path ∷ []) }) new unchanged)
+    × Does (over_list asked text) answer
+    (record old { opener = opened_more old.opener (path ∷ []) }) new unchanged)
 
 -- that; or memory ran out for the words, and nothing is opened
 abbrev pub AnswersListed : ListedRequest → Status → Devices → Devices → Type 0 → Type 0
 AnswersListed asked answer old new unchanged =
-    (Opens old.opener new.opener [] × TellsWords fault.Memory answer (outputs old) (outputs new) unchanged)
+    (Opens old.opener new.opener [] × TellsWords fault.Memory answer (outputs old) (outputs new)
+    unchanged)
     ⊎ DoesListed asked answer old new unchanged
 
 -- ---- where the opener says what stands at each path
@@ -128,4 +135,8 @@ IsGivenEither at words job = IsGiven at words job ⊎ IsGivenListed at words job
 abbrev pub TallyListed : Type 0
 TallyListed =
     AsksListed (codes "tally" ∷ codes "d" ∷ codes "--files-from" ∷ codes "l" ∷ [])
-    (record { request = record { task = Tally; def = codes "d"; paths = [] }; list = codes "l"; by_null = false })
+    (record {
+      request = record { task = Tally; def = codes "d"; paths = [] };
+      list = codes "l";
+      by_null = false;
+    })

@@ -14,7 +14,8 @@ before_paths byte (path ∷ paths) = (byte ∷ path) ∷ paths
 -- a path stands before each end; what stands after the last end is a path too, unless it is empty
 unfoldable pub listed_paths : ℕ → List ℕ → List (List ℕ)
 listed_paths end [] = []
-listed_paths end (byte ∷ text) = if byte == end then [] ∷ listed_paths end text else before_paths byte (listed_paths end text)
+listed_paths end (byte ∷ text) =
+    if byte == end then [] ∷ listed_paths end text else before_paths byte (listed_paths end text)
 
 -- ---- what that means
 
@@ -25,15 +26,19 @@ ended_paths end paths = flat_map (λ path. path ++ end ∷ []) paths
 -- these are the text, or the text with one more end
 abbrev pub WholeListLaw : Type 0
 WholeListLaw = (end : ℕ) (text : List ℕ)
-    → (ended_paths end (listed_paths end text) ≡ text) ⊎ (ended_paths end (listed_paths end text) ≡ text ++ end ∷ [])
+    → (ended_paths end (listed_paths end text) ≡ text)
+    ⊎ (ended_paths end (listed_paths end text) ≡ text ++ end ∷ [])
 
 -- no path has an end in it
 abbrev pub NoEndLaw : Type 0
-NoEndLaw = (end : ℕ) (text : List ℕ) → AllByRecursion (λ path. AllByRecursion (λ byte. byte ≢ end) path) (listed_paths end text)
+NoEndLaw = (end : ℕ) (text : List ℕ) → AllByRecursion
+    (λ path. AllByRecursion (λ byte. byte ≢ end) path) (listed_paths end text)
 
 -- paths without ends in them are read back
 abbrev pub ReadBackLaw : Type 0
-ReadBackLaw = (end : ℕ) (paths : List (List ℕ)) → AllByRecursion (λ path. AllByRecursion (λ byte. byte ≢ end) path) paths → listed_paths end (ended_paths end paths) ≡ paths
+ReadBackLaw = (end : ℕ) (paths : List (List ℕ))
+    → AllByRecursion (λ path. AllByRecursion (λ byte. byte ≢ end) path) paths
+    → listed_paths end (ended_paths end paths) ≡ paths
 
 -- ---- an example
 

@@ -8,13 +8,15 @@ use Rattle.cvr_run.specs.Opening.{At, Absent, Has, Opener}
 -- at a path stands the first of the files with that path
 abbrev pub found_at : List MemoryFile → List ℕ → At
 found_at [] path = Absent
-found_at (file ∷ files) path = if pointwise ◌==◌ file.path.now path then Has file.bytes.now else found_at files path
+found_at (file ∷ files) path =
+    if pointwise ◌==◌ file.path.now path then Has file.bytes.now else found_at files path
 
 -- the reading of the file at a path can fail: one of its calls is to fail; where no file is,
 -- nothing is read
 abbrev pub can_fail_at : List MemoryFile → List ℕ → Bool
 can_fail_at [] path = false
-can_fail_at (file ∷ files) path = if pointwise ◌==◌ file.path.now path then not (file.fail_at == 0) else can_fail_at files path
+can_fail_at (file ∷ files) path =
+    if pointwise ◌==◌ file.path.now path then not (file.fail_at == 0) else can_fail_at files path
 
 -- the opener over these files, which doesn't show what it was to open
 abbrev pub opener_over : List MemoryFile → Opener

@@ -21,7 +21,8 @@ merge_fault definition date device i facts =
 -- that volume, and nothing where there is none
 abbrev pub merge_text : Frame → List ℕ → List ℕ → ℕ → Facts → List ℕ
 merge_text definition date device i facts =
-    if is_some (merge_fault definition date device i facts) then [] else volume definition (record { date = date; device = device }) facts i
+    if is_some (merge_fault definition date device i facts) then []
+    else volume definition (record { date = date; device = device }) facts i
 
 -- the line of a fault: its code, and of a volume that is not there the number of volumes
 abbrev pub merge_fault_line : MergeFault → List ℕ

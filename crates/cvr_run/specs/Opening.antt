@@ -30,7 +30,8 @@ IsRead (Has all) bytes = bytes ≡ take held_bytes all
 -- at each path its file was read
 abbrev pub AreRead : (List ℕ → At) → List (List ℕ) → List (List ℕ) → Type 0
 AreRead file_at [] [] = Unit {0}
-AreRead file_at (path ∷ paths) (file ∷ files) = IsRead (file_at path) file × AreRead file_at paths files
+AreRead file_at (path ∷ paths) (file ∷ files) =
+    IsRead (file_at path) file × AreRead file_at paths files
 AreRead file_at paths files = ⊥
 
 -- at each path there is its file

@@ -17,10 +17,10 @@ use Rattle.cvr_words.specs.declared.request.Task.TheVariants.{Currents, Check, C
 use Rattle.cvr_words.specs.declared.request.Task.TheVariants.{Merge, Drill}
 use Rattle.cvr_run.specs.declared.status.Status.{Status}
 use Rattle.cvr_run.specs.declared.status.Status.TheVariants.{Done, Refused}
-use Rattle.cvr_run.specs.Accepted.{is_unsound, is_refused, accepted}
+use Rattle.cvr_run.specs.Accepted.{is_unsound, is_refused, accepted_value}
 use Rattle.cvr_office.specs.Names.{conflicts}
 use Rattle.cvr_office.specs.Tallied.{tally}
-use Rattle.cvr_office.specs.Keeps.{starting}
+use Rattle.cvr_office.specs.Keeps.{starting_content}
 use Rattle.cvr_office.specs.Reach.{union_over}
 use Rattle.cvr_run.specs.Currents.{currents, conflict_text}
 use Rattle.cvr_run.specs.Drill.{drill_text, drill_refused}
@@ -33,8 +33,9 @@ abbrev pub accepted_facts : Frame → List ℕ → Facts
 accepted_facts definition file = if is_refused definition file then empty else facts file
 
 -- the devices of the definition, and the facts of the accepted files
-abbrev pub held : Frame → List (List ℕ) → Facts
-held definition files = union (starting definition) (union_over (accepted_facts definition) files)
+abbrev pub content_of_files : Frame → List (List ℕ) → Facts
+content_of_files definition files =
+    union (starting_content definition) (union_over (accepted_facts definition) files)
 
 -- ---- texts
 
@@ -44,11 +45,13 @@ count_line path count = path ++ (32 ∷ (decimal count ++ 10 ∷ []))
 
 -- the path of an accepted file and the number of its cast vote records
 abbrev pub check_line : Frame → List ℕ → List ℕ → List ℕ
-check_line definition path file = option_map_or (λ report. count_line path (record_count report)) (accepted definition file) []
+check_line definition path file = option_map_or (λ report. count_line path (record_count report))
+    (accepted_value definition file) []
 
 -- a line for each accepted file, in order
 abbrev pub check_lines : Frame → List (List ℕ) → List (List ℕ) → List ℕ
-check_lines definition (path ∷ paths) (file ∷ files) = check_line definition path file ++ check_lines definition paths files
+check_lines definition (path ∷ paths) (file ∷ files) =
+    check_line definition path file ++ check_lines definition paths files
 check_lines definition paths files = []
 
 -- the text of a task over facts: `check` and `drill` print nothing of them
@@ -56,29 +59,33 @@ abbrev pub facts_text : Frame → Task → Facts → List ℕ
 facts_text definition Currents facts = currents facts
 facts_text definition Conflicts facts = conflict_text (conflicts facts)
 facts_text definition Tally facts = tally definition.contests facts
-facts_text definition (Merge date device i) facts = merge_text definition date device (non_zero_u32_get i) facts
+facts_text definition (Merge date device i) facts =
+    merge_text definition date device (non_zero_u32_get i) facts
 facts_text definition task facts = []
 
 -- the text of a task over files
 abbrev pub task_text : Frame → Task → List (List ℕ) → List (List ℕ) → List ℕ
 task_text definition Check paths files = check_lines definition paths files
 task_text definition (Drill n steps) paths files = drill_text definition n files steps
-task_text definition task paths files = facts_text definition task (held definition files)
+task_text definition task paths files =
+    facts_text definition task (content_of_files definition files)
 
 -- the text of a run: nothing where the file of the definition is refused
 abbrev pub run_text : Task → List ℕ → List (List ℕ) → List (List ℕ) → List ℕ
-run_text task def paths files = if is_unsound def then [] else task_text (frame_in def) task paths files
+run_text task def paths files =
+    if is_unsound def then [] else task_text (frame_in def) task paths files
 
 -- ---- what is refused
 
 -- why a task prints nothing over facts: `merge` alone may have a fault
 abbrev pub facts_fault : Frame → Task → Facts → Option MergeFault
-facts_fault definition (Merge date device i) facts = merge_fault definition date device (non_zero_u32_get i) facts
+facts_fault definition (Merge date device i) facts =
+    merge_fault definition date device (non_zero_u32_get i) facts
 facts_fault definition task facts = None
 
 -- the same over files
 abbrev pub task_fault : Frame → Task → List (List ℕ) → Option MergeFault
-task_fault definition task files = facts_fault definition task (held definition files)
+task_fault definition task files = facts_fault definition task (content_of_files definition files)
 
 -- and of a run: none where the file of the definition is refused
 abbrev pub run_fault : Task → List ℕ → List (List ℕ) → Option MergeFault
@@ -86,7 +93,8 @@ run_fault task def files = if is_unsound def then None else task_fault (frame_in
 
 -- whether the text of a task over facts or a file is refused beside a definition
 abbrev pub files_refused : Frame → Task → List (List ℕ) → Bool
-files_refused definition task files = is_some (task_fault definition task files) || list_any (is_refused definition) files
+files_refused definition task files =
+    is_some (task_fault definition task files) || list_any (is_refused definition) files
 
 -- whether a step of a drill is refused; of another task, the task or a file
 abbrev pub task_refused : Frame → Task → List (List ℕ) → Bool
@@ -103,6 +111,6 @@ any_refused task def files = is_unsound def || task_refused (frame_in def) task 
 abbrev pub files_of : List (Vec ℕ) → List (List ℕ)
 files_of files = map (λ file. file.items) files
 
--- the run said all that it had to say
+-- the run is whole: its status is Done or Refused
 abbrev pub IsWhole : Status → Type 0
 IsWhole status = (status ≡ Done) ⊎ (status ≡ Refused)

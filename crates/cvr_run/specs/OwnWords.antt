@@ -15,13 +15,14 @@ use Rattle.cvr_run.specs.Told.{out_line}
 abbrev pub version_text : List ℕ
 version_text = codes "cvr 1.0.0 (rattle-kit-13f)\n"
 
--- either word alone
+-- the words ask for the version: `--version` or `-V`, alone
 abbrev pub AsksVersion : List (List ℕ) → Type 0
 AsksVersion words = (words ≡ codes "--version" ∷ []) ⊎ (words ≡ codes "-V" ∷ [])
 
 -- the line of the commands has neither word
 abbrev pub UnknownVersionLaw : Type 0
-UnknownVersionLaw = (words : List (List ℕ)) → AsksVersion words → fault_of cvr_line (with_program words) ≡ UnknownArgument ∷ []
+UnknownVersionLaw = (words : List (List ℕ)) → AsksVersion words
+    → fault_of cvr_line (with_program words) ≡ UnknownArgument ∷ []
 
 -- the text is printed whole; or the output has failed, which is reported
 pub record PrintsOwn (text : List ℕ) (answer : Status) (old new : Outputs) : Type 0 where

@@ -30,14 +30,17 @@ merge_part fault = None
 
 -- all of the text where the call succeeded, else a prefix of it; the output has failed exactly
 -- where that is the fault; out of memory aside, the merge has the reported fault, or none
-abbrev pub Prints : {T : Type 0} → Taken → Taken → Result T PrintFault → Option MergeFault → List ℕ → Type 0
+abbrev pub Prints : {T : Type 0} → Taken → Taken → Result T PrintFault → Option MergeFault → List ℕ
+    → Type 0
 Prints old new result fault text =
     MatchResult result
     (λ _. Appends old new text × (new.failed ≡ false) × (fault ≡ None))
-    (λ e. AppendsPrefix old new text × (new.failed ≡ is_output e) × (e ≢ Memory → fault ≡ merge_part e))
+    (λ e. AppendsPrefix old new text × (new.failed ≡ is_output e)
+    × (e ≢ Memory → fault ≡ merge_part e))
 
 -- ---- from what faults
 
+-- what a fault of a heading, and one of writing, is to a run
 abbrev pub of_head : HeadFault → PrintFault
 of_head head.NotMoment = Merge NotMoment
 of_head head.NoDevice = Merge NoDevice
@@ -49,12 +52,13 @@ of_write write.Memory = Memory
 
 -- ---- how a run ends
 
+-- the line and the status of a run that printed no whole text, by the fault
 abbrev pub print_line : PrintFault → List ℕ
 print_line (Merge fault) = merge_fault_line fault
 print_line Device = out_line true
 print_line Memory = memory_line
 
--- nothing is logged where all was printed
+-- the last line of a run: that of the fault, and none where all was printed
 abbrev pub end_line : {T : Type 0} → Result T PrintFault → List ℕ
 end_line (Ok x) = []
 end_line (Err fault) = print_line fault
@@ -64,7 +68,9 @@ print_status (Merge fault) = status.Refused
 print_status Device = status.Device
 print_status Memory = status.Memory
 
--- a path that was not spelled means out of memory, whatever the fault
+-- The status of a run after printing: that of its refusals, or that of the fault. A path that could
+-- not be spelled means Memory, whatever the fault.
 abbrev pub status_after : {T : Type 0} → Result T PrintFault → Refusals → Status
 status_after (Ok x) refusals = status_of refusals
-status_after (Err fault) refusals = if refusals.path_unspelled then status.Memory else print_status fault
+status_after (Err fault) refusals =
+    if refusals.path_unspelled then status.Memory else print_status fault

@@ -1,5 +1,5 @@
 -- What a run has refused, and its status. (This project's own.)
-use Rattle.std.specs.Prelude.{◌≡◌, ◌<◌, ℕ, List, length, get_or, Bool, true, false, ◌||◌}
+use Rattle.std.specs.Prelude.{◌≡◌, ◌<◌, ℕ, List, length, slice_index_or, Bool, true, false, ◌||◌}
 use Rattle.std.specs.Prelude.{if◌then◌else◌, Option, Some, None, is_some, option_map}
 use Rattle.std.specs.Option.{option_map_or}
 use Rattle.cdf_types.specs.declared.fault.ReadFault.{ReadFault}
@@ -37,8 +37,8 @@ is_refusal outcome = is_some (cause_in outcome)
 abbrev pub is_want : Outcome → Bool
 is_want outcome = option_map_or wants_memory (cause_in outcome) false
 
--- what is due to a file or a step: the cause for which it is refused, if there is one; and the want
--- of memory that may be logged in its place, if it takes memory
+-- what is due to a file or a step: the cause for which it is refused, if there is one; and the
+-- out-of-memory cause that may be logged in its place, if it takes memory
 pub record Due : Type 0 where
   pub cause : Option Cause
   pub want : Option Cause
@@ -51,8 +51,8 @@ no_due = record { cause = None; want = None }
 abbrev pub file_due : Option ReadFault → Due
 file_due fault = record { cause = option_map Read fault; want = Some (Read Memory) }
 
--- it was accepted where it is due, or refused by the cause that is due, or since memory ran out in
--- its place
+-- it was accepted where that is due, or refused by the cause that is due, or since memory ran out
+-- in its place
 abbrev pub IsDue : Due → Option Cause → Type 0
 IsDue due None = due.cause ≡ None
 IsDue due (Some cause) = (if wants_memory cause then due.want else due.cause) ≡ Some cause
@@ -60,8 +60,11 @@ IsDue due (Some cause) = (if wants_memory cause then due.want else due.cause) �
 -- each outcome is so
 pub record AreDue (dues : List Due) (outcomes : List Outcome) : Type 0 where
   pub count : length dues ≡ length outcomes
-  pub each : (k : ℕ) → k < length outcomes → IsDue (get_or dues k no_due) (cause_in (get_or outcomes k (outcome.Accepted 0)))
+  pub each : (k : ℕ) → k < length outcomes
+      → IsDue (slice_index_or dues k no_due)
+      (cause_in (slice_index_or outcomes k (outcome.Accepted 0)))
 
 -- out of memory is worst, then a refusal
 abbrev pub status_of : Refusals → Status
-status_of r = if r.file_lacking || r.path_unspelled then status.Memory else (if r.any_refusal then status.Refused else status.Done)
+status_of r = if r.file_lacking || r.path_unspelled then status.Memory
+    else (if r.any_refusal then status.Refused else status.Done)

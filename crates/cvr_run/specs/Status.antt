@@ -4,6 +4,7 @@ use Rattle.cvr_run.specs.declared.status.Status.{Status}
 use Rattle.cvr_run.specs.declared.status.Status.TheVariants.{Done, Refused, CommandLine, Device}
 use Rattle.cvr_run.specs.declared.status.Status.TheVariants.{Memory}
 
+-- the exit status of the program: 0 to 4
 abbrev pub code_of : Status → ℕ
 code_of Done = 0
 code_of Refused = 1

@@ -1,7 +1,8 @@
 -- What a run logs: a line for each refused file or step, and what stands in its place where memory
 -- ran out. (This project's own.)
 use Rattle.std.specs.Prelude.{◌≡◌, ◌≢◌, ◌⊎◌, ◌&&◌, ◌||◌, ◌<◌, ℕ, List, [], ◌∷◌, ◌++◌, length, map}
-use Rattle.std.specs.Prelude.{get_or, codes, Bool, true, false, if◌then◌else◌, Option, Some, None}
+use Rattle.std.specs.Prelude.{slice_index_or, codes, Bool, true, false, if◌then◌else◌, Option, Some}
+use Rattle.std.specs.Prelude.{None}
 use Rattle.std.specs.Prelude.{is_some}
 use Rattle.std.specs.List.{flat_map, list_any, zip}
 use Rattle.std.specs.Option.{option_map_or}
@@ -59,7 +60,8 @@ dues_of definition task files = file_dues definition files
 -- what a run logs: of the definition alone where it is refused, else of each refused file or step
 abbrev pub run_lines : Task → List ℕ → List ℕ → List (List ℕ) → List (List ℕ) → List ℕ
 run_lines task what def paths files =
-    if is_unsound def then refusal_line what (file_due (first_unsound def)).cause else refusal_lines (argument_texts task paths) (dues_of (frame_in def) task files)
+    if is_unsound def then refusal_line what (file_due (first_unsound def)).cause
+    else refusal_lines (argument_texts task paths) (dues_of (frame_in def) task files)
 
 -- where the output has failed
 abbrev pub out_line : Bool → List ℕ
@@ -84,7 +86,7 @@ told_line AsDue what due = refusal_line what due.cause
 told_line Lacking what due = refusal_line what due.want
 told_line Unspelled what due = memory_line
 
--- only what takes memory can lack it, and only a line with a path can be left unspelled
+-- only what takes memory can run out of it, and only a line with a path can be left unspelled
 abbrev pub can_be : Telling → Due → Bool
 can_be AsDue due = true
 can_be Lacking due = is_some due.want
@@ -133,14 +135,18 @@ drill_dues definition n files steps =
 -- the files or steps of a task
 abbrev pub task_dues : Frame → Task → List (List ℕ) → List (List ℕ) → Dues
 task_dues definition task paths files =
-    record { by_file = is_check task; texts = argument_texts task paths; dues = dues_of definition task files }
+    record {
+      by_file = is_check task;
+      texts = argument_texts task paths;
+      dues = dues_of definition task files;
+    }
 
 -- the nth of them has this text, and this is due to it
 pub record IsNext (of : Dues) (n : ℕ) (text : List ℕ) (due : Due) : Type 0 where
   pub named : n < length of.texts
   pub there : n < length of.dues
-  pub text_is : text ≡ get_or of.texts n []
-  pub due_is : get_or of.dues n no_due ≡ due
+  pub text_is : text ≡ slice_index_or of.texts n []
+  pub due_is : slice_index_or of.dues n no_due ≡ due
 
 -- a log that took the lines of the first n of them, and what a run then keeps of its refusals
 pub record LogsFirst (of : Dues) (n : ℕ) (refusals : Refusals) (old new : Taken) : Type 0 where
@@ -154,19 +160,23 @@ pub record LogsFirst (of : Dues) (n : ℕ) (refusals : Refusals) (old new : Take
 -- where a run may end by `memory`, once the lines of so many are in the log: `check` before a file
 -- that is accepted, since its line had no room; any other task before all of them, or after all
 abbrev pub CanEndAfter : Bool → ℕ → List Due → Type 0
-CanEndAfter true n dues = (n < length dues) × ((get_or dues n no_due).cause ≡ None)
+CanEndAfter true n dues = (n < length dues) × ((slice_index_or dues n no_due).cause ≡ None)
 CanEndAfter false n dues = (n ≡ 0) ⊎ (n ≡ length dues)
 
--- what stands in the log of a run that ends since memory ran out: all lines, one of them lacking;
--- all, none lacking but one unspelled, and then the last lines; or as many as `memory` may end it
--- after, none lacking, and then `memory`, where the output has not failed
-pub record IsCutShort (of : Dues) (fault : Option MergeFault) (out_failed : Bool) (text : List ℕ) : Type 0 where
+-- what stands in the log of a run that ends since memory ran out: all lines, one of them `Lacking`;
+-- all, none `Lacking` but one `Unspelled`, and then the last lines; or as many as `memory` may end
+-- it after, none `Lacking`, and then `memory`, where the output has not failed
+pub record IsCutShort (of : Dues) (fault : Option MergeFault) (out_failed : Bool)
+    (text : List ℕ) : Type 0 where
   pub tellings : List Telling
   pub possible : can_all tellings of.dues ≡ true
-  pub ends : ((length tellings ≡ length of.dues) × (list_any is_lacking tellings ≡ true) × (text ≡ told_lines tellings of.texts of.dues))
-      ⊎ ((length tellings ≡ length of.dues) × (list_any is_lacking tellings ≡ false) × (list_any is_unspelled tellings ≡ true)
+  pub ends : ((length tellings ≡ length of.dues) × (list_any is_lacking tellings ≡ true)
+      × (text ≡ told_lines tellings of.texts of.dues))
+      ⊎ ((length tellings ≡ length of.dues) × (list_any is_lacking tellings ≡ false)
+      × (list_any is_unspelled tellings ≡ true)
       × (text ≡ told_lines tellings of.texts of.dues ++ last_lines fault out_failed))
-      ⊎ (CanEndAfter of.by_file (length tellings) of.dues × (list_any is_lacking tellings ≡ false) × (out_failed ≡ false)
+      ⊎ (CanEndAfter of.by_file (length tellings) of.dues × (list_any is_lacking tellings ≡ false)
+      × (out_failed ≡ false)
       × (text ≡ told_lines tellings of.texts of.dues ++ memory_line))
 
 -- the same of a whole run, that of the definition included
@@ -186,7 +196,8 @@ LogsSome P old new = (text : List ℕ) × P text × Logs old new text
 
 -- of the files or steps of a run that ended so, what the log took; the fault of a merge and a
 -- failed output come last
-pub record TellsRun (of : Dues) (fault : Option MergeFault) (answer : Status) (old new : Outputs) : Type 0 where
+pub record TellsRun (of : Dues) (fault : Option MergeFault) (answer : Status)
+    (old new : Outputs) : Type 0 where
   pub log : answer ≢ Memory
       → Logs old.log new.log (refusal_lines of.texts of.dues ++ last_lines fault new.out.failed)
   pub cut_short : answer ≡ Memory → LogsSome (IsCutShort of fault new.out.failed) old.log new.log

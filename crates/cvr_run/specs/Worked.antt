@@ -26,7 +26,8 @@ unread_line path Memory = path ++ codes ": K2\n"
 
 -- of these paths this is the first whose file was not read: since a device failed; or since memory
 -- ran out, unless the opener says that no file is there. Those up to it were opened, and no other
-pub record IsUnread (old new : Opener) (paths : List (List ℕ)) (path : List ℕ) (cause : FileFault) : Type 0 where
+pub record IsUnread (old new : Opener) (paths : List (List ℕ)) (path : List ℕ)
+    (cause : FileFault) : Type 0 where
   pub before : List (List ℕ)
   pub after : List (List ℕ)
   pub split : paths ≡ before ++ path ∷ after
@@ -67,7 +68,8 @@ stop_line (Unread path cause) = unread_line path cause
 stop_line NoRoom = memory_line
 
 -- the run stops over these paths, with this answer and this line for the log
-pub record Stops (old new : Opener) (paths : List (List ℕ)) (answer : Status) (line : List ℕ) : Type 0 where
+pub record Stops (old new : Opener) (paths : List (List ℕ)) (answer : Status)
+    (line : List ℕ) : Type 0 where
   pub stop : Stop
   pub possible : CanStop old new paths stop
   pub status : answer ≡ stop_status stop
@@ -75,12 +77,14 @@ pub record Stops (old new : Opener) (paths : List (List ℕ)) (answer : Status) 
 
 -- ---- a run over what was read: each path was opened once, in order
 
+-- each path was opened once, in order; its file was read, and the run went over these bytes
 pub record Runs (request : Request) (answer : Status) (old new : Devices) : Type 0 where
   pub def : List ℕ
   pub files : List (List ℕ)
   pub read : AreRead old.opener.at (request.def ∷ request.paths) (def ∷ files)
   pub opened : Opens old.opener new.opener (request.def ∷ request.paths)
-  pub ran : Ran (record { request = request; def = def; files = files }) answer (outputs old) (outputs new)
+  pub ran : Ran (record { request = request; def = def; files = files }) answer (outputs old)
+      (outputs new)
 
 -- ---- an example
 

@@ -75,8 +75,8 @@ Example:
   scan.json: E2
 
 What to do:
-  Look whether it was cut off or is of another kind, as XML; take away a byte
-  order mark. On a terminal a note says where it stops being JSON.
+  Check whether it was cut off or is of another kind, such as XML; remove a
+  byte order mark. On a terminal a note says where it stops being JSON.
 "
 }
 
@@ -97,15 +97,14 @@ Rules, by the number at the end of the line:
    1  The value isn't an object. Have it written as one.
    2  A member that the profile demands is absent. Have it written; see the
       class tables in docs/FORMAT.md.
-   3  The value is of another JSON kind than the member has. A number for a
-      text, mostly: have it written as the table says.
+   3  The value is of another JSON kind than the member has. Often a number
+      stands for a text: have it written as the table says.
    4  The text isn't one of the enumeration's. Only version 1.0.0 and the
       listed texts are read.
    5  @type names a class that can't stand here. The text is CVR. and the
       class.
    6  A name is empty. Give it a name; an empty one would join unlike records.
-   7  A count is below 0 or above 4,294,967,295. Look at the tool that wrote
-      it.
+   7  A count is below 0 or above 4,294,967,295. Check the tool that wrote it.
    8  An array has too few items. One Election; a snapshot and a position at
       least.
    9  An array has too many items. One Election a file, 64 positions, 65,536
@@ -114,10 +113,10 @@ Rules, by the number at the end of the line:
       aren't counted; such a file can't be read.
   11  jiff reads no instant from the text, or it has a [: it has to be a
       date-time with an offset, with at most nine digits of fraction and of an
-      instant that jiff has. As 2024-11-05T20:00:00Z or
+      instant that jiff has. Write it as 2024-11-05T20:00:00Z or
       2024-11-05T15:00:00-05:00.
-  12  An earlier item of the array has the same @id. Which of the two is meant
-      can't be told; mend the file.
+  12  An earlier item of the array has the same @id. Nothing says which of the
+      two is meant; mend the file.
   13  An earlier contest of the snapshot has the same ContestId. Put its
       selections under one CVRContest.
   14  A number, anywhere in the file, isn't whole. Write it whole, or as a
@@ -213,7 +212,7 @@ Example:
   none.json: K1
 
 What to do:
-  Look at the path and its rights. An empty path can't be opened: an empty
+  Check the path and its permissions. An empty path can't be opened: an empty
   line of a list of files is one. A list with line ends as on Windows has a
   carriage return at the end of each path: cat -A shows it.
 "
@@ -245,8 +244,7 @@ Example:
   out: X1
 
 What to do:
-  Look at what stands behind the output: a full disk, a closed pipe. Run
-  again.
+  Check where the output goes: a full disk, a closed pipe? Then run again.
 "
 }
 
@@ -261,7 +259,7 @@ Example:
   merge: H1
 
 What to do:
-  As 2024-11-06T08:00:00Z or 2024-11-06T03:00:00-05:00.
+  Write it as 2024-11-06T08:00:00Z or 2024-11-06T03:00:00-05:00.
 "
 }
 
@@ -276,7 +274,7 @@ Example:
   merge: H2
 
 What to do:
-  Name one of the definition's; one that files alone brought doesn't do.
+  Name one of the definition's devices; one that only files have doesn't do.
 "
 }
 

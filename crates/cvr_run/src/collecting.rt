@@ -6,7 +6,7 @@ ghost use Rattle.cdf_definition.specs.Acceptance.{first_refusal};
 ghost use Rattle.cvr_office.specs.Reach.{union_over};
 ghost use Rattle.cvr_run.specs.Accepted.{is_refused};
 ghost use Rattle.cvr_run.specs.Given.{files_bytes};
-ghost use Rattle.cvr_run.specs.Outcome.{accepted_facts, held};
+ghost use Rattle.cvr_run.specs.Outcome.{accepted_facts, content_of_files};
 ghost use Rattle.cvr_run.specs.Refusals.{file_due};
 ghost use Rattle.cvr_run.specs.Told.{import_dues, Dues, IsNext, LogsFirst};
 
@@ -83,7 +83,7 @@ pub fn collect<O: Office + Drop, L: Sink>(
     requires { length paths.now ≡ length (files_bytes files) }
     ensures definition { IfOk result (λ r. O.defined r.0 ≡ definition) }
     ensures content { IfOk result (λ r. r.1.file_lacking ≡ false
-        → O.held r.0 ≡ held definition (files_bytes files.entry)) }
+        → O.held r.0 ≡ content_of_files definition (files_bytes files.entry)) }
     ensures any_refusal { IfOk result (λ r. r.1.file_lacking ≡ false
         → r.1.any_refusal ≡ list_any (is_refused definition) (files_bytes files.entry)) }
     ensures log { IfOk result

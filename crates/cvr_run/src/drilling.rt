@@ -3,7 +3,7 @@ ghost use Rattle.std.specs.Prelude.{List, option_map, OnErr};
 ghost use Rattle.std.specs.List.{list_any};
 ghost use Rattle.cvr_office.specs.declared.event.Event.{Event};
 ghost use Rattle.cvr_run.specs.Drill.{place_of, event_of, events_of, new_offices, drill_refused};
-ghost use Rattle.cvr_run.specs.Drill.{drill_text, drilled, step_texts, AreOfOne};
+ghost use Rattle.cvr_run.specs.Drill.{drill_text, drill_contents, step_texts, AreOfOne};
 ghost use Rattle.cvr_run.specs.declared.status.Status.TheVariants.{Memory as NoMemory};
 ghost use Rattle.cvr_run.specs.declared.merge.MergeFault.{MergeFault};
 ghost use Rattle.cvr_run.specs.Ends.{Ends};
@@ -21,7 +21,7 @@ use cvr_office::{Cause, Event, Office, Outcome, play};
 use cvr_words::{Act, Step};
 use std::alloc::Global;
 
-// The place of the office with this number among so many; that of office 0 is above the last.
+// The place of the office with this number among this many; that of office 0 is above the last.
 fn place_of(offices: usize, number: u32) -> usize
     ensures { result ≡ place_of offices number }
 {
@@ -31,7 +31,7 @@ fn place_of(offices: usize, number: u32) -> usize
     (number - 1) as usize
 }
 
-// What a step does among so many offices.
+// What a step does among this many offices.
 fn event_of(offices: usize, act: Act) -> Event
     ensures { result ≡ event_of offices act }
 {
@@ -58,7 +58,7 @@ fn events_of(alloc: Global, offices: usize, steps: &[Step]) -> Result<Vec<Event>
     Ok(events)
 }
 
-// So many new offices of one definition.
+// This many new offices of one definition.
 #[tactic(auto, using(crate::proofs::SameOffices::replicate_more))]
 fn new_offices<O: Office + Drop>(
     alloc: Global,
@@ -113,7 +113,7 @@ fn note_refused<L: Sink>(
     refusals
 }
 
-// Plays steps among so many new offices of one definition, in order, and reports each refused one
+// Plays steps among this many new offices of one definition, in order, and reports each refused one
 // in the log. The next one follows all the same. `Memory` where the offices or the lists of events
 // and their outcomes had no room: no step has then happened.
 fn drill<O: Office + Drop, L: Sink>(
@@ -126,7 +126,8 @@ fn drill<O: Office + Drop, L: Sink>(
 ) -> Result<(Vec<O>, Refusals), Memory>
     ensures of_one { IfOk result (λ r. AreOfOne (map O.defined r.0.items)) }
     ensures contents { IfOk result (λ r. r.1.file_lacking ≡ false
-        → map O.held r.0.items ≡ drilled definition.now count (files_of files.now) steps.now) }
+        → map O.held r.0.items
+        ≡ drill_contents definition.now count (files_of files.now) steps.now) }
     ensures any_refusal { IfOk result (λ r. r.1.file_lacking ≡ false
         → r.1.any_refusal ≡ drill_refused definition.now count (files_of files.now) steps.now) }
     ensures log { IfOk result (λ r. LogsFirst
@@ -152,7 +153,7 @@ fn drill_all<O: Office + Drop, L: Sink>(
 ) -> Result<(Vec<O>, Refusals), Status>
     ensures of_one { IfOk result (λ r. AreOfOne (map O.defined r.0.items)) }
     ensures contents { IfOk result (λ r.
-        map O.held r.0.items ≡ drilled definition.now count (files_of files.now) steps.now) }
+        map O.held r.0.items ≡ drill_contents definition.now count (files_of files.now) steps.now) }
     ensures any_refusal { IfOk result (λ r.
         r.1.any_refusal ≡ drill_refused definition.now count (files_of files.now) steps.now) }
     ensures whole { IfOk result (λ r. r.1.file_lacking ≡ false) }

@@ -18,7 +18,7 @@ pub fn end_in_memory<L: Sink>(log: &mut L) -> Status
     Status::Memory
 }
 
-/// Ends a run after what was printed. No text lacks a file or a step.
+/// Ends a run after what was printed, in which no file or step is missing.
 pub fn end_with<L: Sink>(printed: Result<(), PrintFault>, refusals: Refusals, log: &mut L) -> Status
     ensures status { result ≡ status_after printed refusals }
     ensures log { Logs (L.taken log.old) (L.taken log.new) (end_line printed) }

@@ -22,8 +22,8 @@ pub fn worked_examples()
 {}
 
 /// The fault of merges of facts with twelve volumes, and its line: the date is no moment, the
-/// device isn't listed, or the number is above the volumes; which of several is reported; and none
-/// of the last volume.
+/// device isn't listed, or the number is above the volumes; which of several is reported; and that
+/// the last volume has none.
 pub fn merges()
     ensures date { DateAlone }
     ensures date_first { DateFirst }
@@ -33,15 +33,15 @@ pub fn merges()
     ensures none { LastVolume }
 {}
 
-/// Worked example of files in memory: one that was told no call, one at another path that was told
-/// its fifth, and one at the first path again, told its sixth.
+/// Worked example of files in memory: one of which no call fails, one at another path whose fifth
+/// call fails, and one at the first path again, whose sixth call fails.
 pub fn files_fail_as_told()
     ensures { (x y z : MemoryFile) → IsFileAt x (codes "a") 0 → IsFileAt y (codes "b") 5
         → IsFileAt z (codes "a") 6 → FailAsTold x y z }
 {}
 
-/// Worked examples of three files, the second one accepted: how the log ends where memory was
-/// wanting, and how it doesn't.
+/// Worked examples of three files, the second one accepted: how the log ends where memory ran out,
+/// and how it doesn't.
 pub fn memory_ends_a_log_as_told()
     ensures at_once { AtOnce }
     ensures after_one { AfterOne }
@@ -49,8 +49,8 @@ pub fn memory_ends_a_log_as_told()
     ensures after_lacking { AfterLacking }
 {}
 
-/// Worked examples of openers: which paths one shows that was to open two more; and which file a
-/// run reports over an opener that has only the first of three.
+/// Worked examples of openers: which paths one shows after it was to open two more; and which file
+/// a run reports over an opener that has only the first of three.
 pub fn openers_show_what_they_were_to_open()
     ensures four { FourAreShown }
     ensures missing { TheMissingIsReported }

@@ -7,7 +7,7 @@ use crate::own_words::print_own;
 use crate::status::Status;
 use cdf_types::Sink;
 
-/// The word of which the words ask what it means, as the name of a code. Takes no memory.
+/// The word whose meaning the words ask for, as the name of a code. Takes no memory.
 pub fn asked_code<'a>(words: &'a [String]) -> Option<&'a str>
     ensures some { IfSome result (λ name. AsksCode (map string_bytes words.now) name.now) }
     ensures none { IfNone result ((name : List ℕ) → ¬ AsksCode (map string_bytes words.now) name) }

@@ -19,7 +19,7 @@ pub enum FileFault {
     /// The device failed.
     #[error("the device failed")]
     Device,
-    /// Want of memory.
+    /// Out of memory.
     #[error("out of memory")]
     Memory,
 }
@@ -44,8 +44,8 @@ impl From<AllocError> for FileFault {
 /// be distinguished from one that is as long as it may be. No more is taken of the source.
 ///
 /// # Errors
-/// `Device` exactly where the source has failed at the return; `Memory` where a growth was refused.
-/// What was read is lost in both.
+/// `Device` exactly where the source has failed when the call returns; `Memory` where a growth was
+/// refused. What was read is lost in both.
 pub fn read_file<R: Source>(alloc: Global, source: &mut R) -> Result<Vec<u8>, FileFault>
     requires { (R.left source.old).failed ≡ false }
     ensures bytes { IfOk result

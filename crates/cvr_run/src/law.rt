@@ -34,7 +34,7 @@ pub fn order_and_repeats_change_nothing()
 {}
 
 /// A merge has a fault or prints a volume, and never both. A fault of a volume that is not there
-/// tells how many there are.
+/// says how many there are.
 pub fn a_merge_has_a_fault_or_a_volume()
     ensures volume { NoMergeFaultLaw }
     ensures fault { NoTextLaw }
@@ -51,7 +51,7 @@ pub fn held_is_one_more()
     ensures { held_bytes ≡ max_file + 1 }
 {}
 
-/// What is held of files is enough: a run over it prints and tells what one over the files does.
+/// What is held of files is enough: a run over it prints and logs what one over the files does.
 pub fn held_bytes_are_enough()
     ensures text { HeldTextLaw }
     ensures lines { HeldLinesLaw }
@@ -59,13 +59,13 @@ pub fn held_bytes_are_enough()
     ensures refused { HeldRefusedLaw }
 {}
 
-/// The outcomes by which a drill is defined are such as `play` tells of its events.
+/// The outcomes by which a drill is defined are such as `play` answers for its events.
 pub fn a_drill_has_the_outcomes_that_are_due()
     ensures { DueLaw }
 {}
 
-/// The number that a drill tells of an office, as the same as it, is the least of an office that
-/// holds the same facts.
+/// The number that a drill prints for an office, as that of one that is the same, is the least of
+/// an office that holds the same facts.
 pub fn the_least_office_that_is_the_same_is_told()
     ensures { LeastSameLaw }
 {}
@@ -75,7 +75,9 @@ pub fn the_least_office_that_is_the_same_is_told()
 /// files that have reached it, and of any whose accepted values are the same; and two that the same
 /// values have reached hold the same. One that imports each accepted value, in any order and among
 /// any other steps, holds what they hold of all files; and so do two that between them import each,
-/// and at last exchange both ways. The text tells that.
+/// and at last exchange both ways. The text says so.
+///
+/// Premises: there are offices of these numbers, and for an import a file at its place.
 pub fn offices_of_a_drill_hold_what_a_run_holds()
     ensures start { FirstStepLaw }
     ensures import { StepImportLaw }
@@ -91,7 +93,7 @@ pub fn offices_of_a_drill_hold_what_a_run_holds()
     ensures two_lines { TwoLinesLaw }
 {}
 
-/// Where memory ends a run of any task but `check`, it tells `memory` alone, or each file or step.
+/// Where memory ends a run of any task but `check`, it logs `memory` alone, or each file or step.
 pub fn want_of_memory_is_told_alone_or_after_each_file()
     ensures { AloneOrEachLaw }
 {}

@@ -11,7 +11,7 @@ use itoa::Buffer;
 use std::alloc::Global;
 
 /// Writes a line to the log, piece by piece, unless the log has failed. A log that fails gets a
-/// front of it. Takes no memory.
+/// prefix of it. Takes no memory.
 pub fn say<L: Sink>(log: &mut L, pieces: &[&[u8]])
     ensures { Logs (L.taken log.old) (L.taken log.new) (flat_map (λ p. p.now) pieces.now) }
 {
@@ -41,7 +41,7 @@ fn inner(text: &[u8]) -> &[u8]
     &text[1..text.len() - 1]
 }
 
-// Tells a file that was refused to the log. `Memory` where its path could not be spelled: the log
+// Reports in the log a file that was refused. `Memory` where its path could not be spelled: the log
 // is then as it was.
 #[tactic(auto, using(crate::proofs::Pieces::end_of_rule))]
 fn tell_fault<L: Sink>(
@@ -79,7 +79,7 @@ fn tell_fault<L: Sink>(
     Ok(())
 }
 
-/// Tells a refusal to the log: what was refused, as it was given, and why. Only the spelling of a
+/// Reports a refusal in the log: what was refused, as it was given, and why. Only the spelling of a
 /// path takes memory.
 ///
 /// # Errors

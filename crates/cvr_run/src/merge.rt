@@ -18,11 +18,11 @@ pub enum MergeFault {
     NotMoment,
     /// The definition lists no such device.
     NoDevice,
-    /// There are no more than so many volumes.
+    /// There are no more than this many volumes.
     NoVolume(usize),
 }
 
-/// Tells the fault of a merge to the log. Takes no memory.
+/// Reports the fault of a merge in the log. Takes no memory.
 pub fn say_merge<L: Sink>(log: &mut L, fault: MergeFault)
     ensures { Logs (L.taken log.old) (L.taken log.new) (merge_fault_line fault) }
 {

@@ -1,4 +1,5 @@
-ghost use Rattle.std.specs.Prelude.{◌≡◌, ◌<◌, ◌≤◌, ◌++◌, length, map, get_or, decimal, OnOk, IfOk};
+ghost use Rattle.std.specs.Prelude.{◌≡◌, ◌<◌, ◌≤◌, ◌++◌, length, map, slice_index_or, decimal};
+ghost use Rattle.std.specs.Prelude.{OnOk, IfOk};
 ghost use Rattle.std.specs.Prelude.{string_bytes, false, None};
 ghost use Rattle.std.specs.FinSet.{empty};
 ghost use Rattle.std.specs.List.{position_or_len};
@@ -24,7 +25,7 @@ fn same_place<O: Office>(offices: &[O], place: usize) -> usize
     requires there { place < length offices.now }
     requires of_one { AreOfOne (map O.defined offices.now) }
     ensures least { result
-        ≡ position_or_len (are_same (get_or (map O.held offices.now) place empty))
+        ≡ position_or_len (are_same (slice_index_or (map O.held offices.now) place empty))
         (map O.held offices.now) }
     ensures within { result ≤ place }
 {

@@ -17,6 +17,9 @@ use std::alloc::Global;
 /// Where the files of a run are found. Contracts see what it says of each path, if it says
 /// anything, whether the reading of a file may fail, and which paths it was to open, if it shows
 /// them.
+///
+/// The opener of the system promises nothing of any path, and that each file may fail: it keeps the
+/// contract, too. Neither it nor `MemoryFiles` shows the paths that it was to open.
 pub trait Open {
     /// What a file's bytes are read from.
     type File: Source + Drop;

@@ -5,7 +5,7 @@ ghost use Rattle.cdf_types.specs.Device.{count, fails_read, fails_write};
 use cdf_types::{DeviceFault, Sink, Source};
 use std::io::{Read, Write};
 
-/// A sink over a writer. It doesn't tell its bytes. An interrupted call counts as a failure.
+/// A sink over a writer. It doesn't show its bytes. An interrupted call counts as a failure.
 #[derive(Drop)]
 pub struct OverWrite<W> {
     inner: W,
@@ -58,7 +58,7 @@ impl<W: Write + Drop> Sink for OverWrite<W> {
     }
 }
 
-/// A source over a reader. It doesn't tell its bytes. An interrupted call counts as a failure.
+/// A source over a reader. It doesn't show its bytes. An interrupted call counts as a failure.
 #[derive(Drop)]
 pub struct OverRead<R> {
     inner: R,

@@ -81,7 +81,7 @@ impl PrintFault {
     }
 }
 
-/// Tells to the log why a text was not printed. Takes no memory.
+/// Reports in the log why a text was not printed. Takes no memory.
 pub fn say_fault<L: Sink>(log: &mut L, fault: PrintFault)
     ensures { Logs (L.taken log.old) (L.taken log.new) (print_line fault) }
 {

@@ -13,7 +13,7 @@ use std::alloc::Global;
 pub struct Refusals {
     /// Something was refused.
     pub any_refusal: bool,
-    /// A file or a step was refused since memory ran out, so that a text would lack it.
+    /// A file or a step was refused since memory ran out, so that it would be missing from a text.
     pub file_lacking: bool,
     /// A path could not be spelled for a log line, since memory ran out.
     pub path_unspelled: bool,
@@ -46,8 +46,8 @@ impl Refusals {
         }
     }
 
-    /// Notes a refusal, and tells it to the log. Where its path can't be spelled for want of
-    /// memory, that is logged in its place.
+    /// Notes a refusal, and reports it in the log. Where memory runs out for the spelling of its
+    /// path, that is logged in its place.
     pub fn note<L: Sink>(&mut self, alloc: Global, log: &mut L, what: &str, cause: &Cause)
         ensures any_refusal { self.new.any_refusal ≡ true }
         ensures file_lacking { self.new.file_lacking

@@ -12,7 +12,7 @@ pub enum Status {
     CommandLine,
     /// A device failed.
     Device,
-    /// Want of memory.
+    /// Out of memory.
     Memory,
 }
 

@@ -3,7 +3,8 @@ ghost use Rattle.std.specs.Prelude.{OnErr, string_bytes};
 ghost use Rattle.std.specs.List.{list_any};
 ghost use Rattle.cvr_run.specs.Accepted.{is_refused};
 ghost use Rattle.cvr_run.specs.Given.{files_bytes};
-ghost use Rattle.cvr_run.specs.Outcome.{held, check_lines, facts_text, task_text, task_fault};
+ghost use Rattle.cvr_run.specs.Outcome.{content_of_files, check_lines, facts_text, task_text};
+ghost use Rattle.cvr_run.specs.Outcome.{task_fault};
 ghost use Rattle.cvr_run.specs.Outcome.{files_refused, task_refused, files_of};
 ghost use Rattle.cvr_run.specs.declared.status.Status.TheVariants.{Memory as NoMemory};
 ghost use Rattle.cvr_words.specs.declared.request.Task.TheVariants.{Check};
@@ -73,7 +74,8 @@ fn collect_all<O: Office + Drop, L: Sink>(
 ) -> Result<(O, Refusals), Status>
     requires { length paths.now ≡ length (files_bytes files) }
     ensures definition { IfOk result (λ r. O.defined r.0 ≡ definition) }
-    ensures content { IfOk result (λ r. O.held r.0 ≡ held definition (files_bytes files.entry)) }
+    ensures content { IfOk result
+        (λ r. O.held r.0 ≡ content_of_files definition (files_bytes files.entry)) }
     ensures any_refusal { IfOk result (λ r.
         r.1.any_refusal ≡ list_any (is_refused definition) (files_bytes files.entry)) }
     ensures whole { IfOk result (λ r. r.1.file_lacking ≡ false) }
@@ -107,7 +109,7 @@ fn run_office<O: Office + Drop, W: Sink, L: Sink>(
     requires working { (W.taken out.old).failed ≡ false }
     requires named { length paths.now ≡ length (files_bytes files) }
     ensures ends { Ends (W.taken out.old) (W.taken out.new)
-        (facts_text definition task.now (held definition (files_bytes files.entry)))
+        (facts_text definition task.now (content_of_files definition (files_bytes files.entry)))
         (files_refused definition task.now (files_bytes files.entry)) result }
     ensures log { TellsRun (import_dues definition paths.now (files_bytes files.entry))
         (task_fault definition task.now (files_bytes files.entry)) result

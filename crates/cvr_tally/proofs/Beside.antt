@@ -11,5 +11,6 @@ pub zip_empty : {A B : Type 0} (xs : List A) (ys : List B) → (xs ≡ []) ⊎ (
 zip_empty xs ys (inl empty) = ap (λ xs. zip xs ys) empty
 zip_empty xs ys (inr empty) = ap (zip xs) empty ∙ zip_none xs
 
-pub zip_more : {A B : Type 0} (xs more : List A) (ys others : List B) (x : A) (y : B) → xs ≡ x ∷ more → ys ≡ y ∷ others → zip xs ys ≡ (x, y) ∷ zip more others
+pub zip_more : {A B : Type 0} (xs more : List A) (ys others : List B) (x : A) (y : B)
+    → xs ≡ x ∷ more → ys ≡ y ∷ others → zip xs ys ≡ (x, y) ∷ zip more others
 zip_more xs more ys others x y first second = rw (first, second) refl

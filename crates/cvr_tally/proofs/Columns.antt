@@ -1,20 +1,33 @@
 -- Rows by their columns.
-use Rattle.std.proofs.Common.{◌≡◌, ℕ, zero, suc, ◌+◌, ◌-◌, ◌≤◌, ◌<◌, ◌^◌, ◌∷◌, length, map, replicate, inl, inr, refl, sym, ap, ◌∙◌, subst, arith, ext_get_or}
+use Rattle.std.proofs.Common.{◌≡◌, ℕ, zero, suc, ◌+◌, ◌-◌, ◌≤◌, ◌<◌, ◌^◌, ◌∷◌, length, map}
+use Rattle.std.proofs.Common.{replicate, inl, inr, refl, sym, ap, ◌∙◌, subst, arith, ext_get_or}
 use Rattle.std.specs.Bool.{⊤}
 use Rattle.std.specs.List.{range_with_len}
 use Rattle.std.proofs.lemmas.Bool.{cases_lt}
 use Rattle.std.proofs.lemmas.List.{get_or_past}
-use Rattle.std.proofs.lemmas.List.FromFn.{length-map-range_with_len, get_or-map-range_with_len, fill_by_all}
+use Rattle.std.proofs.lemmas.List.FromFn.{length-map-range_with_len, get_or-map-range_with_len}
+use Rattle.std.proofs.lemmas.List.FromFn.{fill_by_all}
 use Rattle.cvr_fact_types.specs.declared.sums.VoteSums.{VoteSums}
-use Rattle.cvr_fact_types.specs.Columns.{Column, Ballots, Overvotes, Undervotes, WriteIns, Pending, Unassigned, VotesFor, worth}
+use Rattle.cvr_fact_types.specs.Columns.{Column, Ballots, Overvotes, Undervotes, WriteIns, Pending}
+use Rattle.cvr_fact_types.specs.Columns.{Unassigned, VotesFor, worth}
 use Rattle.cvr_tally.specs.declared.row.Row.{Row}
-use Rattle.cvr_tally.specs.Rows.{number_in, row_by, zero_row, row_plus, row_minus, ballot_limit, limit_of}
+use Rattle.cvr_tally.specs.Rows.{number_in, row_by, zero_row, row_plus, row_minus, ballot_limit}
+use Rattle.cvr_tally.specs.Rows.{limit_of}
 
 -- rows of equally many votes are equal where each column is
-pub same_row : (a b : Row) → length a.votes ≡ length b.votes → ((column : Column) → number_in column a ≡ number_in column b) → a ≡ b
+pub same_row : (a b : Row) → length a.votes ≡ length b.votes
+    → ((column : Column) → number_in column a ≡ number_in column b) → a ≡ b
 same_row a b long same =
     let votes = ext_get_or 0 a.votes b.votes long (λ place less. same (VotesFor place)) in
-    λ i. record { ballots = same Ballots i; overvotes = same Overvotes i; undervotes = same Undervotes i; write_ins = same WriteIns i; pending = same Pending i; unassigned = same Unassigned i; votes = votes i }
+    λ i. record {
+      ballots = same Ballots i;
+      overvotes = same Overvotes i;
+      undervotes = same Undervotes i;
+      write_ins = same WriteIns i;
+      pending = same Pending i;
+      unassigned = same Unassigned i;
+      votes = votes i;
+    }
 
 -- ---- a row with these numbers
 
@@ -32,20 +45,24 @@ module _ (n : ℕ) (number : Column → ℕ) where
   pub length-row_by : length (row_by n number).votes ≡ n
   length-row_by = length-map-range_with_len (λ place. number (VotesFor place)) 0 n
 
-  pub number_in-row_by : (column : Column) → IsColumnOf n column → number_in column (row_by n number) ≡ number column
+  pub number_in-row_by : (column : Column) → IsColumnOf n column
+      → number_in column (row_by n number) ≡ number column
   number_in-row_by Ballots here = refl
   number_in-row_by Overvotes here = refl
   number_in-row_by Undervotes here = refl
   number_in-row_by WriteIns here = refl
   number_in-row_by Pending here = refl
   number_in-row_by Unassigned here = refl
-  number_in-row_by (VotesFor place) here = get_or-map-range_with_len (λ place. number (VotesFor place)) 0 n place place 0 here (omega arith)
+  number_in-row_by (VotesFor place) here = get_or-map-range_with_len
+      (λ place. number (VotesFor place)) 0 n place place 0 here (omega arith)
 
   -- beyond its selections there is nothing
   past_row_by : (place : ℕ) → n ≤ place → number_in (VotesFor place) (row_by n number) ≡ 0
-  past_row_by place past = get_or_past (row_by n number).votes place 0 (omega (arith, length-row_by, past))
+  past_row_by place past =
+      get_or_past (row_by n number).votes place 0 (omega (arith, length-row_by, past))
 
-  pub all_in-row_by : ((place : ℕ) → n ≤ place → number (VotesFor place) ≡ 0) → (column : Column) → number_in column (row_by n number) ≡ number column
+  pub all_in-row_by : ((place : ℕ) → n ≤ place → number (VotesFor place) ≡ 0) → (column : Column)
+      → number_in column (row_by n number) ≡ number column
   all_in-row_by none Ballots = refl
   all_in-row_by none Overvotes = refl
   all_in-row_by none Undervotes = refl
@@ -70,10 +87,20 @@ module _ (n : ℕ) (number : Column → ℕ) where
   ]
 
 -- the same numbers make the same row
-pub row_by-same : (n : ℕ) (f g : Column → ℕ) → ((column : Column) → IsColumnOf n column → f column ≡ g column) → row_by n f ≡ row_by n g
+pub row_by-same : (n : ℕ) (f g : Column → ℕ)
+    → ((column : Column) → IsColumnOf n column → f column ≡ g column) → row_by n f ≡ row_by n g
 row_by-same n f g same =
-    let votes = fill_by_all (λ place. g (VotesFor place)) (row_by n f).votes n 0 (length-row_by n f) (λ place less. number_in-row_by n f (VotesFor place) less ∙ same (VotesFor place) less) in
-    λ i. record { ballots = same Ballots tt i; overvotes = same Overvotes tt i; undervotes = same Undervotes tt i; write_ins = same WriteIns tt i; pending = same Pending tt i; unassigned = same Unassigned tt i; votes = votes i }
+    let votes = fill_by_all (λ place. g (VotesFor place)) (row_by n f).votes n 0 (length-row_by n f)
+    (λ place less. number_in-row_by n f (VotesFor place) less ∙ same (VotesFor place) less) in
+    λ i. record {
+      ballots = same Ballots tt i;
+      overvotes = same Overvotes tt i;
+      undervotes = same Undervotes tt i;
+      write_ins = same WriteIns tt i;
+      pending = same Pending tt i;
+      unassigned = same Unassigned tt i;
+      votes = votes i;
+    }
 
 -- ---- zero, more and less
 
@@ -84,29 +111,47 @@ number_in-zero_row n = all_in-row_by n (λ column. 0) (λ place past. refl)
 pub length-zero_row : (n : ℕ) → length (zero_row n).votes ≡ n
 length-zero_row n = length-row_by n (λ column. 0)
 
-pub length-row_plus : (row : Row) (sums : VoteSums) → length (row_plus row sums).votes ≡ length row.votes
-length-row_plus row sums = length-row_by (length row.votes) (λ column. number_in column row + worth column sums)
+pub length-row_plus : (row : Row) (sums : VoteSums)
+    → length (row_plus row sums).votes ≡ length row.votes
+length-row_plus row sums =
+    length-row_by (length row.votes) (λ column. number_in column row + worth column sums)
 
-pub length-row_minus : (row : Row) (sums : VoteSums) → length (row_minus row sums).votes ≡ length row.votes
-length-row_minus row sums = length-row_by (length row.votes) (λ column. number_in column row - worth column sums)
+pub length-row_minus : (row : Row) (sums : VoteSums)
+    → length (row_minus row sums).votes ≡ length row.votes
+length-row_minus row sums =
+    length-row_by (length row.votes) (λ column. number_in column row - worth column sums)
 
-pub row_plus-row_by : (n : ℕ) (number : Column → ℕ) (sums : VoteSums) → row_plus (row_by n number) sums ≡ row_by n (λ column. number column + worth column sums)
+pub row_plus-row_by : (n : ℕ) (number : Column → ℕ) (sums : VoteSums)
+    → row_plus (row_by n number) sums ≡ row_by n (λ column. number column + worth column sums)
 row_plus-row_by n number sums =
-    subst (λ m. row_by m (λ column. number_in column (row_by n number) + worth column sums) ≡ row_by n (λ column. number column + worth column sums)) (sym (length-row_by n number))
-    (row_by-same n _ _ (λ column here. ap (λ k. k + worth column sums) (number_in-row_by n number column here)))
+    subst (λ m. row_by m (λ column. number_in column (row_by n number) + worth column sums)
+    ≡ row_by n (λ column. number column + worth column sums)) (sym (length-row_by n number))
+    (row_by-same n _ _ (λ column here. ap (λ k. k + worth column sums)
+    (number_in-row_by n number column here)))
 
 module _ (row : Row) (sums : VoteSums) (long : length sums.votes ≡ length row.votes) where
-  none_past : (place : ℕ) → length row.votes ≤ place → (number_in (VotesFor place) row ≡ 0) × (worth (VotesFor place) sums ≡ 0)
-  none_past place past = (get_or_past row.votes place 0 past, get_or_past sums.votes place 0 (omega (arith, long, past)))
+  none_past : (place : ℕ) → length row.votes ≤ place
+      → (number_in (VotesFor place) row ≡ 0) × (worth (VotesFor place) sums ≡ 0)
+  none_past place past = (
+    get_or_past row.votes place 0 past,
+    get_or_past sums.votes place 0
+        (omega (arith, long, past)),
+  )
 
-  pub number_in-row_plus : (column : Column) → number_in column (row_plus row sums) ≡ number_in column row + worth column sums
-  number_in-row_plus = all_in-row_by (length row.votes) _ (λ place past. let none = none_past place past in omega (arith, none.0, none.1))
+  pub number_in-row_plus : (column : Column)
+      → number_in column (row_plus row sums) ≡ number_in column row + worth column sums
+  number_in-row_plus = all_in-row_by (length row.votes) _
+      (λ place past. let none = none_past place past in omega (arith, none.0, none.1))
 
-  pub number_in-row_minus : (column : Column) → number_in column (row_minus row sums) ≡ number_in column row - worth column sums
-  number_in-row_minus = all_in-row_by (length row.votes) _ (λ place past. let none = none_past place past in omega (arith, none.0, none.1))
+  pub number_in-row_minus : (column : Column)
+      → number_in column (row_minus row sums) ≡ number_in column row - worth column sums
+  number_in-row_minus = all_in-row_by (length row.votes) _
+      (λ place past. let none = none_past place past in omega (arith, none.0, none.1))
 
 -- each number is below the limit of its column
-pub below_limits : (number : Column → ℕ) → number Ballots ≤ ballot_limit → ((column : Column) → number column < 2 ^ 128) → (column : Column) → number column < limit_of column
+pub below_limits : (number : Column → ℕ) → number Ballots ≤ ballot_limit
+    → ((column : Column) → number column < 2 ^ 128) → (column : Column)
+    → number column < limit_of column
 below_limits number few below Ballots = omega (arith, few)
 below_limits number few below Overvotes = below Overvotes
 below_limits number few below Undervotes = below Undervotes

@@ -7,5 +7,6 @@ pub mod Kept
 pub mod Maps
 pub mod Pushes
 pub mod Given
+pub mod RoomExamples
 pub mod Lemmas
 pub mod Lasts

@@ -1,4 +1,5 @@
--- Contests with the ids of their selections, as totals hold them. (NIST SP 1500-103, classes Contest and ContestSelection.)
+-- Contests with the ids of their selections, as totals hold them. (NIST SP 1500-103, classes
+-- Contest and ContestSelection.)
 use Rattle.std.specs.Prelude.{List, map}
 use Rattle.cdf_parts.specs.Places.{Contest}
 use Rattle.cvr_tally.specs.declared.contest_ids.ContestIds.{ContestIds}

@@ -1,5 +1,6 @@
 -- Rows of totals, and what each call makes of the map of rows. (This project's own.)
-use Rattle.std.specs.Prelude.{◌≡◌, ◌==◌, ◌<◌, ◌≤◌, ◌+◌, ◌-◌, ◌^◌, ℕ, List, map, length, get_or, cond, Option, Some, None}
+use Rattle.std.specs.Prelude.{◌≡◌, ◌==◌, ◌<◌, ◌≤◌, ◌+◌, ◌-◌, ◌^◌, ℕ, List, map, length, slice_index}
+use Rattle.std.specs.Prelude.{if◌then◌else◌, Option, Some, None}
 use Rattle.std.specs.List.{range_with_len}
 use Rattle.std.proofs.Common.{refl}
 use Rattle.std.specs.Coded.{Coded, code_by, coded×, coded_ℕ, coded_list}
@@ -7,14 +8,15 @@ use Rattle.std.specs.Option.{option_map_or}
 use Rattle.std.specs.FinMap as rows
 use Rattle.cdf_parts.specs.Places.{Contest, selections_at}
 use Rattle.cvr_fact_types.specs.declared.sums.VoteSums.{VoteSums}
-use Rattle.cvr_fact_types.specs.Columns.{Column, Ballots, Overvotes, Undervotes, WriteIns, Pending, Unassigned, VotesFor, worth}
+use Rattle.cvr_fact_types.specs.Columns.{Column, Ballots, Overvotes, Undervotes, WriteIns, Pending}
+use Rattle.cvr_fact_types.specs.Columns.{Unassigned, VotesFor, worth}
 use Rattle.cvr_tally.specs.declared.key.RowKey.{RowKey}
 use Rattle.cvr_tally.specs.declared.row.Row.{Row}
 use Rattle.cvr_tally.specs.Keys.{key_cmp, coded_key}
 
 -- ---- a row
 
--- the number in a column, 0 in that of a selection which the contest hasn't
+-- the number in a column, 0 in that of a selection that the contest doesn't have
 abbrev pub number_in : Column → Row → ℕ
 number_in Ballots row = row.ballots
 number_in Overvotes row = row.overvotes
@@ -22,7 +24,7 @@ number_in Undervotes row = row.undervotes
 number_in WriteIns row = row.write_ins
 number_in Pending row = row.pending
 number_in Unassigned row = row.unassigned
-number_in (VotesFor place) row = get_or row.votes place 0
+number_in (VotesFor place) row = slice_index row.votes place
 
 -- the row with these numbers in its columns, of a contest with n selections
 abbrev pub row_by : ℕ → (Column → ℕ) → Row
@@ -61,16 +63,17 @@ limit_of column = 2 ^ 128
 abbrev pub HasRoom : Row → VoteSums → Type 0
 HasRoom row sums = (column : Column) → number_in column row + worth column sums < limit_of column
 
--- it has the sums: no column is below theirs
+-- The row has the sums: no column is below theirs. So it has a ballot.
 abbrev pub HasSums : Row → VoteSums → Type 0
 HasSums row sums = (column : Column) → worth column sums ≤ number_in column row
 
 -- nothing where it has no ballots
 abbrev pub row_closed : Option Row → Option Row
-row_closed r = option_map_or (λ x. cond (x.ballots == 0) None (Some x)) r None
+row_closed r = option_map_or (λ x. if x.ballots == 0 then None else Some x) r None
 
 -- ---- the map of rows
 
+-- the rows of a tally by their keys, in order of key
 abbrev pub Rows : Type 0
 Rows = rows.FinMap key_cmp Row
 
@@ -84,11 +87,13 @@ rows_minus m k s = option_map_or (λ r. rows.insert m k (row_minus r s)) (rows.g
 
 -- a row of zeros where there is none
 abbrev pub rows_opened : List Contest → Rows → RowKey → Rows
-rows_opened contests m k = option_map_or (λ _. m) (rows.get m k) (rows.insert m k (zero_row (length (selections_at contests k.contest))))
+rows_opened contests m k = option_map_or (λ _. m) (rows.get m k)
+    (rows.insert m k (zero_row (length (selections_at contests k.contest))))
 
 -- without the row where it has no ballots
 abbrev pub rows_closed : Rows → RowKey → Rows
-rows_closed m k = option_map_or (λ r. cond (r.ballots == 0) (rows.remove m k) m) (rows.get m k) m
+rows_closed m k =
+    option_map_or (λ r. if r.ballots == 0 then rows.remove m k else m) (rows.get m k) m
 
 -- ---- totals
 
@@ -101,18 +106,39 @@ pub record TotalsValue : Type 0 where
 -- each row is one of a contest of the definition, with a number for each of its selections
 pub record IsTotals (t : TotalsValue) : Type 0 where
   pub contest : (k : RowKey) (r : Row) → rows.get t.rows k ≡ Some r → k.contest < length t.contests
-  pub votes : (k : RowKey) (r : Row) → rows.get t.rows k ≡ Some r → length r.votes ≡ length (selections_at t.contests k.contest)
+  pub votes : (k : RowKey) (r : Row) → rows.get t.rows k ≡ Some r
+      → length r.votes ≡ length (selections_at t.contests k.contest)
 
 abbrev pub coded_row : Coded Row
 coded_row = code_by (ℕ × (ℕ × (ℕ × (ℕ × (ℕ × (ℕ × List ℕ))))))
-    (coded× coded_ℕ (coded× coded_ℕ (coded× coded_ℕ (coded× coded_ℕ (coded× coded_ℕ (coded× coded_ℕ (coded_list coded_ℕ)))))))
-    (λ r. (r.ballots, (r.overvotes, (r.undervotes, (r.write_ins, (r.pending, (r.unassigned, r.votes)))))))
-    (λ p. record { ballots = p.0; overvotes = p.1.0; undervotes = p.1.1.0; write_ins = p.1.1.1.0; pending = p.1.1.1.1.0; unassigned = p.1.1.1.1.1.0; votes = p.1.1.1.1.1.1 })
+    (coded× coded_ℕ (coded× coded_ℕ (coded× coded_ℕ
+    (coded× coded_ℕ (coded× coded_ℕ (coded× coded_ℕ (coded_list coded_ℕ)))))))
+    (λ r. (
+      r.ballots,
+      (
+        r.overvotes,
+        (
+          r.undervotes,
+          (r.write_ins, (r.pending, (r.unassigned, r.votes))),
+        ),
+      ),
+    ))
+    (λ p. record {
+      ballots = p.0;
+      overvotes = p.1.0;
+      undervotes = p.1.1.0;
+      write_ins = p.1.1.1.0;
+      pending = p.1.1.1.1.0;
+      unassigned = p.1.1.1.1.1.0;
+      votes = p.1.1.1.1.1.1;
+    })
     (λ _. refl)
 
 abbrev pub coded_contests : Coded (List Contest)
 coded_contests = coded_list (coded× (coded_list coded_ℕ) (coded_list (coded_list coded_ℕ)))
 
 abbrev pub coded_totals : Coded TotalsValue
-coded_totals = code_by (List Contest × (Rows × ℕ)) (coded× coded_contests (coded× (rows.code coded_key coded_row) coded_ℕ))
-    (λ t. (t.contests, (t.rows, t.moves))) (λ p. record { contests = p.0; rows = p.1.0; moves = p.1.1 }) (λ _. refl)
+coded_totals = code_by (List Contest × (Rows × ℕ))
+    (coded× coded_contests (coded× (rows.code coded_key coded_row) coded_ℕ))
+    (λ t. (t.contests, (t.rows, t.moves)))
+    (λ p. record { contests = p.0; rows = p.1.0; moves = p.1.1 }) (λ _. refl)

@@ -1,5 +1,6 @@
 -- The printed lines of a tally. (This project's own.)
-use Rattle.std.specs.Prelude.{ℕ, List, [], ◌∷◌, ◌++◌, codes, decimal, Option, Some, None, slice_index_or}
+use Rattle.std.specs.Prelude.{ℕ, List, [], ◌∷◌, ◌++◌, codes, decimal, Option, Some, None}
+use Rattle.std.specs.Prelude.{slice_index_or}
 use Rattle.std.specs.List.{flat_map, zip}
 use Rattle.std.specs.FinMap.{entries}
 use Rattle.json.specs.Print.{quoted}
@@ -24,7 +25,8 @@ selection p = 32 ∷ quoted p.0 ++ number p.1
 
 -- contest, unit, batch
 abbrev pub key_words : List Contest → RowKey → List ℕ
-key_words contests k = quoted (slice_index_or (contest_ids contests) k.contest []) ++ (part_text k.unit ++ part_text k.batch)
+key_words contests k = quoted (slice_index_or (contest_ids contests) k.contest [])
+    ++ (part_text k.unit ++ part_text k.batch)
 
 -- the numbers in the columns that each row has
 abbrev pub numbers : Row → List ℕ
@@ -32,7 +34,9 @@ numbers row = flat_map (λ column. number (number_in column row)) columns
 
 -- the key, the numbers, then the votes of each selection
 abbrev pub row_line : List Contest → RowKey × Row → List ℕ
-row_line contests e = key_words contests e.0 ++ (numbers e.1 ++ (flat_map selection (zip (selections_at contests e.0.contest) e.1.votes) ++ 10 ∷ []))
+row_line contests e = key_words contests e.0
+    ++ (numbers e.1 ++ (flat_map selection (zip (selections_at contests e.0.contest) e.1.votes)
+    ++ 10 ∷ []))
 
 -- one line for each row, in order of key
 abbrev pub tally_text : List Contest → Rows → List ℕ

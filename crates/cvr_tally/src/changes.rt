@@ -1,5 +1,5 @@
 // What a ballot changes in a row. Nothing here takes memory.
-ghost use Rattle.std.specs.Prelude.{◌≡◌, ◌<◌, ◌≤◌, ◌+◌, ◌-◌, ◌^◌, ℕ, map, length, get_or};
+ghost use Rattle.std.specs.Prelude.{◌≡◌, ◌<◌, ◌≤◌, ◌+◌, ◌-◌, ◌^◌, ℕ, map, length, slice_index};
 ghost use Rattle.std.specs.List.{range_with_len};
 ghost use Rattle.cvr_tally.specs.Rows.{HasRoom, HasSums, row_plus, row_minus};
 
@@ -9,8 +9,8 @@ use cvr_fact_types::VoteSums;
 // Adds numbers place by place.
 fn add_votes(votes: &mut [u128], sums: &[u64])
     requires long { length sums.now ≡ length votes.old }
-    requires room { (i : ℕ) → get_or votes.old i 0 + get_or sums.now i 0 < 2 ^ 128 }
-    ensures { votes.new ≡ map (λ place. get_or votes.old place 0 + get_or sums.now place 0)
+    requires room { (i : ℕ) → slice_index votes.old i + slice_index sums.now i < 2 ^ 128 }
+    ensures { votes.new ≡ map (λ place. slice_index votes.old place + slice_index sums.now place)
         (range_with_len 0 (length votes.old)) }
 {
     for (place, sum) in sums.iter().enumerate() {
@@ -21,8 +21,8 @@ fn add_votes(votes: &mut [u128], sums: &[u64])
 // Takes numbers out place by place.
 fn take_votes(votes: &mut [u128], sums: &[u64])
     requires long { length sums.now ≡ length votes.old }
-    requires has { (i : ℕ) → get_or sums.now i 0 ≤ get_or votes.old i 0 }
-    ensures { votes.new ≡ map (λ place. get_or votes.old place 0 - get_or sums.now place 0)
+    requires has { (i : ℕ) → slice_index sums.now i ≤ slice_index votes.old i }
+    ensures { votes.new ≡ map (λ place. slice_index votes.old place - slice_index sums.now place)
         (range_with_len 0 (length votes.old)) }
 {
     for (place, sum) in sums.iter().enumerate() {

@@ -5,7 +5,7 @@ use std::snapshot::Snapshot;
 
 /// A number that contracts see, and that has no bytes at run time. It counts changes.
 ///
-/// It shows to contracts what was before it: nothing, or the number that is one less.
+/// It shows contracts what was before it: nothing, or the number that is one less.
 #[derive(Drop)]
 pub(crate) struct Moves {
     before: Snapshot<Option<Snapshot<Moves>>>,

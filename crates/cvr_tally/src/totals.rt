@@ -146,8 +146,8 @@ impl Totals {
         close_at(&mut self.rows, key);
     }
 
-    /// Does nothing, and tells contracts that each row is one of a contest of the definition, with
-    /// a number for each of its selections.
+    /// Does nothing. Its contract says that each row is one of a contest of the definition, with a
+    /// number for each of its selections.
     pub fn are_whole(&self)
         ensures { IsTotals self.now }
     {

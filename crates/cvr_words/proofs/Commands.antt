@@ -1,5 +1,6 @@
 -- The six commands: what has to stand among their words.
-use Rattle.std.proofs.Common.{◌≡◌, ◌∙◌, true, false, List, [], ◌∷◌, codes, inl, inr, refl, sym, arith}
+use Rattle.std.proofs.Common.{◌≡◌, ◌∙◌, true, false, List, [], ◌∷◌, codes, inl, inr, refl, sym}
+use Rattle.std.proofs.Common.{arith}
 use Rattle.std.specs.List.{Any}
 use Rattle.std.specs.Str.{bytes_eq}
 use Rattle.std.proofs.lemmas.Slice.Eq.{bytes_eq-Decides}
@@ -23,14 +24,24 @@ apart : (a b : Text) → bytes_eq a b ≡ false → a ≡ b → ⊥
 apart a b differ e = let bad : true ≡ false = sym ((bytes_eq-Decides a b).1 e) ∙ differ in cc
 
 files_plain : (name : Text) → IsPlainLevel (leaf (files_line name).top)
-files_plain name = record { again = refl; else_help = refl; subcommand = refl; negates = refl; defaults = (refl, (refl, (refl, tt))) }
+files_plain name = record {
+  again = refl;
+  else_help = refl;
+  subcommand = refl;
+  negates = refl;
+  defaults = (refl, (refl, (refl, tt)));
+}
 
-files_def : (name : Text) (words : List Text) → IsSound (leaf (files_line name).top) words → HasWord (codes "DEF") (rows_after (leaf (files_line name).top).rules [] words)
+files_def : (name : Text) (words : List Text) → IsSound (leaf (files_line name).top) words
+    → HasWord (codes "DEF") (rows_after (leaf (files_line name).top).rules [] words)
 files_def name words sound =
-    has_word (leaf (files_line name).top) (codes "DEF") 1 (files_plain name) (inl refl, (inr refl, (inr refl, tt))) words sound
+    has_word (leaf (files_line name).top) (codes "DEF") 1 (files_plain name)
+    (inl refl, (inr refl, (inr refl, tt))) words sound
     (stands _ (standing (leaf (files_line name).top) (files_plain name) words sound).0)
 
-files_known : (name : Text) → Any (λ x. x ≡ name) command_names → bytes_eq name (codes "merge") ≡ false → bytes_eq name (codes "drill") ≡ false → IsKnown (leaf (files_line name).top)
+files_known : (name : Text) → Any (λ x. x ≡ name) command_names
+    → bytes_eq name (codes "merge") ≡ false → bytes_eq name (codes "drill") ≡ false
+    → IsKnown (leaf (files_line name).top)
 files_known name listed merge drill = record {
   named = listed;
   whole = λ words sound. record {
@@ -41,26 +52,40 @@ files_known name listed merge drill = record {
 }
 
 merge_plain : IsPlainLevel (leaf merge_line.top)
-merge_plain = record { again = refl; else_help = refl; subcommand = refl; negates = refl; defaults = (refl, (refl, (refl, (refl, (refl, (refl, tt)))))) }
+merge_plain = record {
+  again = refl;
+  else_help = refl;
+  subcommand = refl;
+  negates = refl;
+  defaults = (refl, (refl, (refl, (refl, (refl, (refl, tt))))));
+}
 
-merge_def : (words : List Text) → IsSound (leaf merge_line.top) words → HasWord (codes "DEF") (rows_after (leaf merge_line.top).rules [] words)
+merge_def : (words : List Text) → IsSound (leaf merge_line.top) words
+    → HasWord (codes "DEF") (rows_after (leaf merge_line.top).rules [] words)
 merge_def words sound =
-    has_word (leaf merge_line.top) (codes "DEF") 1 merge_plain (inl refl, (inr refl, (inr refl, (inr refl, (inr refl, (inr refl, tt)))))) words sound
+    has_word (leaf merge_line.top) (codes "DEF") 1 merge_plain
+    (inl refl, (inr refl, (inr refl, (inr refl, (inr refl, (inr refl, tt)))))) words sound
     (stands _ (standing (leaf merge_line.top) merge_plain words sound).0)
 
-merge_date : (words : List Text) → IsSound (leaf merge_line.top) words → HasWord (codes "DATE") (rows_after (leaf merge_line.top).rules [] words)
+merge_date : (words : List Text) → IsSound (leaf merge_line.top) words
+    → HasWord (codes "DATE") (rows_after (leaf merge_line.top).rules [] words)
 merge_date words sound =
-    has_word (leaf merge_line.top) (codes "DATE") 2 merge_plain (inr refl, (inl refl, (inr refl, (inr refl, (inr refl, (inr refl, tt)))))) words sound
+    has_word (leaf merge_line.top) (codes "DATE") 2 merge_plain
+    (inr refl, (inl refl, (inr refl, (inr refl, (inr refl, (inr refl, tt)))))) words sound
     (stands _ (standing (leaf merge_line.top) merge_plain words sound).1.0)
 
-merge_device : (words : List Text) → IsSound (leaf merge_line.top) words → HasWord (codes "DEVICE") (rows_after (leaf merge_line.top).rules [] words)
+merge_device : (words : List Text) → IsSound (leaf merge_line.top) words
+    → HasWord (codes "DEVICE") (rows_after (leaf merge_line.top).rules [] words)
 merge_device words sound =
-    has_word (leaf merge_line.top) (codes "DEVICE") 3 merge_plain (inr refl, (inr refl, (inl refl, (inr refl, (inr refl, (inr refl, tt)))))) words sound
+    has_word (leaf merge_line.top) (codes "DEVICE") 3 merge_plain
+    (inr refl, (inr refl, (inl refl, (inr refl, (inr refl, (inr refl, tt)))))) words sound
     (stands _ (standing (leaf merge_line.top) merge_plain words sound).1.1.0)
 
-merge_volume : (words : List Text) → IsSound (leaf merge_line.top) words → HasNumber (codes "VOLUME") 1 4294967295 (rows_after (leaf merge_line.top).rules [] words)
+merge_volume : (words : List Text) → IsSound (leaf merge_line.top) words
+    → HasNumber (codes "VOLUME") 1 4294967295 (rows_after (leaf merge_line.top).rules [] words)
 merge_volume words sound =
-    has_number (leaf merge_line.top) (codes "VOLUME") 1 4294967295 4 merge_plain (inr refl, (inr refl, (inr refl, (inl refl, (inr refl, (inr refl, tt)))))) words sound
+    has_number (leaf merge_line.top) (codes "VOLUME") 1 4294967295 4 merge_plain
+    (inr refl, (inr refl, (inr refl, (inl refl, (inr refl, (inr refl, tt)))))) words sound
     (stands _ (standing (leaf merge_line.top) merge_plain words sound).1.1.1.0)
 
 merge_known : IsKnown (leaf merge_line.top)
@@ -74,16 +99,26 @@ merge_known = record {
 }
 
 drill_plain : IsPlainLevel (leaf drill_line.top)
-drill_plain = record { again = refl; else_help = refl; subcommand = refl; negates = refl; defaults = (refl, (refl, (refl, (refl, tt)))) }
+drill_plain = record {
+  again = refl;
+  else_help = refl;
+  subcommand = refl;
+  negates = refl;
+  defaults = (refl, (refl, (refl, (refl, tt))));
+}
 
-drill_def : (words : List Text) → IsSound (leaf drill_line.top) words → HasWord (codes "DEF") (rows_after (leaf drill_line.top).rules [] words)
+drill_def : (words : List Text) → IsSound (leaf drill_line.top) words
+    → HasWord (codes "DEF") (rows_after (leaf drill_line.top).rules [] words)
 drill_def words sound =
-    has_word (leaf drill_line.top) (codes "DEF") 1 drill_plain (inl refl, (inr refl, (inr refl, (inr refl, tt)))) words sound
+    has_word (leaf drill_line.top) (codes "DEF") 1 drill_plain
+    (inl refl, (inr refl, (inr refl, (inr refl, tt)))) words sound
     (stands _ (standing (leaf drill_line.top) drill_plain words sound).0)
 
-drill_offices : (words : List Text) → IsSound (leaf drill_line.top) words → HasNumber (codes "OFFICES") 1 64 (rows_after (leaf drill_line.top).rules [] words)
+drill_offices : (words : List Text) → IsSound (leaf drill_line.top) words
+    → HasNumber (codes "OFFICES") 1 64 (rows_after (leaf drill_line.top).rules [] words)
 drill_offices words sound =
-    has_number (leaf drill_line.top) (codes "OFFICES") 1 64 2 drill_plain (inr refl, (inl refl, (inr refl, (inr refl, tt)))) words sound
+    has_number (leaf drill_line.top) (codes "OFFICES") 1 64 2 drill_plain
+    (inr refl, (inl refl, (inr refl, (inr refl, tt)))) words sound
     (stands _ (standing (leaf drill_line.top) drill_plain words sound).1.0)
 
 drill_known : IsKnown (leaf drill_line.top)
@@ -98,7 +133,8 @@ drill_known = record {
 
 -- the commands, in their order
 abbrev pub own : List Shape
-own = leaf (files_line (codes "currents")).top ∷ leaf (files_line (codes "conflicts")).top ∷ leaf (files_line (codes "tally")).top
+own = leaf (files_line (codes "currents")).top ∷ leaf (files_line (codes "conflicts")).top
+    ∷ leaf (files_line (codes "tally")).top
     ∷ leaf (files_line (codes "check")).top ∷ leaf merge_line.top ∷ leaf drill_line.top ∷ []
 
 pub own_known : Each IsKnown own

@@ -1,5 +1,6 @@
 -- One to nine digits are read as a number.
-use Rattle.std.proofs.Common.{◌≡◌, ◌≤◌, ◌<◌, ◌^◌, ◌&&◌, ℕ, Bool, true, false, List, [], ◌∷◌, Result, Ok, Err, length, rules, arith, refl, get_or, lit<}
+use Rattle.std.proofs.Common.{◌≡◌, ◌≤◌, ◌<◌, ◌^◌, ◌&&◌, ℕ, Bool, true, false, List, [], ◌∷◌, Result}
+use Rattle.std.proofs.Common.{Ok, Err, length, rules, arith, refl, get_or, lit<}
 use Rattle.std.specs.List.{list_all}
 use Rattle.std.specs.Int.{IsInRange}
 use Rattle.std.specs.Char.{is_ascii_digit, digit_value}
@@ -15,7 +16,8 @@ pub in_range : (c : ℕ) → is_ascii_digit c ≡ true → IsInRange 48 57 c
 in_range c h = search rules
 
 small : (c : ℕ) → is_ascii_digit c ≡ true → digit_value c < 10
-small c h = let e = digit_value_digit c (in_range c h) in let r = in_range c h in omega (arith, e, r)
+small c h =
+    let e = digit_value_digit c (in_range c h) in let r = in_range c h in omega (arith, e, r)
 
 and_left : (a b : Bool) → (a && b) ≡ true → a ≡ true
 and_left true b h = refl
@@ -27,7 +29,10 @@ and_right false b h = cc
 
 pub all_digits : (t : List ℕ) → list_all is_ascii_digit t ≡ true → AllDigits 10 t
 all_digits [] h = search rules
-all_digits (c ∷ cs) h = (small c (and_left (is_ascii_digit c) (list_all is_ascii_digit cs) h), all_digits cs (and_right (is_ascii_digit c) (list_all is_ascii_digit cs) h))
+all_digits (c ∷ cs) h = (
+  small c (and_left (is_ascii_digit c) (list_all is_ascii_digit cs) h),
+  all_digits cs (and_right (is_ascii_digit c) (list_all is_ascii_digit cs) h),
+)
 
 first_digit : (t : List ℕ) → list_all is_ascii_digit t ≡ true → get_or t 0 0 ≡ 43 → ⊥
 first_digit [] h e = cc
@@ -48,7 +53,8 @@ fits t short h =
     let most = ten_nine (length t) short in
     omega (arith, low, most)
 
-pub parsed : {E : Type 0} (t : List ℕ) (r : Result ℕ E) → 0 < length t → length t ≤ 9 → list_all is_ascii_digit t ≡ true
+pub parsed : {E : Type 0} (t : List ℕ) (r : Result ℕ E) → 0 < length t → length t ≤ 9
+    → list_all is_ascii_digit t ≡ true
     → ParsesUnsigned 32 10 t r → result_ok r ≡ number_of_text t
 parsed t (Ok n) some short h p =
     rw (h) (search rules)

@@ -19,15 +19,18 @@ fault_is words k (line.BadStep n s) h p = absurd h
 fault_is words k line.Memory h p = tt
 
 -- a fault of a drill's steps is a fault of words in which clap finds none
-pub drill_fault_is : (words : List Text) (name : Text) (rows : List Row) (f : LineFault) → fault_of cvr_line words ≡ [] → subcommand_of cvr_line words ≡ Some (name, rows)
+pub drill_fault_is : (words : List Text) (name : Text) (rows : List Row) (f : LineFault)
+    → fault_of cvr_line words ≡ [] → subcommand_of cvr_line words ≡ Some (name, rows)
     → IsDrillFault name rows f → IsLineFault words f
 drill_fault_is words name rows (line.Refused t) fine is h = absurd h
 drill_fault_is words name rows (line.Help t) fine is h = absurd h
-drill_fault_is words name rows (line.BadStep n s) fine is h = (fine, rows, is ∙ ap (λ (t : Text). Some (t, rows)) h.0, h.1)
+drill_fault_is words name rows (line.BadStep n s) fine is h =
+    (fine, rows, is ∙ ap (λ (t : Text). Some (t, rows)) h.0, h.1)
 drill_fault_is words name rows line.Memory fine is h = tt
 
 -- and so without the text of a step
-pub word_fault_is : (words : List Text) (f : LineFault) → IsLineFault words f → IsFault words (word_fault f)
+pub word_fault_is : (words : List Text) (f : LineFault) → IsLineFault words f
+    → IsFault words (word_fault f)
 word_fault_is words (line.Refused t) h = h
 word_fault_is words (line.Help t) h = h
 word_fault_is words (line.BadStep n s) h = (h.0, h.1, h.2, h.3.0)

@@ -27,25 +27,29 @@ IsOfKind kind line.Memory = ⊤
 
 -- the first bad step of a drill, or memory was refused
 abbrev pub IsDrillFault : Text → List Row → LineFault → Type 0
-IsDrillFault name rows (line.BadStep place step) = (name ≡ codes "drill") × IsBadStep (words_in (codes "STEP") rows) (line.BadStep place step)
+IsDrillFault name rows (line.BadStep place step) = (name ≡ codes "drill")
+    × IsBadStep (words_in (codes "STEP") rows) (line.BadStep place step)
 IsDrillFault name rows line.Memory = ⊤
 IsDrillFault name rows _ = ⊥
 
--- clap refused the words for another cause than help or memory; it answered help; it found no fault in them,
--- and they name a drill with a bad step; or memory was refused
+-- clap refused the words for another cause than help or memory; it answered help; it found no fault
+-- in them, and they name a drill with a bad step; or memory was refused
 abbrev pub IsFault : List Text → WordFault → Type 0
-IsFault words (fault.Refused text) = (kind : ErrorKind) × IsAmong kind (fault_of cvr_line words) × (kind ≢ DisplayHelp) × (kind ≢ OutOfMemory)
+IsFault words (fault.Refused text) = (kind : ErrorKind) × IsAmong kind (fault_of cvr_line words)
+    × (kind ≢ DisplayHelp) × (kind ≢ OutOfMemory)
 IsFault words (fault.Help text) = IsAmong DisplayHelp (fault_of cvr_line words)
 IsFault words (fault.BadStep place) =
-    (fault_of cvr_line words ≡ []) × (rows : List Row) × (subcommand_of cvr_line words ≡ Some (codes "drill", rows))
+    (fault_of cvr_line words ≡ []) × (rows : List Row)
+    × (subcommand_of cvr_line words ≡ Some (codes "drill", rows))
     × (bad_place (words_in (codes "STEP") rows) ≡ Some place)
 IsFault words fault.Memory = ⊤
 
--- the same; the step that is told is the bad one
+-- the same; the step that is reported is the bad one
 abbrev pub IsLineFault : List Text → LineFault → Type 0
 IsLineFault words (line.Refused text) = IsFault words (fault.Refused text)
 IsLineFault words (line.Help text) = IsFault words (fault.Help text)
 IsLineFault words (line.BadStep place step) =
-    (fault_of cvr_line words ≡ []) × (rows : List Row) × (subcommand_of cvr_line words ≡ Some (codes "drill", rows))
+    (fault_of cvr_line words ≡ []) × (rows : List Row)
+    × (subcommand_of cvr_line words ≡ Some (codes "drill", rows))
     × IsBadStep (words_in (codes "STEP") rows) (line.BadStep place step)
 IsLineFault words line.Memory = ⊤

@@ -9,14 +9,17 @@ use Rattle.cvr_words.specs.declared.fault.WordFault.{WordFault}
 use Rattle.cvr_words.specs.declared.fault.WordFault.TheVariants.{Memory}
 use Rattle.cvr_words.specs.declared.request.Request.{Request}
 
--- one request at most
+-- words ask for one request at most
 abbrev pub OneRequestLaw : Type 0
-OneRequestLaw = (words : List Text) (one other : Request) → IsRequest words one → IsRequest words other → one ≡ other
+OneRequestLaw = (words : List Text) (one other : Request) → IsRequest words one
+    → IsRequest words other → one ≡ other
 
--- words that ask for a request have no fault but want of memory
+-- words that ask for a request have no fault but out of memory
 abbrev pub NoFaultLaw : Type 0
-NoFaultLaw = (words : List Text) (request : Request) (fault : WordFault) → IsRequest words request → IsFault words fault → fault ≡ Memory
+NoFaultLaw = (words : List Text) (request : Request) (fault : WordFault) → IsRequest words request
+    → IsFault words fault → fault ≡ Memory
 
--- nor one that tells the step
+-- nor one that reports the step
 abbrev pub NoLineFaultLaw : Type 0
-NoLineFaultLaw = (words : List Text) (request : Request) (fault : LineFault) → IsRequest words request → IsLineFault words fault → fault ≡ line.Memory
+NoLineFaultLaw = (words : List Text) (request : Request) (fault : LineFault)
+    → IsRequest words request → IsLineFault words fault → fault ≡ line.Memory

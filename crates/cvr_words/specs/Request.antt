@@ -7,7 +7,8 @@ use Rattle.cvr_words.specs.Rows.{IsNumber, IsWord, words_in}
 use Rattle.cvr_words.specs.Steps.{bad_place, paths_of, steps_of}
 use Rattle.cvr_words.specs.declared.request.Request.{Request}
 use Rattle.cvr_words.specs.declared.request.Task.{Task}
-use Rattle.cvr_words.specs.declared.request.Task.TheVariants.{Currents, Conflicts, Tally, Check, Merge, Drill}
+use Rattle.cvr_words.specs.declared.request.Task.TheVariants.{Currents, Conflicts, Tally, Check}
+use Rattle.cvr_words.specs.declared.request.Task.TheVariants.{Merge, Drill}
 
 -- the task is that of the command's name, with the values of its arguments
 abbrev pub IsTask : Text → List Row → Task → Type 0
@@ -20,7 +21,8 @@ IsTask name rows (Merge date device volume) =
     × IsNumber (codes "VOLUME") 1 4294967295 rows (non_zero_u32_get volume)
 IsTask name rows (Drill offices steps) =
     (name ≡ codes "drill") × IsNumber (codes "OFFICES") 1 64 rows offices
-    × (bad_place (words_in (codes "STEP") rows) ≡ None) × (steps ≡ steps_of 0 (words_in (codes "STEP") rows))
+    × (bad_place (words_in (codes "STEP") rows) ≡ None)
+    × (steps ≡ steps_of 0 (words_in (codes "STEP") rows))
 
 -- the files of a drill are those of its imports
 abbrev pub paths_in : Task → List Row → List Text
@@ -33,7 +35,9 @@ pub record Asks (name : Text) (rows : List Row) (request : Request) : Type 0 whe
   pub def : IsWord (codes "DEF") rows request.def
   pub paths : request.paths ≡ paths_in request.task rows
 
--- the request is what the words say: clap finds no fault in them, and its matches of them name its command
+-- the request is what the words say: clap finds no fault in them, and its matches of them name its
+-- command
 abbrev pub IsRequest : List Text → Request → Type 0
 IsRequest words request =
-    (fault_of cvr_line words ≡ []) × (name : Text) × (rows : List Row) × (subcommand_of cvr_line words ≡ Some (name, rows)) × Asks name rows request
+    (fault_of cvr_line words ≡ []) × (name : Text) × (rows : List Row)
+    × (subcommand_of cvr_line words ≡ Some (name, rows)) × Asks name rows request

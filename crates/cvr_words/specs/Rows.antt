@@ -25,7 +25,8 @@ HasWord id rows = (word : Text) × (first_of id rows ≡ Some word)
 
 abbrev pub HasNumber : Text → ℕ → ℕ → List Row → Type 0
 HasNumber id low high rows =
-    (word : Text) × (one_of id rows ≡ Some (without_minus word)) × IsSignedIn (pos low) (pos high) word
+    (word : Text) × (one_of id rows ≡ Some (without_minus word))
+    × IsSignedIn (pos low) (pos high) word
 
 -- what has to stand among the matches of a command
 abbrev pub IsMergeWhole : List Row → Type 0

@@ -18,12 +18,12 @@ pub enum WordFault {
     /// The step at the place, from 0, has no form of a step.
     #[error("step {place} has no form of a step")]
     BadStep { place: usize },
-    /// Want of memory; it stands in place of any other answer.
+    /// Out of memory; it stands in place of any other answer.
     #[error("out of memory")]
     Memory,
 }
 
-/// The same, with all that is told of it.
+/// The same, with all that is reported of it.
 #[derive(Debug, Drop, Error)]
 pub enum LineFault {
     /// No command takes the words. The text says what is wrong with them.
@@ -35,7 +35,7 @@ pub enum LineFault {
     /// The step at the place, from 0, has no form of a step. It is as given.
     #[error("step {place} has no form of a step")]
     BadStep { place: usize, step: Body },
-    /// Want of memory; it stands in place of any other answer.
+    /// Out of memory; it stands in place of any other answer.
     #[error("out of memory")]
     Memory,
 }

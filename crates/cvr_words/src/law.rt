@@ -1,7 +1,7 @@
 ghost use Rattle.cvr_words.specs.Laws.{NoFaultLaw, NoLineFaultLaw, OneRequestLaw};
 ghost use Rattle.cvr_words.specs.StepLaws.{OneFormLaw, StepFormsLaw, StepPlacesLaw, StepTextsLaw};
 
-/// Words ask for one request at most, and those that ask for one have no fault but want of memory.
+/// Words ask for one request at most, and those that ask for one have no fault but `Memory`.
 pub fn words_ask_for_one_request()
     ensures one { OneRequestLaw }
     ensures no_fault { NoFaultLaw }

@@ -1,14 +1,14 @@
 ghost use Rattle.std.specs.Prelude.{◌≡◌, IfOk, false, codes};
 ghost use Rattle.clap.specs.Words.{app_of, new_app, rule_of};
 ghost use Rattle.cvr_words.specs.Line.{bare_line, cvr_line, drill_line, files_line, merge_line};
-ghost use Rattle.cvr_words.specs.Line.{needed, one_number, several};
+ghost use Rattle.cvr_words.specs.Line.{required_word, one_number, several};
 
 use clap::{Arg, ArgAction, Command};
 use std::alloc::{AllocError, Global};
 
 // A word that has to stand once.
 fn needed_word<'a>(alloc: Global, id: &'a str, help: &'a str) -> Arg<'a>
-    ensures rule { rule_of result ≡ needed id.entry.now }
+    ensures rule { rule_of result ≡ required_word id.entry.now }
     ensures local { result.global ≡ false }
 {
     Arg::new(alloc, id)
@@ -29,7 +29,7 @@ fn last_words<'a>(alloc: Global, id: &'a str, help: &'a str) -> Arg<'a>
 }
 
 fn def_word<'a>(alloc: Global) -> Arg<'a>
-    ensures rule { rule_of result ≡ needed (codes "DEF") }
+    ensures rule { rule_of result ≡ required_word (codes "DEF") }
     ensures local { result.global ≡ false }
 {
     needed_word(
@@ -51,7 +51,7 @@ fn file_words<'a>(alloc: Global) -> Arg<'a>
 }
 
 fn date_word<'a>(alloc: Global) -> Arg<'a>
-    ensures rule { rule_of result ≡ needed (codes "DATE") }
+    ensures rule { rule_of result ≡ required_word (codes "DATE") }
     ensures local { result.global ≡ false }
 {
     needed_word(
@@ -62,7 +62,7 @@ fn date_word<'a>(alloc: Global) -> Arg<'a>
 }
 
 fn device_word<'a>(alloc: Global) -> Arg<'a>
-    ensures rule { rule_of result ≡ needed (codes "DEVICE") }
+    ensures rule { rule_of result ≡ required_word (codes "DEVICE") }
     ensures local { result.global ≡ false }
 {
     needed_word(
@@ -79,7 +79,7 @@ fn volume_word<'a>(alloc: Global) -> Arg<'a>
     needed_word(
         alloc,
         "VOLUME",
-        "Which volume is printed, from 1 to 4,294,967,295; the command conflicts tells how many there are",
+        "Which volume is printed, from 1 to 4,294,967,295; the command conflicts prints how many there are",
     )
     .value_parser(clap::value_parser!(u32).range(1..))
 }

@@ -9,7 +9,7 @@ fn are_digits(bytes: &[u8]) -> bool
     bytes.iter().all(|byte| byte.is_ascii_digit())
 }
 
-/// The number of one to nine decimal digits; None of any other text. Takes no memory.
+/// The number of one to nine decimal digits; None for any other text. Takes no memory.
 pub(crate) fn read_number(text: &str) -> Option<u32>
     ensures { result ≡ number_of_text text.now }
 {

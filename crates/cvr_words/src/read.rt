@@ -73,6 +73,10 @@ pub fn read_line(alloc: Global, words: &[String]) -> Result<Request, LineFault>
 
 /// The request of the words that stand after the program's name.
 ///
+/// No clause says what a file is, whether the office of a step is there, or which texts help and
+/// refused words have; nor, at `help` and a name that is no command, whether `clap` answers help or
+/// refuses.
+///
 /// # Errors
 /// `Refused` where no command takes the words, or none stands; `Help` where they ask for help;
 /// `BadStep` with the place of the first step of a drill that has no form; `Memory`.

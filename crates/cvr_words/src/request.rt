@@ -50,7 +50,7 @@ pub struct Step {
     pub act: Act,
 }
 
-/// What a step does. Offices are told by their numbers, from 1, as in the words.
+/// What a step does. It names offices by their numbers, from 1, as in the words.
 #[derive(Clone, Copy, Debug, PartialEq, Eq)]
 pub enum Act {
     /// An office takes in a file.

@@ -29,7 +29,7 @@ fn read_exchange<'a>(text: &'a str) -> Option<Form<'a>>
     Some(Form::Exchange(read_number(from)?, read_number(to)?))
 }
 
-/// The form of a step; None of a text that has none. Takes no memory.
+/// The form of a step; None for a text that has none. Takes no memory.
 #[tactic(auto, unfolding(crate::specs::Step::step_form))]
 pub(crate) fn read_step<'a>(text: &'a str) -> Option<Form<'a>>
     ensures { option_map form_of result ≡ step_form text.now }

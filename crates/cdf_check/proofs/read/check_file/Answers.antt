@@ -6,5 +6,7 @@ use Rattle.cdf_check.proofs.read.check_file.Goals as goal
 pub returns-in-Ok-Some : goal.returns-in-Ok-Some
 returns-in-Ok-Some g c =
     let h = rw c.in-Ok-Some.field-0-is at c.in-Ok-Some.ensures in
-    let value = value_of_text c.args.bytes.now c.in_ok-text.text.now h.0 (search rules) (search rules) h.1 in
-    answered _ c.args.definition.now c.args.bytes.now h.0 (grind arith, value) c.judge.result (c.judge.ensures h.0 h.1)
+    let value = value_of_text c.args.bytes.now c.in_ok-text.text.now h.0 (search rules)
+    (search rules) h.1 in
+    answered _ c.args.definition.now c.args.bytes.now h.0 (grind arith, value) c.judge.result
+    (c.judge.ensures h.0 h.1)

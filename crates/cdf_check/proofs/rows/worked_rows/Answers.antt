@@ -13,13 +13,18 @@ returns c = record {
   one_file = ascii_refusal row.definition_file row.one_file _ refl refl refl refl;
   first_fault = ascii_refusal row.definition_file row.two_faults_file _ refl refl refl refl;
   fraction_first = ascii_refusal row.definition_file row.fraction_file _ refl refl refl refl;
-  fractional_votes = ascii_refusal row.definition_file row.fractional_votes_file _ refl refl refl refl;
+  fractional_votes =
+      ascii_refusal row.definition_file row.fractional_votes_file _ refl refl refl refl;
   escaped_path = ascii_refusal row.definition_file row.escaped_file _ refl refl refl refl;
   repeated_snapshot = ascii_refusal row.definition_file row.repeated_id_file _ refl refl refl refl;
-  other_selection = ascii_refusal row.definition_file row.other_selection_file _ refl refl refl refl;
-  unknown_contest = ascii_refusal row.definition_file row.unknown_contest_file _ refl refl refl refl;
-  unknown_current = ascii_refusal row.definition_file row.unknown_current_file _ refl refl refl refl;
+  other_selection =
+      ascii_refusal row.definition_file row.other_selection_file _ refl refl refl refl;
+  unknown_contest =
+      ascii_refusal row.definition_file row.unknown_contest_file _ refl refl refl refl;
+  unknown_current =
+      ascii_refusal row.definition_file row.unknown_current_file _ refl refl refl refl;
   other_election = ascii_refusal row.definition_file row.other_election_file _ refl refl refl refl;
   other_unit = ascii_refusal row.definition_file row.other_unit_file _ refl refl refl refl;
-  reference_first = ascii_refusal row.definition_file row.other_unit_and_election_file _ refl refl refl refl;
+  reference_first =
+      ascii_refusal row.definition_file row.other_unit_and_election_file _ refl refl refl refl;
 }

@@ -10,5 +10,7 @@ agrees-requires c =
     let vs = c.items_at-item-items.result.now in
     let lt : c.loop-place.place < length vs = search rules in
     let is : c.item-item.result ≡ get_or vs c.loop-place.place c.item-item.result = search rules in
-    let whole : list_any has_float (map view vs) ≡ false = ap (list_any has_float) c.items_at-item-items.ensures ∙ whole_array (view c.args.value.now) c.args.name.now c.requires in
+    let whole : list_any has_float (map view vs)
+    ≡ false = ap (list_any has_float) c.items_at-item-items.ensures
+    ∙ whole_array (view c.args.value.now) c.args.name.now c.requires in
     whole_there vs c.loop-place.place c.item-item.result lt is whole

@@ -1,4 +1,5 @@
-use Rattle.cdf_form.proofs.FormParts.{is_an_array, items_have_form, items_are_few, items_are_some, items_are_apart}
+use Rattle.cdf_form.proofs.FormParts.{is_an_array, items_have_form, items_are_few, items_are_some}
+use Rattle.cdf_form.proofs.FormParts.{items_are_apart}
 use Rattle.cdf_form.proofs.law.items_by_row.Goals as goal
 
 pub returns : goal.returns

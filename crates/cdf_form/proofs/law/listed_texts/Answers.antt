@@ -1,4 +1,6 @@
-use Rattle.cdf_form.proofs.Listings.{snapshot_kind_list, cvr_status_list, contest_status_list, selection_status_list, position_status_list, indication_list, allocation_list, report_kind_list, vote_variation_list}
+use Rattle.cdf_form.proofs.Listings.{snapshot_kind_list, cvr_status_list, contest_status_list}
+use Rattle.cdf_form.proofs.Listings.{selection_status_list, position_status_list, indication_list}
+use Rattle.cdf_form.proofs.Listings.{allocation_list, report_kind_list, vote_variation_list}
 use Rattle.cdf_form.proofs.law.listed_texts.Goals as goal
 
 pub returns : goal.returns

@@ -1,4 +1,5 @@
-use Rattle.cdf_form.proofs.FormParts.{text_has_form, may_be_text, must_be_text, must_text_in, must_have_form}
+use Rattle.cdf_form.proofs.FormParts.{text_has_form, may_be_text, must_be_text, must_text_in}
+use Rattle.cdf_form.proofs.FormParts.{must_have_form}
 use Rattle.cdf_form.proofs.law.texts_by_row.Goals as goal
 
 pub returns : goal.returns

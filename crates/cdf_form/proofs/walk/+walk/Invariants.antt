@@ -23,11 +23,14 @@ decreases-walk_items l = 4 * items_weight (items_view l.items.now)
 
 -- the first fault of the rows that are left is that of all
 abbrev pub invariant-walk_rows-loop-row : goal.invariant-walk_rows-loop-row
-invariant-walk_rows-loop-row l = first (rows_faults (member_look (view l.value)) l.mark (entries_of (drop l.row-index l.rows))) ≡ first (rows_faults (member_look (view l.value)) l.mark (entries_of l.rows))
+invariant-walk_rows-loop-row l = first (rows_faults (member_look (view l.value)) l.mark
+    (entries_of (drop l.row-index l.rows)))
+    ≡ first (rows_faults (member_look (view l.value)) l.mark (entries_of l.rows))
 
 abbrev pub invariant-walk_items-loop-place : goal.invariant-walk_items-loop-place
 invariant-walk_items-loop-place l = record {
   texts : List (List ℕ);
   seen : HasTexts l.seen texts;
-  rest : first (items_faults (items_view (drop l.place l.items)) l.leaf l.key l.place texts) ≡ first (items_faults (items_view l.items) l.leaf l.key 0 []);
+  rest : first (items_faults (items_view (drop l.place l.items)) l.leaf l.key l.place texts)
+      ≡ first (items_faults (items_view l.items) l.leaf l.key 0 []);
 }

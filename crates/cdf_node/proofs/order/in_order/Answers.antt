@@ -5,5 +5,6 @@ use Rattle.cdf_node.proofs.order.in_order.Goals as goal
 
 pub returns : goal.returns
 returns c =
-    let stable = c.sort_by_key.ensures.stable (λ e. e.0) (answers_always _ _ _ (λ f a r g called. grind (arith, called))) in
+    let stable = c.sort_by_key.ensures.stable (λ e. e.0)
+    (answers_always _ _ _ (λ f a r g called. grind (arith, called))) in
     rw (← in_order-stable _ _ stable) c.last_of_each.ensures

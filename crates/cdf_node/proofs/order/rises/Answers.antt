@@ -5,4 +5,6 @@ use Rattle.cdf_node.proofs.order.rises.Goals as goal
 
 pub returns : goal.returns
 returns c =
-    rises_answer c.args.members.now c.is_sorted_by.result (c.is_sorted_by.ensures.cases is_before (answers_always _ _ _ (λ f a r g called. grind (arith, called))))
+    rises_answer c.args.members.now c.is_sorted_by.result
+    (c.is_sorted_by.ensures.cases is_before
+    (answers_always _ _ _ (λ f a r g called. grind (arith, called))))

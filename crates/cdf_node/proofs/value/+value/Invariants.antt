@@ -20,7 +20,8 @@ abbrev pub decreases-read_array-items : goal.decreases-read_array-items
 decreases-read_array-items l = length l.reader
 
 abbrev pub invariant-read_object-members : goal.invariant-read_object-members
-invariant-read_object-members l = InObject l.depth l.initial.reader (in_order l.found.items) l.reader
+invariant-read_object-members l =
+    InObject l.depth l.initial.reader (in_order l.found.items) l.reader
 
 abbrev pub decreases-read_object-members : goal.decreases-read_object-members
 decreases-read_object-members l = length l.reader

@@ -9,4 +9,5 @@ returns c =
     let id = c.in_ok-from_str.field-0 in
     let text : string_bytes id ≡ c.args.id.now = search rules in
     let lacks : is_some (get_by_text c.args.places.now c.args.id.now) ≡ false = search rules in
-    noted_text c.args.places.now c.insert.new.self id c.args.id.now c.args.place text lacks c.in_ok-insert.ensures.updates
+    noted_text c.args.places.now c.insert.new.self id c.args.id.now c.args.place text lacks
+    c.in_ok-insert.ensures.updates

@@ -4,4 +4,8 @@ use Rattle.cdf_parts.proofs.ReadsBack.{same_text}
 use Rattle.cdf_parts.proofs.text_law.one_text.Goals as goal
 
 pub returns : goal.returns
-returns c d e p q = (same_text d e p.well p.whole p.shallow q.well q.whole q.shallow, ap compact_text)
+returns c d e p q = (
+  same_text d e p.well p.whole p.shallow q.well q.whole q.shallow,
+  ap
+      compact_text,
+)

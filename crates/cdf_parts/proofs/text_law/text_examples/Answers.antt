@@ -1,6 +1,8 @@
-use Rattle.std.proofs.Common.{◌≡◌, ℕ, slice_index, codes, Option, Some, None, Greater, Less, refl, ap, arith}
+use Rattle.std.proofs.Common.{◌≡◌, ℕ, slice_index, codes, Option, Some, None, Greater, Less, refl}
+use Rattle.std.proofs.Common.{ap, arith}
 use Rattle.std.specs.Fmt.{digits}
-use Rattle.serde_json.specs.Data.{Data, null, boolean, number, string, array, object, no_members, member}
+use Rattle.serde_json.specs.Data.{Data, null, boolean, number, string, array, object, no_members}
+use Rattle.serde_json.specs.Data.{member}
 use Rattle.serde_json.proofs.OnLiterals.{serde_json_on_literals}
 use Rattle.cdf_parts.specs.Proper.{IsWell}
 use Rattle.cdf_parts.specs.PartOf.{itself, of_member, of_item}
@@ -29,7 +31,8 @@ returns-clause-part c = (
   (0, omega arith, refl),
   of_member (codes "CVR") report _ refl (
       of_item 0 _ (object cvr_members) refl (
-      of_member (codes "CVRSnapshot") (object cvr_members) _ refl (of_item 0 _ snapshot refl itself))),
+      of_member (codes "CVRSnapshot") (object cvr_members) _ refl
+      (of_item 0 _ snapshot refl itself))),
   refl,
 )
 

@@ -4,7 +4,13 @@ use Rattle.cdf_node.proofs.Lemmas.{array_begun, array_next, array_over, array_no
 use Rattle.cdf_pull.proofs.fold.fold_items.Goals as goal
 
 pub items-init : goal.items-init
-items-init g c = record { ds = []; place = omega arith; room = omega arith; read = array_begun c.args.depth c.args.reader.now (omega arith); keeps = c.none-kept.ensures }
+items-init g c = record {
+  ds = [];
+  place = omega arith;
+  room = omega arith;
+  read = array_begun c.args.depth c.args.reader.now (omega arith);
+  keeps = c.none-kept.ensures;
+}
 
 pub items-preserved : goal.items-preserved
 items-preserved g c =
@@ -20,7 +26,12 @@ items-preserved g c =
     }
 
 pub returns-clause-items : goal.returns-clause-items
-returns-clause-items g c = (c.items.invariant.ds, array_over c.items.invariant.read (grind arith), c.items.invariant.keeps)
+returns-clause-items g c = (
+  c.items.invariant.ds,
+  array_over c.items.invariant.read (grind arith),
+  c.items.invariant.keeps,
+)
 
 pub returns-in_err-item-clause-unread : goal.returns-in_err-item-clause-unread
-returns-in_err-item-clause-unread g c unread = array_none c.items.invariant.read {t = c.take_end_array.new.self} (grind arith) (grind arith)
+returns-in_err-item-clause-unread g c unread =
+    array_none c.items.invariant.read {t = c.take_end_array.new.self} (grind arith) (grind arith)

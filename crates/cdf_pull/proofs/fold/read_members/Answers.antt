@@ -2,9 +2,10 @@ use Rattle.std.proofs.Common.{◌≡◌, bytes_eq, ap, ap₂, ◌∙◌, arith}
 use Rattle.std.proofs.lemmas.List.Sums.{fold-append}
 use Rattle.serde_json.specs.Data.{no_members, put}
 use Rattle.cdf_node.specs.Order.{in_order}
-use Rattle.cdf_node.proofs.Lemmas.{object_begun, object_next, object_over, object_none, object_no_key}
-use Rattle.cdf_pull.specs.Fold.{emptied}
-use Rattle.cdf_pull.proofs.Folding.{items_found-put, put-changed}
+use Rattle.cdf_node.proofs.Lemmas.{object_begun, object_next, object_over, object_none}
+use Rattle.cdf_node.proofs.Lemmas.{object_no_key}
+use Rattle.cdf_pull.specs.Fold.{without_items}
+use Rattle.cdf_pull.proofs.Folding.{items_found-put, put-with_value_at}
 use Rattle.cdf_pull.proofs.fold.read_members.Goals as goal
 
 pub members-init : goal.members-init
@@ -26,7 +27,8 @@ members-preserved g c =
     record {
       ms = put k d l.ms;
       read = object_next l.read {k = k} (grind arith) member.1 c.in_ok-member.ensures.shorter;
-      left = rw (c.in_ok-push.ensures.items, fold-append) (ap₂ (put k) member.2 l.left ∙ put-changed name emptied k d l.ms);
+      left = rw (c.in_ok-push.ensures.items, fold-append)
+          (ap₂ (put k) member.2 l.left ∙ put-with_value_at name without_items k d l.ms);
       keeps = rw (← items_found-put name k d l.ms) (member.3 _ l.keeps);
     }
 
@@ -36,7 +38,9 @@ returns-clause-members g c =
     (l.ms, object_over l.read (grind arith), c.in_ok-in_order.ensures ∙ l.left, l.keeps)
 
 pub returns-in_err-key-clause-unread : goal.returns-in_err-key-clause-unread
-returns-in_err-key-clause-unread g c unread = object_no_key c.members.invariant.read c.in_err-key.ensures.value
+returns-in_err-key-clause-unread g c unread =
+    object_no_key c.members.invariant.read c.in_err-key.ensures.value
 
 pub returns-in_err-member-clause-unread : goal.returns-in_err-member-clause-unread
-returns-in_err-member-clause-unread g c unread = object_none c.members.invariant.read {k = c.in-Some.key.now} {s = c.next_key.new.self} (grind arith) (grind arith)
+returns-in_err-member-clause-unread g c unread = object_none c.members.invariant.read
+    {k = c.in-Some.key.now} {s = c.next_key.new.self} (grind arith) (grind arith)

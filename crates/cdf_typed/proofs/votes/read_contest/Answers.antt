@@ -6,7 +6,8 @@ use Rattle.cdf_typed.proofs.votes.read_contest.Goals as goal
 pub returns : goal.returns
 returns c =
     let contests = c.args.contests.now in
-    let told = ap (λ ids. map (λ v. selection_vote_of ids (view v)) c.selections.result.now) c.selection_ids.ensures in
+    let told = ap (λ ids. map (λ v. selection_vote_of ids (view v)) c.selections.result.now)
+    c.selection_ids.ensures in
     let selections = c.in_ok-read_selections.ensures ∙ told ∙ c.selections.ensures contests in
     λ i. record {
       contest = c.contest.ensures i;

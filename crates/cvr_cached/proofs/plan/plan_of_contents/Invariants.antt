@@ -8,6 +8,7 @@ use Rattle.cvr_cached.proofs.plan.plan_of_contents.Given as goal
 -- what came to the names so far is planned, and the others are left
 abbrev pub invariant-loop-name : goal.invariant-loop-name
 invariant-loop-name l = record {
-  planned : IsPlanned (get name_cmp l.records) (λ k. facts_at (get name_cmp l.theirs k)) (first_name l.name-iterator) l.plan.contents.items l.plan.new_facts;
+  planned : IsPlanned (get name_cmp l.records) (λ k. facts_at (get name_cmp l.theirs k))
+      (first_name l.name-iterator) l.plan.contents.items l.plan.new_facts;
   left : AreLeft l.theirs.entries l.name-iterator;
 }

@@ -9,8 +9,11 @@ use Rattle.cvr_cached.proofs.rows.add_rows.Given as goal
 abbrev pub invariant-loop-content : goal.invariant-loop-content
 invariant-loop-content l = record {
   same : l.contents ≡ l.fn.contents;
-  cells : (q : RowKey) (j : Column) → cell l.totals.rows q j ≡ cell l.fn.totals.rows q j + sum_by (λ c. shares (pairs_of c.1) q j) (take l.content-index l.fn.contents);
+  cells : (q : RowKey) (j : Column) → cell l.totals.rows q j
+      ≡ cell l.fn.totals.rows q j + sum_by (λ c. shares (pairs_of c.1) q j)
+      (take l.content-index l.fn.contents);
   stand : (q : RowKey) → has_row l.totals.rows q ≡ has_row l.fn.totals.rows q;
-  moves : l.totals.moves ≡ l.fn.totals.moves + sum_by (λ c. length (pairs_of c.1)) (take l.content-index l.fn.contents);
+  moves : l.totals.moves ≡ l.fn.totals.moves
+      + sum_by (λ c. length (pairs_of c.1)) (take l.content-index l.fn.contents);
   contests : l.totals.contests ≡ l.fn.totals.contests;
 }

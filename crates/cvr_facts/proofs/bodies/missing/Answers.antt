@@ -12,12 +12,16 @@ loop-body-preserved c =
     let theirs = c.args.theirs.now in
     let lacks = is_missing text_cmp c.args.mine.now in
     let test : lacks x ≡ c.is_err.result =
-    sym (is_err-search text_total text_exact c.args.mine.now x c.binary_search.result c.requires c.binary_search.ensures.bound c.binary_search.ensures.position) ∙ sym c.is_err.ensures.value
+    sym (is_err-search text_total text_exact c.args.mine.now x c.binary_search.result c.requires
+    c.binary_search.ensures.bound c.binary_search.ensures.position) ∙ sym c.is_err.ensures.value
     in
     elim c.if-is_err.branch [
       | then-is_err+in_ok-copy+in_ok-push w ↦
-          ap (λ v. v.items) w.more-is ∙ (w.in_ok-push.ensures.items ∙ (ap (λ b. kept ++ b ∷ []) w.in_ok-copy.ensures
-          ∙ filter-pushed lacks theirs kept c.loop-body.body-index x c.loop-body-test.true c.body-item.is c.loop-body.invariant (test ∙ w.if-is_err.true)))
+          ap (λ v. v.items) w.more-is ∙
+          (w.in_ok-push.ensures.items ∙ (ap (λ b. kept ++ b ∷ []) w.in_ok-copy.ensures
+          ∙ filter-pushed lacks theirs kept c.loop-body.body-index x c.loop-body-test.true
+          c.body-item.is c.loop-body.invariant (test ∙ w.if-is_err.true)))
       | else-is_err w ↦
-          ap (λ v. v.items) w.more-is ∙ filter-passed lacks theirs kept c.loop-body.body-index x c.loop-body-test.true c.body-item.is c.loop-body.invariant (test ∙ w.if-is_err.false)
+          ap (λ v. v.items) w.more-is ∙ filter-passed lacks theirs kept c.loop-body.body-index x
+          c.loop-body-test.true c.body-item.is c.loop-body.invariant (test ∙ w.if-is_err.false)
     ]

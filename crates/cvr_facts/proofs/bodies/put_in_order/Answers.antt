@@ -11,7 +11,8 @@ use Rattle.cvr_facts.proofs.Sorted.{from_list-same, list_any-dedup}
 use Rattle.cvr_facts.proofs.bodies.put_in_order.Goals as goal
 
 pub returns-clause-sorted : goal.returns-clause-sorted
-returns-clause-sorted c = rw (dedup_is (pointwise ◌==◌) _ _ c.dedup.ensures.filtered) (IsStrictlySortedBy-dedup text_total texts_ties _ c.sort_unstable.ensures.sorted)
+returns-clause-sorted c = rw (dedup_is (pointwise ◌==◌) _ _ c.dedup.ensures.filtered)
+    (IsStrictlySortedBy-dedup text_total texts_ties _ c.sort_unstable.ensures.sorted)
 
 pub returns-clause-members : goal.returns-clause-members
 returns-clause-members c = from_list-same text_total text_exact _ _ (λ q.

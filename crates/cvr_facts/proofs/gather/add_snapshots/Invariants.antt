@@ -3,4 +3,6 @@ use Rattle.cvr_facts.specs.Lists.{told_snapshot}
 use Rattle.cvr_facts.proofs.gather.add_snapshots.Given as goal
 
 abbrev pub invariant-loop-snapshot : goal.invariant-loop-snapshot
-invariant-loop-snapshot l = l.facts.items ≡ l.fn.facts.items ++ map (told_snapshot l.definition.contests l.cvr) (take l.snapshot-index l.cvr.snapshots)
+invariant-loop-snapshot l = l.facts.items
+    ≡ l.fn.facts.items ++ map (told_snapshot l.definition.contests l.cvr)
+    (take l.snapshot-index l.cvr.snapshots)

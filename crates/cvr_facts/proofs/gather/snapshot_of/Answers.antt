@@ -5,7 +5,8 @@ use Rattle.cvr_facts.proofs.gather.snapshot_of.Goals as goal
 
 pub sums_in-requires : goal.sums_in-requires
 sums_in-requires c =
-    rw (c.contests.ensures, map-id c.as_slice.result.now, c.as_slice.ensures) (AreInRange-from_snapshot c.args.definition.now.contests c.args.snapshot.now c.requires)
+    rw (c.contests.ensures, map-id c.as_slice.result.now, c.as_slice.ensures)
+    (AreInRange-from_snapshot c.args.definition.now.contests c.args.snapshot.now c.requires)
 
 pub returns : goal.returns
 returns c =

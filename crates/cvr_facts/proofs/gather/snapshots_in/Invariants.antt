@@ -4,4 +4,5 @@ use Rattle.cvr_facts.specs.Lists.{told_snapshots}
 use Rattle.cvr_facts.proofs.gather.snapshots_in.Given as goal
 
 abbrev pub invariant-loop-cvr : goal.invariant-loop-cvr
-invariant-loop-cvr l = l.facts.items ≡ flat_map (told_snapshots l.definition.contests) (take l.cvr-index l.cvrs)
+invariant-loop-cvr l =
+    l.facts.items ≡ flat_map (told_snapshots l.definition.contests) (take l.cvr-index l.cvrs)

@@ -5,4 +5,6 @@ use Rattle.cvr_facts.specs.Lists.{told_under}
 use Rattle.cvr_facts.proofs.kept.add_snapshots.Given as goal
 
 abbrev pub invariant-loop-snapshot : goal.invariant-loop-snapshot
-invariant-loop-snapshot l = l.facts.items ≡ l.fn.facts.items ++ map (told_under l.contests l.key) (map (snapshot_of l.contests) (map view (take l.snapshot-index l.snapshots)))
+invariant-loop-snapshot l = l.facts.items
+    ≡ l.fn.facts.items ++ map (told_under l.contests l.key)
+    (map (snapshot_of l.contests) (map view (take l.snapshot-index l.snapshots)))

@@ -1,4 +1,5 @@
-use Rattle.cvr_facts.proofs.Choosing.{fact_total, rank, undated, earlier, bytes, equal, bodies, exact}
+use Rattle.cvr_facts.proofs.Choosing.{fact_total, rank, undated, earlier, bytes, equal, bodies}
+use Rattle.cvr_facts.proofs.Choosing.{exact}
 use Rattle.cvr_facts.proofs.law.choosing.Goals as goal
 
 pub returns : goal.returns

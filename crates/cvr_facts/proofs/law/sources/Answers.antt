@@ -1,4 +1,5 @@
-use Rattle.cvr_facts.proofs.Sources.{fact_source, device_listed, header_listed, snapshot_listed, fact_held}
+use Rattle.cvr_facts.proofs.Sources.{fact_source, device_listed, header_listed, snapshot_listed}
+use Rattle.cvr_facts.proofs.Sources.{fact_held}
 use Rattle.cvr_facts.proofs.law.sources.Goals as goal
 
 pub returns : goal.returns

@@ -9,30 +9,48 @@ use Rattle.cdf_definition.specs.Sample.{definition_file}
 use Rattle.cvr_facts.specs.Lists.{told_facts, told_header, told_snapshots}
 use Rattle.cvr_facts.specs.Rows as row
 use Rattle.cvr_facts.proofs.rows.worked_rows.Goals as goal
-use Rattle.cvr_facts.proofs.WorkedRows.{facts-ascii, both-ascii, len-file, len-files, current-files, header-files}
+use Rattle.cvr_facts.proofs.WorkedRows.{facts-ascii, both-ascii, len-file, len-files, current-files}
+use Rattle.cvr_facts.proofs.WorkedRows.{header-files}
 
 pub returns : goal.returns
 unfolding serde_json_on_literals jiff_on_literals digits
 returns c = record {
   facts_of_file = facts-ascii row.every_kind_file refl;
   facts_told_of_report =
-      both-ascii (λ d file. let contests = (frame_of d).contests in told_facts contests (report_of contests file)) definition_file row.every_kind_file _ refl refl refl;
+      both-ascii (λ d file. let contests = (frame_of d).contests in
+      told_facts contests (report_of contests file)) definition_file row.every_kind_file _ refl
+      refl refl;
   header_of_report =
-      both-ascii (λ d file. map told_header (report_of (frame_of d).contests file).cvrs) definition_file row.every_kind_file _ refl refl refl;
+      both-ascii (λ d file. map told_header (report_of (frame_of d).contests file).cvrs)
+      definition_file row.every_kind_file _ refl refl refl;
   snapshot_of_report =
-      both-ascii (λ d file. let contests = (frame_of d).contests in flat_map (told_snapshots contests) (report_of contests file).cvrs)
+      both-ascii (λ d file. let contests = (frame_of d).contests in
+      flat_map (told_snapshots contests) (report_of contests file).cvrs)
       definition_file row.every_kind_file _ refl refl refl;
   numbers_of_report =
-      both-ascii (λ d file. let contests = (frame_of d).contests in flat_map (told_snapshots contests) (report_of contests file).cvrs)
+      both-ascii (λ d file. let contests = (frame_of d).contests in
+      flat_map (told_snapshots contests) (report_of contests file).cvrs)
       definition_file row.numbered_file _ refl refl refl;
   facts_of_two_cvrs = len-file row.two_cvrs_file _ refl refl;
   other_spelling = facts-ascii row.spaced_file refl ∙ sym (facts-ascii row.scan_file refl);
   order_of_choosing = (refl, refl, refl, refl);
   instants = current-files row.instant_files row.the_record _ refl refl;
   same_instant = current-files row.same_instant_files row.the_record _ refl refl;
-  adjudicated = (current-files row.adjudicated_files row.the_record _ refl refl, len-files row.adjudicated_files _ refl refl);
+  adjudicated = (
+    current-files row.adjudicated_files row.the_record _ refl refl,
+    len-files
+        row.adjudicated_files _ refl refl,
+  );
   dated_reading = current-files row.dated_files row.the_record _ refl refl;
   file_calls_another_current = current-files row.reading_files row.the_record _ refl refl;
-  one_id_two_bodies = (current-files row.two_bodies_files row.the_record _ refl refl, len-files row.two_bodies_files _ refl refl);
-  unit_moves = (header-files row.moved_files row.the_record _ refl refl, len-files row.moved_files _ refl refl);
+  one_id_two_bodies = (
+    current-files row.two_bodies_files row.the_record _ refl refl,
+    len-files
+        row.two_bodies_files _ refl refl,
+  );
+  unit_moves = (
+    header-files row.moved_files row.the_record _ refl refl,
+    len-files row.moved_files _
+        refl refl,
+  );
 }

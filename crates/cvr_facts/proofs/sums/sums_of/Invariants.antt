@@ -7,7 +7,8 @@ use Rattle.cvr_facts.proofs.sums.sums_of.Given as goal
 
 abbrev pub invariant-loop-selection : goal.invariant-loop-selection
 invariant-loop-selection g l =
-    let told = g.V.Selection.AsSelectionVote.selection_vote (g.V.AsContestVote.selection_ids l.contests l.vote) in
+    let told = g.V.Selection.AsSelectionVote.selection_vote
+    (g.V.AsContestVote.selection_ids l.contests l.vote) in
     let seen = take l.selection-index (map told l.selection-items) in
     record {
       long : length l.votes.items ≡ length (selections_at l.contests l.contest);

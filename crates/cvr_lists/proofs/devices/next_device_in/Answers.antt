@@ -1,7 +1,8 @@
 use Rattle.std.proofs.Common.{rules, option_map, refl, ap, ◌∙◌}
 use Rattle.std.proofs.lemmas.List.Sorted.{IsPartitionPoint-from_clause}
 use Rattle.std.proofs.lemmas.Option.{slice_get_read}
-use Rattle.cvr_office.proofs.Lemmas.{device_passes, devices_parted, next_device_none, next_device_some}
+use Rattle.cvr_office.proofs.Lemmas.{device_passes, devices_parted, next_device_none}
+use Rattle.cvr_office.proofs.Lemmas.{next_device_some}
 use Rattle.cvr_lists.proofs.devices.next_device_in.Goals as goal
 
 pub returns-in_err-get : goal.returns-in_err-get
@@ -9,9 +10,12 @@ returns-in_err-get c =
     let after = option_map (λ i. i.now) c.args.after in
     let xs = c.args.facts.now in
     let point =
-    IsPartitionPoint-from_clause (device_passes xs c.requires after) xs c.partition_point-place.result c.partition_point-place.ensures.partitioned (devices_parted xs c.requires after) (λ a r q k. search rules)
+    IsPartitionPoint-from_clause (device_passes xs c.requires after) xs
+    c.partition_point-place.result c.partition_point-place.ensures.partitioned
+    (devices_parted xs c.requires after) (λ a r q k. search rules)
     in
-    let past = next_device_none xs c.requires after c.partition_point-place.result point (search rules) in
+    let past =
+    next_device_none xs c.requires after c.partition_point-place.result point (search rules) in
     ap (option_map (λ i. i.now)) c.from_residual.ensures ∙ past
 
 pub returns : goal.returns
@@ -19,7 +23,10 @@ returns c =
     let after = option_map (λ i. i.now) c.args.after in
     let xs = c.args.facts.now in
     let point =
-    IsPartitionPoint-from_clause (device_passes xs c.requires after) xs c.partition_point-place.result c.partition_point-place.ensures.partitioned (devices_parted xs c.requires after) (λ a r q k. search rules)
+    IsPartitionPoint-from_clause (device_passes xs c.requires after) xs
+    c.partition_point-place.result c.partition_point-place.ensures.partitioned
+    (devices_parted xs c.requires after) (λ a r q k. search rules)
     in
     let x = c.in_ok-get.field-0.now in
-    c.device_id.ensures ∙ next_device_some xs c.requires after c.partition_point-place.result point x (slice_get_read xs _ _ x refl (search rules) (search rules))
+    c.device_id.ensures ∙ next_device_some xs c.requires after c.partition_point-place.result point
+    x (slice_get_read xs _ _ x refl (search rules) (search rules))

@@ -13,9 +13,12 @@ returns c =
     let sorted = c.sort_unstable_by.new.self.items in
     record {
       rising = map (λ s. s.now) sorted;
-      same = subst (λ xs. IsPermutation xs (map (λ s. s.now) sorted)) c.in_ok-snapshots.ensures (IsPermutation-map (λ s. s.now) _ _ c.sort_unstable_by.ensures.permutation);
+      same = subst (λ xs. IsPermutation xs (map (λ s. s.now) sorted)) c.in_ok-snapshots.ensures
+          (IsPermutation-map (λ s. s.now) _ _ c.sort_unstable_by.ensures.permutation);
       sorted =
           sorted-map (λ s. s.now) (λ x y. is_lt (fact_choice x y)) sorted
-          (c.sort_unstable_by.ensures.sorted _ (ranks_by fact_total (λ s. s.now)) (answers_always _ _ _ (λ f a r g h. search rules)));
-      is = ap (map (λ s. s.now)) c.reverse.ensures.items ∙ map-reverse (λ (s : Bor SnapshotFact). s.now) sorted;
+          (c.sort_unstable_by.ensures.sorted _ (ranks_by fact_total (λ s. s.now))
+          (answers_always _ _ _ (λ f a r g h. search rules)));
+      is = ap (map (λ s. s.now)) c.reverse.ensures.items
+          ∙ map-reverse (λ (s : Bor SnapshotFact). s.now) sorted;
     }

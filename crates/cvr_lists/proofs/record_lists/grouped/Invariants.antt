@@ -7,5 +7,6 @@ use Rattle.cvr_lists.proofs.record_lists.grouped.Given as goal
 abbrev pub invariant-loop-id : goal.invariant-loop-id
 invariant-loop-id l = record {
   ids_are : map (λ i. i.id.now) l.groups.items ≡ map (λ i. i.now) (take l.id-index l.id-items);
-  each : (i : IdFacts) → Contains l.groups.items i → IsFalling (snapshots (with_id i.id.now l.run)) (map (λ s. s.now) i.snapshots.items);
+  each : (i : IdFacts) → Contains l.groups.items i
+      → IsFalling (snapshots (with_id i.id.now l.run)) (map (λ s. s.now) i.snapshots.items);
 }

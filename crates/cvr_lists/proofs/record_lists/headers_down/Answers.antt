@@ -13,13 +13,18 @@ loop-fact-preserved c =
     elim c.match-fact.branch [
       | in-Header+in_ok-push w ↦
           let more = header_taken _ _ _ c.loop-fact-test.true c.fact-item.is _ w.in-Header.is in
-          ap (λ v. map (λ h. h.now) v.items) w.headers-is ∙ pushed (λ h. h.now) _ _ _ _ _ _ w.in_ok-push.ensures.items refl c.loop-fact.invariant more
+          ap (λ v. map (λ h. h.now) v.items) w.headers-is
+          ∙ pushed (λ h. h.now) _ _ _ _ _ _ w.in_ok-push.ensures.items refl
+          c.loop-fact.invariant more
       | in_default w ↦
           ap (λ v. map (λ h. h.now) v.items) w.headers-is
-          ∙ (c.loop-fact.invariant ∙ sym (header_passed _ _ _ c.loop-fact-test.true c.fact-item.is w.in_default.not-Header))
+          ∙ (c.loop-fact.invariant ∙ sym
+          (header_passed _ _ _ c.loop-fact-test.true c.fact-item.is w.in_default.not-Header))
     ]
 
 pub returns : goal.returns
 returns c =
     let whole = take_all _ _ c.loop-fact-test.false in
-    ap (map (λ h. h.now)) c.reverse.ensures.items ∙ (map-reverse (λ (h : Bor HeaderFact). h.now) c.loop-fact.headers.items ∙ ap reverse (c.loop-fact.invariant ∙ ap headers whole))
+    ap (map (λ h. h.now)) c.reverse.ensures.items
+    ∙ (map-reverse (λ (h : Bor HeaderFact). h.now) c.loop-fact.headers.items
+    ∙ ap reverse (c.loop-fact.invariant ∙ ap headers whole))

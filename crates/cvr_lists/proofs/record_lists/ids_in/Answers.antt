@@ -15,14 +15,18 @@ loop-fact-preserved c =
       | in-Snapshot+in_ok-push w ↦
           let more = snapshot_taken _ _ _ c.loop-fact-test.true c.fact-item.is _ w.in-Snapshot.is in
           ap (λ v. map (λ i. i.now) v.items) w.ids-is
-          ∙ pushed (λ i. i.now) _ _ _ _ _ _ w.in_ok-push.ensures.items w.as_str.ensures c.loop-fact.invariant (ap (map (λ s. s.id)) more ∙ map-append (λ s. s.id) _ _)
+          ∙ pushed (λ i. i.now) _ _ _ _ _ _ w.in_ok-push.ensures.items w.as_str.ensures
+          c.loop-fact.invariant (ap (map (λ s. s.id)) more ∙ map-append (λ s. s.id) _ _)
       | in_default w ↦
           ap (λ v. map (λ i. i.now) v.items) w.ids-is
-          ∙ (c.loop-fact.invariant ∙ ap (map (λ s. s.id)) (sym (snapshot_passed _ _ _ c.loop-fact-test.true c.fact-item.is w.in_default.not-Snapshot)))
+          ∙ (c.loop-fact.invariant ∙ ap (map (λ s. s.id))
+          (sym (snapshot_passed _ _ _ c.loop-fact-test.true c.fact-item.is
+          w.in_default.not-Snapshot)))
     ]
 
 pub returns : goal.returns
 returns c =
     let whole = take_all _ _ c.loop-fact-test.false in
     ap (map (λ i. i.now)) (dedup_is _ _ _ c.dedup.ensures.filtered)
-    ∙ (map-dedup (λ (i : Bor (List ℕ)). i.now) _ bytes_eq (λ x y. refl) c.loop-fact.ids.items ∙ ap (dedup bytes_eq) (c.loop-fact.invariant ∙ ap ids whole))
+    ∙ (map-dedup (λ (i : Bor (List ℕ)). i.now) _ bytes_eq (λ x y. refl) c.loop-fact.ids.items
+    ∙ ap (dedup bytes_eq) (c.loop-fact.invariant ∙ ap ids whole))

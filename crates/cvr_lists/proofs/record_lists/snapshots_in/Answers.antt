@@ -9,8 +9,12 @@ loop-fact-preserved c =
     elim c.match-fact.branch [
       | in-Snapshot+in_ok-push w ↦
           let more = snapshot_taken _ _ _ c.loop-fact-test.true c.fact-item.is _ w.in-Snapshot.is in
-          ap (λ v. map (λ s. s.now) v.items) w.snapshots-is ∙ pushed (λ s. s.now) _ _ _ _ _ _ w.in_ok-push.ensures.items refl c.loop-fact.invariant more
+          ap (λ v. map (λ s. s.now) v.items) w.snapshots-is
+          ∙ pushed (λ s. s.now) _ _ _ _ _ _ w.in_ok-push.ensures.items refl
+          c.loop-fact.invariant more
       | in_default w ↦
           ap (λ v. map (λ s. s.now) v.items) w.snapshots-is
-          ∙ (c.loop-fact.invariant ∙ sym (snapshot_passed _ _ _ c.loop-fact-test.true c.fact-item.is w.in_default.not-Snapshot))
+          ∙ (c.loop-fact.invariant ∙ sym
+          (snapshot_passed _ _ _ c.loop-fact-test.true c.fact-item.is
+          w.in_default.not-Snapshot))
     ]

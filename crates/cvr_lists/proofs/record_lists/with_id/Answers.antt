@@ -11,8 +11,11 @@ returns c =
     let run = c.args.run.now in
     let order = id_order c.args.id.now in
     let up = id_order_rises run c.requires c.args.id.now in
-    let start = IsPartitionPoint-from_clause (λ y. is_lt (order y)) _ _ c.partition_point-start.ensures.partitioned (lesser_first order run up) (λ a r q k. search rules) in
+    let start = IsPartitionPoint-from_clause (λ y. is_lt (order y)) _ _
+    c.partition_point-start.ensures.partitioned (lesser_first order run up)
+    (λ a r q k. search rules) in
     let bound = c.partition_point-start.ensures.bound in
     let equal = equal_first order run up _ bound start _ refl in
-    let found = IsPartitionPoint-from_clause (λ y. is_eq (order y)) _ _ c.partition_point-end.ensures.partitioned equal (λ a r q k. search rules) in
+    let found = IsPartitionPoint-from_clause (λ y. is_eq (order y)) _ _
+    c.partition_point-end.ensures.partitioned equal (λ a r q k. search rules) in
     run_is order run up _ bound start _ refl _ c.partition_point-end.ensures.bound found

@@ -11,7 +11,8 @@ loop-fact-preserved c =
           let is = ap (option_map (λ s. s.now)) w.greatest-is ∙ ap Some w.greater.ensures in
           rw (more, is) (chosen_more _ _ _ c.loop-fact.invariant)
       | in_default w ↦
-          let same = snapshot_passed _ _ _ c.loop-fact-test.true c.fact-item.is w.in_default.not-Snapshot in
+          let same = snapshot_passed _ _ _ c.loop-fact-test.true c.fact-item.is
+          w.in_default.not-Snapshot in
           let is = ap (option_map (λ s. s.now)) w.greatest-is in
           rw (same, is) c.loop-fact.invariant
     ]

@@ -5,4 +5,5 @@ use Rattle.cvr_lists.proofs.OneRecord.{header_is}
 use Rattle.cvr_lists.proofs.records.header_in.Goals as goal
 
 pub returns : goal.returns
-returns c = header_is _ _ c.requires.rises c.requires.spelled _ (c.last_header.ensures ∙ ap (λ facts. last_or None (headers facts)) c.run_of.ensures)
+returns c = header_is _ _ c.requires.rises c.requires.spelled _
+    (c.last_header.ensures ∙ ap (λ facts. last_or None (headers facts)) c.run_of.ensures)

@@ -12,5 +12,7 @@ loop-fact-preserved c =
           ∙ sym (last_taken _ _ _ c.loop-fact-test.true c.fact-item.is _ w.in-Header.is)
       | in_default w ↦
           ap (option_map (λ h. h.now)) w.last-is
-          ∙ (c.loop-fact.invariant ∙ sym (ap (last_or None) (header_passed _ _ _ c.loop-fact-test.true c.fact-item.is w.in_default.not-Header)))
+          ∙ (c.loop-fact.invariant ∙ sym
+          (ap (last_or None) (header_passed _ _ _ c.loop-fact-test.true c.fact-item.is
+          w.in_default.not-Header)))
     ]

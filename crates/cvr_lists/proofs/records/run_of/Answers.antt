@@ -11,8 +11,11 @@ returns c =
     let facts = c.args.facts.now in
     let order = record_order c.args.key.now in
     let up = record_order_rises facts c.requires c.args.key.now in
-    let start = IsPartitionPoint-from_clause (λ y. is_lt (order y)) _ _ c.partition_point-start.ensures.partitioned (lesser_first order facts up) (λ a r q k. search rules) in
+    let start = IsPartitionPoint-from_clause (λ y. is_lt (order y)) _ _
+    c.partition_point-start.ensures.partitioned (lesser_first order facts up)
+    (λ a r q k. search rules) in
     let bound = c.partition_point-start.ensures.bound in
     let equal = equal_first order facts up _ bound start _ refl in
-    let found = IsPartitionPoint-from_clause (λ y. is_eq (order y)) _ _ c.partition_point-end.ensures.partitioned equal (λ a r q k. search rules) in
+    let found = IsPartitionPoint-from_clause (λ y. is_eq (order y)) _ _
+    c.partition_point-end.ensures.partitioned equal (λ a r q k. search rules) in
     run_is order facts up _ bound start _ refl _ c.partition_point-end.ensures.bound found

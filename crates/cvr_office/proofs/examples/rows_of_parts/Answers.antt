@@ -13,6 +13,7 @@ unfolding serde_json_on_literals jiff_on_literals digits
 returns c = record {
   first = (λ i. map (λ q. row-given contests first_part q i) keys) ∙ refl;
   second = (λ i. map (λ q. row-given contests second_part q i) keys) ∙ refl;
-  both = ap (λ s. map (row contests s) keys) (union-given first_part second_part) ∙ ((λ i. map (λ q. row-given contests (first_part ++ second_part) q i) keys) ∙ refl);
+  both = ap (λ s. map (row contests s) keys) (union-given first_part second_part)
+      ∙ ((λ i. map (λ q. row-given contests (first_part ++ second_part) q i) keys) ∙ refl);
   sums = (refl, refl, refl);
 }

@@ -1,4 +1,5 @@
-use Rattle.cvr_office.proofs.InParts.{rows_of_many, currents_of_many, headers_of_many, records_of_many}
+use Rattle.cvr_office.proofs.InParts.{rows_of_many, currents_of_many, headers_of_many}
+use Rattle.cvr_office.proofs.InParts.{records_of_many}
 use Rattle.cvr_office.proofs.law.many_parts.Goals as goal
 
 pub returns : goal.returns

@@ -8,4 +8,5 @@ use Rattle.cvr_office.proofs.playing.exchange.Goals as goal
 pub returns-then-from-to-clause-contents : goal.returns-then-from-to-clause-contents
 returns-then-from-to-clause-contents g c =
     let held = map g.O.Office.held c.args.offices.now in
-    subst (λ to. held ≡ contents_after [] (Exchange c.args.from to) (Accepted 0) held) c.if-from-to.true (sym (contents_after-itself [] c.args.from 0 held))
+    subst (λ to. held ≡ contents_after [] (Exchange c.args.from to) (Accepted 0) held)
+    c.if-from-to.true (sym (contents_after-itself [] c.args.from 0 held))

@@ -1,4 +1,5 @@
-use Rattle.std.proofs.Common.{◌≡◌, ◌<◌, ◌∙◌, ◌+◌, ◌∷◌, ℕ, List, [], ap, sym, subst, refl, length, map, get_or, take, arith}
+use Rattle.std.proofs.Common.{◌≡◌, ◌<◌, ◌∙◌, ◌+◌, ◌∷◌, ℕ, List, [], ap, sym, subst, refl, length}
+use Rattle.std.proofs.Common.{map, get_or, take, arith}
 use Rattle.std.proofs.lemmas.List.{length-map, length-append, take_all}
 use Rattle.std.specs.FinSet.{empty}
 use Rattle.cvr_office.specs.Reach.{content, history}
@@ -16,7 +17,8 @@ loop-event-init g c = record {
   listed = ap length c.in_ok-outcomes.ensures.items;
   count = c.in_ok-outcomes.ensures.len;
   room = c.in_ok-outcomes.ensures.exact;
-  content = λ o h. sym (content-none (map g.O.Office.held c.args.offices.now) (map (λ f. f.items) c.args.files.now) o);
+  content = λ o h. sym (content-none (map g.O.Office.held c.args.offices.now)
+      (map (λ f. f.items) c.args.files.now) o);
   outcomes = tt;
   definitions = refl;
 }
@@ -39,18 +41,28 @@ loop-event-preserved g c =
     let many_starts : length starts ≡ length started = length-map started g.O.Office.held in
     let many_frames : length frames ≡ length started = length-map started g.O.Office.defined in
     let many_held : length held ≡ length offices = length-map offices g.O.Office.held in
-    let many_defined : length (map g.O.Office.defined offices) ≡ length offices = length-map offices g.O.Office.defined in
+    let many_defined : length (map g.O.Office.defined offices) ≡ length offices =
+    length-map offices g.O.Office.defined in
     let alike : length (map g.O.Office.defined offices) ≡ length frames = ap length v.definitions in
-    let here : (o : ℕ) → o < length starts → get_or held o empty ≡ content starts files (history (take i es) rs) o = λ o lo. v.content o (omega arith) in
-    let out : IsOutcome frames files (λ o. get_or held o empty) e h.result = subst (λ fs. IsOutcome fs files (λ o. get_or held o empty) e h.result) v.definitions h.ensures.outcome in
+    let here : (o : ℕ) → o < length starts
+    → get_or held o empty ≡ content starts files (history (take i es) rs) o = λ o lo.
+    v.content o (omega arith) in
+    let out : IsOutcome frames files (λ o. get_or held o empty) e h.result = subst
+    (λ fs. IsOutcome fs files (λ o. get_or held o empty) e h.result) v.definitions
+    h.ensures.outcome in
     record {
       listed = ap length grown ∙ (length-append rs (h.result ∷ []) ∙ ap (λ n. n + 1) v.listed);
       count = omega arith;
       room = c.push_reserved.ensures.capacity ∙ v.room;
-      content = λ o lo. content_turn starts frames files es rs i (Import 0 0) e h.result held v.listed c.loop-event-test.true refl (omega arith) here out (map g.O.Office.held h.new.offices) (omega arith) h.ensures.contents o (omega arith)
-          ∙ ap (λ xs. content starts files (history (take (i + 1) es) xs) o) (sym {A = List Outcome} grown);
-      outcomes = subst (λ xs. AreOutcomes starts frames files (history (take (i + 1) es) xs)) (sym {A = List Outcome} grown)
-          (outcomes_turn starts frames files es rs i (Import 0 0) e h.result held v.listed c.loop-event-test.true refl (omega arith) here out v.outcomes);
+      content = λ o lo. content_turn starts frames files es rs i (Import 0 0) e h.result held
+          v.listed c.loop-event-test.true refl (omega arith) here out
+          (map g.O.Office.held h.new.offices) (omega arith) h.ensures.contents o (omega arith)
+          ∙ ap (λ xs. content starts files (history (take (i + 1) es) xs) o)
+          (sym {A = List Outcome} grown);
+      outcomes = subst (λ xs. AreOutcomes starts frames files (history (take (i + 1) es) xs))
+          (sym {A = List Outcome} grown)
+          (outcomes_turn starts frames files es rs i (Import 0 0) e h.result held v.listed
+          c.loop-event-test.true refl (omega arith) here out v.outcomes);
       definitions = h.ensures.definitions ∙ v.definitions;
     }
 
@@ -64,6 +76,7 @@ returns-clause-same_files g c = λ new.
     let after = c.loop-event.offices in
     let rs = c.loop-event.outcomes.items in
     let played : ArePlayed held defined before after files (history c.args.events.now rs) =
-    subst (λ es. ArePlayed held defined before after files (history es rs)) (take_all _ _ c.loop-event-test.false)
+    subst (λ es. ArePlayed held defined before after files (history es rs))
+    (take_all _ _ c.loop-event-test.false)
     (record { contents = v.content; outcomes = v.outcomes; definitions = v.definitions }) in
     same_files_law held defined before after files (history c.args.events.now rs) new played

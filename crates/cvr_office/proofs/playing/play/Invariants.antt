@@ -13,7 +13,8 @@ invariant-loop-event g l =
       listed : length l.outcomes.items ≡ l.event-index;
       count : vec_len l.outcomes ≡ l.event-index;
       room : vec_capacity l.outcomes ≡ length l.events;
-      content : (o : ℕ) → o < length l.fn.offices → get_or (map g.O.Office.held l.offices) o empty ≡ content starts files past o;
+      content : (o : ℕ) → o < length l.fn.offices
+          → get_or (map g.O.Office.held l.offices) o empty ≡ content starts files past o;
       outcomes : AreOutcomes starts (map g.O.Office.defined l.fn.offices) files past;
       definitions : map g.O.Office.defined l.offices ≡ map g.O.Office.defined l.fn.offices;
     }

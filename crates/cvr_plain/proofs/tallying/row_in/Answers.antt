@@ -10,14 +10,19 @@ pub returns-in-Some-clause-row : goal.returns-in-Some-clause-row
 returns-in-Some-clause-row c =
     let key = c.args.key.now in
     let rows = c.in_ok-totals.ensures.rows in
-    ap Some c.in_ok-copy-in-Some.ensures ∙ (c.in-Some.ensures ∙ (ap (λ m. get m key) rows ∙ rows_law c.args.definition.now.contests (set_of c.args.facts.now) key))
+    ap Some c.in_ok-copy-in-Some.ensures
+    ∙ (c.in-Some.ensures ∙ (ap (λ m. get m key) rows
+    ∙ rows_law c.args.definition.now.contests (set_of c.args.facts.now) key))
 
 pub returns-in-Some-clause-below : goal.returns-in-Some-clause-below
 returns-in-Some-clause-below c =
-    subst (λ found. IfSome found (IsBelow total_limit)) (sym (ap Some c.in_ok-copy-in-Some.ensures ∙ c.in-Some.ensures)) (c.in_ok-totals.ensures.below c.args.key.now)
+    subst (λ found. IfSome found (IsBelow total_limit))
+    (sym (ap Some c.in_ok-copy-in-Some.ensures ∙ c.in-Some.ensures))
+    (c.in_ok-totals.ensures.below c.args.key.now)
 
 pub returns-clause-row : goal.returns-clause-row
 returns-clause-row c =
     let key = c.args.key.now in
     let rows = c.in_ok-totals.ensures.rows in
-    c.in-None.ensures ∙ (ap (λ m. get m key) rows ∙ rows_law c.args.definition.now.contests (set_of c.args.facts.now) key)
+    c.in-None.ensures ∙ (ap (λ m. get m key) rows
+    ∙ rows_law c.args.definition.now.contests (set_of c.args.facts.now) key)

@@ -14,7 +14,8 @@ returns c = record {
   first = volume-given of_six county heading 1 ∙ refl;
   second = volume-given of_six county heading 2 ∙ refl;
   third = volume-given of_six county heading 3 ∙ refl;
-  current = (λ j. map (λ i. (record-given of_six i second_record j).current) (1 ∷ 2 ∷ 3 ∷ [])) ∙ refl;
+  current = (λ j. map (λ i. (record-given of_six i second_record j).current) (1 ∷ 2 ∷ 3 ∷ []))
+      ∙ refl;
   devices = record {
     number = volumes-given of_town ∙ refl;
     first = volume-given of_town town town_heading 1 ∙ refl;

@@ -1,10 +1,11 @@
-use Rattle.std.proofs.Common.{Bor, ◌≡◌, ◌++◌, List, map, Result, Ok, Err, OnOk, Contains, sym, ap, ◌∙◌, subst}
+use Rattle.std.proofs.Common.{Bor, ◌≡◌, ◌++◌, List, map, Result, Ok, Err, OnOk, Contains, sym, ap}
+use Rattle.std.proofs.Common.{◌∙◌, subst}
 use Rattle.serde_json.specs.Written.{compact_text}
 use Rattle.cvr_fact_types.specs.declared.header.HeaderFact.{HeaderFact}
 use Rattle.cvr_office.specs.Readers.{header_list}
 use Rattle.cvr_report.specs.Record.{cvr_object}
 use Rattle.cvr_report.specs.Found.{shown_bodies}
-use Rattle.cvr_report.specs.Page.{Shown, shown, shown_snapshots, current_id}
+use Rattle.cvr_report.specs.Page.{Shown, shown_body, shown_snapshots, current_id}
 use Rattle.cvr_report.specs.Volume.{values_of, members_in}
 use Rattle.cvr_report.proofs.Kept.{header_kept}
 use Rattle.cvr_report.proofs.Shows.{current_of, current_is, texts_are, header_listed}
@@ -22,12 +23,20 @@ returns c =
     let h = c.shown_header-header.result.now in
     let hs : c.as_slice.result.now ≡ r.headers.items = c.as_slice.ensures.value in
     let ids : c.as_slice-ids.result.now ≡ r.ids.items = c.as_slice-ids.ensures.value in
-    let listed : Contains (map (λ (h : Bor HeaderFact). h.now) r.headers.items) h = subst (λ (xs : List (Bor HeaderFact)). Contains (map (λ h. h.now) xs) h) hs c.shown_header-header.ensures.listed in
-    let kept = header_kept frame s keeps key h.body (header_listed frame.contests s key r are h listed) in
-    let body : h.body ≡ shown i (header_list s key) = c.shown_header-header.ensures.body ∙ (ap (λ (xs : List (Bor HeaderFact)). shown i (map (λ h. h.now.body) xs)) hs ∙ ap (shown i) are.bodies) in
+    let listed : Contains (map (λ (h : Bor HeaderFact). h.now) r.headers.items) h = subst
+    (λ (xs : List (Bor HeaderFact)). Contains (map (λ h. h.now) xs) h) hs
+    c.shown_header-header.ensures.listed in
+    let kept =
+    header_kept frame s keeps key h.body (header_listed frame.contests s key r are h listed) in
+    let body : h.body ≡ shown_body i (header_list s key) = c.shown_header-header.ensures.body
+    ∙ (ap (λ (xs : List (Bor HeaderFact)). shown_body i (map (λ h. h.now.body) xs)) hs
+    ∙ ap (shown_body i) are.bodies) in
     let ds = values_of (map (λ (s : Shown). s.body) (shown_snapshots s i key)) in
     let id = current_id (shown_snapshots s i key) in
-    let current : c.shown_current.result.now ≡ id = c.shown_current.ensures ∙ (ap (current_of i) ids ∙ current_is frame.contests s key r are i c.requires.number c.requires.some.shot) in
+    let current : c.shown_current.result.now ≡ id = c.shown_current.ensures
+    ∙ (ap (current_of i) ids ∙ current_is frame.contests s key r are i c.requires.number
+    c.requires.some.shot) in
     let members = sym (ap members_in (sym body) ∙ kept.1.members) in
-    let all = wrote kept.0 ds kept.1.well kept.1.header kept.1.text (ap (shown_bodies i) ids ∙ texts_are frame s keeps key r are i c.requires.number) in
+    let all = wrote kept.0 ds kept.1.well kept.1.header kept.1.text
+    (ap (shown_bodies i) ids ∙ texts_are frame s keeps key r are i c.requires.number) in
     all ∙ (λ j. c.args.out.now.items ++ compact_text (cvr_object (members j) ds (current j))))

@@ -13,13 +13,16 @@ bytes-init c = record {
 
 pub returns-then-stops_at-clause-rest : goal.returns-then-stops_at-clause-rest
 returns-then-stops_at-clause-rest c =
-    sym (stop_byte Between c.bytes.depth c.args.text.now c.bytes.at c.bytes-test.true (sym c.stops_at.ensures ∙ c.if-stops_at.true)) ∙ c.bytes.invariant.same
+    sym (stop_byte Between c.bytes.depth c.args.text.now c.bytes.at c.bytes-test.true
+    (sym c.stops_at.ensures ∙ c.if-stops_at.true)) ∙ c.bytes.invariant.same
 
 pub bytes-preserved-then-byte-eq34 : goal.bytes-preserved-then-byte-eq34
 bytes-preserved-then-byte-eq34 c = record {
   same =
       sym (c.string_end-at-then-byte-eq34.ensures.rest c.bytes.depth)
-      ∙ sym (first_quote c.bytes.depth c.args.text.now c.bytes.at c.bytes-test.true (sym c.stops_at.ensures ∙ c.if-stops_at.false) c.if-byte-eq34.true) ∙ c.bytes.invariant.same;
+      ∙ sym (first_quote c.bytes.depth c.args.text.now c.bytes.at c.bytes-test.true
+      (sym c.stops_at.ensures ∙ c.if-stops_at.false) c.if-byte-eq34.true)
+      ∙ c.bytes.invariant.same;
   low = omega arith;
   high = omega arith;
   shallow = omega arith;
@@ -28,12 +31,16 @@ bytes-preserved-then-byte-eq34 c = record {
 pub bytes-preserved : goal.bytes-preserved
 bytes-preserved c = record {
   same =
-      ap (λ n. left_after Between n (drop (c.bytes.at + 1) c.args.text.now)) c.depth_after-depth.ensures.value
-      ∙ sym (outer_byte c.bytes.depth c.args.text.now c.bytes.at c.bytes-test.true (sym c.stops_at.ensures ∙ c.if-stops_at.false) c.if-byte-eq34.false) ∙ c.bytes.invariant.same;
+      ap (λ n. left_after Between n (drop (c.bytes.at + 1) c.args.text.now))
+      c.depth_after-depth.ensures.value
+      ∙ sym (outer_byte c.bytes.depth c.args.text.now c.bytes.at c.bytes-test.true
+      (sym c.stops_at.ensures ∙ c.if-stops_at.false) c.if-byte-eq34.false)
+      ∙ c.bytes.invariant.same;
   low = omega arith;
   high = omega arith;
   shallow = omega arith;
 }
 
 pub returns-clause-rest : goal.returns-clause-rest
-returns-clause-rest c = sym (no_byte Between c.bytes.depth c.args.text.now c.bytes.at (omega arith)) ∙ c.bytes.invariant.same
+returns-clause-rest c = sym (no_byte Between c.bytes.depth c.args.text.now c.bytes.at (omega arith))
+    ∙ c.bytes.invariant.same

@@ -4,7 +4,8 @@ use Rattle.cvr_report.proofs.scan.string_end.Given as goal
 
 abbrev pub invariant-bytes : goal.invariant-bytes
 invariant-bytes l = record {
-  same : (depth : ℕ) → left_after InString depth (drop l.at l.text) ≡ left_after InString depth (drop l.from l.text);
+  same : (depth : ℕ) → left_after InString depth (drop l.at l.text)
+      ≡ left_after InString depth (drop l.from l.text);
   low : l.from ≤ l.at;
   high : l.at ≤ length l.text;
 }

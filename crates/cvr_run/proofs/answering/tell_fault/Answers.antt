@@ -8,8 +8,10 @@ returns-in-Refused g c =
 
 pub returns-in-Help : goal.returns-in-Help
 returns-in-Help g c =
-    help_told _ c.args.fault.now c.print_text-printed.result c.none.result c.end_with.result _ _ _ _ (search rules) (search rules) (search rules)
-    c.none.ensures.any_refusal c.none.ensures.file_lacking c.none.ensures.path_unspelled c.end_with.ensures.status c.end_with.ensures.log
+    help_told _ c.args.fault.now c.print_text-printed.result c.none.result c.end_with.result _ _ _ _
+    (search rules) (search rules) (search rules)
+    c.none.ensures.any_refusal c.none.ensures.file_lacking c.none.ensures.path_unspelled
+    c.end_with.ensures.status c.end_with.ensures.log
 
 pub returns-in-BadStep : goal.returns-in-BadStep
 returns-in-BadStep g c =
@@ -17,4 +19,5 @@ returns-in-BadStep g c =
 
 pub returns-in-Memory : goal.returns-in-Memory
 returns-in-Memory g c =
-    quiet_told _ c.args.fault.now _ _ _ _ _ c.in-Memory.is c.end_in_memory.ensures.status refl refl c.end_in_memory.ensures.log
+    quiet_told _ c.args.fault.now _ _ _ _ _ c.in-Memory.is c.end_in_memory.ensures.status refl refl
+    c.end_in_memory.ensures.log

@@ -13,7 +13,8 @@ returns-in-Ok g c =
     let told = c.run_request.ensures in
     record {
       answers = inl (c.in-Ok.request, asked, told.does);
-      given = λ job given whole. told.given job (one_request words job.request c.in-Ok.request given.asked asked) given.there whole;
+      given = λ job given whole. told.given job
+          (one_request words job.request c.in-Ok.request given.asked asked) given.there whole;
       asked = λ r is. told.no_words;
       says = does_same _ _ _ _ _ told.does;
     }
@@ -28,7 +29,9 @@ returns-in-Err g c =
     let failed = (g.W.Sink.taken c.tell_fault.new.out).failed in
     record {
       answers = inr (fault, is, opens_none (g.O.Open.state c.args.opener.now), told);
-      given = λ job given whole. absurd (not_asked words job.request fault answer failed given.asked is told.status whole);
-      asked = λ r asks. not_command_line answer (told_memory words r fault answer failed asks is told.status);
+      given = λ job given whole. absurd
+          (not_asked words job.request fault answer failed given.asked is told.status whole);
+      asked = λ r asks. not_command_line answer
+          (told_memory words r fault answer failed asks is told.status);
       says = record { at = refl; may_fail = refl };
     }

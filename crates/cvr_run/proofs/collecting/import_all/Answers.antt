@@ -1,4 +1,5 @@
-use Rattle.std.proofs.Common.{◌≡◌, ◌∙◌, ◌<◌, ◌+◌, ◌||◌, ℕ, List, [], ◌∷◌, drop, get_or, length, sym, ap, subst, arith, rules}
+use Rattle.std.proofs.Common.{◌≡◌, ◌∙◌, ◌<◌, ◌+◌, ◌||◌, ℕ, List, [], ◌∷◌, drop, get_or, length, sym}
+use Rattle.std.proofs.Common.{ap, subst, arith, rules}
 use Rattle.std.specs.Global.{Vec}
 use Rattle.std.specs.List.{list_any}
 use Rattle.std.specs.FinSet.{union}
@@ -25,7 +26,9 @@ loop-place-init g c =
       left = search rules;
       content = search rules;
       any_refusal = search rules;
-      log = tells_none (import_dues (g.O.Office.defined c.args.office.now) c.args.paths.now (files_bytes c.args.files)) (g.L.Sink.taken c.args.log.now) none.result none.ensures.file_lacking none.ensures.path_unspelled;
+      log = tells_none (import_dues (g.O.Office.defined c.args.office.now) c.args.paths.now
+          (files_bytes c.args.files)) (g.L.Sink.taken c.args.log.now) none.result
+          none.ensures.file_lacking none.ensures.path_unspelled;
     }
 
 pub loop-place-preserved : goal.loop-place-preserved
@@ -43,16 +46,27 @@ loop-place-preserved g c =
     let told = c.import_one.ensures in
     let lt : n < length files = omega (arith, c.requires, c.loop-place-test.true) in
     let also : n < length left = omega (arith, lt, was.count) in
-    let both : get_or left n [] ∷ drop (n + 1) left ≡ get_or files n [] ∷ drop (n + 1) files = sym (drop_more left n [] also) ∙ (was.left ∙ drop_more files n [] lt) in
+    let both : get_or left n [] ∷ drop (n + 1) left ≡ get_or files n [] ∷ drop (n + 1) files =
+    sym (drop_more left n [] also) ∙ (was.left ∙ drop_more files n [] lt) in
     let head : get_or left n [] ≡ get_or files n [] = cc in
     let tail : drop (n + 1) left ≡ drop (n + 1) files = cc in
-    let within : n < length c.all.result.now = omega (arith, also, length-map c.all.result.now (λ (f : Vec ℕ). f.items), ap (λ (fs : List (List ℕ)). length fs) c.all.ensures) in
+    let within : n < length c.all.result.now = omega (
+      arith,
+      also,
+      length-map c.all.result.now (λ (f : Vec ℕ). f.items),
+      ap
+          (λ (fs : List (List ℕ)). length fs) c.all.ensures,
+    ) in
     let item : get_or left n [] ≡ c.index-all-place.result.items =
-    ap (λ fs. get_or fs n []) (sym c.all.ensures) ∙ (get_or-map (λ (f : Vec ℕ). f.items) c.all.result.now n c.index-all-place.result [] within ∙ ap (λ (f : Vec ℕ). f.items) (sym c.index-all-place.is)) in
+    ap (λ fs. get_or fs n []) (sym c.all.ensures)
+    ∙ (get_or-map (λ (f : Vec ℕ). f.items) c.all.result.now n c.index-all-place.result [] within
+    ∙ ap (λ (f : Vec ℕ). f.items) (sym c.index-all-place.is)) in
     let file_is : file ≡ get_or files n [] = c.as_slice-file.ensures.value ∙ (sym item ∙ head) in
     let rest = drop (n + 1) files in
-    let cut : drop n files ≡ file ∷ rest = drop_more files n [] lt ∙ ap (λ f. f ∷ rest) (sym file_is) in
-    let named = c.as_str.ensures ∙ (c.index-paths-place.is ∙ get_or_default paths n c.index-paths-place.result [] c.loop-place-test.true) in
+    let cut : drop n files ≡ file ∷ rest =
+    drop_more files n [] lt ∙ ap (λ f. f ∷ rest) (sym file_is) in
+    let named = c.as_str.ensures ∙ (c.index-paths-place.is
+    ∙ get_or_default paths n c.index-paths-place.result [] c.loop-place-test.true) in
     let of = import_dues definition paths files in
     let next = next_is definition paths files n path file c.requires lt named file_is in
     record {
@@ -60,11 +74,16 @@ loop-place-preserved g c =
       count = c.free.ensures.count ∙ was.count;
       left = c.free.ensures.behind ∙ tail;
       content = λ working.
-          next_taken definition _ before after file rest (told.content working ∙ ap (λ d. union before (accepted_facts d file)) was.defined)
-          (ap (λ l. union before (union_over (accepted_facts definition) l)) (sym cut) ∙ was.content (told.lacking working));
+          next_taken definition _ before after file rest
+          (told.content working ∙ ap (λ d. union before (accepted_facts d file)) was.defined)
+          (ap (λ l. union before (union_over (accepted_facts definition) l)) (sym cut)
+          ∙ was.content (told.lacking working));
       any_refusal = λ working.
-          next_refused definition _ c.loop-place.refusals.any_refusal _ file rest (told.any_refusal working ∙ ap (λ d. c.loop-place.refusals.any_refusal || is_refused d file) was.defined)
-          (ap (λ l. c.loop-place.refusals.any_refusal || list_any (is_refused definition) l) (sym cut) ∙ was.any_refusal (told.lacking working));
+          next_refused definition _ c.loop-place.refusals.any_refusal _ file rest
+          (told.any_refusal working
+          ∙ ap (λ d. c.loop-place.refusals.any_refusal || is_refused d file) was.defined)
+          (ap (λ l. c.loop-place.refusals.any_refusal || list_any (is_refused definition) l)
+          (sym cut) ∙ was.any_refusal (told.lacking working));
       log = told.log of n (g.L.Sink.taken c.args.log.now) was.log
           (subst (λ d. IsNext of n path (file_due (first_refusal d file))) (sym was.defined) next);
     }
@@ -74,6 +93,8 @@ returns-clause-content g c = λ working.
     let definition = g.O.Office.defined c.args.office.now in
     let files = files_bytes c.args.files in
     let held = g.O.Office.held c.loop-place.office in
-    let none = drop_all c.loop-place.place files (omega (arith, c.requires, c.loop-place-test.false)) in
+    let none =
+    drop_all c.loop-place.place files (omega (arith, c.requires, c.loop-place-test.false)) in
     sym (union_empty fact_total fact_exact held)
-    ∙ (ap (λ l. union held (union_over (accepted_facts definition) l)) (sym none) ∙ c.loop-place.invariant.content working)
+    ∙ (ap (λ l. union held (union_over (accepted_facts definition) l)) (sym none)
+    ∙ c.loop-place.invariant.content working)

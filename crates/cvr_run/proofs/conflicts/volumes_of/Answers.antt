@@ -13,6 +13,8 @@ returns c =
     let bodies = map (λ (c : Conflict). c.bodies) list in
     let top : c.max.result ≡ reduce max bodies =
     sym (option_map_id c.max.result)
-    ∙ max_from_yields_List c.map.result c.max.result c.max.ensures.ran (YieldsList-from_map _ (λ (c : Conflict). c.bodies) (YieldsList-from_slice list (cc)) c.map.ensures.closure (λ x r q k. search rules))
+    ∙ max_from_yields_List c.map.result c.max.result c.max.ensures.ran
+    (YieldsList-from_map _ (λ (c : Conflict). c.bodies) (YieldsList-from_slice list (cc))
+    c.map.ensures.closure (λ x r q k. search rules))
     in
     c.unwrap_or.ensures ∙ (ap (λ o. unwrap_or o 1) top ∙ reduce-max list)

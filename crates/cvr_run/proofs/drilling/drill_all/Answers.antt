@@ -11,5 +11,6 @@ returns-then-refusals-clause-cut_short g c = λ fault.
     let definition = c.args.definition.now in
     let steps = c.args.steps.now in
     let files = files_of c.args.files.now in
-    lacks (drill_dues definition c.args.count files steps) (length steps) c.in-Ok.refusals _ _ c.in-Ok.ensures.log
+    lacks (drill_dues definition c.args.count files steps) (length steps) c.in-Ok.refusals _ _
+    c.in-Ok.ensures.log
     (sym (length-map steps (step_due definition c.args.count files))) c.if-refusals.true fault false

@@ -1,9 +1,11 @@
-use Rattle.std.proofs.Common.{◌≡◌, false, ℕ, List, ◌+◌, ◌<◌, ◌∙◌, length, map, Some, None, option_map, sym, ap, subst, arith, rules, []}
+use Rattle.std.proofs.Common.{◌≡◌, false, ℕ, List, ◌+◌, ◌<◌, ◌∙◌, length, map, Some, None}
+use Rattle.std.proofs.Common.{option_map, sym, ap, subst, arith, rules, []}
 use Rattle.std.proofs.lemmas.List.{length-map, get_or-map}
 use Rattle.cvr_words.specs.declared.request.Step.{Step}
 use Rattle.cvr_run.specs.Refusals.{cause_in}
 use Rattle.cvr_run.specs.Told.{LogsFirst}
-use Rattle.cvr_run.proofs.Outcomes.{due_where_told, none_where_not, refused_here, wanted_here, accepted_here, unwanted_here}
+use Rattle.cvr_run.proofs.Outcomes.{due_where_told, none_where_not, refused_here, wanted_here}
+use Rattle.cvr_run.proofs.Outcomes.{accepted_here, unwanted_here}
 use Rattle.cvr_run.proofs.Telling.{tells_none, tells_noted, tells_accepted}
 use Rattle.cvr_run.proofs.drilling.note_refused.Goals as goal
 use Rattle.cvr_run.proofs.drilling.note_refused.Goals.{in-Some, in_default}
@@ -15,7 +17,12 @@ pub loop-place-init : goal.loop-place-init
 loop-place-init g c = record {
   any_refusal = search rules;
   file_lacking = search rules;
-  log = λ dues due. tells_none (record { by_file = false; texts = map step_text c.args.steps.now; dues = dues }) _ c.none-refusals.result c.none-refusals.ensures.file_lacking c.none-refusals.ensures.path_unspelled;
+  log = λ dues due. tells_none (record {
+    by_file = false;
+    texts = map step_text c.args.steps.now;
+    dues = dues;
+  }) _ c.none-refusals.result c.none-refusals.ensures.file_lacking
+      c.none-refusals.ensures.path_unspelled;
 }
 
 pub loop-place-preserved : goal.loop-place-preserved
@@ -35,31 +42,59 @@ loop-place-preserved g c =
     elim c.match-cause_in.branch [
       | in-Some w ↦
           let cause = w.in-Some.cause.now in
-          let told : Some cause ≡ cause_in o = sym (ap (option_map (λ c. c.now)) w.in-Some.is) ∙ c.cause_in.ensures in
+          let told : Some cause ≡ cause_in o =
+          sym (ap (option_map (λ c. c.now)) w.in-Some.is) ∙ c.cause_in.ensures in
           let now = w.note.new.self in
           record {
-            any_refusal = ap (λ r. r.any_refusal) w.refusals-is ∙ refused_here rs n o lt at cause before.any_refusal now.any_refusal told was.any_refusal w.note.ensures.any_refusal;
-            file_lacking = ap (λ r. r.file_lacking) w.refusals-is ∙ wanted_here rs n o lt at cause before.file_lacking now.file_lacking told was.file_lacking w.note.ensures.file_lacking;
+            any_refusal = ap (λ r. r.any_refusal) w.refusals-is
+                ∙ refused_here rs n o lt at cause before.any_refusal now.any_refusal told
+                was.any_refusal w.note.ensures.any_refusal;
+            file_lacking = ap (λ r. r.file_lacking) w.refusals-is
+                ∙ wanted_here rs n o lt at cause before.file_lacking now.file_lacking told
+                was.file_lacking w.note.ensures.file_lacking;
             log = λ dues due.
-                subst (λ r. LogsFirst (record { by_file = false; texts = texts; dues = dues }) (n + 1) r (g.L.Sink.taken c.args.log.now) (g.L.Sink.taken c.match-cause_in.log)) (sym w.refusals-is)
-                (subst (λ l. LogsFirst (record { by_file = false; texts = texts; dues = dues }) (n + 1) now (g.L.Sink.taken c.args.log.now) (g.L.Sink.taken l)) (sym w.log-is)
-                (tells_noted (record { by_file = false; texts = texts; dues = dues }) _ _ _ n before now w.as_str.result.now cause (was.log dues due) within (omega (arith, lt, due.count))
-                (w.as_str.ensures ∙ sym (get_or-map text_of named n w.index-steps-place.result [] there)) (due_where_told rs n o lt at dues due cause told) w.note.ensures.file_lacking w.note.ensures.told));
+                subst (λ r. LogsFirst (record { by_file = false; texts = texts; dues = dues })
+                (n + 1) r (g.L.Sink.taken c.args.log.now) (g.L.Sink.taken c.match-cause_in.log))
+                (sym w.refusals-is)
+                (subst (λ l. LogsFirst (record { by_file = false; texts = texts; dues = dues })
+                (n + 1) now (g.L.Sink.taken c.args.log.now) (g.L.Sink.taken l)) (sym w.log-is)
+                (tells_noted (record { by_file = false; texts = texts; dues = dues }) _ _ _ n before
+                now w.as_str.result.now cause (was.log dues due) within
+                (omega (arith, lt, due.count))
+                (w.as_str.ensures ∙ sym
+                (get_or-map text_of named n w.index-steps-place.result [] there))
+                (due_where_told rs n o lt at dues due cause told) w.note.ensures.file_lacking
+                w.note.ensures.told));
           }
       | in_default w ↦
-          let told : None ≡ cause_in o = sym (ap (option_map (λ c. c.now)) w.in_default.is) ∙ c.cause_in.ensures in
+          let told : None ≡ cause_in o =
+          sym (ap (option_map (λ c. c.now)) w.in_default.is) ∙ c.cause_in.ensures in
           record {
-            any_refusal = ap (λ r. r.any_refusal) w.refusals-is ∙ accepted_here rs n o lt at before.any_refusal told was.any_refusal;
-            file_lacking = ap (λ r. r.file_lacking) w.refusals-is ∙ unwanted_here rs n o lt at before.file_lacking told was.file_lacking;
+            any_refusal = ap (λ r. r.any_refusal) w.refusals-is
+                ∙ accepted_here rs n o lt at before.any_refusal told was.any_refusal;
+            file_lacking = ap (λ r. r.file_lacking) w.refusals-is
+                ∙ unwanted_here rs n o lt at before.file_lacking told was.file_lacking;
             log = λ dues due.
-                subst (λ r. LogsFirst (record { by_file = false; texts = texts; dues = dues }) (n + 1) r (g.L.Sink.taken c.args.log.now) (g.L.Sink.taken c.match-cause_in.log)) (sym w.refusals-is)
-                (subst (λ l. LogsFirst (record { by_file = false; texts = texts; dues = dues }) (n + 1) before (g.L.Sink.taken c.args.log.now) (g.L.Sink.taken l)) (sym w.log-is)
-                (tells_accepted (record { by_file = false; texts = texts; dues = dues }) _ _ n before (was.log dues due) within (omega (arith, lt, due.count)) (none_where_not rs n o lt at dues due told)));
+                subst (λ r. LogsFirst (record { by_file = false; texts = texts; dues = dues })
+                (n + 1) r (g.L.Sink.taken c.args.log.now) (g.L.Sink.taken c.match-cause_in.log))
+                (sym w.refusals-is)
+                (subst (λ l. LogsFirst (record { by_file = false; texts = texts; dues = dues })
+                (n + 1) before (g.L.Sink.taken c.args.log.now) (g.L.Sink.taken l))
+                (sym w.log-is)
+                (tells_accepted (record { by_file = false; texts = texts; dues = dues }) _ _ n
+                before (was.log dues due) within (omega (arith, lt, due.count))
+                (none_where_not rs n o lt at dues due told)));
           }
     ]
 
 pub returns-clause-log : goal.returns-clause-log
 returns-clause-log g c = λ dues due.
-    let all : c.loop-place.place ≡ length c.args.outcomes.now = omega (arith, c.loop-place-test.false, c.loop-place.auto.place-end) in
-    subst (λ k. LogsFirst (record { by_file = false; texts = map step_text c.args.steps.now; dues = dues }) k c.loop-place.refusals (g.L.Sink.taken c.args.log.now) (g.L.Sink.taken c.loop-place.log)) all
+    let all : c.loop-place.place ≡ length c.args.outcomes.now =
+    omega (arith, c.loop-place-test.false, c.loop-place.auto.place-end) in
+    subst (λ k. LogsFirst (record {
+      by_file = false;
+      texts = map step_text c.args.steps.now;
+      dues = dues;
+    }) k c.loop-place.refusals (g.L.Sink.taken c.args.log.now)
+    (g.L.Sink.taken c.loop-place.log)) all
     (c.loop-place.invariant.log dues due)

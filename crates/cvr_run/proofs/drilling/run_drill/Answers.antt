@@ -17,17 +17,24 @@ returns-in-Ok-clause-ends g c =
     let before = g.W.Sink.taken c.args.out.now in
     let after = g.W.Sink.taken c.print_offices-printed.new.out in
     let printed = c.print_offices-printed.result in
-    let prints : Prints before after printed None (drill_text definition c.args.count files steps) = search rules in
-    ends_after before after printed None (drill_text definition c.args.count files steps) c.in-Ok.refusals (drill_refused definition c.args.count files steps) _ prints
-    (λ m is. absurd (cc)) c.in-Ok.ensures.whole c.in-Ok.ensures.any_refusal c.end_with.ensures.status
+    let prints : Prints before after printed None (drill_text definition c.args.count files steps) =
+    search rules in
+    ends_after before after printed None (drill_text definition c.args.count files steps)
+    c.in-Ok.refusals (drill_refused definition c.args.count files steps) _ prints
+    (λ m is. absurd (cc)) c.in-Ok.ensures.whole c.in-Ok.ensures.any_refusal
+    c.end_with.ensures.status
 
 pub returns-in-Ok-clause-log : goal.returns-in-Ok-clause-log
 returns-in-Ok-clause-log g c =
     let definition = c.args.definition.now in
     let steps = c.args.steps.now in
     let files = files_of c.args.files.now in
-    tells_after (drill_dues definition c.args.count files steps) (length steps) c.in-Ok.refusals _ _ _ c.in-Ok.ensures.log (sym (length-map steps (step_due definition c.args.count files))) c.in-Ok.ensures.whole
-    (g.W.Sink.taken c.args.out.now) (g.W.Sink.taken c.print_offices-printed.new.out) c.print_offices-printed.result None _ _ refl c.print_offices-printed.ensures c.end_with.ensures.status c.end_with.ensures.log
+    tells_after (drill_dues definition c.args.count files steps) (length steps) c.in-Ok.refusals _ _
+    _ c.in-Ok.ensures.log (sym (length-map steps (step_due definition c.args.count files)))
+    c.in-Ok.ensures.whole
+    (g.W.Sink.taken c.args.out.now) (g.W.Sink.taken c.print_offices-printed.new.out)
+    c.print_offices-printed.result None _ _ refl c.print_offices-printed.ensures
+    c.end_with.ensures.status c.end_with.ensures.log
 
 pub returns-in-Err-clause-ends : goal.returns-in-Err-clause-ends
 returns-in-Err-clause-ends g c = ends_in_memory _ _ _ _ c.requires c.in-Err.ensures.status
@@ -36,4 +43,6 @@ pub returns-in-Err-clause-log : goal.returns-in-Err-clause-log
 returns-in-Err-clause-log g c =
     let definition = c.args.definition.now in
     let steps = c.args.steps.now in
-    wanted_unprinted (drill_dues definition c.args.count (files_of c.args.files.now) steps) None _ _ (g.W.Sink.taken c.args.out.now) _ _ c.in-Err.ensures.status c.requires (c.in-Err.ensures.cut_short None)
+    wanted_unprinted (drill_dues definition c.args.count (files_of c.args.files.now) steps) None _ _
+    (g.W.Sink.taken c.args.out.now) _ _ c.in-Err.ensures.status c.requires
+    (c.in-Err.ensures.cut_short None)

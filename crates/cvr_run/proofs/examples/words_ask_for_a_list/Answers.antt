@@ -5,7 +5,8 @@ use Rattle.clap.proofs.OnLiterals.{clap_on_literals}
 use Rattle.cvr_words.specs.Line.{cvr_line, with_program}
 use Rattle.cvr_run.proofs.examples.words_ask_for_a_list.Goals as goal
 
-list_unknown : fault_of cvr_line (with_program (codes "tally" ∷ codes "d" ∷ codes "--files-from" ∷ codes "l" ∷ [])) ≡ UnknownArgument ∷ []
+list_unknown : fault_of cvr_line (with_program
+    (codes "tally" ∷ codes "d" ∷ codes "--files-from" ∷ codes "l" ∷ [])) ≡ UnknownArgument ∷ []
 unfolding clap_on_literals
 list_unknown = refl
 

@@ -7,7 +7,9 @@ invariant-reads g l = record {
   stays : (g.R.Source.left l.source).can_fail ≡ (g.R.Source.left l.initial.source).can_fail;
   held : vec_len l.bytes ≤ 67108865;
   piece : length l.piece ≡ 4096;
-  all : IfSome (g.R.Source.left l.initial.source).bytes (λ xs. (rest : List ℕ) × ((g.R.Source.left l.source).bytes ≡ Some rest) × (xs ≡ l.bytes.items ++ rest));
+  all : IfSome (g.R.Source.left l.initial.source).bytes
+      (λ xs. (rest : List ℕ) × ((g.R.Source.left l.source).bytes ≡ Some rest)
+      × (xs ≡ l.bytes.items ++ rest));
 }
 
 abbrev pub decreases-reads : goal.decreases-reads

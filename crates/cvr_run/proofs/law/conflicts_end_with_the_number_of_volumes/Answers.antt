@@ -7,4 +7,5 @@ use Rattle.cvr_run.proofs.Last.{volumes_of-conflicts}
 use Rattle.cvr_run.proofs.law.conflicts_end_with_the_number_of_volumes.Goals as goal
 
 pub returns : goal.returns
-returns c = λ facts. ap (λ n. flat_map conflict_line (conflicts facts) ++ (codes "volumes " ++ (decimal n ++ 10 ∷ []))) (volumes_of-conflicts facts)
+returns c = λ facts. ap (λ n. flat_map conflict_line (conflicts facts)
+    ++ (codes "volumes " ++ (decimal n ++ 10 ∷ []))) (volumes_of-conflicts facts)

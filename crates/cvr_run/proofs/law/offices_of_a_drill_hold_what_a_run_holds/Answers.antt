@@ -1,4 +1,6 @@
-use Rattle.cvr_run.proofs.DrillLaws.{at_start, one_import, one_exchange, files_held, reached_held, same_reached, imports_held, by_places, both_ways_held, each_imports_both, one_line, two_lines}
+use Rattle.cvr_run.proofs.DrillLaws.{at_start, one_import, one_exchange, files_held, reached_held}
+use Rattle.cvr_run.proofs.DrillLaws.{same_reached, imports_held, by_places, both_ways_held}
+use Rattle.cvr_run.proofs.DrillLaws.{each_imports_both, one_line, two_lines}
 use Rattle.cvr_run.proofs.law.offices_of_a_drill_hold_what_a_run_holds.Goals as goal
 
 pub returns : goal.returns

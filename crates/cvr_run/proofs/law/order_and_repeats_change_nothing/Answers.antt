@@ -11,8 +11,11 @@ returns c = record {
   facts = same_held;
   currents = λ definition files others same. ap currents (same_held definition files others same);
   conflicts = λ definition files others same. ap conflicts (same_held definition files others same);
-  tally = λ definition files others same. ap (tally definition.contests) (same_held definition files others same);
-  merge_fault = λ definition date device i files others same. ap (merge_fault definition date device i) (same_held definition files others same);
-  volume = λ definition date device i files others same. ap (merge_text definition date device i) (same_held definition files others same);
+  tally = λ definition files others same.
+      ap (tally definition.contests) (same_held definition files others same);
+  merge_fault = λ definition date device i files others same.
+      ap (merge_fault definition date device i) (same_held definition files others same);
+  volume = λ definition date device i files others same.
+      ap (merge_text definition date device i) (same_held definition files others same);
   by_bytes = by_bytes;
 }

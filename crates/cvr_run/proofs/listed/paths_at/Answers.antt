@@ -15,9 +15,15 @@ returns-in_err-bytes-clause-none g c =
     let a = g.L.Sink.taken c.read_told.new.log in
     let cause = c.in_err-bytes.field-0.0 in
     let told = c.in_err-bytes.ensures in
-    at_err c.from_residual.result (λ s. s ≡ unread_status cause) (λ s. LogsSome (HasNoList old new path s) b a)
+    at_err c.from_residual.result (λ s. s ≡ unread_status cause)
+    (λ s. LogsSome (HasNoList old new path s) b a)
     c.from_residual.ensures.1
-    (λ s is. (unread_line path cause, inl (stops_first old new [] s path cause told.device told.absent told.opens is), told.told))
+    (λ s is. (
+      unread_line path cause,
+      inl
+          (stops_first old new [] s path cause told.device told.absent told.opens is),
+      told.told,
+    ))
 
 pub returns-in-Some-clause-none : goal.returns-in-Some-clause-none
 returns-in-Some-clause-none g c =
@@ -25,11 +31,20 @@ returns-in-Some-clause-none g c =
       memory_line,
       inl (record {
         stop = NoRoom;
-        possible = record { before = []; path = c.args.path.now; after = []; split = refl; files = c.in_ok-bytes.bytes.items ∷ []; read = (c.in_ok-bytes.ensures.bytes, tt); opened = c.in_ok-bytes.ensures.opens };
+        possible = record {
+          before = [];
+          path = c.args.path.now;
+          after = [];
+          split = refl;
+          files = c.in_ok-bytes.bytes.items ∷ [];
+          read = (c.in_ok-bytes.ensures.bytes, tt);
+          opened = c.in_ok-bytes.ensures.opens;
+        };
         status = refl;
         said = refl;
       }),
-      subst (λ l. Logs (g.L.Sink.taken l) a memory_line) c.in_ok-bytes.ensures.quiet c.say_memory.ensures,
+      subst (λ l. Logs (g.L.Sink.taken l) a memory_line) c.in_ok-bytes.ensures.quiet
+          c.say_memory.ensures,
     )
 
 pub returns-clause-none : goal.returns-clause-none
@@ -45,5 +60,6 @@ returns-clause-none g c =
         status = refl;
         said = refl;
       }),
-      subst (λ l. Logs (g.L.Sink.taken l) a (bad_list_line path)) c.in_ok-bytes.ensures.quiet c.tell_bad_list.ensures,
+      subst (λ l. Logs (g.L.Sink.taken l) a (bad_list_line path)) c.in_ok-bytes.ensures.quiet
+          c.tell_bad_list.ensures,
     )

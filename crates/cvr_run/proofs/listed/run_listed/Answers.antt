@@ -14,23 +14,36 @@ pub returns-in-Ok : goal.returns-in-Ok
 returns-in-Ok g c =
     let old = g.O.Open.state c.args.opener.now in
     let between = g.O.Open.state c.paths_at.new.opener in
-    let new : Devices = record { opener = g.O.Open.state c.run_request.new.opener; out = g.W.Sink.taken c.run_request.new.out; log = g.L.Sink.taken c.run_request.new.log } in
+    let new : Devices = record {
+      opener = g.O.Open.state c.run_request.new.opener;
+      out = g.W.Sink.taken c.run_request.new.out;
+      log = g.L.Sink.taken c.run_request.new.log;
+    } in
     let before = g.W.Sink.taken c.args.out.now in
     let b = g.L.Sink.taken c.args.log.now in
     let unchanged = c.run_request.new.out ≡ c.args.out.now in
     let answer = c.run_request.result in
-    let asked : ListedRequest = record { request = c.args.request; list = c.args.list.now; by_null = c.args.by_null } in
-    let request : Request = record { task = c.args.request.task; def = c.args.request.def; paths = c.in-Ok.paths } in
+    let asked : ListedRequest =
+    record { request = c.args.request; list = c.args.list.now; by_null = c.args.by_null } in
+    let request : Request =
+    record { task = c.args.request.task; def = c.args.request.def; paths = c.in-Ok.paths } in
     let place = c.place_of.result.now in
     let found = c.in-Ok.ensures in
     let told = c.run_request.ensures in
     record {
-      does = listed_done asked answer (record { opener = old; out = before; log = b }) new unchanged place c.in-Ok.paths between c.place_of.ensures found.paths found.opens
-          (subst (λ l. Does request answer (record { opener = between; out = before; log = g.L.Sink.taken l }) new unchanged) found.quiet told.does);
+      does = listed_done asked answer (record { opener = old; out = before; log = b }) new unchanged
+          place c.in-Ok.paths between c.place_of.ensures found.paths found.opens
+          (subst (λ l. Does request answer
+          (record { opener = between; out = before; log = g.L.Sink.taken l }) new unchanged)
+          found.quiet told.does);
       given = λ job lists whole.
-          let there = subst (λ at. AreAt at (job.request.def ∷ job.request.paths) (job.def ∷ job.files)) (sym (opens_same old between (place ∷ []) found.opens).at) lists.there in
-          subst (λ l. Ran job answer (record { out = before; log = g.L.Sink.taken l }) (record { out = new.out; log = new.log })) found.quiet
-          (told.given job (request_known old.at asked job place c.in-Ok.paths c.place_of.ensures found.paths lists) there whole);
+          let there = subst (λ at. AreAt at (job.request.def ∷ job.request.paths)
+          (job.def ∷ job.files)) (sym (opens_same old between (place ∷ []) found.opens).at)
+          lists.there in
+          subst (λ l. Ran job answer (record { out = before; log = g.L.Sink.taken l })
+          (record { out = new.out; log = new.log })) found.quiet
+          (told.given job (request_known old.at asked job place c.in-Ok.paths c.place_of.ensures
+          found.paths lists) there whole);
     }
 
 pub returns : goal.returns
@@ -41,6 +54,11 @@ returns g c =
     let a = g.L.Sink.taken c.paths_at.new.log in
     let none = c.in-Err.ensures.none in
     record {
-      does = inl (refl, subst (λ (p : List ℕ). LogsSome (HasNoList old new p c.in-Err.status) b a) c.place_of.ensures none);
-      given = λ job lists whole. absurd (no_list_ends old new c.place_of.result.now c.in-Err.status b a none whole);
+      does = inl (
+        refl,
+        subst (λ (p : List ℕ). LogsSome (HasNoList old new p c.in-Err.status) b a)
+            c.place_of.ensures none,
+      );
+      given = λ job lists whole. absurd
+          (no_list_ends old new c.place_of.result.now c.in-Err.status b a none whole);
     }

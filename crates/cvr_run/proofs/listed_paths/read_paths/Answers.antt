@@ -1,9 +1,11 @@
-use Rattle.std.proofs.Common.{rules, ◌≡◌, ◌∙◌, ◌++◌, ◌==◌, ℕ, [], ◌∷◌, ap, sym, append-nil, append_assoc}
+use Rattle.std.proofs.Common.{rules, ◌≡◌, ◌∙◌, ◌++◌, ◌==◌, ℕ, [], ◌∷◌, ap, sym, append-nil}
+use Rattle.std.proofs.Common.{append_assoc}
 use Rattle.std.specs.List.{before_first}
 use Rattle.cvr_run.specs.ListedPaths.{end_of, listed_paths}
 use Rattle.cvr_run.proofs.ListedPaths.{cut_first, last_path, no_path}
 use Rattle.cvr_run.proofs.listed_paths.read_paths.Goals as goal
-use Rattle.cvr_run.proofs.listed_paths.read_paths.Goals.{then-not-is_empty+in_ok-path_of-2+in_ok-push-2, else-not-is_empty}
+use Rattle.cvr_run.proofs.listed_paths.read_paths.Goals.{then-not-is_empty+in_ok-path_of-2+in_ok-push-2}
+use Rattle.cvr_run.proofs.listed_paths.read_paths.Goals.{else-not-is_empty}
 
 pub ends-preserved : goal.ends-preserved
 ends-preserved c =
@@ -33,8 +35,10 @@ returns c =
     elim c.if-not-is_empty.branch [
       | then-not-is_empty+in_ok-path_of-2+in_ok-push-2 w ↦
           let pushed : c.if-not-is_empty.paths ≡ c.ends.paths ++ rest ∷ [] = search rules in
-          pushed ∙ (ap (λ ps. c.ends.paths ++ ps) (sym (last_path end rest (search rules) all)) ∙ whole)
+          pushed ∙ (ap (λ ps. c.ends.paths ++ ps) (sym (last_path end rest (search rules) all))
+          ∙ whole)
       | else-not-is_empty w ↦
           let none = no_path end rest c.is_empty.result (search rules) c.is_empty.ensures in
-          w.paths-is ∙ (sym (append-nil c.ends.paths) ∙ (ap (λ ps. c.ends.paths ++ ps) (sym none) ∙ whole))
+          w.paths-is ∙ (sym (append-nil c.ends.paths)
+          ∙ (ap (λ ps. c.ends.paths ++ ps) (sym none) ∙ whole))
     ]

@@ -5,4 +5,6 @@ use Rattle.cvr_run.proofs.listed_request.request_of.Goals as goal
 
 pub returns-clause-none : goal.returns-clause-none
 returns-clause-none c = λ request asks.
-    absurd (c.is_memory.ensures.no c.if-is_memory.false (no_line_fault_but_memory (with_program (map string_bytes c.args.words.now)) request c.in-Err.fault asks c.in-Err.ensures.fault))
+    absurd (c.is_memory.ensures.no c.if-is_memory.false
+    (no_line_fault_but_memory (with_program (map string_bytes c.args.words.now)) request
+    c.in-Err.fault asks c.in-Err.ensures.fault))

@@ -1,23 +1,27 @@
 use Rattle.std.proofs.Common.{map, string_bytes}
 use Rattle.cvr_run.proofs.CodeWords.{code_asks_none}
-use Rattle.cvr_run.proofs.ListWords.{code_few, few_alone, few_give_none, none_listed, only_paths, version_few}
+use Rattle.cvr_run.proofs.ListWords.{code_few, few_alone, few_give_none, none_listed, only_paths}
+use Rattle.cvr_run.proofs.ListWords.{version_few}
 use Rattle.cvr_run.proofs.VersionWords.{version_asks_none}
 use Rattle.cvr_run.proofs.responding.respond.Goals as goal
 
 pub returns-then-asks_version-clause-listed : goal.returns-then-asks_version-clause-listed
 returns-then-asks_version-clause-listed g c asked asks =
     let words = map string_bytes c.args.words.now in
-    absurd (few_alone words (version_few words (c.asks_version.ensures.yes c.if-asks_version.true)) asked asks)
+    absurd (few_alone words (version_few words (c.asks_version.ensures.yes c.if-asks_version.true))
+    asked asks)
 
 pub returns-then-asks_version-clause-given : goal.returns-then-asks_version-clause-given
 returns-then-asks_version-clause-given g c job given whole =
     let words = map string_bytes c.args.words.now in
     let version = c.asks_version.ensures.yes c.if-asks_version.true in
-    absurd (few_give_none (g.O.Open.state c.args.opener.now).at words job (version_few words version) (version_asks_none words version) given)
+    absurd (few_give_none (g.O.Open.state c.args.opener.now).at words job
+    (version_few words version) (version_asks_none words version) given)
 
 pub returns-then-asks_version-clause-asked : goal.returns-then-asks_version-clause-asked
 returns-then-asks_version-clause-asked g c request asks =
-    absurd (version_asks_none (map string_bytes c.args.words.now) (c.asks_version.ensures.yes c.if-asks_version.true) request asks)
+    absurd (version_asks_none (map string_bytes c.args.words.now)
+    (c.asks_version.ensures.yes c.if-asks_version.true) request asks)
 
 pub returns-in-Some-clause-listed : goal.returns-in-Some-clause-listed
 returns-in-Some-clause-listed g c asked asks =
@@ -29,14 +33,17 @@ returns-in-Some-clause-given g c job given whole =
     let words = map string_bytes c.args.words.now in
     let name = c.in-Some.name.now in
     let asks = c.in-Some.ensures.some in
-    absurd (few_give_none (g.O.Open.state c.args.opener.now).at words job (code_few words name asks) (code_asks_none words name asks) given)
+    absurd (few_give_none (g.O.Open.state c.args.opener.now).at words job (code_few words name asks)
+    (code_asks_none words name asks) given)
 
 pub returns-in-Some-clause-asked : goal.returns-in-Some-clause-asked
 returns-in-Some-clause-asked g c request asks =
-    absurd (code_asks_none (map string_bytes c.args.words.now) c.in-Some.name.now c.in-Some.ensures.some request asks)
+    absurd (code_asks_none (map string_bytes c.args.words.now) c.in-Some.name.now
+    c.in-Some.ensures.some request asks)
 
 pub returns-in-None-listing_of-clause-given : goal.returns-in-None-listing_of-clause-given
 returns-in-None-listing_of-clause-given g c job given whole =
     let words = map string_bytes c.args.words.now in
     let none = none_listed words c.in-None-listing_of.ensures.none in
-    c.work.ensures.given job (only_paths (g.O.Open.state c.args.opener.now).at words job none given) whole
+    c.work.ensures.given job (only_paths (g.O.Open.state c.args.opener.now).at words job none given)
+    whole

@@ -12,16 +12,31 @@ use Rattle.cvr_run.proofs.responding.respond_listed.Goals as goal
 pub returns-in-Ok-Some : goal.returns-in-Ok-Some
 returns-in-Ok-Some g c =
     let words = map string_bytes c.args.words.now in
-    let old : Devices = record { opener = g.O.Open.state c.args.opener.now; out = g.W.Sink.taken c.args.out.now; log = g.L.Sink.taken c.args.log.now } in
-    let new : Devices = record { opener = g.O.Open.state c.run_listed.new.opener; out = g.W.Sink.taken c.run_listed.new.out; log = g.L.Sink.taken c.run_listed.new.log } in
+    let old : Devices = record {
+      opener = g.O.Open.state c.args.opener.now;
+      out = g.W.Sink.taken c.args.out.now;
+      log = g.L.Sink.taken c.args.log.now;
+    } in
+    let new : Devices = record {
+      opener = g.O.Open.state c.run_listed.new.opener;
+      out = g.W.Sink.taken c.run_listed.new.out;
+      log = g.L.Sink.taken c.run_listed.new.log;
+    } in
     let unchanged = c.run_listed.new.out ≡ c.args.out.now in
-    let asked : ListedRequest = record { request = c.in-Ok-Some.request; list = c.args.listing.now.list.now; by_null = c.args.listing.now.by_null } in
+    let asked : ListedRequest = record {
+      request = c.in-Ok-Some.request;
+      list = c.args.listing.now.list.now;
+      by_null = c.args.listing.now.by_null;
+    } in
     let asks = rw c.in-Ok-Some.field-0-is at c.in-Ok-Some.ensures.some in
     let told = c.run_listed.ensures in
     record {
-      listed = λ other also. subst (λ (l : ListedRequest). AnswersListed l c.run_listed.result old new unchanged) (one_listed words asked other asks also) (inr told.does);
+      listed = λ other also. subst (λ (l : ListedRequest).
+          AnswersListed l c.run_listed.result old new unchanged)
+          (one_listed words asked other asks also) (inr told.does);
       works = λ none. absurd (none asked asks);
-      given = λ job given whole. told.given job (given_lists old.opener.at words asked job asks given) whole;
+      given = λ job given whole. told.given job
+          (given_lists old.opener.at words asked job asks given) whole;
       asked = λ r is. absurd (asks.free r is);
       says = does_listed_same asked c.run_listed.result old new unchanged told.does;
     }
@@ -34,7 +49,8 @@ returns-in-Ok-None g c =
     record {
       listed = λ asked asks. absurd (none asked asks);
       works = λ _. told.answers;
-      given = λ job given whole. told.given job (only_paths (g.O.Open.state c.args.opener.now).at words job none given) whole;
+      given = λ job given whole. told.given job
+          (only_paths (g.O.Open.state c.args.opener.now).at words job none given) whole;
       asked = told.asked;
       says = told.says;
     }
@@ -45,7 +61,9 @@ returns-in-Err g c =
     let answer = c.end_in_memory.result in
     let is = c.end_in_memory.ensures.status in
     let unopened = opens_none (g.O.Open.state c.args.opener.now) in
-    let tells = quiet_told unchanged Memory Memory answer (g.W.Sink.taken c.args.out.now) (g.L.Sink.taken c.args.log.now) (g.L.Sink.taken c.end_in_memory.new.log) refl is refl refl c.end_in_memory.ensures.log in
+    let tells = quiet_told unchanged Memory Memory answer (g.W.Sink.taken c.args.out.now)
+    (g.L.Sink.taken c.args.log.now) (g.L.Sink.taken c.end_in_memory.new.log) refl is refl refl
+    c.end_in_memory.ensures.log in
     record {
       listed = λ asked asks. inl (unopened, tells);
       works = λ none. inr (Memory, tt, unopened, tells);

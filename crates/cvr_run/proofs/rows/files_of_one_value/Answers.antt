@@ -13,7 +13,8 @@ use Rattle.cvr_run.proofs.rows.files_of_one_value.Goals as goal
 pub returns : goal.returns
 unfolding serde_json_on_literals jiff_on_literals digits
 returns c =
-    same_values (frame_in file.definition_file) row.spelled_anew file.one_file file.two_faults_file _
+    same_values (frame_in file.definition_file) row.spelled_anew file.one_file file.two_faults_file
+    _
     (ascii_refusal file.definition_file row.spelled_anew _ refl refl refl refl)
     (ascii_refusal file.definition_file file.one_file _ refl refl refl refl)
     (ascii_refusal file.definition_file file.two_faults_file _ refl refl refl refl)

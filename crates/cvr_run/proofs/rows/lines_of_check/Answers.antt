@@ -12,7 +12,8 @@ use Rattle.cvr_run.proofs.rows.lines_of_check.Goals as goal
 pub returns : goal.returns
 unfolding serde_json_on_literals jiff_on_literals digits
 returns c =
-    check-given file.definition_file (codes "a.json") (codes "b.json") (codes "c.json") file.one_file file.two_faults_file row.three_records_file _ _
+    check-given file.definition_file (codes "a.json") (codes "b.json") (codes "c.json")
+    file.one_file file.two_faults_file row.three_records_file _ _
     (ascii_unsound file.definition_file _ refl refl refl)
     (ascii_refusal file.definition_file file.one_file _ refl refl refl refl)
     (ascii_refusal file.definition_file file.two_faults_file _ refl refl refl refl)

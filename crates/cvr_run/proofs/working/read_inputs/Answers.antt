@@ -17,10 +17,12 @@ returns-in_err-def-clause-stops g c =
     let a = g.L.Sink.taken c.read_told.new.log in
     let path = c.as_str.result.now in
     let told = c.in_err-def.ensures in
-    at_err c.from_residual.result (λ s. s ≡ unread_status cause) (λ s. LogsSome (Stops old new (what ∷ paths) s) b a) c.from_residual.ensures.1
+    at_err c.from_residual.result (λ s. s ≡ unread_status cause)
+    (λ s. LogsSome (Stops old new (what ∷ paths) s) b a) c.from_residual.ensures.1
     (λ s is. (
       unread_line path cause,
-      subst (λ p. Stops old new (p ∷ paths) s (unread_line path cause)) c.as_str.ensures (stops_first old new paths s path cause told.device told.absent told.opens is),
+      subst (λ p. Stops old new (p ∷ paths) s (unread_line path cause)) c.as_str.ensures
+          (stops_first old new paths s path cause told.device told.absent told.opens is),
       told.told,
     ))
 
@@ -38,9 +40,12 @@ returns-in_err-files-clause-stops g c =
     let told = c.in_ok-def.ensures in
     let some = c.in_err-files.ensures.stops in
     let read = subst (λ path. IsRead (old.at path) def) c.as_str.ensures told.bytes in
-    let first : Opens old between (what ∷ []) = subst (λ path. Opens old between (path ∷ [])) c.as_str.ensures told.opens in
-    let stopped : Stops between new paths status some.0 = subst (λ ps. Stops between new ps status some.0) c.as_slice.ensures some.1 in
+    let first : Opens old between (what ∷ []) =
+    subst (λ path. Opens old between (path ∷ [])) c.as_str.ensures told.opens in
+    let stopped : Stops between new paths status some.0 =
+    subst (λ ps. Stops between new ps status some.0) c.as_slice.ensures some.1 in
     let logs : Logs b a some.0 = subst (λ l. Logs (g.L.Sink.taken l) a some.0) told.quiet some.2 in
-    at_err c.from_residual-in_err-files.result (λ s. s ≡ status) (λ s. LogsSome (Stops old new (what ∷ paths) s) b a) c.from_residual-in_err-files.ensures.1
+    at_err c.from_residual-in_err-files.result (λ s. s ≡ status)
+    (λ s. LogsSome (Stops old new (what ∷ paths) s) b a) c.from_residual-in_err-files.ensures.1
     (λ s is. subst (λ t. LogsSome (Stops old new (what ∷ paths) t) b a) (sym is)
     (some.0, stops_later old new what def read paths between status some.0 first stopped, logs))

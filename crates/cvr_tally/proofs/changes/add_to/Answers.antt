@@ -1,27 +1,60 @@
 use Rattle.std.proofs.Common.{◌≡◌, ap, ◌∙◌, arith}
-use Rattle.cvr_fact_types.specs.Columns.{Ballots, Overvotes, Undervotes, WriteIns, Pending, Unassigned, VotesFor}
+use Rattle.cvr_fact_types.specs.Columns.{Ballots, Overvotes, Undervotes, WriteIns, Pending}
+use Rattle.cvr_fact_types.specs.Columns.{Unassigned, VotesFor}
 use Rattle.cvr_tally.specs.declared.row.Row.{Row}
 use Rattle.cvr_tally.proofs.changes.add_to.Goals as goal
 
 pub overflow_add-row : goal.overflow_add-row
-overflow_add-row c = omega (arith, c.requires.room Ballots, ap (λ (r : Row). r.ballots) c.row.view_is)
+overflow_add-row c =
+    omega (arith, c.requires.room Ballots, ap (λ (r : Row). r.ballots) c.row.view_is)
 
 pub overflow_add-row-2 : goal.overflow_add-row-2
-overflow_add-row-2 c = omega (arith, c.requires.room Overvotes, ap (λ (r : Row). r.overvotes) c.row.view_is, c.from.ensures)
+overflow_add-row-2 c = omega (
+  arith,
+  c.requires.room Overvotes,
+  ap (λ (r : Row). r.overvotes)
+      c.row.view_is,
+  c.from.ensures,
+)
 
 pub overflow_add-row-3 : goal.overflow_add-row-3
-overflow_add-row-3 c = omega (arith, c.requires.room Undervotes, ap (λ (r : Row). r.undervotes) c.row.view_is, c.from-2.ensures)
+overflow_add-row-3 c = omega (
+  arith,
+  c.requires.room Undervotes,
+  ap (λ (r : Row). r.undervotes)
+      c.row.view_is,
+  c.from-2.ensures,
+)
 
 pub overflow_add-row-4 : goal.overflow_add-row-4
-overflow_add-row-4 c = omega (arith, c.requires.room WriteIns, ap (λ (r : Row). r.write_ins) c.row.view_is, c.from-3.ensures)
+overflow_add-row-4 c = omega (
+  arith,
+  c.requires.room WriteIns,
+  ap (λ (r : Row). r.write_ins)
+      c.row.view_is,
+  c.from-3.ensures,
+)
 
 pub overflow_add-row-5 : goal.overflow_add-row-5
-overflow_add-row-5 c = omega (arith, c.requires.room Pending, ap (λ (r : Row). r.pending) c.row.view_is, c.from-4.ensures)
+overflow_add-row-5 c = omega (
+  arith,
+  c.requires.room Pending,
+  ap (λ (r : Row). r.pending)
+      c.row.view_is,
+  c.from-4.ensures,
+)
 
 pub overflow_add-row-6 : goal.overflow_add-row-6
-overflow_add-row-6 c = omega (arith, c.requires.room Unassigned, ap (λ (r : Row). r.unassigned) c.row.view_is, c.from-5.ensures)
+overflow_add-row-6 c = omega (
+  arith,
+  c.requires.room Unassigned,
+  ap (λ (r : Row). r.unassigned)
+      c.row.view_is,
+  c.from-5.ensures,
+)
 
 pub add_votes-requires-clause-room : goal.add_votes-requires-clause-room
 add_votes-requires-clause-room c place =
-    let votes : c.as_mut_slice.result.now ≡ c.args.row.now.votes = c.as_mut_slice.ensures.value ∙ ap (λ (r : Row). r.votes) c.row.view_is in
+    let votes : c.as_mut_slice.result.now ≡ c.args.row.now.votes =
+    c.as_mut_slice.ensures.value ∙ ap (λ (r : Row). r.votes) c.row.view_is in
     rw (votes, c.as_slice.ensures) (c.requires.room (VotesFor place))

@@ -5,7 +5,8 @@ use Rattle.cvr_tally.proofs.contest_ids.contest_ids.Goals as goal
 
 pub loop-contest-preserved : goal.loop-contest-preserved
 loop-contest-preserved c =
-    let lt : c.loop-contest.contest < length c.args.definition.now.contests = omega (arith, c.loop-contest-test.true, c.contest_count-contest-end.ensures) in
+    let lt : c.loop-contest.contest < length c.args.definition.now.contests =
+    omega (arith, c.loop-contest-test.true, c.contest_count-contest-end.ensures) in
     let new = c.in_ok-ids_of.field-0 in
     ap (map (λ x. (x.id, x.selections))) c.in_ok-push.ensures.items
     ∙ (map_push (λ x. (x.id, x.selections)) c.loop-contest.ids.items new

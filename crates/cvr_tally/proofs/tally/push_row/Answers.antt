@@ -13,6 +13,10 @@ returns c =
     let place = c.args.key.now.contest in
     let ids : c.as_slice-ids.result.now ≡ selections_at (contests_of contests) place =
     c.as_slice-ids.ensures ∙ sym (ids_at contests place c.index-contests-key.result c.requires) in
-    let pairs : zip c.as_slice-ids.result.now c.as_slice.result.now ≡ zip (selections_at (contests_of contests) place) c.args.row.now.votes =
+    let pairs : zip c.as_slice-ids.result.now c.as_slice.result.now
+    ≡ zip (selections_at (contests_of contests) place) c.args.row.now.votes =
     rw (ids, c.as_slice.ensures) in
-    after_four _ _ _ _ _ _ _ _ _ c.in_ok-push_key.ensures c.in_ok-push_numbers.ensures (c.in_ok-push_selections.ensures ∙ ap (λ pairs. string_bytes c.push_numbers.new.text ++ flat_map selection pairs) pairs) c.in_ok-push_str.ensures.bytes
+    after_four _ _ _ _ _ _ _ _ _ c.in_ok-push_key.ensures c.in_ok-push_numbers.ensures
+    (c.in_ok-push_selections.ensures
+    ∙ ap (λ pairs. string_bytes c.push_numbers.new.text ++ flat_map selection pairs) pairs)
+    c.in_ok-push_str.ensures.bytes

@@ -10,14 +10,20 @@ use Rattle.cvr_tally.proofs.tally.push_selections.Goals as goal
 
 pub returns : goal.returns
 returns c =
-    let none = zip_empty _ _ (either_empty_from_Zip c.loop-id.id-iterator c.next.new.self c.next.result c.in-None.is c.next.ensures.steps) in
-    sym (append-nil _) ∙ (ap (λ pairs. string_bytes c.loop-id.text ++ flat_map selection pairs) (sym none) ∙ c.loop-id.invariant)
+    let none = zip_empty _ _ (either_empty_from_Zip c.loop-id.id-iterator c.next.new.self
+    c.next.result c.in-None.is c.next.ensures.steps) in
+    sym (append-nil _) ∙ (ap (λ pairs. string_bytes c.loop-id.text ++ flat_map selection pairs)
+    (sym none) ∙ c.loop-id.invariant)
 
 pub loop-id-preserved : goal.loop-id-preserved
 loop-id-preserved c =
     let here = c.loop-id.id-iterator in
     let rest = c.next.new.self in
     let pair = Zip-more here rest c.next.result _ c.in-Some.is c.next.ensures.steps in
-    let more : zip (iter_rest (zip_first here)) (iter_rest (zip_second here)) ≡ (c.in-Some.id.now, c.in-Some.count.now) ∷ zip (iter_rest (zip_first rest)) (iter_rest (zip_second rest)) =
+    let more : zip (iter_rest (zip_first here)) (iter_rest (zip_second here))
+    ≡ (c.in-Some.id.now, c.in-Some.count.now)
+    ∷ zip (iter_rest (zip_first rest)) (iter_rest (zip_second rest)) =
     zip_more _ _ _ _ _ _ pair.0 pair.1 in
-    more_pushed _ _ _ _ _ c.in_ok-push_selection.ensures (ap (λ pairs. string_bytes c.loop-id.text ++ flat_map selection pairs) (sym more) ∙ c.loop-id.invariant)
+    more_pushed _ _ _ _ _ c.in_ok-push_selection.ensures
+    (ap (λ pairs. string_bytes c.loop-id.text ++ flat_map selection pairs) (sym more)
+    ∙ c.loop-id.invariant)

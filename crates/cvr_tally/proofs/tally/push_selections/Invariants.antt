@@ -8,4 +8,6 @@ use Rattle.cvr_tally.proofs.tally.push_selections.Given as goal
 -- the text so far and the selections that are left
 abbrev pub invariant-loop-id : goal.invariant-loop-id
 invariant-loop-id l =
-    string_bytes l.text ++ flat_map selection (zip (iter_rest (zip_first l.id-iterator)) (iter_rest (zip_second l.id-iterator))) ≡ string_bytes l.initial.text ++ flat_map selection (zip l.ids l.votes)
+    string_bytes l.text ++ flat_map selection
+    (zip (iter_rest (zip_first l.id-iterator)) (iter_rest (zip_second l.id-iterator)))
+    ≡ string_bytes l.initial.text ++ flat_map selection (zip l.ids l.votes)

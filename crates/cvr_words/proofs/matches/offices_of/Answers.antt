@@ -8,12 +8,17 @@ use Rattle.cvr_words.proofs.matches.offices_of.Goals as goal
 
 pub returns : goal.returns
 returns c =
-    let read = c.get_one.ensures.value (without_minus c.requires.0) (one_text-rows (found_of c.args.matches.now) (codes "OFFICES") ∙ c.requires.1) in
-    number_read _ (λ bs r. ParsesUnsigned 32 10 bs r × ExplainsUnsignedError 10 bs r × HasUnsignedDigitsIfOk bs r) (codes "OFFICES") 1 64
-    (rows_of (found_of c.args.matches.now)) c.requires.0 c.get_one.result c.requires.1 read (λ u x g. g.0) (omega arith) c.requires.2 _ c.in-Some.is
+    let read = c.get_one.ensures.value (without_minus c.requires.0)
+    (one_text-rows (found_of c.args.matches.now) (codes "OFFICES") ∙ c.requires.1) in
+    number_read _ (λ bs r. ParsesUnsigned 32 10 bs r × ExplainsUnsignedError 10 bs r
+    × HasUnsignedDigitsIfOk bs r) (codes "OFFICES") 1 64
+    (rows_of (found_of c.args.matches.now)) c.requires.0 c.get_one.result c.requires.1 read
+    (λ u x g. g.0) (omega arith) c.requires.2 _ c.in-Some.is
 
 pub unreachable-requires : goal.unreachable-requires
 unreachable-requires c =
-    let read = c.get_one.ensures.value (without_minus c.requires.0) (one_text-rows (found_of c.args.matches.now) (codes "OFFICES") ∙ c.requires.1) in
-    number_there _ (λ bs r. ParsesUnsigned 32 10 bs r × ExplainsUnsignedError 10 bs r × HasUnsignedDigitsIfOk bs r) 1 64
+    let read = c.get_one.ensures.value (without_minus c.requires.0)
+    (one_text-rows (found_of c.args.matches.now) (codes "OFFICES") ∙ c.requires.1) in
+    number_there _ (λ bs r. ParsesUnsigned 32 10 bs r × ExplainsUnsignedError 10 bs r
+    × HasUnsignedDigitsIfOk bs r) 1 64
     c.requires.0 c.get_one.result read (λ u x g. g.0) (omega arith) c.requires.2 c.in-None.is

@@ -11,8 +11,11 @@ returns c =
     let same = words_or c.get_strs.result c.unwrap_or.result _ _ c.unwrap_or.ensures refl value in
     let read = c.read_steps in
     record {
-      formed = subst (λ (w : List Text). IfOk read.result (λ r. bad_place w ≡ None)) same read.ensures.formed;
-      steps = subst (λ (w : List Text). IfOk read.result (λ r. r.steps ≡ steps_of 0 w)) same read.ensures.steps;
-      paths = subst (λ (w : List Text). IfOk read.result (λ r. r.paths ≡ paths_of w)) same read.ensures.paths;
+      formed = subst (λ (w : List Text). IfOk read.result (λ r. bad_place w ≡ None)) same
+          read.ensures.formed;
+      steps = subst (λ (w : List Text). IfOk read.result (λ r. r.steps ≡ steps_of 0 w)) same
+          read.ensures.steps;
+      paths = subst (λ (w : List Text). IfOk read.result (λ r. r.paths ≡ paths_of w)) same
+          read.ensures.paths;
       err = subst (λ (w : List Text). IfErr read.result (λ f. IsBadStep w f)) same read.ensures.err;
     }

@@ -7,4 +7,5 @@ use Rattle.cvr_words.proofs.read.read_words.Goals as goal
 pub returns-in-Err-clause-fault : goal.returns-in-Err-clause-fault
 returns-in-Err-clause-fault c =
     let words = with_program (map string_bytes c.args.words.now) in
-    subst (IsFault words) (sym c.into_word_fault.ensures) (word_fault_is words c.in-Err.fault c.in-Err.ensures.fault)
+    subst (IsFault words) (sym c.into_word_fault.ensures)
+    (word_fault_is words c.in-Err.fault c.in-Err.ensures.fault)

@@ -9,6 +9,14 @@ returns g c = record {
   whole = λ _. record {
     few = omega arith;
     form = refl;
-    kept = λ _. record { settled = ((λ _. All-nil (NamesOwn c.args.self.now.definition.now)), λ _. refl); names = λ _. c.new.ensures; records = λ _. c.none.ensures c.args.self.now.definition.now.contests };
+    kept = λ _. record {
+      settled = (
+        (λ _. All-nil (NamesOwn c.args.self.now.definition.now)),
+        λ _.
+            refl,
+      );
+      names = λ _. c.new.ensures;
+      records = λ _. c.none.ensures c.args.self.now.definition.now.contests;
+    };
   };
 }

@@ -7,27 +7,34 @@ use Rattle.cdf_check.proofs.seen.LooksFold.take.Goals as goal
 
 pub returns-then-is_some : goal.returns-then-is_some
 returns-then-is_some g c ds at h = record {
-  fraction = let first = fraction_next ds (view c.args.item) c.args.place at in grind (arith, first, h.fraction);
+  fraction = let first = fraction_next ds (view c.args.item) c.args.place at in
+      grind (arith, first, h.fraction);
   whole = λ none. absurd (grind arith);
 }
 
 pub returns-then-is_some-2 : goal.returns-then-is_some-2
 returns-then-is_some-2 g c ds at h =
-    seen_more _ c.args.self.now.definition.now ds (view c.args.item) c.args.seen.now _ c.args.place h (grind arith) at c.in_ok-seen.ensures (λ _ none. absurd (grind arith))
+    seen_more _ c.args.self.now.definition.now ds (view c.args.item) c.args.seen.now _ c.args.place
+    h (grind arith) at c.in_ok-seen.ensures (λ _ none. absurd (grind arith))
 
 pub returns-then-is_some-3 : goal.returns-then-is_some-3
 returns-then-is_some-3 g c ds at h =
     let seen = c.args.seen.now in
-    seen_more _ c.args.self.now.definition.now ds (view c.args.item) seen _ c.args.place h (grind arith) at c.in_ok-seen.ensures (λ own _.
-    whole_more _ c.args.self.now.definition.now ds (view c.args.item) seen _ c.args.place at c.requires (grind arith) own (λ none. absurd (grind arith)))
+    seen_more _ c.args.self.now.definition.now ds (view c.args.item) seen _ c.args.place h
+    (grind arith) at c.in_ok-seen.ensures (λ own _.
+    whole_more _ c.args.self.now.definition.now ds (view c.args.item) seen _ c.args.place at
+    c.requires (grind arith) own (λ none. absurd (grind arith)))
 
 pub returns-then-is_some-4 : goal.returns-then-is_some-4
 returns-then-is_some-4 g c ds at h =
     let seen = c.args.seen.now in
     let unseen : seen.fraction ≡ None = grind arith in
     let right : seen.form ≡ None = grind arith in
-    seen_more _ c.args.self.now.definition.now ds (view c.args.item) seen _ c.args.place h unseen at c.in_ok-seen.ensures (λ own _.
-    whole_more _ c.args.self.now.definition.now ds (view c.args.item) seen _ c.args.place at c.requires (or_none _ _ _ (ap (option_map fault_of) right) c.in_ok-form.ensures.form) own (λ none. absurd (grind arith)))
+    seen_more _ c.args.self.now.definition.now ds (view c.args.item) seen _ c.args.place h unseen at
+    c.in_ok-seen.ensures (λ own _.
+    whole_more _ c.args.self.now.definition.now ds (view c.args.item) seen _ c.args.place at
+    c.requires (or_none _ _ _ (ap (option_map fault_of) right) c.in_ok-form.ensures.form) own
+    (λ none. absurd (grind arith)))
 
 pub keep_right-requires-clause-form : goal.keep_right-requires-clause-form
 keep_right-requires-clause-form g c =
@@ -39,6 +46,9 @@ returns g c ds at h =
     let seen = c.args.seen.now in
     let unseen : seen.fraction ≡ None = grind arith in
     let right : seen.form ≡ None = grind arith in
-    seen_more _ c.args.self.now.definition.now ds (view c.args.item) seen _ c.args.place h unseen at c.in_ok-seen.ensures (λ own _.
-    whole_more _ c.args.self.now.definition.now ds (view c.args.item) seen _ c.args.place at c.requires (or_none _ _ _ (ap (option_map fault_of) right) c.in_ok-form.ensures.form) own (λ _.
+    seen_more _ c.args.self.now.definition.now ds (view c.args.item) seen _ c.args.place h unseen at
+    c.in_ok-seen.ensures (λ own _.
+    whole_more _ c.args.self.now.definition.now ds (view c.args.item) seen _ c.args.place at
+    c.requires (or_none _ _ _ (ap (option_map fault_of) right) c.in_ok-form.ensures.form) own
+    (λ _.
     c.in_ok-keep_right.ensures ds at (own.kept right)))

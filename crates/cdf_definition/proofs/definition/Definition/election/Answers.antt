@@ -13,4 +13,6 @@ returns c =
     let one = one_text _ c.self.invariant in
     let texts = c.bodies.result.now in
     let own : c.index-bodies-0.result ≡ get_or texts 0 c.index-bodies-0.result = search rules in
-    rw (← c.self.view_is) (sym c.bodies.ensures ∙ only_text texts c.index-bodies-0.result (ap length c.bodies.ensures ∙ one) ∙ ap (λ t. t ∷ []) (sym own))
+    rw (← c.self.view_is) (sym c.bodies.ensures
+    ∙ only_text texts c.index-bodies-0.result (ap length c.bodies.ensures ∙ one)
+    ∙ ap (λ t. t ∷ []) (sym own))

@@ -7,5 +7,6 @@ use Rattle.cdf_definition.proofs.named.Named.of_map.Given as goal
 abbrev pub invariant-loop-id : goal.invariant-loop-id
 invariant-loop-id l = record {
   same : length l.ids.items ≡ length l.bodies.items;
-  rest : zip (bytes_of l.ids.items) l.bodies.items ++ map_entries l.id-iterator ≡ map_entries l.initial.id-iterator;
+  rest : zip (bytes_of l.ids.items) l.bodies.items ++ map_entries l.id-iterator
+      ≡ map_entries l.initial.id-iterator;
 }

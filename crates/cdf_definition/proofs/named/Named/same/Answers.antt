@@ -9,5 +9,8 @@ returns c =
     let xs = c.bodies.result.now in
     let ys = c.bodies-2.result.now in
     let is : c.eq.result ≡ pointwise bytes_eq xs ys = search rules in
-    let both = slice_eq-Decides bytes_eq-Decides xs ys (pointwise bytes_eq xs ys) refl in
-    (λ t. sym c.bodies.ensures ∙ both.0 (sym is ∙ t) ∙ c.bodies-2.ensures, λ e. is ∙ both.1 (c.bodies.ensures ∙ e ∙ sym c.bodies-2.ensures))
+    let both = slice_eq-Decides bytes_eq-Decides xs ys (pointwise bytes_eq xs ys) refl in (
+      λ t. sym c.bodies.ensures ∙ both.0 (sym is ∙ t) ∙ c.bodies-2.ensures,
+      λ e. is
+          ∙ both.1 (c.bodies.ensures ∙ e ∙ sym c.bodies-2.ensures),
+    )

@@ -12,9 +12,18 @@ returns c =
     let ts = c.write.new.out.tokens in
     let out = c.into_inner.ensures in
     let text : string_bytes c.from_utf8_unchecked.result ≡ print ts =
-    ap (λ v. v.items) c.from_utf8_unchecked.ensures.value ∙ out.items ∙ ap (λ b. b ++ print ts) (c.write.ensures.before ∙ c.new-out.ensures.before ∙ c.in_ok-with_capacity.ensures.items) in
+    ap (λ v. v.items) c.from_utf8_unchecked.ensures.value ∙ out.items
+    ∙ ap (λ b. b ++ print ts) (c.write.ensures.before ∙ c.new-out.ensures.before
+    ∙ c.in_ok-with_capacity.ensures.items) in
     let read = ap tokens text ∙ out.reads_back in
     let compact = text ∙ ap print (sym read) in
-    let w = subst (λ old. WritesValue (view c.args.self.now) old ts) c.new-out.ensures.tokens c.in_ok-write.ensures.ok in
-    let order : IsInOrder (string_bytes c.from_utf8_unchecked.result) (view c.args.self.now) = (w.0, read ∙ w.1, w.2) in
-    record { text = λ whole. compact ∙ ap print (tokens_from_order _ _ order whole) ∙ print-outline _; compact = compact; order = order }
+    let w = subst (λ old. WritesValue (view c.args.self.now) old ts) c.new-out.ensures.tokens
+    c.in_ok-write.ensures.ok in
+    let order : IsInOrder (string_bytes c.from_utf8_unchecked.result) (view c.args.self.now) =
+    (w.0, read ∙ w.1, w.2) in
+    record {
+      text = λ whole. compact ∙ ap print (tokens_from_order _ _ order whole)
+          ∙ print-outline _;
+      compact = compact;
+      order = order;
+    }

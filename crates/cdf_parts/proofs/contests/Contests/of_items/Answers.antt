@@ -12,5 +12,7 @@ returns c =
     let done : length vs ≤ c.loop-item.item-index = search rules in
     let all = take_all c.loop-item.item-index vs done in
     let own : c.in_ok-of_items-2.field-0 ≡ map id_of (map view vs) = search rules in
-    let each : c.loop-item.selections.items ≡ map (ids_at (codes "ContestSelection")) (map view vs) = c.loop-item.invariant ∙ ap (λ xs. map (ids_at (codes "ContestSelection")) (map view xs)) all in
+    let each : c.loop-item.selections.items
+    ≡ map (ids_at (codes "ContestSelection")) (map view vs) = c.loop-item.invariant
+    ∙ ap (λ xs. map (ids_at (codes "ContestSelection")) (map view xs)) all in
     rw (own, each) (zip-map (map view vs))

@@ -5,4 +5,5 @@ use Rattle.cdf_parts.specs.Parts.{ids_at}
 use Rattle.cdf_parts.proofs.contests.Contests.of_items.Given as goal
 
 abbrev pub invariant-loop-item : goal.invariant-loop-item
-invariant-loop-item l = l.selections.items ≡ map (ids_at (codes "ContestSelection")) (map view (take l.item-index l.items))
+invariant-loop-item l = l.selections.items
+    ≡ map (ids_at (codes "ContestSelection")) (map view (take l.item-index l.items))

@@ -1,4 +1,5 @@
-use Rattle.std.proofs.Common.{◌≡◌, ◌<◌, ◌+◌, ◌++◌, ◌∷◌, [], get_or, length, take, sym, ap, ◌∙◌, string_bytes, rules, arith}
+use Rattle.std.proofs.Common.{◌≡◌, ◌<◌, ◌+◌, ◌++◌, ◌∷◌, [], get_or, length, take, sym, ap, ◌∙◌}
+use Rattle.std.proofs.Common.{string_bytes, rules, arith}
 use Rattle.std.proofs.lemmas.List.{take_more, length-take-le}
 use Rattle.cdf_parts.specs.Kept.{bytes_of}
 use Rattle.cdf_parts.specs.Places.{place_in}
@@ -14,8 +15,11 @@ loop-place-preserved c = λ q.
     let is : x ≡ get_or xs i x = search rules in
     let id = c.as_str.result.now in
     let own : string_bytes x ≡ id = search rules in
-    let len : length (bytes_of (take i xs)) ≡ i = length-bytes_of (take i xs) ∙ length-take-le i xs (omega arith) in
+    let len : length (bytes_of (take i xs)) ≡ i =
+    length-bytes_of (take i xs) ∙ length-take-le i xs (omega arith) in
     let more : bytes_of (take (i + 1) xs) ≡ bytes_of (take i xs) ++ id ∷ [] =
-    ap bytes_of (take_more xs i x lt ∙ ap (λ y. take i xs ++ y ∷ []) (sym is)) ∙ bytes_more (take i xs) x id own in
-    places_more c.loop-place.places c.note_place.new.places (bytes_of (take i xs)) id i len c.loop-place.invariant c.in_ok-note_place.ensures q
+    ap bytes_of (take_more xs i x lt ∙ ap (λ y. take i xs ++ y ∷ []) (sym is))
+    ∙ bytes_more (take i xs) x id own in
+    places_more c.loop-place.places c.note_place.new.places (bytes_of (take i xs)) id i len
+    c.loop-place.invariant c.in_ok-note_place.ensures q
     ∙ ap (λ ys. place_in ys q) (sym more)

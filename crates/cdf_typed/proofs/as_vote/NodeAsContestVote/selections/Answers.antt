@@ -8,5 +8,6 @@ use Rattle.cdf_typed.proofs.as_vote.NodeAsContestVote.selections.Goals as goal
 
 pub returns : goal.returns
 returns c contests =
-    let told = selection_vote_of (selections_of contests (text_at (codes "ContestId") (view c.args.self.now))) in
+    let told = selection_vote_of (selections_of contests
+    (text_at (codes "ContestId") (view c.args.self.now))) in
     sym (map-map told view c.items_at.result.now) ∙ ap (map told) c.items_at.ensures

@@ -11,4 +11,6 @@ returns c =
     let d = c.store.inside.devices.items in
     let es = c.store.inside.records.entries in
     let told = rw c.deref.ensures.value at c.conflicts_over.ensures in
-    rw (← c.self.view_is, ← c.store.view_is) (subst (λ cs. IfOk c.conflicts_over.result (λ list. list ≡ cs)) (conflicts_apart d es c.store.invariant.own) told)
+    rw (← c.self.view_is, ← c.store.view_is)
+    (subst (λ cs. IfOk c.conflicts_over.result (λ list. list ≡ cs))
+    (conflicts_apart d es c.store.invariant.own) told)

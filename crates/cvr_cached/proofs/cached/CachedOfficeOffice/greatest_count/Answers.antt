@@ -8,4 +8,6 @@ greatest_count_over-requires c = rw c.deref.ensures.value c.store.invariant.own.
 pub returns : goal.returns
 returns c =
     let told = rw c.deref.ensures.value at c.greatest_count_over.ensures in
-    rw (← c.self.view_is, ← c.store.view_is) (told ∙ greatest_apart c.store.inside.devices.items c.store.inside.records.entries c.store.invariant.own)
+    rw (← c.self.view_is, ← c.store.view_is)
+    (told ∙ greatest_apart c.store.inside.devices.items c.store.inside.records.entries
+    c.store.invariant.own)

@@ -10,15 +10,23 @@ put_in-requires c = rises_none c.new-devices.result.items c.new-devices.ensures.
 
 pub invariant_of-store : goal.invariant_of-store
 invariant_of-store c =
-    held_start c.args.definition _ _ _ c.new-devices.ensures.items c.in_ok-own_devices.ensures c.in_ok-put_in.ensures.put c.new-2.result.entries c.new-2.ensures.empty c.in_ok-totals.totals c.len-count.result (ap (λ t. t.rows) c.in_ok-totals.ensures) (c.len-count.ensures ∙ c.put_in.new.facts.ok.0) (let fits = c.len-count.type_inv in omega (arith, fits))
+    held_start c.args.definition _ _ _ c.new-devices.ensures.items c.in_ok-own_devices.ensures
+    c.in_ok-put_in.ensures.put c.new-2.result.entries c.new-2.ensures.empty
+    c.in_ok-totals.totals c.len-count.result (ap (λ t. t.rows) c.in_ok-totals.ensures)
+    (c.len-count.ensures ∙ c.put_in.new.facts.ok.0)
+    (let fits = c.len-count.type_inv in omega (arith, fits))
 
 pub invariant_of-result : goal.invariant_of-result
 invariant_of-result c =
-    cached_start c.args.definition _ _ _ c.new-devices.ensures.items c.in_ok-own_devices.ensures c.in_ok-put_in.ensures.put c.new-2.result.entries c.new-2.ensures.empty
-    (plain_start c.args.definition _ _ _ c.new-devices.ensures.items c.in_ok-own_devices.ensures c.in_ok-put_in.ensures.put c.made_of_a_report.ensures)
+    cached_start c.args.definition _ _ _ c.new-devices.ensures.items c.in_ok-own_devices.ensures
+    c.in_ok-put_in.ensures.put c.new-2.result.entries c.new-2.ensures.empty
+    (plain_start c.args.definition _ _ _ c.new-devices.ensures.items c.in_ok-own_devices.ensures
+    c.in_ok-put_in.ensures.put c.made_of_a_report.ensures)
     c.in_ok-totals.totals (ap (λ t. t.contests) c.in_ok-totals.ensures)
 
 pub returns-clause-content : goal.returns-clause-content
 returns-clause-content c =
-    ap set_of (alone c.args.definition _ _ _ c.new-devices.ensures.items c.in_ok-own_devices.ensures c.in_ok-put_in.ensures.put c.new-2.result.entries c.new-2.ensures.empty)
-    ∙ start_is c.args.definition _ _ _ c.new-devices.ensures.items c.in_ok-own_devices.ensures c.in_ok-put_in.ensures.put
+    ap set_of (alone c.args.definition _ _ _ c.new-devices.ensures.items c.in_ok-own_devices.ensures
+    c.in_ok-put_in.ensures.put c.new-2.result.entries c.new-2.ensures.empty)
+    ∙ start_is c.args.definition _ _ _ c.new-devices.ensures.items c.in_ok-own_devices.ensures
+    c.in_ok-put_in.ensures.put

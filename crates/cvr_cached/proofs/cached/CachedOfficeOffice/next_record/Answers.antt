@@ -8,4 +8,6 @@ pub returns : goal.returns
 returns c =
     let after = option_map (λ k. k.now) c.args.after in
     rw (← c.self.view_is, ← c.store.view_is)
-    (c.next_over.ensures ∙ ap (λ ks. next name_cmp ks after) (sym (records_are c.store.inside.devices.items c.store.inside.records.entries c.store.invariant.own)))
+    (c.next_over.ensures ∙ ap (λ ks. next name_cmp ks after)
+    (sym (records_are c.store.inside.devices.items c.store.inside.records.entries
+    c.store.invariant.own)))

@@ -9,27 +9,39 @@ use Rattle.cvr_cached.proofs.content.RecordContent.add_votes.Goals as goal
 
 pub add-requires-clause-open : goal.add-requires-clause-open
 add-requires-clause-open c =
-    let at = pair_at c.args.self.now c.loop-sums.key c.loop-sums.invariant.key (c.votes_at-sums-items.ensures ∙ ap current_sums (c.deref.ensures.value ∙ c.self.view_is)) c.loop-sums-test.true c.sums-item.is in
+    let at = pair_at c.args.self.now c.loop-sums.key c.loop-sums.invariant.key
+    (c.votes_at-sums-items.ensures ∙ ap current_sums (c.deref.ensures.value ∙ c.self.view_is))
+    c.loop-sums-test.true c.sums-item.is in
     c.loop-sums.invariant.stand _ ∙ c.requires.open_at _ (row_here at)
 
 pub add-requires-clause-votes : goal.add-requires-clause-votes
 add-requires-clause-votes c =
-    let at = pair_at c.args.self.now c.loop-sums.key c.loop-sums.invariant.key (c.votes_at-sums-items.ensures ∙ ap current_sums (c.deref.ensures.value ∙ c.self.view_is)) c.loop-sums-test.true c.sums-item.is in
-    long_at at c.args.totals.now.contests c.loop-sums.totals.contests c.loop-sums.invariant.contests c.requires.fit
+    let at = pair_at c.args.self.now c.loop-sums.key c.loop-sums.invariant.key
+    (c.votes_at-sums-items.ensures ∙ ap current_sums (c.deref.ensures.value ∙ c.self.view_is))
+    c.loop-sums-test.true c.sums-item.is in
+    long_at at c.args.totals.now.contests c.loop-sums.totals.contests c.loop-sums.invariant.contests
+    c.requires.fit
 
 pub add-requires-clause-room : goal.add-requires-clause-room
 add-requires-clause-room c =
-    let at = pair_at c.args.self.now c.loop-sums.key c.loop-sums.invariant.key (c.votes_at-sums-items.ensures ∙ ap current_sums (c.deref.ensures.value ∙ c.self.view_is)) c.loop-sums-test.true c.sums-item.is in
-    room_of c.loop-sums.totals.rows _ _ (room at c.loop-sums.totals.rows c.args.totals.now.rows c.loop-sums.invariant.cells c.requires.room)
+    let at = pair_at c.args.self.now c.loop-sums.key c.loop-sums.invariant.key
+    (c.votes_at-sums-items.ensures ∙ ap current_sums (c.deref.ensures.value ∙ c.self.view_is))
+    c.loop-sums-test.true c.sums-item.is in
+    room_of c.loop-sums.totals.rows _ _
+    (room at c.loop-sums.totals.rows c.args.totals.now.rows c.loop-sums.invariant.cells
+    c.requires.room)
 
 pub loop-sums-preserved : goal.loop-sums-preserved
 loop-sums-preserved c =
-    let at = pair_at c.args.self.now c.loop-sums.key c.loop-sums.invariant.key (c.votes_at-sums-items.ensures ∙ ap current_sums (c.deref.ensures.value ∙ c.self.view_is)) c.loop-sums-test.true c.sums-item.is in
+    let at = pair_at c.args.self.now c.loop-sums.key c.loop-sums.invariant.key
+    (c.votes_at-sums-items.ensures ∙ ap current_sums (c.deref.ensures.value ∙ c.self.view_is))
+    c.loop-sums-test.true c.sums-item.is in
     let v = c.sums-item.result in
     let k = key_for c.loop-sums.key.unit c.loop-sums.key.batch v in
     let m = c.loop-sums.totals.rows in
     let inv = c.loop-sums.invariant in
-    let fit = long_at at c.args.totals.now.contests c.loop-sums.totals.contests inv.contests c.requires.fit in
+    let fit = long_at at c.args.totals.now.contests c.loop-sums.totals.contests inv.contests
+    c.requires.fit in
     let is_open = inv.stand k ∙ c.requires.open_at k (row_here at) in
     record {
       key = inv.key;

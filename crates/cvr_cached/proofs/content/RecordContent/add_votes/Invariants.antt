@@ -8,7 +8,8 @@ use Rattle.cvr_cached.proofs.content.RecordContent.add_votes.Given as goal
 abbrev pub invariant-loop-sums : goal.invariant-loop-sums
 invariant-loop-sums l = record {
   key : IsKeyOf l.fn.self l.key;
-  cells : (q : RowKey) (j : Column) → cell l.totals.rows q j ≡ cell l.fn.totals.rows q j + shares (take l.sums-index (pairs_of l.fn.self)) q j;
+  cells : (q : RowKey) (j : Column) → cell l.totals.rows q j
+      ≡ cell l.fn.totals.rows q j + shares (take l.sums-index (pairs_of l.fn.self)) q j;
   stand : (q : RowKey) → has_row l.totals.rows q ≡ has_row l.fn.totals.rows q;
   moves : l.totals.moves ≡ l.fn.totals.moves + l.sums-index;
   contests : l.totals.contests ≡ l.fn.totals.contests;

@@ -13,7 +13,9 @@ use Rattle.cvr_cached.proofs.content.RecordContent.close_rows.Goals as goal
 
 pub loop-sums-preserved : goal.loop-sums-preserved
 loop-sums-preserved c =
-    let at = pair_at c.args.self.now c.loop-sums.key c.loop-sums.invariant.key (c.votes_at-sums-items.ensures ∙ ap current_sums (c.deref.ensures.value ∙ c.self.view_is)) c.loop-sums-test.true c.sums-item.is in
+    let at = pair_at c.args.self.now c.loop-sums.key c.loop-sums.invariant.key
+    (c.votes_at-sums-items.ensures ∙ ap current_sums (c.deref.ensures.value ∙ c.self.view_is))
+    c.loop-sums-test.true c.sums-item.is in
     let ps = pairs_of c.args.self.now in
     let i = c.loop-sums.sums-index in
     let v = c.sums-item.result in
@@ -22,8 +24,10 @@ loop-sums-preserved c =
     let inv = c.loop-sums.invariant in
     record {
       key = inv.key;
-      rows = λ q. closed_more (list_any (λ (p : RowKey × VoteSums). is_key q p.0) (take i ps)) (is_key q k) _ (get c.args.totals.now.rows q) (get m q) _
-          (any_more (λ (p : RowKey × VoteSums). is_key q p.0) ps i (k, v) at.within at.there) (inv.rows q)
+      rows = λ q. closed_more (list_any (λ (p : RowKey × VoteSums). is_key q p.0) (take i ps))
+          (is_key q k) _ (get c.args.totals.now.rows q) (get m q) _
+          (any_more (λ (p : RowKey × VoteSums). is_key q p.0) ps i (k, v) at.within at.there)
+          (inv.rows q)
           (ap (λ m. get m q) c.close_empty.ensures.rows ∙ get-closed m k q);
       moves = c.close_empty.ensures.moves ∙ inv.moves;
       contests = c.close_empty.ensures.contests ∙ inv.contests;

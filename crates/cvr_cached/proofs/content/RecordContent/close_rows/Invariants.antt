@@ -10,7 +10,9 @@ use Rattle.cvr_cached.proofs.content.RecordContent.close_rows.Given as goal
 abbrev pub invariant-loop-sums : goal.invariant-loop-sums
 invariant-loop-sums l = record {
   key : IsKeyOf l.fn.self l.key;
-  rows : (q : RowKey) → get l.totals.rows q ≡ (if list_any (λ p. is_key q p.0) (take l.sums-index (pairs_of l.fn.self)) then row_closed (get l.fn.totals.rows q) else get l.fn.totals.rows q);
+  rows : (q : RowKey) → get l.totals.rows q
+      ≡ (if list_any (λ p. is_key q p.0) (take l.sums-index (pairs_of l.fn.self))
+      then row_closed (get l.fn.totals.rows q) else get l.fn.totals.rows q);
   moves : l.totals.moves ≡ l.fn.totals.moves;
   contests : l.totals.contests ≡ l.fn.totals.contests;
 }

@@ -10,16 +10,21 @@ use Rattle.cvr_cached.proofs.content.RecordContent.open_rows.Goals as goal
 
 pub open_row-requires : goal.open_row-requires
 open_row-requires c =
-    let at = pair_at c.args.self.now c.loop-sums.key c.loop-sums.invariant.key (c.votes_at-sums-items.ensures ∙ ap current_sums (c.deref.ensures.value ∙ c.self.view_is)) c.loop-sums-test.true c.sums-item.is in
+    let at = pair_at c.args.self.now c.loop-sums.key c.loop-sums.invariant.key
+    (c.votes_at-sums-items.ensures ∙ ap current_sums (c.deref.ensures.value ∙ c.self.view_is))
+    c.loop-sums-test.true c.sums-item.is in
     let ps = pairs_of c.args.self.now in
     let v = c.sums-item.result in
     let pair : RowKey × VoteSums = (key_for c.loop-sums.key.unit c.loop-sums.key.batch v, v) in
-    let one = c.requires pair (subst (Contains ps) at.there (Contains-get_or ps c.loop-sums.sums-index pair at.within)) in
+    let one = c.requires pair (subst (Contains ps) at.there
+    (Contains-get_or ps c.loop-sums.sums-index pair at.within)) in
     subst (λ cs. v.contest < length cs) (sym c.loop-sums.invariant.contests) one.1.place
 
 pub loop-sums-preserved : goal.loop-sums-preserved
 loop-sums-preserved c =
-    let at = pair_at c.args.self.now c.loop-sums.key c.loop-sums.invariant.key (c.votes_at-sums-items.ensures ∙ ap current_sums (c.deref.ensures.value ∙ c.self.view_is)) c.loop-sums-test.true c.sums-item.is in
+    let at = pair_at c.args.self.now c.loop-sums.key c.loop-sums.invariant.key
+    (c.votes_at-sums-items.ensures ∙ ap current_sums (c.deref.ensures.value ∙ c.self.view_is))
+    c.loop-sums-test.true c.sums-item.is in
     let cs = c.loop-sums.totals.contests in
     let m = c.loop-sums.totals.rows in
     let n = c.open_row.new.self.rows in

@@ -7,48 +7,80 @@ use Rattle.cvr_cached.proofs.Settled.{tallied, room, held_still, held_settled, t
 use Rattle.cvr_cached.proofs.store.Store.settle.Goals as goal
 
 pub put_in-put-requires-clause-tallied : goal.put_in-put-requires-clause-tallied
-put_in-put-requires-clause-tallied c = tallied _ _ c.self.invariant _ _ c.args.plan (rw (← c.self.view_is) at c.requires.1)
+put_in-put-requires-clause-tallied c =
+    tallied _ _ c.self.invariant _ _ c.args.plan (rw (← c.self.view_is) at c.requires.1)
 
 pub put_in-put-requires-clause-room : goal.put_in-put-requires-clause-room
 put_in-put-requires-clause-room c =
     let few = c.in-Some-checked_add.ensures in
-    room _ _ c.self.invariant _ _ c.args.plan (rw (← c.self.view_is) at c.requires.1) (omega (arith, few.0, c.in-Some.ensures.1))
+    room _ _ c.self.invariant _ _ c.args.plan (rw (← c.self.view_is) at c.requires.1)
+    (omega (arith, few.0, c.in-Some.ensures.1))
 
 pub invariant_of-self : goal.invariant_of-self
 invariant_of-self c =
-    let entries = btree_map_from_get name_total c.put_in-put.new.records c.self.inside.records c.len.ensures.ordered c.self.invariant.own.names_rise c.in_err-put.ensures.unchanged.1 name_exact in
+    let entries = btree_map_from_get name_total c.put_in-put.new.records c.self.inside.records
+    c.len.ensures.ordered c.self.invariant.own.names_rise c.in_err-put.ensures.unchanged.1
+    name_exact in
     let totals = c.in_err-put.ensures.unchanged.0 in
-    held_still _ _ _ (λ i. record { devices = c.self.inside.devices.items; records = entries i; totals = totals i }) c.self.invariant
+    held_still _ _ _ (λ i. record {
+      devices = c.self.inside.devices.items;
+      records = entries i;
+      totals = totals i;
+    }) c.self.invariant
 
 pub returns-in_err-put-clause-unchanged : goal.returns-in_err-put-clause-unchanged
 returns-in_err-put-clause-unchanged c =
-    let entries = btree_map_from_get name_total c.put_in-put.new.records c.self.inside.records c.len.ensures.ordered c.self.invariant.own.names_rise c.in_err-put.ensures.unchanged.1 name_exact in
+    let entries = btree_map_from_get name_total c.put_in-put.new.records c.self.inside.records
+    c.len.ensures.ordered c.self.invariant.own.names_rise c.in_err-put.ensures.unchanged.1
+    name_exact in
     let totals = c.in_err-put.ensures.unchanged.0 in
-    let same : Stored = record { devices = c.self.inside.devices.items; records = c.put_in-put.new.records.entries; totals = c.put_in-put.new.totals } in
-    let is : same ≡ c.args.self.now = (λ i. record { devices = c.self.inside.devices.items; records = entries i; totals = totals i }) ∙ c.self.view_is in
+    let same : Stored = record {
+      devices = c.self.inside.devices.items;
+      records = c.put_in-put.new.records.entries;
+      totals = c.put_in-put.new.totals;
+    } in
+    let is : same ≡ c.args.self.now = (λ i.
+    record { devices = c.self.inside.devices.items; records = entries i; totals = totals i })
+    ∙ c.self.view_is in
     search rules
 
 pub invariant_of-self-2 : goal.invariant_of-self-2
 invariant_of-self-2 c =
     let put = rw c.deref.ensures.value at c.in_ok-aside.ensures.put in
     let longer = rw c.deref.ensures.value at c.in_ok-aside.ensures.longer in
-    let devices = subst (IsPut c.self.inside.devices.items c.args.devices.now) (sym c.replace.ensures) put in
+    let devices =
+    subst (IsPut c.self.inside.devices.items c.args.devices.now) (sym c.replace.ensures) put in
     let sum = c.in-Some.ensures.1 in
     let count = c.in-Some-checked_add.ensures in
     let done = c.in_ok-put.ensures in
-    let now : Stored = record { devices = c.replace.new.devices.items; records = c.put_in-put.new.records.entries; totals = c.put_in-put.new.totals } in
-    held_settled _ _ c.self.invariant _ _ c.args.plan (rw (← c.self.view_is) at c.requires.1) now c.in-Some-checked_add.sum c.in-Some.sum
-    devices c.len.ensures.ordered done.records done.counted done.contests (omega (arith, longer, sum, ap length c.replace.ensures)) (sym count.1) done.agrees c.are_whole.ensures (omega (arith, count.0, count.1))
+    let now : Stored = record {
+      devices = c.replace.new.devices.items;
+      records = c.put_in-put.new.records.entries;
+      totals = c.put_in-put.new.totals;
+    } in
+    held_settled _ _ c.self.invariant _ _ c.args.plan (rw (← c.self.view_is) at c.requires.1) now
+    c.in-Some-checked_add.sum c.in-Some.sum
+    devices c.len.ensures.ordered done.records done.counted done.contests
+    (omega (arith, longer, sum, ap length c.replace.ensures)) (sym count.1) done.agrees
+    c.are_whole.ensures (omega (arith, count.0, count.1))
 
 pub returns-clause-taken : goal.returns-clause-taken
 returns-clause-taken c more of =
     let put = rw c.deref.ensures.value at c.in_ok-aside.ensures.put in
     let longer = rw c.deref.ensures.value at c.in_ok-aside.ensures.longer in
-    let devices = subst (IsPut c.self.inside.devices.items c.args.devices.now) (sym c.replace.ensures) put in
+    let devices =
+    subst (IsPut c.self.inside.devices.items c.args.devices.now) (sym c.replace.ensures) put in
     let sum = c.in-Some.ensures.1 in
     let count = c.in-Some-checked_add.ensures in
     let done = c.in_ok-put.ensures in
-    let now : Stored = record { devices = c.replace.new.devices.items; records = c.put_in-put.new.records.entries; totals = c.put_in-put.new.totals } in
+    let now : Stored = record {
+      devices = c.replace.new.devices.items;
+      records = c.put_in-put.new.records.entries;
+      totals = c.put_in-put.new.totals;
+    } in
     rw (← c.self.view_is)
-    (taken_settled _ _ c.self.invariant more _ c.args.plan (rw (← c.self.view_is) at of) now c.in-Some-checked_add.sum c.in-Some.sum
-    devices c.len.ensures.ordered done.records done.counted done.contests (omega (arith, longer, sum, ap length c.replace.ensures)) (sym count.1) (omega (arith, sum)) done.moves)
+    (taken_settled _ _ c.self.invariant more _ c.args.plan (rw (← c.self.view_is) at of) now
+    c.in-Some-checked_add.sum c.in-Some.sum
+    devices c.len.ensures.ordered done.records done.counted done.contests
+    (omega (arith, longer, sum, ap length c.replace.ensures)) (sym count.1) (omega (arith, sum))
+    done.moves)

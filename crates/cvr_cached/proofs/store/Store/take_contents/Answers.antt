@@ -10,10 +10,18 @@ plan_of_contents-requires c = rise_before _ _ c.self.invariant
 
 pub settle-requires : goal.settle-requires
 settle-requires c =
-    let apart = subst (λ (o : Stored). AreSplit (facts_of o) c.other.inside.devices.items (λ k. facts_at (content_at c.other.inside.records.entries k))) c.other.view_is (own_apart _ _ c.other.invariant.own) in
-    (facts_of c.args.other.now, rw c.deref.ensures.value (plan_seen c.self.view_is apart c.requires c.in_ok-plan.ensures))
+    let apart = subst (λ (o : Stored). AreSplit (facts_of o) c.other.inside.devices.items
+    (λ k. facts_at (content_at c.other.inside.records.entries k))) c.other.view_is
+    (own_apart _ _ c.other.invariant.own) in (
+      facts_of c.args.other.now,
+      rw c.deref.ensures.value
+          (plan_seen c.self.view_is apart c.requires c.in_ok-plan.ensures),
+    )
 
 pub returns-clause-taken : goal.returns-clause-taken
 returns-clause-taken c =
-    let apart = subst (λ (o : Stored). AreSplit (facts_of o) c.other.inside.devices.items (λ k. facts_at (content_at c.other.inside.records.entries k))) c.other.view_is (own_apart _ _ c.other.invariant.own) in
-    c.settle.ensures.taken _ (rw c.deref.ensures.value (plan_seen c.self.view_is apart c.requires c.in_ok-plan.ensures))
+    let apart = subst (λ (o : Stored). AreSplit (facts_of o) c.other.inside.devices.items
+    (λ k. facts_at (content_at c.other.inside.records.entries k))) c.other.view_is
+    (own_apart _ _ c.other.invariant.own) in
+    c.settle.ensures.taken _ (rw c.deref.ensures.value
+    (plan_seen c.self.view_is apart c.requires c.in_ok-plan.ensures))

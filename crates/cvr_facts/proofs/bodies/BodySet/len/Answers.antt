@@ -5,4 +5,9 @@ use Rattle.cvr_facts.proofs.Sorted.{len-from_list}
 use Rattle.cvr_facts.proofs.bodies.BodySet.len.Goals as goal
 
 pub returns : goal.returns
-returns c = omega (arith, len-from_list text_total c.self.inside.items.items c.self.invariant, ap set.len c.self.view_is)
+returns c = omega (
+  arith,
+  len-from_list text_total c.self.inside.items.items c.self.invariant,
+  ap
+      set.len c.self.view_is,
+)

@@ -10,10 +10,12 @@ use Rattle.cvr_facts.specs.Lists.{told_header, told_under, told_snapshots}
 use Rattle.cvr_facts.proofs.kept.FactsKeep.keep.Goals as goal
 
 pub add_snapshots-requires-clause-whole : goal.add_snapshots-requires-clause-whole
-add_snapshots-requires-clause-whole c = ap (list_any has_float) c.items_at-snapshots.ensures ∙ whole_array (view c.args.cvr.now) (codes "CVRSnapshot") c.requires.whole
+add_snapshots-requires-clause-whole c = ap (list_any has_float) c.items_at-snapshots.ensures
+    ∙ whole_array (view c.args.cvr.now) (codes "CVRSnapshot") c.requires.whole
 
 pub add_snapshots-requires-clause-range : goal.add_snapshots-requires-clause-range
-add_snapshots-requires-clause-range c s h = c.requires.range s (rw c.items_at-snapshots.ensures at h)
+add_snapshots-requires-clause-range c s h =
+    c.requires.range s (rw c.items_at-snapshots.ensures at h)
 
 pub returns : goal.returns
 returns c cvrs at were =
@@ -22,11 +24,16 @@ returns c cvrs at were =
     let key = c.in_ok-header.header.key in
     let told = told_snapshots contests in
     let is = c.in_ok-header.ensures contests in
-    let added = ap (λ ds. map (told_under contests key) (map (snapshot_of contests) ds)) c.items_at-snapshots.ensures
+    let added = ap (λ ds. map (told_under contests key) (map (snapshot_of contests) ds))
+    c.items_at-snapshots.ensures
     ∙ ap (λ h. map (told_under contests h.key) cvr.snapshots) is in
     record {
-      headers = c.in_ok-push.ensures.items ∙ ap (λ hs. hs ++ c.in_ok-header.header ∷ []) were.headers
-          ∙ ap (λ h. map told_header cvrs ++ h ∷ []) is ∙ sym (map-append told_header cvrs (cvr ∷ []));
-      snapshots = c.in_ok-add_snapshots.ensures ∙ ap (λ t. c.args.kept.now.snapshots.items ++ t) (added ∙ sym (append-nil (told cvr)))
-          ∙ ap (λ ss. ss ++ (told cvr ++ [])) were.snapshots ∙ sym (flat_map-append told cvrs (cvr ∷ []));
+      headers =
+          c.in_ok-push.ensures.items ∙ ap (λ hs. hs ++ c.in_ok-header.header ∷ []) were.headers
+          ∙ ap (λ h. map told_header cvrs ++ h ∷ []) is
+          ∙ sym (map-append told_header cvrs (cvr ∷ []));
+      snapshots = c.in_ok-add_snapshots.ensures
+          ∙ ap (λ t. c.args.kept.now.snapshots.items ++ t) (added ∙ sym (append-nil (told cvr)))
+          ∙ ap (λ ss. ss ++ (told cvr ++ [])) were.snapshots
+          ∙ sym (flat_map-append told cvrs (cvr ∷ []));
     }

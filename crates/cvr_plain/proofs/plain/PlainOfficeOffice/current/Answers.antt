@@ -9,5 +9,7 @@ returns c =
     let contests = c.self.inside.definition.contests in
     let items = c.deref.ensures.value in
     rw (← c.self.view_is)
-    (subst (λ facts. IsCurrent contests (set_of facts) c.args.key.now (option_map (λ s. s.now) c.current_in.result)) items
-    (c.current_in.ensures contests (subst (AreSpelled contests) (sym items) c.self.invariant.spelled)))
+    (subst (λ facts. IsCurrent contests (set_of facts) c.args.key.now
+    (option_map (λ s. s.now) c.current_in.result)) items
+    (c.current_in.ensures contests (subst (AreSpelled contests) (sym items)
+    c.self.invariant.spelled)))

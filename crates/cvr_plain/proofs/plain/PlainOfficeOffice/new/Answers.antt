@@ -6,7 +6,9 @@ pub put_in-requires : goal.put_in-requires
 put_in-requires c = none_rise c.new-facts.result.items c.new-facts.ensures.items
 
 pub invariant_of-result : goal.invariant_of-result
-invariant_of-result c = plain_start c.args.definition _ _ _ c.new-facts.ensures.items c.in_ok-own_devices.ensures c.in_ok-put_in.ensures.put c.made_of_a_report.ensures
+invariant_of-result c = plain_start c.args.definition _ _ _ c.new-facts.ensures.items
+    c.in_ok-own_devices.ensures c.in_ok-put_in.ensures.put c.made_of_a_report.ensures
 
 pub returns-clause-content : goal.returns-clause-content
-returns-clause-content c = start_is c.args.definition _ _ _ c.new-facts.ensures.items c.in_ok-own_devices.ensures c.in_ok-put_in.ensures.put
+returns-clause-content c = start_is c.args.definition _ _ _ c.new-facts.ensures.items
+    c.in_ok-own_devices.ensures c.in_ok-put_in.ensures.put

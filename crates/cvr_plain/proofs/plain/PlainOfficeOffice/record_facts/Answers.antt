@@ -9,5 +9,7 @@ returns c =
     let contests = c.self.inside.definition.contests in
     let items = c.deref.ensures.value in
     rw (← c.self.view_is)
-    (subst (λ facts. AreRecordFacts contests (set_of facts) c.args.key.now c.in_ok-found.found) items
-    (c.in_ok-found.ensures contests (subst (AreSpelled contests) (sym items) c.self.invariant.spelled)))
+    (subst (λ facts. AreRecordFacts contests (set_of facts) c.args.key.now c.in_ok-found.found)
+    items
+    (c.in_ok-found.ensures contests (subst (AreSpelled contests) (sym items)
+    c.self.invariant.spelled)))
