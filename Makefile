@@ -1,11 +1,12 @@
-# Installs and packs the program that `make` builds. PREFIX, DESTDIR, CVR (another built program) and ZSH may be given.
+# Installs and packs the program that `make` builds. You can set PREFIX, DESTDIR, CVR (another built program) and ZSH.
 PREFIX = /usr/local
 DESTDIR =
 CVR = crates/cvr/out/cvr
 ZSH = $(PREFIX)/share/zsh/site-functions
 SHARE = $(DESTDIR)$(PREFIX)/share
 DOCUMENTS = README.md CHANGELOG.md docs/GUIDE.md docs/AUDITING.md docs/PAGE.md docs/page.png \
-	docs/FORMAT.md docs/FAULTS.md docs/HEADLINE.md docs/DEFINITIONS.md docs/PROMISES.md examples/README.md $(wildcard examples/*/*.*)
+	docs/FORMAT.md docs/FAULTS.md docs/GLOSSARY.md docs/HEADLINE.md docs/theorem.svg docs/ARCHITECTURE.md docs/crates.svg \
+	$(wildcard docs/reference/*.md) SECURITY.md examples/README.md $(wildcard examples/*/*.*)
 
 .PHONY: all install package
 

@@ -1,10 +1,9 @@
 #!/usr/bin/env python3
 """audit.py --data FOLDER [--cvr PATH] [--repeat N] [--keep NAME]
 
-Measures each command of companion/cvr-audit over the reports of a folder (def.json is the
-definition) beside `cvr tally` of the same files, in turns. Python and `cvr` below it are measured
-apart, in processor seconds and by their peaks of resident memory; `tree` is a process that reads
-the largest file by `json` and does nothing else."""
+Measures each command of companion/cvr-audit over the reports of a folder (def.json is the definition), in turns with
+`cvr tally` of the same files. Python and the `cvr` that it starts are measured apart, in processor seconds and by their
+peaks of resident memory; `tree` is a process that only reads the largest file with `json`."""
 import argparse
 import datetime
 import json
@@ -15,7 +14,7 @@ import subprocess
 import sys
 
 TOP = os.path.dirname(os.path.dirname(os.path.abspath(__file__)))
-# runs its words, and prints of itself and of the processes below it the seconds and the peak in KiB
+# runs its words, and prints the seconds and the peak in KiB, of itself and of the processes below it
 MEASURED = '''import json, os, resource, subprocess, sys
 if sys.argv[1] == 'tree':
     json.load(open(sys.argv[2], encoding='utf-8'))
@@ -62,7 +61,7 @@ def tasks(definition, files, cvr):
 
 
 def medians_of(runs):
-    """Of each line the median seconds and peak, of Python and of what is below it."""
+    """The median seconds and peak of each line, for Python and for the processes below it."""
     return {name: [[statistics.median(run[side][k] for run in held) for k in (0, 1)]
                    for side in (0, 1)] for name, held in runs.items()}
 

@@ -1,12 +1,12 @@
 #!/usr/bin/env python3
 """bench.py [--sizes 10000,100000] [--rounds 5] [--jq-rounds 3] [--stages-only] [--keep NAME]
 
-Times `cvr currents` beside jq and beside reading the files alone, at two sizes or more, and `cvr tally` and `cvr merge` at
-the same, the latter beside jq, too; a volume that is read back beside jq; and the check of one report, or the reading of one
-definition, beside the JSON reader alone, with the stages from there to the tally, and the writing of volumes; compares
-current snapshots, and a volume, with jq byte by byte, and a volume that is read back with what was read.
-README.md says what the figures mean. The status is 1 where a command fails or a text differs. With --keep the raw figures are appended to
-runs/DATE-NAME.md. With --stages-only there are no runs of `cvr`."""
+Times, at two sizes or more, `cvr currents` beside jq and beside reading the files alone, `cvr tally`, and `cvr merge`
+beside jq; a volume that is read back beside jq; the check of one report, and the reading of one definition, beside the
+JSON reader alone; the stages from there to the tally; and the writing of volumes. It compares current snapshots, and a
+volume, with jq byte by byte, and a volume that is read back with what was read. README.md says what the figures mean.
+The status is 1 where a command fails or a text differs. With --keep the raw figures are appended to runs/DATE-NAME.md.
+With --stages-only `cvr` isn't run."""
 import argparse
 import datetime
 import glob
@@ -23,13 +23,13 @@ import time
 HERE = os.path.dirname(os.path.abspath(__file__))
 TOP = os.path.dirname(HERE)
 SEED = 1
-MANY = 150000               # the records of one file of short records
+MANY = 150000               # records in a file of short records
 CONTESTS, SELECTIONS, UNITS, RECORDS = 2000, 50, 20000, 20000
-REPEATS = (10000, 100000)   # how often one record comes again in a file
+REPEATS = (10000, 100000)   # how often one record is repeated in a file
 VOLUMES = (10000, 100000, 1000000)      # the records of the volumes that are written
 DATE = '2024-11-06T08:00:00Z'           # of the volumes that `merge` writes
 HEADING = [DATE, 'desk-0', '1']
-# What makes a volume of one report whose records stand in order.
+# Makes the volume of one report whose records are in order.
 AS_VOLUME = '.GeneratedDate = "%s" | .ReportType = ["aggregated"] | .GpUnit |= sort_by(.["@id"])' % DATE
 JQ_HINT = 'jq is missing: install it, as by `apt-get install jq`, `brew install jq` or `dnf install jq`'
 CVR_HINT = '%s is missing: `./cvr currents examples/county/definition.json` builds it'
@@ -52,7 +52,7 @@ class Report:
         sys.stdout.flush()
 
     def raw(self, what, figures):
-        """Figures that are kept and not printed."""
+        """Figures that are kept but not printed."""
         self.lines.append('raw %s: %s' % (what, ' '.join(figures)))
 
 
@@ -69,7 +69,7 @@ def made(folder, name, words):
 
 
 def timed(command, out):
-    """(seconds, peak memory in MiB) of a command that runs alone; its output goes to the file `out`."""
+    """(seconds, peak memory in MiB) of a command that runs alone and prints to the file `out`."""
     with open(out, 'wb') as file:
         start = time.perf_counter()
         child = subprocess.Popen(command, stdin=subprocess.DEVNULL, stdout=file)
@@ -113,7 +113,7 @@ def row(name, runs, megabytes):
 
 
 def measured(report, commands, folder, megabytes):
-    """The runs of each command, (name, command, rounds), one after the other in every round."""
+    """The runs of each command, (name, command, rounds); in each round they run one after the other."""
     runs = {name: [] for name, _, _ in commands}
     for turn in range(max(rounds for _, _, rounds in commands)):
         for name, command, rounds in commands:
@@ -367,7 +367,7 @@ def given():
     words = words.parse_args()
     words.sizes = sorted(int(text) for text in words.sizes.split(','))
     if len(words.sizes) < 2:
-        sys.exit('two sizes or more: one alone says nothing of growth')
+        sys.exit('two sizes or more: one alone shows no growth')
     if words.keep and not re.match(r'[\w.-]+$', words.keep):
         sys.exit('a name of letters, digits, points and lines')
     words.cvr, words.stages, words.volumes = map(os.path.abspath, (words.cvr, words.stages, words.volumes))

@@ -1,14 +1,14 @@
 #!/usr/bin/env python3
 """compare.py [--before PROGRAM] [--after PROGRAM] [--peer NAME=PROGRAM ..] [--folder FOLDER ..] [--rounds N] [--cpu K] [--keep NAME]
 
-Times two builds of cvr on the same files, in turns, each run alone; without --before, one build. First reports of gen.py: as
-long as a file may be; short records; that long report with a fault in its first record, in the middle, in its last one, two
-of other kinds in its last one, one behind all records, cut off, and accepted with a number with a sign, and where records
-name a party; each of these beside the same file with another CVR before all (`tree`), which programs until 2026-11-26
-read as one tree; and one file of one record, named many times. Then each folder that is given (definition.json or
-def.json, and reports), beside the peers: programs that take the words of cvr. Told are processor seconds (the median of the
-rounds, and the least), the peak memory, the ratio of the medians to the first program's, and whether the texts are the same.
-With --cpu all of it runs on one processor."""
+Times two builds of cvr on the same files, in turns, each run alone; without --before, one build. First the reports of
+gen.py: one as long as a file may be; short records; the long report with a fault in its first record, in the middle, in
+its last one, two of other kinds in its last one, one after all records, cut off, accepted with a number with a sign,
+and where records name a party; each of these beside the same file with another CVR before all (`tree`), which programs
+until 2026-11-26 read as one tree; and one file of one record, named many times. Then each given folder (definition.json
+or def.json, and reports), beside the peers: programs that take the words of cvr. It prints processor seconds (the
+median of the rounds, and the least), the peak memory, the ratio of the medians to the first program's, and whether the
+texts are the same. With --cpu all of it runs on one processor."""
 import argparse
 import glob
 import json
@@ -26,7 +26,7 @@ import bench        # noqa: E402 (it stands beside this file)
 MANY = 10000        # how often the file of one record is named
 SHORT = (20000, 200000)
 KEY = '"UniqueId":"'
-WRONG = '"UniqueID":"'      # no member of that name is demanded, and UniqueId is
+WRONG = '"UniqueID":"'      # no member of that name is required, and UniqueId is
 STYLE, PARTY = r'"BallotStyleId":"style-\d+"', '"PartyIds":["blue"]'
 ACCEPTED = ('sign', 'party', 'party late', 'party unlisted')
 LATE = {'unknown': ('"ContestId":"', '"ContestId":"no '), 'fraction': ('"NumberVotes":1', '"NumberVotes":1.5')}
@@ -45,7 +45,8 @@ class Run:
 
 
 def compared(report, title, commands, rounds, status=0):
-    """Tells a line of each command, (name, words, folder). Returns whether all ended with the status, and with the same text."""
+    """Prints a line for each command, (name, words, folder). Returns whether all ended with this status and printed the
+    same text."""
     runs = {name: [] for name, _, _ in commands}
     with tempfile.TemporaryDirectory() as folder:
         for _ in range(rounds):
@@ -74,10 +75,11 @@ def reports_in(folder):
 
 
 def spoiled(folder, path):
-    """The names of files: the same report with a fault of form in its first record, in the middle, and in its last one; with a text
-    in its last record that names nothing, and with a fraction; with a fault of form behind all records; with the last record's fault of
-    form, or its fraction, and another behind all records; cut off at its end; accepted, with a number with a sign at its end; and those
-    of_parties. Those of the folder `tree` have another CVR before all, too."""
+    """The names of files. Each is the same report: with a fault of form in its first record, in the middle, and in its
+    last one; with a text in its last record that names nothing, and with a fraction; with a fault of form after all
+    records; with the last record's fault of form, or its fraction, and another after all records; cut off at its end;
+    accepted, with a number with a sign at its end; and those of_parties. The files in the folder `tree` also have
+    another CVR before all."""
     with open(path, encoding='utf-8') as file:
         text = file.read()
     places = {'first': text.find(KEY), 'middle': text.find(KEY, len(text) // 2), 'last': text.rfind(KEY)}
@@ -102,8 +104,9 @@ def spoiled(folder, path):
 
 
 def of_parties(text):
-    """The text of the report where each record names a party in place of a ballot style; where the last record but one alone does,
-    also with a fault of form in the last one; and the first one again, for a definition with one party more than the report lists."""
+    """The text of the report where each record names a party in place of a ballot style; where only the last record but
+    one does, also with a fault of form in the last one; and the first text again, for a definition with one party more
+    than the report lists."""
     each, at = re.sub(STYLE, PARTY, text), [found.start() for found in re.finditer(STYLE, text)][-2]
     late = text[:at] + re.sub(STYLE, PARTY, text[at:], count=1)
     last = late.rfind(KEY)
@@ -152,7 +155,7 @@ def own_files(report, words, programs):
         for task in 'check', 'tally':
             is_right = both('%s of %d short records' % (task, amount), task, *reports_in(folder)) and is_right
     with tempfile.TemporaryDirectory() as folder:
-        with ProcessPoolExecutor(1) as pool:    # a run's peak would else be at least what these texts take here
+        with ProcessPoolExecutor(1) as pool:    # else a run's peak is at least what these texts take here
             names = pool.submit(spoiled, folder, large).result()
         for name in names:
             is_right = late(folder, name) and is_right

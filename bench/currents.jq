@@ -1,6 +1,6 @@
 # jq -rn -f currents.jq FILE..
-# What `cvr currents` prints, without any check of the files: per record the snapshot of the latest Type, then of the
-# latest moment among its annotations (none is least), then of the greatest compact text with members by name.
+# Prints what `cvr currents` prints, without checking the files: of each record the snapshot of the latest Type, then of
+# the latest moment among its annotations (none is least), then of the greatest compact text with members by name.
 def rank: {original: 0, interpreted: 1, modified: 2}[.];
 def seconds: (.[1:3] | tonumber) * 3600 + (.[4:6] | tonumber) * 60;
 def offset: if . == "Z" then 0 elif .[0:1] == "-" then -seconds else seconds end;

@@ -4,15 +4,15 @@ gen.py special --out FOLDER [--seed S]
 gen.py lists --out FOLDER --contests C --selections S --units U --records N [--seed S]
 gen.py volumes --out FOLDER --records N [--seed S]
 
-Makes invented reports, the same ones for the same seed. `records` and `special` are of one large county. `records`
-writes definition.json, the scanners' reports scan-*.json with N cast vote records, and the desks' reports desk-*.json:
-one record in twenty again with a modified snapshot, a tenth of these with a second one. `special` writes
-definition.json, large.json (a scanner's report as long as the limit of a file allows), snapshots.json (one record with
-200,000 snapshots) and devices.json (a report with 1,000,000 reporting devices). `lists` writes definition.json with C
-contests of S selections each and U units, in no order, and report.json with the same lists and N records, each of one
-unit and with one vote in one contest. `volumes` writes the same of 10 contests, 5 selections and 100 units, where
-report-001.json and so on are as long as the limit of a file allows. Every file is a report of the profile, is accepted
-beside the definition.json of its folder, and is below 67,108,864 bytes."""
+Makes invented reports, the same for the same seed. `records` and `special` are of one large county. `records` writes
+definition.json, the scanners' reports scan-*.json with N cast vote records, and the desks' reports desk-*.json: one
+record in twenty again with a modified snapshot, a tenth of these with a second one. `special` writes definition.json,
+large.json (a scanner's report as long as a file may be), snapshots.json (one record with 200,000 snapshots) and
+devices.json (a report with 1,000,000 reporting devices). `lists` writes definition.json with C contests of S selections
+each and U units, in no order, and report.json with the same lists and N records, each with one unit and one vote in one
+contest. `volumes` writes the same with 10 contests, 5 selections and 100 units; its report-001.json and so on are as
+long as a file may be. Every file is a report of the profile, is accepted beside the definition.json of its folder, and
+is below 67,108,864 bytes."""
 import argparse
 import itertools
 import json
@@ -20,14 +20,14 @@ import os
 import random
 
 LIMIT = 67108864
-FILE_BYTES = 16000000       # a scanner's or desk's report is closed at this length
+FILE_BYTES = 16000000       # a scanner's or desk's report ends at this length
 OFFICES, MEASURES, ON_A_BALLOT = 24, 8, 14
 PRECINCTS, SCANNERS, DESKS = 200, 10, 2
 BATCH = 200
-PAPERS = 240                # different ways in which a contest is marked, by contest
+PAPERS = 240                # different ways in which each contest is marked
 AGAIN, TWICE = 0.05, 0.1
 SNAPSHOTS, DEVICES = 200000, 1000000
-REPEATS = (10000, 100000)      # the records of the files that have one record again and again
+REPEATS = (10000, 100000)      # records of the files that repeat one record
 
 
 def compact(value):
@@ -76,7 +76,7 @@ class County:
                            for n in range(DESKS)]
 
     def head(self, made_by):
-        """A report but for its CVRs."""
+        """A report without its CVRs."""
         units = [{'@id': 'county', '@type': 'CVR.GpUnit', 'Type': 'county'}]
         units += [{'@id': 'precinct-%03d' % n, '@type': 'CVR.GpUnit', 'Type': 'precinct', 'Name': 'Precinct %d' % n}
                   for n in range(PRECINCTS)]
@@ -118,7 +118,7 @@ def paper(rng, contest):
 
 
 class Series:
-    """Reports of one device: a new file is begun where the last one is long enough."""
+    """Reports of one device: a new file begins where the last one is long enough."""
 
     def __init__(self, folder, stem, head, most=FILE_BYTES, is_numbered=True):
         self.folder, self.stem, self.most, self.is_numbered = folder, stem, most, is_numbered
@@ -189,7 +189,7 @@ class Count:
                 % (name, note, ','.join(decided.values())))
 
     def adjudicated(self, number, header, chosen):
-        """(desk, CVR) for each time that a record was adjudicated: never, once or twice."""
+        """(desk, CVR) for each adjudication of a record: none, one or two."""
         if self.rng.random() >= AGAIN:
             return
         turns = 2 if self.rng.random() < TWICE else 1
@@ -223,7 +223,7 @@ def records(folder, amount, seed):
 
 
 def write_repeated(folder, count, amount):
-    """A file that has one record so many times."""
+    """Writes a file that has one record so many times."""
     snapshot = '{"@id":"a","@type":"CVR.CVRSnapshot","Type":"original"}'
     cvr = count.cvr('"@type":"CVR.CVR","CreatingDeviceId":"scanner-00","ElectionId":"election","UniqueId":"one"',
                     [snapshot], 'a')
@@ -262,7 +262,7 @@ def shuffled(rng, names):
 
 
 def listed(rng, contests, selections, units):
-    """A report with these ids, but for its CVRs. Short names leave room for records."""
+    """A report with these ids, without its CVRs. Short names leave room for records."""
     choices = [{'@id': name, '@type': 'CVR.CandidateSelection'} for name in selections]
     election = {'@id': 'e', '@type': 'CVR.Election', 'ElectionScopeId': units[0],
                 'Contest': [{'@id': name, '@type': 'CVR.CandidateContest', 'ContestSelection': choices}

@@ -1,13 +1,12 @@
 #!/usr/bin/env python3
 """many_machines.py --data FOLDER [--cvr PATH] [--large] [--repeat N] [--keep NAME]
 
-Measures examples/many-machines/tally.py with 1, 2 and 4 workers beside `cvr tally` of the same
-files, in turns. It makes the files in the folder where they aren't there: `small` has 20,000
-records in 13 files, 170 MB; with --large also `large`, 200,000 records in 33 files, 1.7 GB. One
-record in twenty comes again from one of three desks. It prints seconds by the clock and of
-processors, and the peak memory of the largest process; each answer has to have the bytes of `cvr
-tally`. `alone` is the share of a processor that a process is given which only counts: an idle
-machine gives 1, and a load below 1 before the first run."""
+Measures examples/many-machines/tally.py with 1, 2 and 4 workers, in turns with `cvr tally` of the same files. It makes
+the files in the folder where they aren't there: `small` has 20,000 records in 13 files, 170 MB; with --large also
+`large`, 200,000 records in 33 files, 1.7 GB. One record in twenty comes again from one of three desks. It prints
+seconds by the clock and of processors, and the peak memory of the largest process; each answer has to have the bytes of
+`cvr tally`. `alone` is the share of a processor that a process gets which only counts: an idle machine gives 1, and a
+load below 1 before the first run."""
 import argparse
 import datetime
 import glob
@@ -27,7 +26,7 @@ SCRIPT = os.path.join(TOP, 'examples/many-machines/tally.py')
 SIZES = {'small': (20000, 10), 'large': (200000, 30)}       # records and scanners
 DESKS, ON_A_BALLOT = 3, 26
 WORKERS = 1, 2, 4
-# runs its words, and prints the seconds, those of processors, and the peak of the largest process
+# runs its words, and prints the seconds, the processor seconds, and the peak of the largest process
 MEASURED = '''import json, resource, subprocess, sys, time
 start = time.perf_counter()
 subprocess.run(sys.argv[1:], check=True)
@@ -53,7 +52,7 @@ def made(folder, name):
 
 
 def measured(words):
-    """(seconds, processor seconds, MiB) of a command, and the sum of what it prints."""
+    """(seconds, processor seconds, MiB) of a command, and a checksum of what it prints."""
     done = subprocess.run([sys.executable, '-c', MEASURED] + words, stdout=subprocess.PIPE,
                           stderr=subprocess.PIPE, check=True)
     figures = [float(it) for it in done.stderr.decode().splitlines()[-1].strip('[]').split(',')]
@@ -61,7 +60,7 @@ def measured(words):
 
 
 def alone():
-    """The share of a processor that this process is given."""
+    """The share of a processor that this process gets."""
     start, used = time.perf_counter(), time.process_time()
     sum(range(5000000))
     return (time.process_time() - used) / (time.perf_counter() - start)
@@ -91,7 +90,7 @@ def rounds(cvr, files, repeat):
 
 
 def table(runs):
-    """Medians; a ratio is the median of those of each round."""
+    """Medians; a ratio is the median of each round's ratios."""
     yield HEAD
     whole = runs['cvr tally']
     for name, held in runs.items():

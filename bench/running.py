@@ -1,12 +1,13 @@
 #!/usr/bin/env python3
 """running.py [--cvr PATH] [--rounds 3] [--keep NAME] [small] [large] [single] [listed]
 
-Measures what running totals cost: `cvr tally`, and `cvr check` beside it, over invented files that it lays in a folder of
-its own. `small`: many files of five records beside one file of all of them; `large`: 20,000 to 200,000 records in files
-of 4,000; `single`: one record with a snapshot in each of many files; `listed`: files of one record each, 1,000 to
-100,000 of them, whose paths come from a list. With no word all four. Told are processor seconds,
-the least of the rounds, and the greatest resident memory. README.md says what the figures mean. With --keep they are
-appended to runs/DATE-NAME.md. The status is 1 where a command fails, or tells another number of ballots than was laid."""
+Measures what running totals cost: `cvr tally`, and `cvr check` beside it, over invented files that it writes in a
+folder of its own. `small`: many files of five records beside one file of all of them; `large`: 20,000 to 200,000
+records in files of 4,000; `single`: one record with a snapshot in each of many files; `listed`: files of one record
+each, 1,000 to 100,000 of them, whose paths come from a list. Without a word all four. It prints processor seconds, the
+least of the rounds, and the greatest resident memory. README.md says what the figures mean. With --keep they are
+appended to runs/DATE-NAME.md. The status is 1 where a command fails, or reports another number of ballots than was
+written."""
 import argparse
 import json
 import multiprocessing
@@ -56,7 +57,7 @@ class Files:
     """Files in a folder, and how long they are."""
 
     def __init__(self, folder, lists):
-        # Laid by a process of its own: what this one holds would count as memory of each command that it starts.
+        # A process of its own writes them: what this one holds would count as memory of each command that it starts.
         child = multiprocessing.get_context('fork').Process(target=lay, args=(folder, lists))
         child.start()
         child.join()
@@ -67,7 +68,7 @@ class Files:
 
 
 def lay(folder, lists):
-    """Writes a definition, and a file of each list of records."""
+    """Writes a definition, and a file for each list of records."""
     shutil.rmtree(folder, ignore_errors=True)
     os.makedirs(folder)
     write(folder, DEFINITION, report([]))
@@ -80,7 +81,7 @@ def parts(amount, per):
 
 
 class Measuring:
-    """The program, how often each command is run, and what is told."""
+    """The program, how often each command is run, and where the figures are printed."""
 
     def __init__(self, cvr, rounds, folder, report):
         self.cvr, self.rounds, self.folder, self.report = cvr, rounds, folder, report

@@ -1,13 +1,14 @@
 #!/usr/bin/env python3
 """commands.py --cvr PATH [FILE..]
 
-Runs the commands that the documents named in FILES show, and compares what they print. A command stands in a
-fenced block whose first line begins with `$ `: each line that begins so is a command for `sh`, run at the top of the
+Runs the commands that the documents named in FILES show, and compares what they print. A command stands in a fenced
+block whose first line begins with `$ `: each line that begins so is a command for `sh`, run at the top of the
 repository, and the lines up to the next one are what it prints on both outputs together. `./cvr` in a command is the
-program given, and the variable CVR names it, so that nothing is built here. A command ends with
-status 0, unless the next command is `echo $?`, which prints the status. Other blocks are not run. Where a machine lacks one of TOOLS, a block that names it is not
-run: a line `skipped NAME` tells so, and none of its commands counts as right. Each file must have a command that is run;
-the last line is `commands: N right, M wrong`, and the status is 0 only where M is 0."""
+given program, and the variable CVR names it, so that nothing is built here. A command ends with status 0, unless the
+next command is `echo $?`, which prints the status. Other blocks are not run. Where a machine has no tool of TOOLS that
+a block names, the block is not run: a line `skipped NAME` says so, and none of its commands counts as right. Each file
+must have a command that is run; the last line is `commands: N right, M wrong`, and the status is 0 only where M is
+0."""
 import argparse
 import os
 import re
@@ -39,14 +40,14 @@ def fenced(text):
 
 
 def lacking(block):
-    """The tools that the commands of a block name and that this machine lacks."""
+    """The tools that the commands of a block name and that this machine doesn't have."""
     words = re.findall(r'[\w.-]+', ' '.join(line for line in block if line.startswith('$ ')))
     return [tool for tool in TOOLS if tool in words and not shutil.which(tool)]
 
 
 def commands(text, skip):
-    """(command, expected output, whether its status is shown) for each command of a text that is run; `skip` is told of each
-    other block with its first line and the tools that are lacking."""
+    """(command, expected output, whether its status is shown) for each command of a text that is run. For each other
+    block `skip` gets its first line and the tools that are missing."""
     for block in fenced(text):
         if not block or not block[0].startswith('$ '):
             continue
@@ -65,7 +66,7 @@ def commands(text, skip):
 
 
 def run(command, cvr, status, folder=TOP):
-    """(output, status) of a command, run in a folder with `$?` as the command before left it."""
+    """(output, status) of a command, run in a folder; `$?` is the status of the command before."""
     words = re.sub(r'(?<![^\s;|&(])\./cvr(?![^\s;|&)])', lambda _: shlex.quote(cvr), command)
     done = subprocess.run(['sh', '-c', '(exit %d)\n%s' % (status, words)], cwd=folder,
                           env=dict(os.environ, CVR=cvr), stdin=subprocess.DEVNULL,

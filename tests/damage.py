@@ -3,17 +3,17 @@
 
 What becomes of files that were damaged on their way, and of runs whose devices fail.
 
-- The vector f11 and a volume, each byte in turn replaced by a quote, a zero, a space and 0xFF: one `check` of all tells of
-  each what tests/rows/rules.py does. Beside f2 each refused one alone, and all of them before and behind it, leave what is
-  printed as it was.
-- The output, the log or the reading fails at each call, one byte a call, or takes nothing: what stands is the bytes before, and
-  the fault is told, of each command, of help and of refused words. devices.c, which cc builds on the spot and LD_PRELOAD lays
-  beside the program, is the device.
+- The vector f11 and a volume, each byte in turn replaced by a quote, a zero, a space and 0xFF: one `check` of all
+reports of each what tests/rows/rules.py does. Beside f2 each refused one alone, and all of them before and after it,
+leave what is printed as it was.
+- The output, the log or the reading fails at each call, with one byte a call, or reads or writes nothing: the bytes
+before are left, and the fault is reported, for each command, for help and for refused words. The device is devices.c,
+which cc builds on the spot and LD_PRELOAD loads with the program.
 - The program is killed at each such call of its output, and from outside while it writes a long volume to a file: what
-  stands is a prefix of the volume, and `check` refuses each proper one as no JSON.
+is left is a prefix of the volume, and `check` refuses each proper prefix as no JSON.
 
-The texts are those of tests/rows/printed.py, help and refused words those of the rows. The last line is `damage: N right, M wrong`; the status is 0 only where M is 0
-and N is not."""
+The texts are those of tests/rows/printed.py; for help and refused words those of the rows. The last line is `damage: N
+right, M wrong`; the status is 0 only where M is 0 and N is not."""
 import argparse
 import collections
 import json
@@ -41,14 +41,14 @@ TASKS = ('currents', 'conflicts', 'tally', 'merge')
 DRILL = ['drill', 'def.json', '3', '1=f2.json', '1=f6.json', '2=f2.json', '2=bad', '3=f6.json', '1>4', '3=f2.json']    # two steps are refused
 BAD = rows.replaced(rows.VECTORS['f2.json'].decode('utf-8'), ',"UniqueId":"u1"', '').encode('utf-8')
 WORDS = {row['name']: (row, short) for where, row, short in rows.all_rows() if where == 'words.json'}
-RECORDS = 3000              # of the long volume
-KILLS = 24                  # of its writing
+RECORDS = 3000              # in the long volume
+KILLS = 24                  # kills of a program that writes it
 RULES = format_rules.Rules()
 DEFINITION = format_rules.read(RULES, rows.VECTORS['def.json'])
 
 
 def reading(data):
-    """What a file is read as: its value, or its fault as a log line tells it."""
+    """What a file is read as: its value, or its fault as a log line has it."""
     return random_files.read(RULES, data, DEFINITION)
 
 
@@ -62,7 +62,7 @@ Case = collections.namedtuple('Case', 'words device out log status')
 
 
 def answered(words, files):
-    """The run of words over files, (path, what it is read as), and what it leaves where no device fails."""
+    """The run of words over files, (path, what it is read as), and what it leaves when no device fails."""
     out, log, status = printed.answer(printed.Texts(), words, DEFINITION, files)
     return Case(words, None, out.encode('utf-8'), log.encode('utf-8'), status)
 
@@ -78,7 +78,7 @@ def drill(words):
 
 
 def stated(name):
-    """The run of a row of words that ask for no task."""
+    """The run of a row whose words ask for no task."""
     row, short = WORDS[name]
     return Case(row['words'], None, rows.spelled(row['out'], short).encode('utf-8'), rows.spelled(row['err'], short).encode('utf-8'), row['status'])
 
@@ -120,7 +120,7 @@ class Program:
         return '%s, device %s: %s' % (' '.join(asked.words)[:200], asked.device, '; '.join(told)) if told else None
 
     def killed(self, merge, place):
-        """Kills a merge from outside once a share of its volume stands in a file. (what then stands, status)"""
+        """Kills a merge from outside once a share of its volume is in a file. (what is left, status)"""
         path, end = self.path('killed-%d' % place), time.time() + SECONDS
         with open(path, 'wb') as out:
             done = subprocess.Popen([self.cvr] + merge.words, cwd=self.folder, stdin=subprocess.DEVNULL, stdout=out)
@@ -135,13 +135,13 @@ class Program:
 # ---- damaged files
 
 def replaced(name, data):
-    """A file with each byte in turn replaced, by name."""
+    """The files that one becomes with each byte in turn replaced, by name."""
     return {'%s-%d-%02x' % (name, place, value): data[:place] + bytes([value]) + data[place + 1:]
             for place in range(len(data)) for value in BYTES if data[place] != value}
 
 
 def told_otherwise(program, check):
-    """What is wrong with a check of many files, by its lines."""
+    """What is wrong with a check of many files, line by line."""
     out, log, status = program.ran(check.words, None)
     if (out, log, status) == check[2:]:
         return []
@@ -168,7 +168,8 @@ def damaged(program, pool, data):
 # ---- devices that fail
 
 def cut_short(whole, stream, how, told=b'', status=None):
-    """A run whose output (1) or log (2) ends at each byte of its text, one byte a call, and at none."""
+    """A run whose output (1) or log (2) fails at each byte of its text, with one byte a call, and one that doesn't
+    fail."""
     text, status = whole[1 + stream], whole.status if status is None else status
     for taken in range(len(text)):
         out, log = (text[:taken], told) if stream == 1 else (whole.out, text[:taken])
@@ -177,7 +178,7 @@ def cut_short(whole, stream, how, told=b'', status=None):
 
 
 def cut_off(whole, names):
-    """A run in which the reading fails at each byte of the definition and of a file, at the end of each, and after all."""
+    """A run whose reading fails at each byte of the definition and of a file, at the end of each, and after all."""
     call = 0
     for name in names:
         for _ in range(len(rows.VECTORS[name]) + 1):
@@ -203,7 +204,8 @@ def failing():
 
 
 def failing_drills():
-    """The drills whose devices fail: the output tells it after the refused steps, and a log that fails changes nothing else."""
+    """The drills whose devices fail. The log reports a failed output after the refused steps; a log that fails changes
+    nothing else."""
     refused = drill(DRILL)
     for how in ('fails', 'nothing'):
         yield from cut_short(refused, 1, how, refused.log + b'out: X1\n', 3)
@@ -212,7 +214,7 @@ def failing_drills():
 
 
 def failing_words():
-    """Help, the version and a code on an output that fails, and what is told of words on a log that does."""
+    """Help, the version and a code on an output that fails, and messages on refused words on a log that fails."""
     for how in ('fails', 'nothing'):
         for name in 'help-drill', 'version', 'explain-E1':
             yield from cut_short(stated(name), 1, how, b'out: X1\n', 3)
@@ -220,7 +222,7 @@ def failing_words():
             yield from cut_short(stated(name), 2, how)
 
 
-# ---- fronts of volumes
+# ---- prefixes of volumes
 
 def many():
     """A report of many records."""
@@ -230,13 +232,14 @@ def many():
 
 
 def stands(long, left):
-    """Whether a run that was killed, or had ended, has left what it may."""
+    """Whether a run that was killed, or had ended before, has left what it may."""
     data, status = left
     return long.out.startswith(data) and (status == -signal.SIGKILL or (status, data) == (0, long.out))
 
 
 def fronts(program):
-    """Yields what is wrong with each front of a volume, or None: those of a short one, and what is left of a long one."""
+    """Yields what is wrong with each prefix of a volume, or None: those of a short one, and what is left of a long
+    one."""
     short, long = case('merge', held('f2.json', 'f6.json', 'f8.json')), case('merge', [('many', many())])
     program.put('many', json.dumps(many()).encode('utf-8'))
     left = {'killed-%d' % place: program.killed(long, place) for place in range(KILLS)}

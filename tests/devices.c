@@ -1,8 +1,9 @@
-/* Loaded beside a program by LD_PRELOAD, stands in for a device that it reads from or writes to.
+/* Loaded beside a program by LD_PRELOAD, takes the place of a device that it reads from or writes to.
 
-   DEVICE=`STREAM CALL HOW`. STREAM is 0 for the files that are read, 1 for standard output, 2 for standard error. Each call
-   on it gives or takes one byte. At call number CALL, counted from 1 over all files, HOW says what becomes of it: `fails`
-   answers an error, `nothing` gives or takes nothing, and `killed` ends the program by SIGKILL. Later calls are as before. */
+   DEVICE=`STREAM CALL HOW`. STREAM is 0 for the files that are read, 1 for standard output, 2 for standard error. Each
+   call on it reads or writes one byte. HOW says what happens at call number CALL, counted from 1 over all files:
+   `fails` answers an error, `nothing` reads or writes nothing, and `killed` ends the program by SIGKILL. Other calls
+   are as usual. */
 #include <errno.h>
 #include <signal.h>
 #include <stdio.h>
@@ -14,7 +15,7 @@ static int stream = -1;
 static long last, calls;
 static char how[16];
 
-/* A call of the system, on one byte where it is on the stream. */
+/* A call of the system, for one byte where it is on the stream. */
 static ssize_t call(long number, int is_on_stream, int file, const void *bytes, size_t size) {
     if (!is_on_stream)
         return syscall(number, file, bytes, size);

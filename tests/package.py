@@ -1,13 +1,12 @@
 #!/usr/bin/env python3
 """package.py --cvr PATH
 
-What is installed and handed out: `make install` below a folder, and the package of Debian and the
-archive of tools/package, unpacked. In each the commands of README and of AUDITING are run with its
-programs, over its examples. `man` finds the pages of the package and reads them, and the program
-needs the C library alone. PROVENANCE names the program's checksum and that of the sources, as the
-commands in it print them. Packed a second time, each is the same byte for byte. Where lintian is
-there, it finds no error. Where git finds no commit at the top, as in an unpacked archive, one that
-is made of its files stands for it.
+What is installed and packed: `make install` below a folder, and the package of Debian and the archive of tools/package,
+unpacked. In each the commands of README and of AUDITING are run with its programs, over its examples. `man` finds and
+reads the pages of the package, and the program needs the C library alone. PROVENANCE has the checksums of the program
+and of the sources, as the commands in it print them. A second packing gives the same bytes. Where lintian is installed,
+it finds no error. Where git finds no commit at the top, as in an unpacked archive, a commit made of its files takes its
+place.
 
 The last line is `package: N right, M wrong`; the status is 0 only where M is 0 and N is not."""
 import argparse
@@ -31,6 +30,7 @@ FOR_EACH = ['share/man/man1/%s.1', 'share/bash-completion/completions/%s',
             'share/zsh/site-functions/_%s', 'share/fish/vendor_completions.d/%s.fish']
 READ = [path % name for name in ('cvr', 'cvr-audit') for path in FOR_EACH]
 READ += ['share/doc/cvr/docs/FAULTS.md', 'share/doc/cvr/docs/AUDITING.md']
+READ += ['share/doc/cvr/docs/reference/README.md', 'share/doc/cvr/docs/reference/cvr_office.md']
 READ += ['share/cvr/cvr_audit/line.py']
 LIBRARIES = {'linux-vdso.so.1', 'libc.so.6', 'ld-linux-x86-64.so.2', 'ld-linux-aarch64.so.1'}
 SECONDS = 300
@@ -43,7 +43,7 @@ def done(*words, **more):
 
 
 def stand_in_a_commit(folder):
-    """Has git find a commit of the files at the top, in this process and those that it begins."""
+    """Makes git find a commit of the files at the top, in this process and those that it starts."""
     if done('git', 'rev-parse', 'HEAD')[0]:
         os.environ.update(GIT_DIR=os.path.join(folder, 'git'), GIT_WORK_TREE=TOP)
         for words in ['init', '-q'], ['add', '-A'], ['-c', 'user.name=cvr', '-c', 'user.email=cvr@example.org', 'commit', '-m', 'The files that stand here']:
@@ -56,7 +56,7 @@ def held(path):
 
 
 def is_installed(prefix):
-    """Whether all stands below a prefix, for everybody to read, and the programs to run."""
+    """Whether everything is below a prefix, for everybody to read, and the programs to run."""
     modes = [os.stat(os.path.join(prefix, name)).st_mode & 0o777 for name in RUN + READ]
     return modes == [0o755] * len(RUN) + [0o644] * len(READ)
 
@@ -75,7 +75,7 @@ def first_runs(prefix):
 
 
 def packed(cvr, out):
-    """The paths of what tools/package makes, by their ends."""
+    """The paths of what tools/package makes, by their endings."""
     status, told = done(sys.executable, 'tools/package', '--cvr', cvr, '--out', out)
     if status:
         sys.exit(told + 'package: 0 right, 1 wrong')
@@ -95,7 +95,7 @@ def man_page(prefix, name):
 
 
 def provenance(text, program):
-    """Yields what PROVENANCE has to tell, and whether it does."""
+    """Yields what PROVENANCE has to say, and whether it does."""
     told = dict(re.findall(r'^(\w+) +(.*)$', text.split('\n\n')[1], re.M))
     yield 'the sum of the program', told['program'] == hashlib.sha256(held(program)).hexdigest()
     yield 'the sum of the sources', told['sources'] == done('sh', '-c', re.search(r'^ +(git ls-files .*)$', text, re.M).group(1))[1].split()[0]

@@ -1,8 +1,8 @@
-"""Bodies under their names: that of volume 1, and where names are in conflict those of the files.
+"""Bodies under their names: that of volume 1 and, where names are in conflict, those of the files.
 
-`cvr conflicts` says which names are in conflict and how many bodies each has. The bodies stand in
-the files, each of which is read once, however many they are; volumes 2 and on, which show them,
-too, would each cost a run of `cvr merge` over all files."""
+`cvr conflicts` says which names are in conflict and how many bodies each has. The bodies are in the
+files, each of which is read once, however many bodies there are. Volumes 2 and on have them, too,
+but each would cost a run of `cvr merge` over all files."""
 import json
 from collections import namedtuple
 
@@ -13,12 +13,12 @@ from .reading import spelled
 KINDS = 'device', 'header', 'snapshot'
 
 # A record with its bodies: those of its header, and of each snapshot by id. Bodies are values by
-# their compact texts, of which the first is that of volume 1.
+# their compact texts; the first is that of volume 1.
 Record = namedtuple('Record', 'name headers snapshots current')
 
 
 def facts_of(report):
-    """Each fact of a report: its kind and name, and the value that its body is the text of."""
+    """Each fact of a report: its kind and name, and the value whose text is its body."""
     for device in report['ReportingDevice']:
         yield ('device', device['@id']), device
     for record in report.get('CVR', []):
@@ -29,7 +29,7 @@ def facts_of(report):
 
 
 def counts_in(text):
-    """How many bodies each name in conflict has, by what `cvr conflicts` prints."""
+    """How many bodies each name in conflict has, from what `cvr conflicts` prints."""
     counts = {}
     for line in text.split('\n')[:-2]:          # the last line has the number of volumes
         *words, number = reading.words_of(line)
@@ -40,22 +40,22 @@ def counts_in(text):
 
 
 class Conflicts:
-    """The bodies of each name in conflict, and the paths of the files in which each stands;
-    `records` has the names of the records that these are of."""
+    """The bodies of each name in conflict, and the paths of the files that have each body; `records`
+    has the names of the records that these names belong to."""
 
     def __init__(self, names):
         self.paths = {name: {} for name in names}
         self.records = {tuple(name[:2]) for kind, *name in names if kind != 'device'}
 
     def take(self, path, report):
-        """Notes the bodies that stand in a report."""
+        """Notes the bodies in a report."""
         for name, value in facts_of(report):
             if name in self.paths:
                 self.paths[name].setdefault(spelled(value), {})[path] = None
 
     def bodies_of(self, name, shown):
-        """The bodies of a name of which volume 1 shows this one: it first, the others by their
-        bytes, the greatest first."""
+        """The bodies of a name: first the one that volume 1 shows, then the others by their bytes, the
+        greatest first."""
         first, found = spelled(shown), self.paths.get(name)
         if found and first not in found:
             raise mismatch('a body of volume 1 stands in no file')
@@ -63,7 +63,7 @@ class Conflicts:
         return {first: shown, **{text: json.loads(text) for text in others}}
 
     def of(self, report):
-        """Each name in conflict in a report whose bodies are those of volume 1, with its bodies."""
+        """Each name in conflict in a report with the bodies of volume 1; with the name, all its bodies."""
         for name, value in facts_of(report) if self.paths else ():
             if name in self.paths:
                 yield name, self.bodies_of(name, value)
@@ -92,7 +92,7 @@ def record_of(shown, conflicts):
 
 
 def devices(volume, conflicts):
-    """The bodies of each device, once the records of volume 1 are read."""
+    """The bodies of each device, once the records of volume 1 have been read."""
     shown = {device['@id']: device for device in volume.rest['ReportingDevice']}
     return {name: conflicts.bodies_of(('device', name), it) for name, it in shown.items()}
 

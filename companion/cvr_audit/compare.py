@@ -7,14 +7,14 @@ from .bodies import first
 from .program import mismatch
 from .reading import spelled
 
-ABSENT = '-'        # in the place of a value that one side doesn't have
+ABSENT = '-'        # in place of a value that one side doesn't have
 NOTHING = object()  # that value
 SIDES = 'one', 'other'
 Shown = namedtuple('Shown', 'name value text')      # a record as volume 1 shows it
 
 
 def steps_of(one, other):
-    """The members or items of two values, each with its values; None where these have none."""
+    """The members or items of two values, each with both its values; None where these have none."""
     if isinstance(one, dict) and isinstance(other, dict):
         names = sorted({*one, *other})
         return [(name, one.get(name, NOTHING), other.get(name, NOTHING)) for name in names]
@@ -25,7 +25,7 @@ def steps_of(one, other):
 
 
 def members(one, other, path=''):
-    """The places at which two values differ, each with the texts of both values there."""
+    """The places where two values differ, each with the texts of both values there."""
     steps = steps_of(one, other)
     if steps is None:
         texts = [ABSENT if it is NOTHING else spelled(it) for it in (one, other)]
@@ -37,7 +37,7 @@ def members(one, other, path=''):
 
 
 def lines_of(parts, one, other):
-    """The lines of a name whose bodies on the two sides are these."""
+    """The lines for a name whose bodies on the two sides are these."""
     if one.keys() == other.keys():
         return
     if not one or not other:
@@ -53,7 +53,7 @@ def lines_of(parts, one, other):
 
 
 def record_lines(name, one, other):
-    """The lines of a record, which a side may not have."""
+    """The lines for a record that one side may not have."""
     parts = list(map(spelled, name))
     if not one or not other:
         yield ['record'] + parts + [SIDES[not one]]
@@ -65,12 +65,12 @@ def record_lines(name, one, other):
 
 
 def shown_in(volume):
-    """The records of volume 1, which stand by the bytes of their names."""
+    """The records of volume 1, which are in byte order of their names."""
     return (Shown(reading.name_of(value), value, text) for value, text in volume.with_texts())
 
 
 def pairs(one, other):
-    """The records of two sides by name; None where a side lacks it."""
+    """The records of two sides by name; None where a side doesn't have it."""
     a, b = next(one, None), next(other, None)
     while a or b:
         name = min(it.name for it in (a, b) if it)
@@ -107,7 +107,7 @@ def changes_of(name, one, other, selections, changes):
 
 
 def row_lines(row, tallies, changes, selections):
-    """The lines of each column of a row that differs, with those of the records that make the
+    """The lines for each column of a row that differs, with those for the records that make the
     difference."""
     columns, names = counting.columns_of(row[0], selections), counting.named(row)
     numbers = [it.get(row, [0] * len(columns)) for it in tallies]

@@ -25,8 +25,8 @@ def is_pending(position):
 
 
 def positions_of(contest):
-    """Each position: its place among the CVRContestSelections and in its own, the id of the
-    selection or None, and itself."""
+    """Each position: the index of its CVRContestSelection, its own index there, the id of the
+    selection or None, and the position itself."""
     for i, chosen in enumerate(contest.get('CVRContestSelection', [])):
         for k, position in enumerate(chosen['SelectionPosition']):
             yield i, k, chosen.get('ContestSelectionId'), position
@@ -51,7 +51,7 @@ def sums(contest, selections):
 
 
 def row_of(contest, header):
-    """The row in which a record stands with a contest of its current snapshot."""
+    """The row to which a record belongs by a contest of its current snapshot."""
     return contest['ContestId'], header.get('BallotStyleUnitId'), header.get('BatchId')
 
 
@@ -67,23 +67,23 @@ def add(rows, row, numbers):
 
 
 def nothing_first(name):
-    """The key of a name among names and None: None before all."""
+    """The key that sorts a name among names and None: None comes first."""
     return name is not None, name or ''
 
 
 def in_order(rows, selections):
-    """Rows by the contest's place in the definition, then by unit and batch, nothing first."""
+    """Rows by the contest's index in the definition, then by unit and batch, None first."""
     places = {contest: place for place, contest in enumerate(selections)}
     return sorted(rows, key=lambda row: (places[row[0]], *map(nothing_first, row[1:])))
 
 
 def named(row):
-    """Contest, unit and batch of a row, as they are printed."""
+    """Contest, unit and batch of a row, as printed."""
     return ' '.join(map(spelled, row))
 
 
 def columns_of(contest, selections):
-    """The columns of a row, as they are printed: words, and selections as JSON strings."""
+    """The columns of a row, as printed: words, and selections as JSON strings."""
     return list(COLUMNS) + list(map(spelled, selections[contest]))
 
 

@@ -30,7 +30,7 @@ COMMANDS = {
     'warnings': (warnings.run, 'Print a line for each thing that needs a person before the tally '
                                'is used.'),
 }
-# the options of each command, with what stands for their values
+# each command's options, with what stands for their values
 OPTIONS = {
     'records': [
         (('-o',), 'CSV', {'dest': 'output',
@@ -74,7 +74,7 @@ def usage_of(name):
 
 
 class Command:
-    """A command with two parsers: one for help, and one for its options alone, which may stand
+    """A command with two parsers: one for help, and one for its options alone, as these may stand
     before, between and after the files."""
 
     def __init__(self, name, commands):
@@ -93,7 +93,7 @@ class Command:
         self.options.error = self.parser.error
 
     def read(self, words):
-        """The words, by name; what stands after `--` is no option."""
+        """The words, by name; what follows `--` is no option."""
         place = words.index('--') if '--' in words else len(words)
         if {'-h', '--help'} & {*words[:place]}:
             self.parser.parse_args(['--help'])
@@ -135,7 +135,7 @@ def log(lines):
 
 
 def sides(words):
-    """The files of the run, of `compare` those of either side; the log has the refused ones."""
+    """The files of the run; for `compare` those of each side. The refused ones are logged."""
     found = program.find()
     lists = [words.one, words.other] if words.run is compare.run else [words.files]
     held = []
@@ -170,7 +170,7 @@ def write(text, path):
 
 
 def main(words):
-    """Does what the words ask for; the status."""
+    """Does what the words ask for; answers the status."""
     words = read(words)
     try:
         text, status = made(words)

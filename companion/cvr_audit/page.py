@@ -1,4 +1,4 @@
-"""cvr-audit page: the tally as a page for a browser, with all that a canvass looks at beside it."""
+"""cvr-audit page: the tally as a page for a browser, with all else that a canvass looks at."""
 import hashlib
 
 from . import page_contests, page_inputs, page_records
@@ -6,7 +6,7 @@ from .page_facts import Facts
 from .page_style import STYLE
 from .page_tree import code, element, section, text_of
 
-# no script, and nothing is fetched
+# no scripts, and nothing is fetched
 POLICY = 'default-src \'none\'; style-src \'unsafe-inline\''
 SIGNED = 'Made by', 'Checked by', 'Place and date'
 WITHHELD = ('The SHA-256 of the text that cvr tally prints is on the whole page: with it, who '
@@ -14,7 +14,7 @@ WITHHELD = ('The SHA-256 of the text that cvr tally prints is on the whole page:
 
 
 def signature(facts):
-    """Lines to sign, and what the signature is of."""
+    """Lines to sign, and what is signed."""
     digest = hashlib.sha256(facts.tally.encode('utf-8')).hexdigest()
     said = ['SHA-256 of the text that cvr tally prints: ', code(digest)]
     return section('signature', 'Signature',

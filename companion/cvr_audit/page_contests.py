@@ -1,9 +1,9 @@
-"""The numbers of the page: of each contest, and of it by unit and by batch."""
+"""The numbers of the page: of each contest, in all, by unit and by batch."""
 from . import counting, page_masking, page_names
 from .page_tree import element, folded, listed, section, table
 
-MANY = 12           # rows of a table, or contests, of which a page folds the tables
-COLUMNS = 6         # of numbers in one table, so that a sheet of paper has room for them
+MANY = 12           # a table with more rows is folded; with more contests every table is
+COLUMNS = 6         # columns of numbers in one table, as a sheet of paper has room for
 STATED = {'overvotes': 'Overvotes', 'undervotes': 'Undervotes'}
 WITHHELD = '*'
 UNKNOWN = ('The definition does not say how many votes a ballot has (VotesAllowed), so nothing is '
@@ -21,7 +21,7 @@ def added(rows):
 
 
 def by(rows, place):
-    """The sums of rows by unit (1) or by batch (2), nothing first."""
+    """The sums of rows by unit (1) or by batch (2), None first."""
     held = {}
     for row, numbers in rows.items():
         held.setdefault(row[place], []).append(numbers)
@@ -54,7 +54,7 @@ def contests_of(facts):
 # ---- by contest
 
 def share(votes, counted):
-    """Per cent to one decimal, a half upwards."""
+    """Per cent to one decimal, half rounded up."""
     if not counted:
         return '–'
     tenths = (2000 * votes + counted) // (2 * counted)
@@ -62,7 +62,7 @@ def share(votes, counted):
 
 
 def bar(votes, most):
-    """A bar as long as these votes are of the most of the contest."""
+    """A bar for these votes, in proportion to the most votes in the contest."""
     width = '%.1f%%' % (100 * votes / most) if most else '0'
     return element('span', '\u00a0', class_='bar', style='width: ' + width, aria_hidden='true')
 
@@ -79,7 +79,7 @@ def selection_rows(facts, contest):
 
 
 def sums_of(contest):
-    """Whether the sums come to the ballots, as a sentence."""
+    """A sentence that says whether the sums add up to the ballots."""
     _, overvotes, undervotes, _, pending, unassigned = contest.numbers[:len(HEADS)]
     counted = sum(contest.votes) + unassigned
     if contest.allowed is None:
@@ -93,19 +93,19 @@ def sums_of(contest):
 
 
 def is_stated(facts, contest, place):
-    """Whether a file states the number of a column; where none does, its zeros say nothing."""
+    """Whether a file states the number of a column; where none does, its zeros mean nothing."""
     member = STATED.get(counting.COLUMNS[place])
     return member is None or (contest.key, member) in facts.seen.stated
 
 
 def others_of(facts, contest):
-    """The numbers beside the votes."""
+    """The numbers besides the votes."""
     for place, head in enumerate(HEADS[1:], 1):
         yield head, contest.numbers[place] if is_stated(facts, contest, place) else 'not stated'
 
 
 def contest_parts(facts, contest):
-    """What the page has of a contest."""
+    """What the page has about a contest."""
     yield contest.title(facts)
     if contest.hidden is None:
         yield element('p', 'Fewer than ten ballots: its numbers are withheld.')
@@ -133,7 +133,7 @@ def chunks(columns):
 
 
 def columns_of(facts, contest):
-    """The heads of the columns with their places in a row, in parts that a sheet has room for."""
+    """The heads of the columns with their indices in a row, in parts that a sheet has room for."""
     votes = [(facts.names.short_selection(contest.key, key), len(HEADS) + place)
              for place, key in enumerate(contest.selections) if place not in contest.hidden]
     numbers = [(head, place) for place, head in enumerate(HEADS)
@@ -166,7 +166,7 @@ def tables(facts, contest, what, held, name):
 
 
 def parts_of(facts, contest):
-    """What the page has of a contest by unit and by batch."""
+    """What the page has about a contest by unit and by batch."""
     yield contest.title(facts)
     if not contest.rows or contest.hidden is None:
         yield element('p', 'No record has this contest.' if contest.is_whole else 'Withheld.')

@@ -1,11 +1,11 @@
-"""What a page is made of: the texts of `cvr`, and what was seen of records and files."""
+"""What a page is made from: the texts of `cvr`, and what was seen in records and files."""
 from . import counting, manifest, page_names, warnings
 from .page_records import adjudicated_in
 
 
 class Seen(warnings.Seen):
-    """What was seen of the records; of batches also the devices, and of records what adjudication
-    changed."""
+    """What was seen in the records; also the devices of batches, and what adjudication changed in
+    records."""
 
     def __init__(self, facts):
         super().__init__()
@@ -20,7 +20,7 @@ class Seen(warnings.Seen):
 
 
 class Facts:
-    """What a page is made of."""
+    """What a page is made from."""
 
     def __init__(self, files, words):
         self.files, self.is_public = files, words.public

@@ -1,4 +1,4 @@
-"""The codes of refused files in words, with what to do. docs/FAULTS.md says more of each."""
+"""The codes of refused files in words, with what to do. docs/FAULTS.md says more about each."""
 
 CODES = {
     'E1': ('The file is longer than 67,108,864 bytes.',
@@ -25,7 +25,7 @@ RULES = {
 
 
 def place_in(fault):
-    """The place that a fault is at, and the number of its rule, where it has them."""
+    """The place of a fault and the number of its rule, where it has them."""
     words = fault.split(' ', 1)[1] if ' ' in fault else ''
     if not fault.startswith('E3 '):
         return words, None
@@ -34,7 +34,7 @@ def place_in(fault):
 
 
 def in_words(fault, is_public):
-    """What a fault means, and what to do. A page for the public has no place in it."""
+    """What a fault means, and what to do. On a page for the public it has no place."""
     what, advice = CODES[fault.split(' ', 1)[0]]
     place, rule = place_in(fault)
     said = [part for part in (RULES.get(rule), not is_public and place) if part]

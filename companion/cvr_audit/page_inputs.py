@@ -1,4 +1,4 @@
-"""What the numbers of the page are made of: the election, the program, the files; and warnings."""
+"""What the numbers of the page are made from: the election, the program, the files; and warnings."""
 import datetime
 import hashlib
 import os
@@ -30,7 +30,7 @@ def digest_of(path):
 
 
 def moment():
-    """The moment of the page: now, or that of SOURCE_DATE_EPOCH."""
+    """The page's moment: now, or that of SOURCE_DATE_EPOCH."""
     given = os.environ.get('SOURCE_DATE_EPOCH', '')
     if given.isdecimal():
         made = datetime.datetime.fromtimestamp(int(given), datetime.timezone.utc)
@@ -40,13 +40,13 @@ def moment():
 
 
 def version_of(cvr):
-    """What the program says of its version, and the SHA-256 of its file."""
+    """What the program prints as its version, and the SHA-256 of its file."""
     text = program.started([cvr, '--version']).stdout.decode('utf-8', 'replace')
     return text.split('\n')[0], digest_of(shutil.which(cvr) or cvr)[0]
 
 
 def head(facts):
-    """The election, and how to have the same numbers again."""
+    """The election, and how to get the same numbers again."""
     files = facts.files
     version, digest = version_of(files.program)
     command = 'cvr tally -- DEF FILE ...'
@@ -60,7 +60,7 @@ def head(facts):
 
 
 def state_of(fault, is_public):
-    """What is said of a file: accepted, or why not and what to do."""
+    """What is said about a file: accepted, or why not and what to do."""
     if fault is None:
         return 'accepted'
     what, advice = page_faults.in_words(fault, is_public)
@@ -76,7 +76,7 @@ def records_of(facts):
 
 
 def input_rows(facts):
-    """DEF and the files, each with what it is and what became of it."""
+    """DEF and the files, each with what it is and how it was judged."""
     files, records = facts.files, iter(records_of(facts))
     for number, path in enumerate([files.definition] + files.files):
         fault = facts.refused.get(spelled(path)) if number else None
@@ -100,7 +100,7 @@ def inputs(facts):
 
 
 def shown_warnings(facts):
-    """The warnings; a page for the public has their kinds alone."""
+    """The warnings; on a page for the public only their kinds."""
     if not facts.is_public:
         for kind, parts in facts.warnings:
             yield KINDS[kind], ' '.join(parts), warnings.ADVICE[kind]
@@ -110,7 +110,7 @@ def shown_warnings(facts):
 
 
 def warned(facts):
-    """The warnings, before any number."""
+    """The warnings, which come before any number."""
     items = [element('li', element('strong', kind), ' ' if what else None, what and code(what),
                      ': ' + advice) for kind, what, advice in shown_warnings(facts)]
     said = element('ul', *items, class_='warnings') if items else element('p', 'None.')

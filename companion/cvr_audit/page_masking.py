@@ -5,9 +5,9 @@ LEAST = 10          # the least number that may be shown, or follow
 
 
 def withheld(numbers, spare=0):
-    """The places of the numbers that are withheld, where a reader knows the sum of all and of
-    `spare`, which is never shown: those below ten, and while these and `spare` come to less than
-    ten, the next smallest."""
+    """The places of the numbers that are withheld, where a reader knows the sum of all numbers and of
+    `spare`, which is never shown: those below ten and, as long as these and `spare` add up to less
+    than ten, the next smallest."""
     order = sorted(range(len(numbers)), key=lambda place: numbers[place])
     count = sum(number < LEAST for number in numbers)
     hidden = spare + sum(numbers[place] for place in order[:count])
@@ -18,8 +18,8 @@ def withheld(numbers, spare=0):
 
 
 def totals_withheld(ballots, votes, allowed):
-    """The places of the selections of a contest whose votes are withheld; None where it has fewer
-    than ten ballots, and nothing of it is shown. A reader knows the ballots, and how many votes
+    """The places of a contest's selections whose votes are withheld; None where the contest has fewer
+    than ten ballots, as nothing of it is shown then. A reader knows the ballots, and how many votes
     each may have, but not how many votes weren't given."""
     if ballots < LEAST:
         return None

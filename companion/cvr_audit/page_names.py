@@ -1,7 +1,7 @@
-"""The names that the definition has for what cast vote records name by id."""
+"""The definition's names for what cast vote records name by id."""
 from .page_tree import code, element, name
 
-SHORT = 40          # signs
+SHORT = 40          # characters
 
 
 def text_at(value, member):
@@ -11,7 +11,7 @@ def text_at(value, member):
 
 
 def texts_at(value, member):
-    """The texts of an array, which is empty where there is no such array."""
+    """The texts of an array; none where there is no such array."""
     texts = value.get(member)
     return [it for it in texts if isinstance(it, str)] if isinstance(texts, list) else []
 
@@ -24,7 +24,7 @@ def named(title, key, more=None):
 
 
 def short(text):
-    """A text that the head of a narrow column has room for."""
+    """A text cut to the room in the head of a narrow column."""
     return text if text is None or len(text) <= SHORT else text[:SHORT - 1] + '…'
 
 
@@ -68,12 +68,12 @@ class Names:
         return named(title, key, parties)
 
     def short_selection(self, contest, key):
-        """A selection in the head of a column; the page has its whole name elsewhere."""
+        """A selection for the head of a column; the page has its whole name elsewhere."""
         title, parties = self.selections[contest, key]
         return named(short(title), short(key), short(parties))
 
     def plain_selection(self, contest, key):
-        """The name of a selection in a line of text."""
+        """The name of a selection for a line of text."""
         return self.selections[contest, key][0] or key
 
     def unit(self, key):

@@ -1,8 +1,8 @@
-"""What the page says of records: batches beside a manifest, conflicts, and adjudications."""
+"""What the page says about records: batches beside a manifest, conflicts, and adjudications."""
 from . import counting, page_names, reading
 from .page_tree import code, codes, element, folded, section, table
 
-MANY = 40           # the rows of a table that a page folds
+MANY = 40           # a table with more rows is folded
 ADJUDICATED = 'modified'
 TAKEN = {
     'device': 'Both are kept, and no number depends on them.',
@@ -16,7 +16,7 @@ TAKEN = {
 # ---- batches
 
 def batches(facts):
-    """The records of each batch by device, and of the manifest the ballots of the batch."""
+    """The records of each batch by device and, from the manifest, the ballots of the batch."""
     expected = facts.manifest
     if facts.is_public:
         return element('p', 'The batches stand on the whole page alone.')
@@ -55,7 +55,7 @@ def leaves(value, path=''):
 
 
 def text_rows(texts):
-    """The members of the texts side by side; what differs is marked."""
+    """The members of the texts side by side; differences are marked."""
     held = [leaves(value) for value in texts]
     for path in dict.fromkeys(path for it in held for path in it):
         parts = [it.get(path) for it in held]
@@ -65,7 +65,7 @@ def text_rows(texts):
 
 
 def is_current(facts, names):
-    """Whether a snapshot is current, by what `cvr currents` prints."""
+    """Whether a snapshot is current, from what `cvr currents` prints."""
     return '\n%s ' % ' '.join(map(reading.spelled, names)) in facts.currents
 
 
@@ -117,7 +117,7 @@ def marks(facts, snapshot):
 
 
 def changed(facts, before, after):
-    """The contests in which two snapshots differ, each with the marks of both."""
+    """The contests in which two snapshots differ, each with the marks in both."""
     sides = [marks(facts, it) if it else {} for it in (before, after)]
     absent = 'not there' if before else 'no scan, or several'
     return [(key, sides[0].get(key, absent), sides[1].get(key, 'not there'))
@@ -130,7 +130,7 @@ def is_adjudication(snapshot):
 
 
 def scan_of(snapshots):
-    """The snapshot before the adjudications; None where there is none, or several."""
+    """The snapshot before the adjudications; None where there is none, or more than one."""
     for kind in ('interpreted', 'original'):
         found = [it for it in snapshots if it['Type'] == kind and not is_adjudication(it)]
         if found:
@@ -157,7 +157,7 @@ def adjudication_rows(facts):
 
 
 def marks_cell(facts, changes, side):
-    """The marks before (1) or after (2) an adjudication, where it changed them."""
+    """The marks before (1) or after (2) an adjudication, where it changes them."""
     lines = [element('li', page_names.named(facts.names.contests[change[0]], change[0]), ': ',
                      element('bdi', change[side])) for change in changes]
     return element('ul', *lines) if lines else 'no change'

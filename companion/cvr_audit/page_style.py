@@ -1,4 +1,4 @@
-"""How the page looks: on a screen of any width, and in print. No colour alone says anything."""
+"""How the page looks: on a screen of any width, and in print. No meaning rests on colour alone."""
 
 STYLE = '''
 * { box-sizing: border-box }

@@ -1,21 +1,21 @@
-"""Elements of HTML, as a tree: so no text of a file can become markup."""
+"""Elements of HTML as a tree, so that no text of a file can become markup."""
 import re
 import xml.etree.ElementTree as ET
 
-# signs that an HTML text can't have: controls, halves of pairs, and what is no character
+# characters that an HTML text can't have: controls, halves of surrogate pairs, and noncharacters
 LAST = ''.join(chr(plane << 16 | last) for plane in range(17) for last in (0xfffe, 0xffff))
 UNSHOWN = re.compile('[\x00-\x08\x0b-\x1f\x7f-\x9f\ud800-\udfff\ufdd0-\ufdef%s]' % LAST)
 
-NUMBER = re.compile(r'\*?|–|[0-9]+\.[0-9]')        # spelled already, or in the place of a number
+NUMBER = re.compile(r'\*?|–|[0-9]+\.[0-9]')        # spelled already, or in place of a number
 
 
 def shown(text):
-    """A text in which each sign that HTML can't have is spelled as an escape of JSON."""
+    """A text in which each character that HTML can't have is spelled as an escape of JSON."""
     return UNSHOWN.sub(lambda found: '\\u%04x' % ord(found.group()), text)
 
 
 def element(tag, *parts, **attributes):
-    """An element of these parts: elements, texts and numbers. What is None is left out."""
+    """An element of these parts: elements, texts and numbers. None is left out."""
     held = {name.rstrip('_').replace('_', '-'): shown(str(value))
             for name, value in attributes.items() if value is not None}
     made = ET.Element(tag, held)
@@ -43,7 +43,7 @@ def name(text):
 
 
 def code(text):
-    """An id or another text of a file, as it stands there."""
+    """An id or another text of a file, as it is there."""
     return element('code', element('bdi', text or '""'))
 
 
@@ -58,13 +58,13 @@ def section(key, title, *parts):
 
 
 def listed(pairs):
-    """Terms, each with what is said of it."""
+    """Terms, each with its description."""
     parts = [(element('dt', term), element('dd', *said)) for term, *said in pairs]
     return element('dl', *(part for pair in parts for part in pair))
 
 
 def cell(part):
-    """A cell of a table: numbers stand to the right."""
+    """A cell of a table: numbers are right-aligned."""
     is_number = isinstance(part, int) or isinstance(part, str) and NUMBER.fullmatch(part)
     return element('td', part, class_='number' if is_number else None)
 
@@ -86,7 +86,7 @@ def table(caption, heads, rows, foot=None):
 
 
 def folded(is_many, summary, *parts):
-    """The parts, behind a line that opens them where they are many."""
+    """The parts, behind a line that unfolds them where they are many."""
     if not is_many:
         return element('div', *parts)
     return element('details', element('summary', summary), *parts)

@@ -1,4 +1,4 @@
-"""What `cvr` prints of a definition and files: it alone says which files are accepted, and which
+"""What `cvr` prints for a definition and files: it alone decides which files are accepted, and which
 body of a name counts."""
 import errno
 import os
@@ -12,12 +12,12 @@ from . import reading
 from .progress import Progress
 
 DATE = '1970-01-01T00:00:00Z'       # of the heading of a volume, which nothing here reads
-WORDS = 2                           # the status of words that can't be done
+WORDS = 2                           # the status for words that can't be carried out
 FAILED = 3                          # the status where a file can't be read or written
 MEMORY = 4
 UNFIT = 69                          # where there is no `cvr` of this version
-MISMATCH = 70                       # where a text doesn't come to what `cvr` prints
-VERSION = re.compile(rb'cvr 1\.[0-9]+\.[0-9]+( [^\n]*)?\n')     # whose printed texts are known here
+MISMATCH = 70                       # where a text doesn't agree with what `cvr` prints
+VERSION = re.compile(rb'cvr 1\.[0-9]+\.[0-9]+( [^\n]*)?\n')     # the versions whose texts are known here
 
 
 class Ended(Exception):
@@ -70,9 +70,9 @@ def mark_of(path):
 
 
 class Files:
-    """A definition and files. `accepted` has the paths of those that are, each with the number of
-    its records, and `log` the lines of the others; `own_records` is the number of the records of
-    the definition, which are not counted."""
+    """A definition and files. `accepted` has the paths of the accepted files, each with the number of
+    its records, and `log` the lines of the others; `own_records` is the number of the definition's
+    own records, which are not counted."""
 
     def __init__(self, program, definition, files, log):
         self.program, self.definition, self.files = program, definition, files
@@ -102,14 +102,14 @@ class Files:
         return out.decode('utf-8')
 
     def see_same(self, status, log):
-        """Stops where a command failed, or refused other files than `check` did."""
+        """Stops where a command failed, or refused other files than `check`."""
         if status > 1:
             raise Ended(status, log[len(self.log):] if log.startswith(self.log) else log)
         if (status, log) != (self.status, self.log):
             raise mismatch('a file was changed while it was read')
 
     def see_unchanged(self):
-        """Stops where a file isn't the one that it was before `check`."""
+        """Stops where a file has changed since before `check`."""
         for path, mark in self.marks.items():
             if mark_of(path) != mark:
                 raise mismatch('%s was changed while it was read' % path)
@@ -118,7 +118,7 @@ class Files:
         return self.text('tally')
 
     def volume(self, number):
-        """A volume of the files, in a file that has no name and goes with this process."""
+        """A volume of the files, in a file that has no name and disappears with this process."""
         devices = self.report['ReportingDevice']
         if not devices:
             raise ended(1, 'DEF has no ReportingDevice, and `cvr merge` needs one of its own')
@@ -130,8 +130,8 @@ class Files:
         return reading.Volume(file)
 
     def each_report(self, take):
-        """Hands on the path and the value of each accepted file. One value at a time is in memory:
-        nothing holds it after the call."""
+        """Passes on the path and the value of each accepted file. Only one value at a time is in
+        memory: nothing keeps it after the call."""
         try:
             for place, (path, _) in enumerate(self.accepted):
                 self.progress.show('read %d of %d files' % (place, len(self.accepted)))
@@ -151,7 +151,7 @@ class Files:
 
 
 def accepted_in(files, text):
-    """(path, number of records) of each accepted file, by the lines of `check`, which stand in the
+    """(path, number of records) of each accepted file, from the lines of `check`, which are in the
     order of the files."""
     held, place = [], 0
     for path in files:
@@ -165,8 +165,8 @@ def accepted_in(files, text):
 
 
 def line_of(path, mark, text, place):
-    """The line at a place of a text of `cvr`, behind the path of a file and the mark, and where the
-    next line begins; the line is empty where it is another file's."""
+    """The line at an index of a text of `cvr`, after the path of a file and the mark, and the index of
+    the next line; the line is empty where it is another file's."""
     head = os.fsencode(path) + mark
     if not text.startswith(head, place):
         return b'', place

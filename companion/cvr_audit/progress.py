@@ -1,8 +1,8 @@
-"""What a terminal shows while a run over many files lasts."""
+"""What a terminal shows during a run over many files."""
 
 
 class Progress:
-    """A line on a terminal that says what goes on and is gone at the end. Elsewhere, and for one
+    """A line on a terminal that says what goes on, and is gone at the end. Elsewhere, and for one
     file, nothing is written."""
 
     def __init__(self, log, count):

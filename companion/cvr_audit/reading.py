@@ -1,4 +1,4 @@
-"""Reports as they are read: a file whole, a volume record by record; names and places in them."""
+"""How reports are read: a file whole, a volume record by record. Also names and places in them."""
 import hashlib
 import io
 import json
@@ -23,12 +23,12 @@ def spelled(value):
 
 
 def digest(value):
-    """A stand-in for the compact text of a value, where many of these would take too much room."""
+    """A substitute for the compact text of a value, where many such texts would take too much room."""
     return hashlib.sha256(spelled(value).encode('utf-8')).digest()
 
 
 def words_of(line):
-    """The parts of a printed line: JSON strings, in which spaces may stand, numbers and words."""
+    """The parts of a printed line: JSON strings, which may contain spaces, numbers and words."""
     return WORD.findall(line)
 
 
@@ -37,7 +37,7 @@ def name_of(record):
 
 
 def header_of(record):
-    """The header of a record: all but its snapshots and its own word on which is current."""
+    """The header of a record: all but its snapshots and its own CurrentSnapshotId."""
     outside = 'CVRSnapshot', 'CurrentSnapshotId'
     return {name: part for name, part in record.items() if name not in outside}
 
@@ -55,7 +55,7 @@ def pointer(*steps):
 
 class Volume:
     """A written volume. Its records are read one at a time, in order, once; `rest` is the report
-    without them, when the last of them is read."""
+    without them, once the last of them is read."""
 
     def __init__(self, file):
         self.file, self.rest = io.TextIOWrapper(file, encoding='utf-8', newline=''), None
@@ -79,8 +79,8 @@ class Volume:
         self.file.close()
 
     def next_value(self, text, place):
-        """The value that begins at the place, the text in which it ends, where it begins there and
-        where it ends."""
+        """The value that begins at an index, the text in which it ends, and the indices there of its
+        beginning and its end."""
         while True:
             try:
                 value, end = DECODER.raw_decode(text, place)

@@ -1,12 +1,12 @@
-"""cvr-audit records: a line of CSV for each record, which together add up to the tally."""
+"""cvr-audit records: a line of CSV for each record; together they add up to the tally."""
 from . import counting, reading, table
 from .program import mismatch
 
-BETWEEN = '; '              # of several texts in one cell
+BETWEEN = '; '              # between several texts in one cell
 
 
 def contests_of(snapshot, selections):
-    """The numbers of each contest without that of the ballots; None where the snapshot lacks it."""
+    """The numbers of each contest, without its ballots; None where the snapshot doesn't have it."""
     found = {it['ContestId']: counting.sums(it, selections[it['ContestId']])[1:]
              for it in snapshot.get('CVRContest', [])}
     return [number for contest, chosen in selections.items()
@@ -25,7 +25,7 @@ def cells_of(record, paths, selections):
 
 
 def paths_of(files):
-    """The accepted files in which each record stands, each once, by the record's name."""
+    """The accepted files that have each record, each once, by the record's name."""
     held = {}
 
     def take(path, report):

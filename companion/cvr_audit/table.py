@@ -11,8 +11,8 @@ MARKS = ',', '"', '\n', '\r'
 
 
 def heads_of(selections, columns):
-    """The names of the columns of contests: `CONTEST COLUMN` of these, and for each selection
-    `CONTEST: SELECTION`."""
+    """The names of the columns of contests: `CONTEST COLUMN` for each of these columns, and
+    `CONTEST: SELECTION` for each selection."""
     heads = []
     for contest, chosen in selections.items():
         heads += ['%s %s' % (contest, column) for column in columns]
@@ -31,7 +31,7 @@ def contests_in(cells, selections):
 
 
 def added(lines, selections, name_of):
-    """What the lines add up to, the number of ballots first, by contest and by `name_of` a line."""
+    """What the lines add up to, the number of ballots first, by contest and by a line's `name_of`."""
     rows = {}
     for cells in lines:
         for contest, numbers in contests_in(cells, selections):
@@ -49,7 +49,7 @@ def device_and_batch(cells):
 
 
 def sizes_of(lines):
-    """How many records each batch of a device has, in the order of these names, nothing first."""
+    """How many records each batch of a device has, in the order of these names, None first."""
     sizes = {}
     for cells in lines:
         name = device_and_batch(cells)
@@ -94,7 +94,7 @@ FORMS = {'manifest': manifest, 'batches': batches, 'cvrs': cvrs}
 
 
 def cell(value):
-    """A cell of CSV (RFC 4180). Nothing is an empty cell, and the empty text one in quotes."""
+    """A cell of CSV (RFC 4180). None is an empty cell, and the empty text one in quotes."""
     if value is None:
         return ''
     text = str(value)

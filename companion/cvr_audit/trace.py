@@ -5,7 +5,7 @@ from . import counting, reading
 from .program import WORDS, ended, mismatch
 from .reading import pointer, spelled
 
-# A record that stands in a row that is traced: digests of its header and of its current snapshot,
+# A record that belongs to a row that is traced: digests of its header and of its current snapshot,
 # the snapshot's id, what it adds to the number, and where it is found.
 Traced = namedtuple('Traced', 'header snapshot current votes places')
 
@@ -43,8 +43,8 @@ def traced(volume, words):
 
 
 def places_in(snapshot, words):
-    """The places below a snapshot at which the number stands, each with its votes: the contest, or
-    the positions of the selection."""
+    """The places below a snapshot that have the number, each with its votes: the contest, or the
+    positions of the selection."""
     contests = snapshot['CVRContest']
     place = next(k for k, it in enumerate(contests) if it['ContestId'] == words.contest)
     at = pointer('CVRContest', place)
@@ -56,7 +56,7 @@ def places_in(snapshot, words):
 
 
 def find(path, report, records, words):
-    """Notes where in a file the records that are traced stand."""
+    """Notes where in a file the traced records are."""
     for k, cvr in enumerate(report.get('CVR', [])):
         record = records.get(reading.name_of(cvr))
         if not record:
@@ -72,7 +72,7 @@ def find(path, report, records, words):
 
 
 def row_lines(row, records, number, words):
-    """The lines of a row whose number this is, and of its records."""
+    """The lines for a row, whose number this is, and for its records."""
     if sum(it.votes for it in records.values()) != number:
         raise mismatch('the records don\'t come to the number of the row ' + counting.named(row))
     column = 'ballots' if words.selection is None else spelled(words.selection)
@@ -83,7 +83,7 @@ def row_lines(row, records, number, words):
 
 
 def column_of(words, selections):
-    """The place of the number that is traced among those of a row."""
+    """The index of the traced number among those of a row."""
     if words.selection is None:
         return 0
     return len(counting.COLUMNS) + selections[words.contest].index(words.selection)

@@ -31,9 +31,9 @@ ADVICE = {
 
 
 class Seen:
-    """What was seen of the records: the number in each batch, the names with each BallotAuditId,
-    the names of records without a contest, which contests have which number stated, and the texts
-    of each name in conflict, each as its value with the paths of the files that have it."""
+    """What was seen in the records: the number in each batch, the names with each BallotAuditId, the
+    names of records without a contest, which contests have which number stated, and the texts of
+    each name in conflict, each as its value with the paths of the files that have it."""
 
     def __init__(self):
         self.batches, self.ballots, self.empty, self.stated = {}, {}, [], set()
@@ -58,7 +58,7 @@ class Seen:
 
 
 def see(files, seen):
-    """Notes what is to be seen of the records of files, and of the names in conflict."""
+    """Notes what there is to see in the files' records, and of the names in conflict."""
     conflicts, texts = bodies.conflicts_of(files), {}
     volume = files.volume(1)
     for record in volume:
@@ -74,7 +74,7 @@ def see(files, seen):
 
 
 def refused_lines(files):
-    """A line for each refused file, by the log, whose lines stand in the order of the files."""
+    """A line for each refused file, from the log, whose lines are in the order of the files."""
     accepted, place = {path for path, _ in files.accepted}, 0
     for path in files.files:
         if path not in accepted:
@@ -94,7 +94,7 @@ def conflict_lines(texts):
 
 
 def allowed_of(definition):
-    """How many votes a ballot has in each contest, where the definition says so."""
+    """How many votes a ballot has in each contest, where the definition states it."""
     allowed = {it['@id']: it.get('VotesAllowed') for it in definition['Election'][0]['Contest']}
     return {contest: most for contest, most in allowed.items() if type(most) is int and most > 0}
 
@@ -115,7 +115,7 @@ def row_lines(row, numbers, allowed):
 
 
 def contest_lines(selections, rows, stated):
-    """The lines of contests that no record has, and of numbers that no file states."""
+    """The lines for contests that no record has, and for numbers that no file states."""
     shown = {row[0] for row in rows}
     for contest in selections:
         if contest not in shown:
@@ -141,7 +141,7 @@ def ballot_lines(ballots):
 
 
 def found_in(files, manifest, seen):
-    """Each warning as its kind and its parts. What is seen of the records is noted in `seen`."""
+    """Each warning as its kind and its parts. Notes in `seen` what is seen in the records."""
     yield from refused_lines(files)
     if files.own_records:
         yield 'definition', [spelled(files.definition), str(files.own_records)]

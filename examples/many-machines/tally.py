@@ -4,12 +4,12 @@
 DEF FILE..
 
 Prints what `cvr COMMAND DEF FILE..` prints, worked out in at most N parts, no two of which have a
-record in common. A file stays whole in its part where it can; of files that share records, those
+record in common. A file stays whole in one part where it can; of files that share records, those
 that bridge others are split by record. Status and log lines are those of `cvr`; 69 where a worker
 is lost or can't be had, 70 where the answers of parts don't fit together. With --keep the parts
-that are done stay in the folder, and a later run takes them from there. With --hold one run of
-`cvr` over all files is held against the answer. The workers are processes of this Python, or those
-of `distributed`, started here or at ADDRESS."""
+that are done stay in the folder, and a later run takes them from there. With --hold the answer is
+compared with one run of `cvr` over all files. The workers are processes of this Python, or those of
+`distributed`, started here or at ADDRESS."""
 import argparse
 import concurrent.futures
 import gc
@@ -55,7 +55,7 @@ def ended(status, text):
 
 
 def run(words, given=b''):
-    """(status, output, log) of a command that has ended by itself."""
+    """(status, output, log) of a command that has ended."""
     try:
         done = subprocess.run(words, input=given, stdout=subprocess.PIPE, stderr=subprocess.PIPE)
     except OSError as fault:
@@ -66,7 +66,7 @@ def run(words, given=b''):
 
 
 def checked(words, given=b''):
-    """The same of one that has read its files; else the end of the run."""
+    """The same for a command that has read its files; else the end of the run."""
     status, out, log = run(words, given)
     if status > 1:
         raise Ended(status, log)
@@ -76,7 +76,7 @@ def checked(words, given=b''):
 # ---- the names of records
 
 def text_of(inside):
-    """The text that a JSON string spells, in UTF-8, by what stands between its quotes."""
+    """The text that a JSON string spells, in UTF-8; `inside` is what stands between its quotes."""
     if b'\\' not in inside:
         return inside
     try:
@@ -86,16 +86,16 @@ def text_of(inside):
 
 
 def digest(device, unique):
-    """A number for the name of a record. Should two names have one, their records come to one
-    part, and that is no harm."""
+    """A number for the name of a record. Where two names have the same one, their records come to one
+    part, which does no harm."""
     text = b'%d %s%s' % (len(device), device, unique)
     return int.from_bytes(hashlib.blake2b(text, digest_size=8).digest(), 'big')
 
 
 def quick_names(data):
-    """Digests of at least the names of an accepted file's records, without reading it as JSON;
-    None where that takes more. Where no letter is spelled by its code, each member UniqueId
-    is spelled with these letters between two quotes, and with one device a name is its value."""
+    """Digests of at least the names of an accepted file's records, without reading it as JSON; None
+    where that isn't possible. Where no letter is spelled by its code, each member UniqueId is spelled
+    with these letters between two quotes; with one device, its value gives the name."""
     if data.find(b'\\') >= 0 and CODED.search(data):
         return None
     devices = {text_of(it) for it in set(DEVICE.findall(data))}
@@ -105,7 +105,7 @@ def quick_names(data):
 
 
 def names_by_cvr(task, path):
-    """Digests of the names of the records of a file; none where it is refused."""
+    """Digests of the names of the records of a file; none where the file is refused."""
     out = checked([task.cvr, 'currents', '--', task.definition, path])[1]
     return {digest(*map(text_of, NAME.match(line).groups())) for line in out.split(b'\n')[:-1]}
 
@@ -116,13 +116,13 @@ def mark_of(held):
 
 
 def scanned(job):
-    """The scan of each file of a list; None for one that can't be read."""
+    """The scan of each file of a list; None for a file that can't be read."""
     task, paths = job
     return [scan_of(task, path) for path in paths]
 
 
 def see_regular(path):
-    """Ends the run at a pipe or a device; whether a file is there at all, `cvr` says."""
+    """Ends the run at a pipe or a device; whether there is a file at all, `cvr` reports."""
     mode = os.stat(path).st_mode if os.path.exists(path) else stat.S_IFREG
     if not stat.S_ISREG(mode) and not stat.S_ISDIR(mode):
         raise ended(FAILED, '%s: no regular file; it has to be read more than once' % path)
@@ -144,7 +144,7 @@ def scan_of(task, path):
 # ---- which files stay whole, and in which parts
 
 def places_of(scans):
-    """The places of the files that a name is in, of each name that is in two files or more."""
+    """For each name that is in two files or more, the indices of these files."""
     seen, shared = set(), {}
     for it in scans:
         shared.update((name, []) for name in it.names & seen)
@@ -156,7 +156,7 @@ def places_of(scans):
 
 
 def beside(count, shared):
-    """The places of the other files with which each file shares a record."""
+    """For each file, the indices of the other files with which it shares a record."""
     near = {place: set() for place in range(count)}
     for places in set(map(tuple, shared.values())):
         for place in places:
@@ -165,7 +165,7 @@ def beside(count, shared):
 
 
 def staying(sizes, near):
-    """The places of files no two of which share a record, and each other file shares one with one
+    """The indices of files no two of which share a record, while each other file shares one with some
     of them. First come those that are long for each file that they bridge."""
     held = set()
     for place in sorted(near, key=lambda it: -sizes[it] / max(1, len(near[it]))):
@@ -175,8 +175,8 @@ def staying(sizes, near):
 
 
 def grouped(sizes, near, held, most):
-    """The group of each file that stays whole, and the length of each group: a group has one of
-    these files, and such others as share records with its files alone, while it isn't too long."""
+    """The group of each file that stays whole, and the length of each group. A group has one file of
+    `held`, and such others as share records with its files alone, while it isn't too long."""
     group, lengths = {place: place for place in held}, {place: sizes[place] for place in held}
     for place in sorted(near.keys() - held, key=lambda it: (-sizes[it], it)):
         met = {group[it] for it in near[place] if it in group}
@@ -188,7 +188,7 @@ def grouped(sizes, near, held, most):
 
 
 def dealt(lengths, count):
-    """The part of each group, in at most so many parts, of about equal length."""
+    """The part of each group; there are at most so many parts, of about equal length."""
     parts = [(0, part) for part in range(max(1, min(count, len(lengths))))]
     home = {}
     for group in sorted(lengths, key=lambda it: (-lengths[it], it)):
@@ -199,8 +199,8 @@ def dealt(lengths, count):
 
 
 def homes(sizes, shared, count, workers):
-    """The part of each file that stays whole, and how many parts there are. A worker's share of
-    all bytes is the most that a group may have, where it is more than one file."""
+    """The part of each file that stays whole, and how many parts there are. A group of more than one
+    file has at most a worker's share of all bytes."""
     near = beside(len(sizes), shared)
     group, lengths = grouped(sizes, near, staying(sizes, near), sum(sizes) / workers)
     home, parts = dealt(lengths, count)
@@ -214,7 +214,7 @@ def skip(text, place):
 
 
 def name_of(record):
-    """The digest of the name of a record; None of what is no record."""
+    """The digest of the name of a record; None for what is no record."""
     try:
         return digest(*(record[it].encode('utf-8') for it in ('CreatingDeviceId', 'UniqueId')))
     except (AttributeError, KeyError, TypeError):
@@ -222,8 +222,8 @@ def name_of(record):
 
 
 def items_of(text, place, decode):
-    """Of the array of records that begins at this place: where the first one may begin, where the
-    bracket closes, and of each the digest of its name, its begin and its end."""
+    """For the array of records that begins at this index: where the first record may begin, where the
+    closing bracket is, and for each record the digest of its name, its begin and its end."""
     items, first = [], place + 1
     place = skip(text, first)
     while text[place] != ']':
@@ -235,8 +235,8 @@ def items_of(text, place, decode):
 
 
 def records_of(text):
-    """The same of an accepted report. As everywhere in JSON that `cvr` reads, of two members of one
-    name the last counts, and in the other one anything may stand."""
+    """The same for an accepted report. As in all JSON that `cvr` reads, of two members of one name the
+    last counts, and the other may contain anything."""
     decode = json.JSONDecoder().raw_decode
     found, place = None, skip(text, skip(text, 0) + 1)
     while text[place] != '}':
@@ -265,7 +265,7 @@ def text_at(path, mark):
 
 
 def put(folder, name, data):
-    """Writes a file, which stands there whole or not at all: a job may be done twice."""
+    """Writes a file, which is there whole or not at all: a job may be done twice."""
     path = os.path.join(folder, name)
     with tempfile.NamedTemporaryFile(dir=folder, delete=False) as file:
         file.write(data)
@@ -274,8 +274,8 @@ def put(folder, name, data):
 
 
 def split(job):
-    """Checks a file whole, and cuts an accepted one: for each part that it has a record of, its
-    own bytes without the other records. (log, the piece for each part.)"""
+    """Checks a whole file, and cuts it if it is accepted: for each part that has one of its records,
+    its own bytes without the other records. (log, the piece for each part.)"""
     task, path, mark, home, parts, place = job
     status, _, log = checked([task.cvr, 'check', '--', task.definition, path])
     if status:
@@ -283,7 +283,7 @@ def split(job):
     text, cut = text_at(path, mark), {}
     first, end, records = records_of(text)
     for name, start, stop in records:
-        # the part of a file that stays whole and has the record, else one by its name
+        # the part of a file that stays whole and has the record, else one chosen by the name
         cut.setdefault(home.get(name, name % parts), []).append(text[start:stop])
     return log, {part: put(task.folder, '%d-%d.json' % (place, part),
                            (text[:first] + ','.join(cut[part]) + text[end:]).encode('utf-8'))
@@ -311,14 +311,14 @@ def sum_of(path):
 
 def over(task, paths):
     """(status, output, log) of the command over files, however many."""
-    # behind `--` no list of files may stand
+    # no list of files may follow `--`
     definition = os.path.join(*(['.'] if task.definition[:1] == '-' else []), task.definition)
     listed = b''.join(path.encode('utf-8') + b'\0' for path in paths)
     return checked([task.cvr, task.command, definition, '--files-from', '-', '--null'], listed)
 
 
 def done(job):
-    """The output of a part, and the log lines of each of its files that are whole."""
+    """The output of a part, and the log lines for each of its whole files."""
     task, part = job
     held = worked(task, part) if task.keep is None else kept_or_worked(task, part)
     for path, mark in zip(part.files, part.marks):
@@ -327,7 +327,7 @@ def done(job):
 
 
 def kept_or_worked(task, part):
-    """The same, of an earlier run where there was one over the same bytes."""
+    """The same, from an earlier run where there was one over the same bytes."""
     sums = [task.command, sum_of(task.cvr), sum_of(task.definition),
             [(path, sum_of(path)) for path in part.files], sorted(map(sum_of, part.pieces))]
     name = hashlib.sha256(json.dumps(sums).encode('utf-8')).hexdigest() + '.part'
@@ -353,8 +353,8 @@ def kept(path):
 
 
 def worked(task, part):
-    """The same, by a run of the program. Which files its lines are of is seen by a check of each: a
-    path may hold all that a line does."""
+    """The same, by a run of the program. A check of each file shows which lines are its own: a path may
+    contain anything that a line does."""
     status, out, log = over(task, part.files + part.pieces)
     words = [task.cvr, 'check', '--', task.definition]
     logs = [checked(words + [path])[2] if status else b'' for path in part.files]
@@ -366,7 +366,7 @@ def worked(task, part):
 # ---- putting the answers together
 
 def summed(lines):
-    """One line whose numbers are the sums of those of the lines, of rows of one key."""
+    """One line whose numbers are the sums of those of these lines, which are of one row."""
     words = [WORD.findall(line) for line in lines]
     columns = zip(*(it[3:] for it in words))
     sums = [str(sum(map(int, it))).encode() if it[0][:1] != b'"' else it[0] for it in columns]
@@ -374,8 +374,8 @@ def summed(lines):
 
 
 def added(texts, contests):
-    """The tally whose rows are the sums of those of the texts: by the contest's place, then unit
-    and batch by bytes, none first."""
+    """The tally whose rows are the sums of those of the texts: by the contest's index, then by unit and
+    batch in byte order, none first."""
     rows = {}
     for line in b''.join(texts).splitlines(True):
         rows.setdefault(ROW.match(line).group(1, 3, 5), []).append(line)
@@ -388,28 +388,28 @@ def added(texts, contests):
 
 
 def in_order(texts):
-    """The lines that begin with the name of a record, by it; those of one are all in one text."""
+    """The lines that begin with the name of a record, in its order; those of one are all in one text."""
     lines = [line for line in b''.join(texts).splitlines(True) if line[:1] == b'"']
     return b''.join(sorted(lines, key=lambda it: list(map(text_of, NAME.match(it).groups()))))
 
 
 def conflicts(texts, devices):
-    """The lines of devices are those of all devices of all files, `devices`; those of a record are
-    its part's; the last one has the greatest number."""
+    """The lines of devices are those of all devices of all files, `devices`; those of a record are from
+    its part; the last line has the greatest number."""
     most = max(int(it.split()[-1]) for it in texts + [devices])
     lines = [line for line in devices.splitlines(True) if line[:7] == b'device ']
     return b''.join(lines) + in_order(texts) + b'volumes %d\n' % most
 
 
 def places_in(definition):
-    """The place of each contest in the definition."""
+    """The index of each contest in the definition."""
     with open(definition, encoding='utf-8') as file:
         held = json.load(file)['Election'][0]['Contest']
     return {it['@id'].encode('utf-8'): place for place, it in enumerate(held)}
 
 
 def together(task, texts, accepted, each):
-    """The text of the whole; `accepted` has the path and mark of each accepted file."""
+    """The whole text; `accepted` has the path and mark of each accepted file."""
     if task.command == 'tally':
         return added(texts, places_in(task.definition))
     if task.command == 'currents':
@@ -424,7 +424,7 @@ def together(task, texts, accepted, each):
 # ---- the whole
 
 def scans_of(task, files, each):
-    """The scan of each file, where the definition and all files can be read; else the end."""
+    """The scan of each file, where the definition and all files can be read; else the run ends."""
     some = max(1, len(files) // 256)
     lists = [files[place:place + some] for place in range(0, len(files), some)]
     scans = [it for held in each(scanned, [(task, it) for it in lists]) for it in held]
@@ -436,7 +436,7 @@ def scans_of(task, files, each):
 
 
 def parted(task, files, scans, words, each):
-    """The place of each file that stays whole, and its part; the parts; the log of the others."""
+    """The index of each file that stays whole, with its part; the parts; the log of the other files."""
     sizes, shared = [it.mark[0] for it in scans], places_of(scans)
     home, count = homes(sizes, shared, words.parts or 4 * words.workers, words.workers)
     names = {name: home[place] for name in shared for place in shared[name] if place in home}
@@ -460,7 +460,7 @@ def answer(task, words, each):
     see_regular(task.definition)
     head, mark = checked([task.cvr, 'check', '--', task.definition]), os.stat(task.definition)
     files, scans = words.files, scans_of(task, words.files, each)
-    if head[0]:         # the definition is refused: reported once all files could be read
+    if head[0]:         # the definition is refused: reported once all files have been read
         return head
     home, parts, logs = parted(task, files, scans, words, each)
     answers = each(done, [(task, part) for part in parts])
@@ -484,7 +484,7 @@ def tried(words, each):
         if words.hold and told != run(asked):
             raise ended(UNFIT, 'one run over all files answers otherwise')
         return told
-    except UnicodeEncodeError:      # `cvr` opens no file then
+    except UnicodeEncodeError:      # `cvr` then opens no file
         return run(asked)
     except Ended as fault:
         return fault.args[0], b'', fault.args[1]
@@ -492,14 +492,14 @@ def tried(words, each):
         return MEMORY, b'', b'tally.py: out of memory\n'
     except OSError as fault:
         return FAILED, b'', ('tally.py: %s\n' % fault).encode('utf-8', 'surrogateescape')
-    except Exception as fault:      # never the status of a text
+    except Exception as fault:      # never the status of an answer with a text
         return UNFIT, b'', ('tally.py: %s: %s\n' % (type(fault).__name__, fault)).encode()
 
 
 def begin():
-    """Has a worker end with the process that started it, as nothing else ends it."""
+    """Makes a worker end with the process that started it, as nothing else ends it."""
     signal.signal(signal.SIGTERM, signal.SIG_DFL)
-    gc.disable()        # no value here refers to itself, and those of JSON are many
+    gc.disable()        # no value here refers to itself, and JSON makes many
     threading.Thread(target=watch, args=[os.getppid()], daemon=True).start()
 
 
@@ -526,7 +526,7 @@ class Processes:
 
 
 class Distributed:
-    """Workers of `distributed`: what one that dies had to do, others do."""
+    """Workers of `distributed`: others do what a worker that dies had to do."""
 
     def __init__(self, words):
         try:
@@ -534,7 +534,7 @@ class Distributed:
             asyncio = importlib.import_module('asyncio')        # slow, and for this engine alone
             self.lost = concurrent.futures.CancelledError, asyncio.CancelledError
             self.late = TimeoutError, asyncio.TimeoutError, concurrent.futures.TimeoutError
-            logging.disable(logging.CRITICAL)       # its own lines say less than the last one here
+            logging.disable(logging.CRITICAL)       # its own lines say less than this script's last one
             where = [words.scheduler] if words.scheduler else []
             own = {} if where else {'n_workers': words.workers, 'threads_per_worker': 1}
             self.client = self.module.Client(*where, timeout=words.wait, **own)
@@ -595,7 +595,7 @@ def read_words(given=None):
 
 def main():
     words = read_words()
-    # so that pieces are taken away
+    # so that pieces are removed
     signal.signal(signal.SIGTERM, lambda number, _: sys.exit(128 + number))
     try:
         engine = (Processes if words.engine == 'plain' else Distributed)(words)

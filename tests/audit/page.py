@@ -1,19 +1,19 @@
 #!/usr/bin/env python3
 """page.py --cvr PATH [--sets N] [--seed N] [--companion FOLDER] [--picture PNG]
 
-Tries `cvr-audit page`. First the county of examples/, whose two pages are held line by line
-against page/county.txt and page/public.txt, which were written by hand. Then sets of files
-(page_sets.py): odd names, 60 units and 2,000, 300 contests, no record, nothing but refused files,
-and contests and units of any size by chance. Of each, for offices and for the public, it tries
+Tests `cvr-audit page`. First the county of examples/: its two pages are compared line by line with
+page/county.txt and page/public.txt, which were written by hand. Then sets of files (page_sets.py):
+odd names, 60 units and 2,000, 300 contests, no record, nothing but refused files, and contests and
+units of random sizes. For each, on pages for offices and for the public, it tests
 
-- every number, held against what `cvr` prints (page_numbers.py);
-- what a reader can find of the numbers that are withheld (page_masks.py);
+- every number, compared with what `cvr` prints (page_numbers.py);
+- what a reader can work out of the numbers that are withheld (page_masks.py);
 - the tree of heads, the heads of tables, that nothing is fetched or run, and that `tidy` reads the
   page as HTML5 (page_form.py);
 - how Chromium shows it in a wide and a narrow window, and prints it (page_views.py).
 
 Last the slips of page_ways.py: each is made in a copy, and the county or the sets have to find it.
-With --companion the copy in that folder is tried, without a browser and without the largest sets.
+With --companion the copy in that folder is tested, without a browser and without the largest sets.
 Where a tool isn't there a line `skipped` says so. --picture writes the picture that README shows.
 The last line is `page: N right, M wrong`; the status is 0 only where M is 0 and N is not."""
 import argparse
@@ -48,11 +48,11 @@ REFUSED = 'damaged.json: E3 /CVR/0/UniqueId 2\n'
 MADE = '1730930400'         # 2024-11-06T22:00:00Z
 SECONDS = 600
 SIDE_BY_SIDE = 4
-FEW = 8             # the sets that try a slip
+FEW = 8             # the sets with which a slip is tried
 
 
 class Trial:
-    """A companion and a program that are tried."""
+    """A companion and a program that are tested."""
 
     def __init__(self, cvr, companion, is_seen=True):
         self.cvr, self.companion, self.is_seen = cvr, companion, is_seen
@@ -61,7 +61,7 @@ class Trial:
         self.package = importlib.import_module('cvr_audit.line') and sys.modules['cvr_audit']
 
     def see(self, what, wrong):
-        """Counts a thing that was tried, and prints what is wrong with it."""
+        """Counts a thing that was tested, and prints what is wrong with it."""
         self.right, self.wrong = self.right + (not wrong), self.wrong + bool(wrong)
         for line in wrong[:9]:
             print('WRONG %s: %s' % (what, line))
@@ -99,7 +99,7 @@ def digest_of(name, trial, folder):
 
 
 def filled(text, trial, folder):
-    """A text by hand, with what no hand works out in it: digests, the version, and advice."""
+    """A text written by hand, with what can't be written by hand: digests, the version, and advice."""
     advice = trial.package.warnings.ADVICE
     text = text.replace('{version}', trial.printed(folder, '--version')[0].split('\n')[0])
     text = re.sub(r'\{digest of (.*?)\}', lambda it: digest_of(it.group(1), trial, folder), text)
@@ -123,7 +123,7 @@ def see_county(trial, folder):
 
 
 def picture(trial, folder, to):
-    """Writes the picture of the county's page without what is wrong there."""
+    """Writes the picture of the county's page, without what is wrong in the county."""
     words = FILES[:2] + ['--manifest', 'manifest.csv', '-o', 'picture.html']
     trial.page(folder, 'definition.json', words)
     page_views.picture(os.path.join(folder, 'picture.html'), to)
@@ -162,7 +162,7 @@ def counts_of(trial, folder, files):
 
 
 def see_set(trial, folder, name, held):
-    """Tries the pages of a set, and how it is seen where it has a name of its own."""
+    """Tests the pages of a set, and how they look where the set has a name of its own."""
     for path, data in held.items():
         with open(os.path.join(folder, path), 'wb') as file:
             file.write(data)
@@ -197,7 +197,7 @@ def set_wrong(text, tally, counts, is_public):
 # ---- slips
 
 def see_way(trial, way):
-    """Tries a copy with a slip, which has to be found."""
+    """Tests a copy with a slip, which has to be found."""
     with tempfile.TemporaryDirectory() as folder:
         copy = wrong_ways.made(os.path.join(TOP, 'companion'), folder, way)
         words = [sys.executable, os.path.abspath(__file__), '--cvr', trial.cvr, '--sets', str(FEW),
@@ -209,7 +209,7 @@ def see_way(trial, way):
 
 
 def see_all(trial, words):
-    """Tries all but the slips."""
+    """Tests everything but the slips."""
     trial.see('masks', list(page_masks.judged()))
     trial.see('style', list(page_form.style_wrong(trial.package.page_style.STYLE)))
     trial.see('faults', list(page_form.faults_wrong(trial.package.page_faults)))

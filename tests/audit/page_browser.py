@@ -1,4 +1,4 @@
-"""page_browser.py: a page in headless Chromium, over a pipe by its DevTools protocol."""
+"""page_browser.py: a page in headless Chromium, driven over a pipe by the DevTools protocol."""
 import base64
 import json
 import os
@@ -15,7 +15,7 @@ PAPERS = {'A4': (8.27, 11.69), 'letter': (8.5, 11)}     # inches
 
 
 def program():
-    """The browser that is there, or None."""
+    """The browser that is installed, or None."""
     return next(filter(None, map(shutil.which, PROGRAMS)), None)
 
 
@@ -57,7 +57,7 @@ class Browser:
         return json.loads(text.decode('utf-8'))
 
     def call(self, method, **values):
-        """What the browser answers to a call."""
+        """The browser's answer to a call."""
         self.number += 1
         message = {'id': self.number, 'method': method, 'params': values}
         message.update({'sessionId': self.session} if self.session else {})
@@ -70,7 +70,7 @@ class Browser:
                 return got['result']
 
     def open(self, path, width, height=900, media='', scale=1):
-        """Opens a page in a window of this width, or as it is on paper of this width."""
+        """Opens a page in a window of this width, or as it looks on paper of this width."""
         self.call('Emulation.setEmulatedMedia', media=media)
         self.call('Emulation.setDeviceMetricsOverride', width=width, height=height,
                   deviceScaleFactor=scale, mobile=False)
@@ -79,7 +79,7 @@ class Browser:
             pass
 
     def value(self, script):
-        """What a script gives that is run beside the page, which itself has none."""
+        """The value of a script that is run beside the page; the page itself has none."""
         held = self.call('Runtime.evaluate', expression=script, returnByValue=True)
         return held['result'].get('value')
 

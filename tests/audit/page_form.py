@@ -12,8 +12,8 @@ TAGS = set('html head meta title style body header nav main section h1 h2 h3 p u
            'span strong small code pre bdi mark a table caption thead tbody tfoot tr th td details '
            'summary'.split())
 COLOUR = r'(?<![\w-])(color|background): (#[0-9a-f]{6})'
-LEAST = 4.5         # the contrast of text that WCAG 2 asks for at level AA
-BARS = 3            # and of what is no text
+LEAST = 4.5         # the contrast that WCAG 2 requires of text at level AA
+BARS = 3            # and of what isn't text
 UNSHOWN = re.compile('[\x00-\x09\x0b-\x1f\x7f-\x9f\ufffe\uffff]')
 RULE = re.compile(r'([^{}]+)\{([^{}]*)\}')
 FAULT = re.compile(r'\| (E[1-5]) \|', re.M)
@@ -49,7 +49,7 @@ def nodes(node):
 
 
 def heads_wrong(page):
-    """One h1, no head more than one step below the one before, and links that lead to heads."""
+    """One h1, no head more than one step below the head before it, and links that lead to heads."""
     levels = [int(it.tag[1]) for it in page.all('h1', 'h2', 'h3', 'h4', 'h5', 'h6')]
     is_tree = all(b <= a + 1 for a, b in zip(levels, levels[1:]))
     if levels[:1] != [1] or levels.count(1) != 1 or not is_tree:
@@ -100,8 +100,8 @@ def contrast(one, other):
 
 
 def style_wrong(style):
-    """Colours of text too near to a ground: that of the same rule, or, where a rule has a colour
-    alone, any that stands alone or is the page's. And bars too near to the page's ground."""
+    """Colours of text too near to a ground: that of the same rule or, where a rule has a colour but no
+    ground, any that a rule has alone, or the page's. And bars too near to the page's ground."""
     rules = {}
     for name, body in RULE.findall(style):
         rules.setdefault(name.strip(), {}).update(re.findall(COLOUR, body))

@@ -1,9 +1,9 @@
-"""page_masks.py: what a reader of a page for the public can find out of the votes it withholds.
+"""page_masks.py: what a reader of a page for the public can find out about the votes it withholds.
 
-A reader knows that votes are no less than 0, the sums that the page shows, and that a contest has
-no more votes than its ballots allow. Each withheld number is one unknown of a system of equations,
-in which what the ballots leave open is one more. `solved` finds the unknowns that have one value
-by elimination, in fractions; `most` finds the greatest value that one may have. Both are tried
+A reader knows that votes are no less than 0, knows the sums that the page shows, and knows that a
+contest has no more votes than its ballots allow. Each withheld number is an unknown of a system of
+equations; what the ballots leave open is one more. `solved` finds by elimination, in fractions, the
+unknowns that have only one value; `most` finds the greatest value that one may have. Both are tried
 first on systems that were solved by hand."""
 from fractions import Fraction
 
@@ -11,7 +11,7 @@ LEAST = 10
 
 
 def reduced(equations):
-    """The equations (coefficients by unknown, sum) after elimination: one leading unknown each."""
+    """The equations (coefficients by unknown, sum) after elimination: each has a leading unknown."""
     held = []
     for parts, total in equations:
         parts, total = {name: Fraction(it) for name, it in parts.items()}, Fraction(total)
@@ -42,13 +42,13 @@ def cleared(row, lead, by):
 
 
 def solved(equations):
-    """The unknowns of which the equations alone leave one value."""
+    """The unknowns for which the equations alone leave one value."""
     return {lead for lead, (parts, _) in reduced(equations) if set(parts) == {lead}}
 
 
 def most(name, equations):
-    """The greatest value that an unknown may have beside others that are no less than 0, where each
-    unknown stands in one equation, and with 1: what the sum leaves when the others are 0."""
+    """The greatest value that an unknown may have, when others are no less than 0 and each unknown
+    stands in one equation, with factor 1: what the sum leaves when the others are 0."""
     found = [(parts, total) for parts, total in equations if name in parts]
     if len(found) != 1 or any(it != 1 for it in found[0][0].values()):
         raise ValueError('%s stands in %d equations' % (name, len(found)))
@@ -56,7 +56,7 @@ def most(name, equations):
 
 
 def wrong_of(equations, votes):
-    """What is wrong with what is withheld of these votes (by unknown), as lines."""
+    """What is wrong with what is withheld of these votes, by unknown, as lines."""
     found, known = [], solved(equations)
     for name, number in votes.items():
         if name in known:
@@ -66,7 +66,7 @@ def wrong_of(equations, votes):
     return found
 
 
-# systems with the unknowns that follow, and what is seen to be wrong with small votes in them
+# systems with the unknowns that follow from them; then systems with votes, and how many things are wrong in them
 KNOWN = [
     ([({'a': 1}, 4)], {'a'}),
     ([({'a': 1, 'b': 1}, 40)], set()),

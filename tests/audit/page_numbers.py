@@ -1,6 +1,6 @@
-"""page_numbers.py: every number of a page, held against what `cvr` prints.
+"""page_numbers.py: every number of a page, compared with what `cvr` prints.
 
-The page is read back by its tables. A number that none of them accounts for is wrong, too."""
+The page is read back from its tables. A number that none of them accounts for is wrong, too."""
 import json
 import re
 
@@ -10,11 +10,11 @@ WORD = re.compile(r'"(?:[^"\\]|\\.)*"|[^ ]+')
 COLUMNS = 'Ballots', 'Overvotes', 'Undervotes', 'Write-ins', 'Pending', 'Unassigned'
 HIDDEN = '*'
 MEMBERS = {'Overvotes': 1, 'Undervotes': 2}
-ODD = '\x00\x07\x85\ufffe'      # of the signs that HTML has not those of page_sets.py
+ODD = '\x00\x07\x85\ufffe'      # the characters of page_sets.py that HTML can't have
 
 
 class Tally:
-    """The rows of a printed tally by contest: (unit, batch) and the numbers of each."""
+    """The rows of a printed tally, by contest: (unit, batch) and the numbers of each."""
 
     def __init__(self, text, definition):
         contests = definition['Election'][0]['Contest']
@@ -48,7 +48,7 @@ class Held:
         self.equations, self.votes = [], {}     # of what is withheld, for page_masks.py
 
     def see(self, what, cell, number, may_hide=False):
-        """Holds a cell against a number; whether the number is shown."""
+        """Compares a cell with a number; answers whether the number is shown."""
         text = cell.text().replace(',', '')
         self.seen.add(id(cell))
         if text == HIDDEN and may_hide and self.is_public:
@@ -101,7 +101,7 @@ class Held:
         self.spare(key, hidden, votes, ballots * (self.tally.allowed[key] or 1) - shown)
 
     def see_sums(self, text, key, numbers):
-        """The sentence on whether the numbers come to the ballots."""
+        """The sentence on whether the numbers add up to the ballots."""
         ballots, overvotes, undervotes, _, pending, unassigned, *votes = numbers
         allowed, counted = self.tally.allowed[key], sum(votes) + unassigned
         found = [int(it.replace(',', '')) for it in re.findall(r'[0-9][0-9,]*', text)]
@@ -132,7 +132,7 @@ class Held:
             self.wrong.append('%s: %s per cent of nothing' % (name, text))
 
     def spare(self, key, hidden, votes, left):
-        """Notes the equation of the withheld votes of a contest and what its ballots leave open."""
+        """Notes the equation of a contest's withheld votes and what its ballots leave open."""
         if hidden:
             names = [(key, place) for place in hidden]
             self.see_needed(key, [votes[place] for place in hidden],
@@ -142,7 +142,7 @@ class Held:
             self.equations.append((dict.fromkeys(names + [(key, 'open')], 1), max(left, 0)))
 
     def see_needed(self, what, hidden, shown, spare=0):
-        """Holds what is withheld against the rule: the smallest numbers, and none without need."""
+        """Compares what is withheld with the rule: the smallest numbers, and none without need."""
         *others, last = sorted(hidden)
         if shown and last > min(shown):
             self.wrong.append('%s: %d is withheld, and %d shown' % (what, last, min(shown)))
@@ -163,7 +163,7 @@ class Held:
                     self.see_table(table, key, self.tally.sums(key, place))
 
     def columns_of(self, table, key):
-        """The places of the numbers of a table, by the heads of its columns."""
+        """The places of a table's numbers, by the heads of its columns."""
         ids = [clean(it['@id'] if len(it['@id']) <= 40 else it['@id'][:39] + '…')
                for it in self.tally.contests[key]]
         for head in page_text.rows(table)[0][1:]:
@@ -171,7 +171,7 @@ class Held:
             yield 6 + ids.index(code.text()) if code else COLUMNS.index(head.text())
 
     def see_columns(self, key, columns, place):
-        """Every column has to be there once: on a page for the public the votes that are shown."""
+        """Every column has to be there once; on a page for the public, those of the votes that are shown."""
         numbers = self.tally.total(key)
         if self.is_public:
             hidden = {name[1] for name in self.votes if name[0] == key}
@@ -209,7 +209,7 @@ class Held:
     # ---- files and batches
 
     def see_inputs(self, records):
-        """The records of DEF and of each file in order; None of a refused one."""
+        """The records of DEF and of each file in order; None for a refused one."""
         table = next(self.sections['inputs'].all('table'))
         rows = page_text.rows(table)[1:]
         if len(rows) != len(records):
@@ -229,7 +229,7 @@ class Held:
             self.seen |= {id(row[place]) for row in rows for place in (1, 2, 4)}
 
     def left(self):
-        """The numbers that nothing was held against."""
+        """The numbers that were compared with nothing."""
         cells = [it for it in self.page.all('td') if it.attributes.get('class') == 'number']
         return [it.text() for it in cells if id(it) not in self.seen and it.text()]
 
@@ -242,7 +242,7 @@ def tenths(text):
 
 
 def clean(text):
-    """A text as a page shows it: signs that HTML has not are spelled as in JSON."""
+    """A text as a page shows it: characters that HTML can't have are spelled as in JSON."""
     shown = ''.join('\\u%04x' % ord(it) if it in ODD else it for it in text)
     return re.sub(r'\s+', ' ', shown).strip()
 

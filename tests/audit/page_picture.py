@@ -1,13 +1,13 @@
-"""page_picture.py: a PNG of few colours, a third as long as the one from a browser."""
+"""page_picture.py: a PNG of few colours, a third the size of the one from a browser."""
 import struct
 import zlib
 
 SIGNATURE = b'\x89PNG\r\n\x1a\n'
-STEP = 17           # of the sixteen values that a part of a colour keeps
+STEP = 17           # between the sixteen values that a colour component keeps
 
 
 def chunks(data):
-    """The parts of a PNG by kind; those of one kind joined."""
+    """The chunks of a PNG by kind; those of one kind joined."""
     held, place = {}, len(SIGNATURE)
     while place < len(data):
         length, kind = struct.unpack('>I4s', data[place:place + 8])
@@ -21,13 +21,13 @@ def chunk(kind, data):
 
 
 def foreseen(left, above, corner):
-    """Of three signs beside a sign the one that is nearest to left + above - corner (Paeth)."""
+    """Of three neighbours of a byte, the one nearest to left + above - corner (Paeth)."""
     guess = left + above - corner
     return min((left, above, corner), key=lambda it: abs(guess - it))
 
 
 def unfiltered(kind, line, before):
-    """A line of red, green and blue as it was before its filter, by the line before it."""
+    """A line of red, green and blue values before its filter; `before` is the line above it."""
     line = bytearray(line)
     for place in range(len(line)):
         left, above = line[place - 3] if place > 2 else 0, before[place]

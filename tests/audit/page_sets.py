@@ -1,18 +1,18 @@
-"""page_sets.py: definitions and reports of records of which pages are made: odd names, many
-contests, many units, none."""
+"""page_sets.py: definitions and reports for pages: odd names, many contests, many units, and no
+records."""
 import json
 
 MOMENT = '2024-11-05T20:00:00Z'
-LONG = 'Long name ' * 30                                # 300 signs
-WIDE = 'Breit' * 60                                     # 300 signs without a space
+LONG = 'Long name ' * 30                                # 300 characters
+WIDE = 'Breit' * 60                                     # 300 characters without a space
 MARKUP = '<script>alert("1")</script> & <b class=\'x\'>'
 ARABIC = 'مجلس المدينة ١٢'
-TURNED = '\u202eabc\u0000\u0007\u0085\ufffe'            # another direction, and signs HTML has not
+TURNED = '\u202eabc\u0000\u0007\u0085\ufffe'            # another direction, and characters that HTML can't have
 ODD = [MARKUP, ARABIC, LONG, WIDE, TURNED, '']
 
 
 def report(contests, units, records=(), name='Invented election'):
-    """A report. A contest is its id, name, VotesAllowed or None, and selections (id, name)."""
+    """A report. A contest is its id, name, VotesAllowed or None, and selections as (id, name)."""
     made = {'@type': 'CVR.CastVoteRecordReport', 'Version': '1.0.0', 'GeneratedDate': MOMENT,
             'ReportGeneratingDeviceIds': ['scanner'],
             'ReportingDevice': [{'@type': 'CVR.ReportingDevice', '@id': 'scanner'}],
@@ -32,8 +32,8 @@ def contest(parts):
 
 
 def record(number, unit, batch, votes):
-    """A record with a vote for one selection in each contest: its id, None for no vote, or its id
-    and an IsAllocable with which it doesn't count."""
+    """A record with a vote for one selection in each contest: the selection's id, None for no vote, or
+    the id with an IsAllocable under which the vote doesn't count."""
     contests = [{'@type': 'CVR.CVRContest', 'ContestId': key, **marks(one)}
                 for key, one in votes.items()]
     snapshot = {'@type': 'CVR.CVRSnapshot', '@id': 'a', 'Type': 'original', 'CVRContest': contests}
@@ -54,7 +54,7 @@ def marks(selection):
 
 
 def odd():
-    """Contests, selections, units and batches with odd names, and ids like them."""
+    """Contests, selections, units and batches with odd names and odd ids."""
     ids = [it for it in ODD if it]
     selections = [(key, text) for key, text in zip(ids + ['none'], ODD)]
     contests = [(key, text, 1, selections) for key, text in zip(ids + ['none'], ODD)]
@@ -88,7 +88,7 @@ def many_units(count=2000):
 
 
 def vote(chance, selections, can_be_less):
-    """A vote by chance; one in twenty is none, is pending or was rejected, where that can be."""
+    """A random vote; where that can be, one in twenty is none, is pending or is rejected."""
     chosen = chance.choice(selections)
     if not can_be_less or chance.random() < 0.95:
         return chosen
@@ -96,7 +96,7 @@ def vote(chance, selections, can_be_less):
 
 
 def uneven(chance, units=7):
-    """Some contests with units of any size, and votes by chance."""
+    """Some contests with units of random sizes, and random votes."""
     contests = [('c%d' % place, 'Contest %d' % place, chance.choice([None, 1, 1, 2]),
                  [('s%d' % one, 'Selection %d' % one) for one in range(chance.randint(1, 9))])
                 for place in range(chance.randint(1, 3))]

@@ -8,7 +8,7 @@ MARKS = {'h1': '# ', 'h2': '## ', 'h3': '### ', 'li': '- ', 'caption': 'table: '
 
 
 class Node:
-    """An element: its parts are elements and texts."""
+    """An element. Its parts are elements and texts."""
 
     def __init__(self, tag, attributes):
         self.tag, self.attributes, self.parts = tag, dict(attributes), []
@@ -22,7 +22,7 @@ class Node:
                 yield from part.all(*tags)
 
     def text(self):
-        """The text below, with one space for each white space."""
+        """The text below, with one space for each run of white space."""
         return re.sub(r'\s+', ' ', self.raw()).strip()
 
     def raw(self):

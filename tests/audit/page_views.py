@@ -1,4 +1,4 @@
-"""page_views.py: a page as it is seen: in Chromium, in a wide and a narrow window, and printed."""
+"""page_views.py: how a page looks: in Chromium, in a wide and a narrow window, and printed."""
 import atexit
 import collections
 import functools
@@ -14,9 +14,9 @@ import page_text
 
 WIDTHS = 1280, 390
 SHEET = 680         # pixels between the margins of A4, the narrower paper
-SHORT = 8           # signs that may stand in other rows, too
-PRINTED = 300000    # bytes of a page; Chromium takes minutes to print the pages of many contests
-# how much wider the page is than the window, and elements that stand out of it
+SHORT = 8           # characters of a text that may stand in other rows, too
+PRINTED = 300000    # bytes of a page to print; Chromium takes minutes for the pages of many contests
+# how much wider the page is than the window, and elements that reach beyond it
 OVER = '''[document.documentElement.scrollWidth - innerWidth,
   [...document.querySelectorAll('body *')]
     .filter(it => it.getBoundingClientRect().right > innerWidth + 1 &&
@@ -26,7 +26,7 @@ LACKING = set()     # the tools that a line `skipped` has named
 
 
 def lacks(what, is_there):
-    """Whether a tool is not there; the first time a line says so."""
+    """Whether a tool isn't there; the first time, a line says so."""
     if not is_there and what not in LACKING:
         LACKING.add(what)
         print('skipped %s: it is not there' % what)
@@ -35,7 +35,7 @@ def lacks(what, is_there):
 
 @functools.lru_cache(None)
 def shown():
-    """The one browser of a run, which ends with it."""
+    """A run's one browser, which ends with the run."""
     folder = tempfile.mkdtemp()
     browser = page_browser.Browser(folder)
     atexit.register(lambda: (browser.end(), shutil.rmtree(folder, ignore_errors=True)))
@@ -43,20 +43,20 @@ def shown():
 
 
 def see(trial, path, what):
-    """Tries a page in windows and in print."""
+    """Tests a page in windows and in print."""
     lacks('tidy', shutil.which('tidy'))
     if lacks('chromium', page_browser.program()) or 'an answer of chromium' in LACKING:
         return
     try:
         look(trial, path, what, shown())
     except OSError as fault:
-        # a browser that can't run here says nothing of the page
+        # a browser that can't run here shows nothing about the page
         LACKING.add('an answer of chromium')
         print('skipped chromium from %s on: %s' % (what, fault))
 
 
 def look(trial, path, what, browser):
-    """Looks at a page by a browser."""
+    """Tests how a browser shows a page."""
     for width in WIDTHS:
         browser.open(path, width)
         trial.see('%s at %d pixels' % (what, width), over_wrong(browser))
@@ -71,18 +71,18 @@ def look(trial, path, what, browser):
 
 
 def over_wrong(browser):
-    """What stands out of the window: on a screen but for tables, which scroll."""
+    """What reaches beyond the window; on a screen, except tables, which scroll."""
     over, parts = browser.value(OVER)
     return ['%d pixels too wide: %s' % (over, parts)] * (over > 0 or bool(parts))
 
 
 def bare(text):
-    """A text without white space, and without signs that a printed text spells otherwise."""
+    """A text without white space, and without characters that a printed text spells otherwise."""
     return re.sub(r'[^!-~]', '', text)
 
 
 def print_wrong(browser, path, paper):
-    """Rows of tables that no one sheet has whole."""
+    """Rows of tables that no sheet has whole."""
     with tempfile.TemporaryDirectory() as folder:
         pdf = os.path.join(folder, 'page.pdf')
         browser.printed(pdf, paper)
@@ -102,7 +102,7 @@ def print_wrong(browser, path, paper):
 
 
 def words_of(row):
-    """The texts of the cells of a row, without those of signs that a sheet may have in another
+    """The texts of a row's cells, without those with characters that a sheet may have in another
     order."""
     texts = (re.sub('[–…]', '', it.text()) for it in row.all('th', 'td'))
     return [bare(it) for it in texts if it.isascii()]

@@ -1,5 +1,5 @@
-"""page_ways.py: slips that the page could have. Each is a change of one line, which stands once in
-its file, and has to be found by the county or by the sets, without a browser."""
+"""page_ways.py: slips that the page could have. Each changes one line, which stands once in its
+file, and the county or the sets have to find it, without a browser."""
 from collections import namedtuple
 
 Way = namedtuple('Way', 'name file old new')

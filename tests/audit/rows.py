@@ -1,8 +1,8 @@
-"""rows.py: the rows of rows.json, each run in a folder of its own, in which the files of
-examples/county lie and those of the row; its output, log and status are compared.
+"""rows.py: the rows of rows.json. Each is run in a folder of its own with the files of
+examples/county and its own files; its output, log and status are compared.
 
-The log isn't, where it is argparse's, which differs between versions of Python. A line that ends
-with `@KIND` is one of `warnings` with its advice of that kind."""
+A log of argparse isn't compared, as it differs between versions of Python. A line that ends with
+`@KIND` is one of `warnings`, with its advice for that kind."""
 import json
 import os
 import shutil
@@ -58,7 +58,7 @@ def record_of(short):
 
 
 def replaced(text, part):
-    """The text of a file of the county with what the row changes in it."""
+    """The text of a county's file, with what the row changes in it."""
     for old, new in part.get('replace', []) + [ALLOWED] * part.get('allowed', False):
         if text.count(old) != 1:
             raise ValueError('%r stands %d times, not once' % (old, text.count(old)))
@@ -67,8 +67,8 @@ def replaced(text, part):
 
 
 def content(part):
-    """The text of a file of a row: a text, a changed file of the county, or the county's definition
-    with records."""
+    """The text of a row's file: a text, a changed file of the county, or the county's definition with
+    records."""
     if isinstance(part, str):
         return part
     is_made = part['of'] == 'report'
@@ -95,14 +95,14 @@ def lay(folder, files):
 # ---- a run
 
 def closed_pipe():
-    """A pipe that nobody reads."""
+    """A pipe without a reader."""
     ours, theirs = os.pipe()
     os.close(ours)
     return theirs
 
 
 def run(companion, cvr, row, folder):
-    """(output, log, status) of the row's words."""
+    """(output, log, status) of a run with the row's words."""
     script = '%s\nexec "$@" %s' % (row.get('before', ':'), row.get('redirected', ''))
     words = ['sh', '-c', script, 'sh', sys.executable, os.path.join(companion, 'cvr-audit')]
     env = dict(os.environ, CVR=row.get('program', cvr), REAL=cvr)
@@ -115,7 +115,7 @@ def run(companion, cvr, row, folder):
 
 
 def spelled(lines, advice):
-    """The text of a row's lines, in which `@KIND` stands for the advice of a kind."""
+    """The text of a row's lines, in which `@KIND` stands for a kind's advice."""
     text = ''
     for line in lines:
         head, mark, kind = line.rpartition(': @')
@@ -124,7 +124,7 @@ def spelled(lines, advice):
 
 
 def differences(companion, cvr, row, advice):
-    """What a row's run gives otherwise than the row says, as lines."""
+    """What differs between a row and its run, as lines."""
     with tempfile.TemporaryDirectory() as folder:
         lay(folder, row.get('files', {}))
         got = run(companion, cvr, row, folder)

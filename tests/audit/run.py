@@ -1,9 +1,9 @@
 #!/usr/bin/env python3
 """run.py --cvr PATH [--sets N] [--seed N]
 
-Tries companion/cvr-audit with the program given: the rows of rows.json, what a terminal shows, and
-sets of files by chance (sets.py). Then the wrong ways of wrong_ways.py: each is made in a copy, and
-the row that it names, the terminal or the sets have to find it. The last line is `audit: N right, M
+Tests companion/cvr-audit with the given program: the rows of rows.json, what a terminal shows, and
+random sets of files (sets.py). Then the slips of wrong_ways.py: each is made in a copy, and the row
+that it names, the terminal or the sets have to find it. The last line is `audit: N right, M
 wrong`; the status is 0 only where M is 0 and N is not."""
 import argparse
 import os
@@ -24,7 +24,7 @@ import terminal    # noqa: E402
 import wrong_ways  # noqa: E402 (these stand beside this file, and terminal in tests/)
 
 SIDE_BY_SIDE = 4
-FEW = 12            # the sets that try a wrong way
+FEW = 12            # the sets with which a slip is tried
 SHOWN = ['cvr check: 3 files', 'cvr check: 3 files', 'read 0 of 2 files', 'read 1 of 2 files',
          'cvr merge: 3 files', 'cvr tally: 3 files']
 BROKEN = 'NameError', 'SyntaxError', 'ImportError'
@@ -50,8 +50,7 @@ def terminal_differences(companion, cvr):
 
 
 def set_differences(companion, cvr, seed):
-    """What a few sets show to be wrong with a copy of the companion, which has a process for
-    itself."""
+    """What a few sets find wrong with a copy of the companion, which has a process of its own."""
     words = [companion, cvr, str(seed), str(FEW)]
     done = subprocess.run([sys.executable, os.path.join(HERE, 'sets.py')] + words,
                           stdin=subprocess.DEVNULL, stdout=subprocess.PIPE,
@@ -60,7 +59,7 @@ def set_differences(companion, cvr, seed):
 
 
 def way_differences(cvr, seed, held, advice, way):
-    """Nothing where what a wrong way names finds it."""
+    """Nothing where the row, terminal or sets that a slip names find it."""
     with tempfile.TemporaryDirectory() as folder:
         copy = wrong_ways.made(COMPANION, folder, way)
         if way.row == wrong_ways.TERMINAL:
@@ -75,7 +74,7 @@ def way_differences(cvr, seed, held, advice, way):
 
 
 def jobs(words, cvr):
-    """What is tried, each as a call that answers what is wrong."""
+    """What is tested, each as a call that answers what is wrong."""
     package = sets.package_in(COMPANION)
     advice, held = package.warnings.ADVICE, {row['name']: row for row in rows.held()}
     yield from ((rows.differences, COMPANION, cvr, row, advice) for row in held.values())
@@ -87,7 +86,7 @@ def jobs(words, cvr):
 
 
 def tried(job):
-    """What a job shows to be wrong; a job that fails is wrong, too."""
+    """What a job finds wrong; a job that fails is wrong, too."""
     try:
         return job[0](*job[1:])
     except Exception as fault:

@@ -1,12 +1,11 @@
-"""sets.py COMPANION CVR SEED N: N sets of files by chance, and what cvr-audit gives of them, held
-against `cvr` and against the files. Each line is a difference; run.py runs most sets in its own
-process.
+"""sets.py COMPANION CVR SEED N: N random sets of files, and what cvr-audit prints for them, compared
+with `cvr` and with the files. Each line is a difference; run.py runs most sets in its own process.
 
-A set is a definition and files as random_files.py makes them, so that most records come again with
-other bodies and some files are refused. Of each set `records` has to add up to the tally again,
-`compare` to agree with `drill` and with the tallies of both sides, `trace` to come to the number of
-each row by places that are there in the files, and `warnings` to have what the texts of `cvr` hold.
-The bodies that the companion finds in the files have to be those of volumes 1 to N."""
+A set is a definition and files as random_files.py makes them: most records come again with other
+bodies, and some files are refused. For each set `records` has to add up to the tally, `compare` to
+agree with `drill` and with the tallies of both sides, `trace` to come to each row's number by
+places that exist in the files, and `warnings` to have what the texts of `cvr` have. The bodies that
+the companion finds in the files have to be those of volumes 1 to N."""
 import importlib
 import json
 import os
@@ -34,7 +33,7 @@ NAMES = sorted({'@type', '@id', 'x', '', 'BallotAuditId'}.union(*RULES.classes.v
 
 
 class Wrong(Exception):
-    """What a set shows to be wrong."""
+    """What a set finds wrong."""
 
 
 def see(is_right, text):
@@ -61,7 +60,7 @@ def spelled(value):
 
 
 def tally_rows(text):
-    """The numbers of each column of each row of a printed tally, by contest, unit and batch."""
+    """The numbers of a printed tally, by contest, unit and batch, then by column."""
     rows = {}
     for words in lines_in(text):
         numbers = map(int, words[3:9] + words[10::2])
@@ -74,7 +73,7 @@ def lines_in(text):
 
 
 def changes(one, other):
-    """What each column of each row grows by from one tally to the other, where it changes."""
+    """What each column of each row grows by from one tally to the other; only what changes."""
     grown = {}
     for row in {*one, *other}:
         for column in {*one.get(row, {}), *other.get(row, {})}:
@@ -84,7 +83,7 @@ def changes(one, other):
 
 
 class Set:
-    """A definition and files by chance, in a folder of their own."""
+    """A random definition and files, in a folder of their own."""
 
     def __init__(self, package, cvr, chance, folder):
         self.package, self.cvr, self.chance, self.folder = package, cvr, chance, folder
@@ -95,7 +94,7 @@ class Set:
         self.accepted = {}
         for path, data in zip(self.paths, files.values()):
             value = random_files.read(RULES, data, self.known)
-            if not isinstance(value, str):          # the line of a fault
+            if not isinstance(value, str):          # a fault, as its line has it
                 self.accepted[path] = value
         contests = self.known['Election'][0]['Contest']
         self.contests = {it['@id']: [one['@id'] for one in it.get('ContestSelection', [])]
@@ -117,7 +116,7 @@ class Set:
     # ---- records
 
     def added_up(self, lines):
-        """The rows that the lines of CSV add up to, by the places of their cells."""
+        """The rows that the lines of CSV add up to, by the indices of their cells."""
         rows = {}
         for cells in lines[1:]:
             place = FIXED
@@ -152,7 +151,7 @@ class Set:
     # ---- bodies
 
     def see_bodies(self):
-        """Holds the bodies of each name against volumes 1 to N; that of volume 1 stands first."""
+        """Compares the bodies of each name with volumes 1 to N; that of volume 1 comes first."""
         found, shown, files = {}, {}, self.files(self.paths)
         bodies = self.package.bodies
         conflicts, volume = bodies.conflicts_of(files), files.volume(1)
@@ -223,7 +222,7 @@ class Set:
             see(is_whole, 'the places of a record don\'t come to its votes')
 
     def see_place(self, line, row, name, selection, part):
-        """Holds a place against the file, and adds its votes to those of the file."""
+        """Compares a place with the file, and adds its votes to those of the file."""
         path, steps = json.loads(line[1]), json.loads(line[2]).split('/')[1:]
         value = cvr = self.accepted[path]['CVR'][int(steps[1])]
         is_it = (cvr['CreatingDeviceId'], cvr['UniqueId']) == name[:2]
@@ -272,7 +271,7 @@ class Set:
 
     @staticmethod
     def conflicts(kinds):
-        """Each conflict of the warnings: its kind, and how many texts it has."""
+        """Each conflict in the warnings: its kind, and how many texts it has."""
         return sorted((kind, words[:words.index(':')].count('text'))
                       for kind in KINDS for words in kinds.get(kind, []))
 
@@ -283,13 +282,13 @@ class Set:
 
 
 def package_in(companion):
-    """The modules of the companion in a folder."""
+    """The companion's modules in a folder."""
     sys.path.insert(0, companion)
     return importlib.import_module('cvr_audit.line') and sys.modules['cvr_audit']
 
 
 def differences(package, cvr, seed):
-    """What one set shows to be wrong, as lines."""
+    """What one set finds wrong, as lines."""
     found = []
     for task in ('records', 'bodies', 'compare', 'trace', 'warnings'):
         with tempfile.TemporaryDirectory() as folder:

@@ -1,11 +1,11 @@
 """wrong_ways.py: slips that the companion could have. Each changes a text that stands once in its
-file, and has to be found by the row of rows.json that it names, by the terminal or by sets."""
+file, and the row of rows.json that it names, the terminal or the sets have to find it."""
 import os
 import shutil
 from collections import namedtuple
 
 Way = namedtuple('Way', 'name file old new row')
-TERMINAL, SETS = 'terminal', 'sets'         # in the place of a row
+TERMINAL, SETS = 'terminal', 'sets'         # in place of a row
 WAYS = [
     # ---- running cvr
     Way('runs_any_program', 'program.py',
@@ -176,7 +176,7 @@ WAYS = [
 
 
 def made(companion, folder, way):
-    """A copy of the companion with the slip; its folder."""
+    """Makes a copy of the companion with the slip; answers its folder."""
     copy = os.path.join(folder, 'companion')
     shutil.copytree(companion, copy)
     path = os.path.join(copy, 'cvr_audit', way.file)

@@ -1,6 +1,6 @@
-"""chance.py: definitions, files and histories by chance, from a seed. So few names are used that
-most come again with another body, and the same numbers come of a seed in every version of Python:
-of `random` alone is that said."""
+"""chance.py: random definitions, files and histories, from a seed. There are so few names that most
+come again with another body. Of `random` only `random()` is used: its numbers are the same in every version
+of Python for one seed."""
 import random
 
 from model import RANKS, Exchange, History, Import, Pool, Step
@@ -25,7 +25,7 @@ class Chance:
         return not self.below(count)
 
     def some(self, items, least, most):
-        """From so many to so many of the items, in any order."""
+        """From `least` to `most` of the items, in any order."""
         return sorted(items, key=lambda _: self.next())[:least + self.below(most - least + 1)]
 
 
@@ -54,7 +54,8 @@ def report(units=('p1', 'p2'), devices=('desk', 's1', 's2'), more={}):
                  ReportingDevice=[named('ReportingDevice', it) for it in devices], Version='1.0.0')
 
 
-# The second is the same as the first; the third has a unit less, the last another election.
+# The second has the first's election and units, and fewer devices; the third has a unit less, the last another
+# election.
 DEFINITIONS = [report(), report(('p2', 'p1'), ('s2', 'desk')), report(('p1',)),
                report(more={'Name': 'x'})]
 OFFICES = [[0, 1], [0, 0, 1], [0, 1, 0], [0, 0, 2], [2, 0, 0], [0, 1, 3], [0, 3, 0], [1, 0, 0, 0]]
@@ -136,8 +137,8 @@ def in_any_order(chance, value):
 # ---- histories
 
 def step(chance, offices, files):
-    """Imports, an exchange, or imports of the volumes of an office in any order, with repeats; now
-    and then of an office or a file that isn't there."""
+    """Imports, an exchange, or imports of an office's volumes in any order, with repeats; sometimes
+    of an office or a file that isn't there."""
     kind, taker, giver = chance.below(20), chance.below(offices), chance.below(offices)
     if kind < 9:
         return Step(None, [Import(taker, chance.below(files)) for _ in range(1 + chance.below(3))])
@@ -149,7 +150,7 @@ def step(chance, offices, files):
 
 
 def made(seed, cases, files, steps):
-    """So many files and two that are refused, and histories of them."""
+    """So many files, two more that are refused, and histories of them."""
     chance, histories = Chance(seed), []
     held = [without_name(chance), of_no_contest(chance)] + [file_of(chance) for _ in range(files)]
     for _ in range(cases):

@@ -1,5 +1,5 @@
 """model.py: what offices answer after a history, worked out anew each time from what has reached
-them, by docs/DEFINITIONS.md and by nothing that the libraries do.
+them: by the definitions in docs/reference, and not by the code of the libraries.
 
 A fact is a tuple of its name's parts and its body: ('device', id, body), ('header', record, body)
 or ('snapshot', record, id, body), where a record is (device, unique) and a body a compact text."""
@@ -12,21 +12,21 @@ LEFT_OUT = 'CVRSnapshot', 'CurrentSnapshotId'           # of a header
 
 Import = namedtuple('Import', 'office file')
 Exchange = namedtuple('Exchange', 'giver taker')
-# Events, and the office whose volumes are their files; None: the files that all histories share.
+# Events, and the office whose volumes are their files; None for the files that all histories share.
 Step = namedtuple('Step', 'giver events')
-# The place of each new office's definition, and the steps.
+# The index of each new office's definition, and the steps.
 History = namedtuple('History', 'definitions steps')
 Pool = namedtuple('Pool', 'definitions files histories')
 Volume = namedtuple('Volume', 'definition facts')
 
 
 def spelled(value):
-    """The compact text, members in byte order of their names."""
+    """The compact text, with members in byte order."""
     return json.dumps(value, ensure_ascii=False, sort_keys=True, separators=(',', ':'))
 
 
 def spelled_as_it_stands(value):
-    """The same with the members as they stand."""
+    """The compact text with the members in their own order."""
     return json.dumps(value, ensure_ascii=False, separators=(',', ':'))
 
 
@@ -54,7 +54,7 @@ class Rules:
             found |= {('snapshot', name, it['@id'], spelled(it)) for it in record['CVRSnapshot']}
         return found
 
-    # ---- acceptance, of the faults that files by chance have
+    # ---- acceptance: the faults that random files have
 
     def is_sound(self, report):
         contests = {it['@id'] for it in report['Election'][0]['Contest']}
@@ -86,7 +86,7 @@ class Rules:
         return max(map(self.instant, stamps), default=None)
 
     def key(self, body):
-        """The key of choosing: rank, moment (none is below every moment), body."""
+        """The key of the order of choosing: rank, moment (none is below every moment), body."""
         snapshot = json.loads(body)
         moment = self.moment(snapshot)
         return RANKS[snapshot['Type']], moment is not None, moment or 0, in_bytes(body)
@@ -112,7 +112,7 @@ class Rules:
         return sorted({it[1] for it in facts if it[0] == 'header'}, key=self.record_place)
 
     def place(self, name):
-        """Devices first; then record by record, the header before the snapshots."""
+        """Devices first; then each record, the header before the snapshots."""
         if name[0] == 'device':
             return 0, in_bytes(name[1])
         return 1, self.record_place(name[1]), tuple(map(in_bytes, name[2:]))
@@ -129,8 +129,8 @@ class Rules:
         return max([1] + [count for _, count in self.counted(facts)])
 
     def stands(self, counted, name, i):
-        """Whether a name stands in volume i: a device in each, a record where a name of it has
-        so many bodies."""
+        """Whether a name stands in volume i: a device in each, a record where one of its names has
+        at least so many bodies."""
         return name[0] == 'device' or any(it[0] != 'device' and it[1] == name[1] and count >= i
                                           for it, count in counted)
 
@@ -153,7 +153,7 @@ class Rules:
         return sum(it['NumberVotes'] for it in positions if has_part(it))
 
     def sums(self, vote, selections):
-        """Overvotes, undervotes, write-ins, pending and unassigned votes, then by selection."""
+        """Overvotes, undervotes, write-ins, pending and unassigned votes, then the votes of each selection."""
         counted, pending = Counter(), 0
         for it in vote['CVRContestSelection']:
             positions = it['SelectionPosition']
@@ -163,11 +163,11 @@ class Rules:
         return stated + [pending, counted[None]] + [counted[it] for it in selections]
 
     def row_of(self, header):
-        """Unit and batch of the rows in which a record stands."""
+        """The unit and batch of the rows to which a record belongs."""
         return header.get('BallotStyleUnitId'), header.get('BatchId')
 
     def rows(self, contests, facts):
-        """The numbers of each row, by the place of its contest, its unit and its batch."""
+        """The numbers of each row, by its contest's index, its unit and its batch."""
         rows = {}
         for record in self.records(facts):
             snapshot = json.loads(self.current(facts, record)[-1])
@@ -182,7 +182,7 @@ class Rules:
     # ---- events
 
     def reach(self, event, file, reached):
-        """What an event that is accepted adds to what has reached its office."""
+        """What an accepted event adds to what has reached its office."""
         return frozenset({file}) if isinstance(event, Import) else reached[event.giver]
 
 
@@ -224,7 +224,7 @@ def tally_text(rules, definition, facts):
 # ---- what is played
 
 class Play:
-    """A history as it is played: what has reached each office, a set of the offices that it began
+    """A history as it is played: what has reached each office, as a set of the offices that it began
     with, of files and of volumes."""
 
     def __init__(self, rules, pool, history):
@@ -244,14 +244,14 @@ class Play:
         return self.rules.facts(report)
 
     def content(self, office):
-        """The facts of all that has reached an office."""
+        """The facts of everything that has reached an office."""
         reached = self.reached[office]
         if reached not in self.known:
             self.known[reached] = set().union(*(self.facts_of(*it) for it in reached))
         return self.known[reached]
 
     def told_of(self, step):
-        """The outcomes of a step's events, and what the offices count then."""
+        """The outcomes of a step's events, and what the offices then count."""
         self.files = self.pool.files
         if step.giver is not None:
             facts, definition = self.content(step.giver), self.definitions[step.giver]
@@ -273,7 +273,7 @@ class Play:
         return len(self.content(taker)) - before
 
     def file_of(self, event):
-        """What is imported: a volume by its facts, or a file of the pool by its place."""
+        """What is imported: a volume by its facts, or a file of the pool by its index."""
         held = self.files[event.file]
         return ('volume', held.facts) if isinstance(held, Volume) else ('file', event.file)
 
@@ -296,14 +296,14 @@ class Play:
                 and self.content(one) == self.content(other))
 
     def counts_of(self, office):
-        """Its records, its facts, the most bodies of a name, the first office that is the same."""
+        """Its records, its facts, the most bodies of a name, the first office with the same facts."""
         facts = self.content(office)
         first = next(it for it in self.offices() if self.is_same(it, office))
         records = len(self.rules.records(facts))
         return words('', records, len(facts), self.rules.volumes(facts), first)
 
     def answers_of(self, office):
-        """What an office answers in the end, and whether it is the same as the first."""
+        """What an office answers at the end, and whether it is the same as the first office."""
         facts = self.content(office)
         counts = words(len(self.rules.records(facts)), len(facts), self.rules.volumes(facts))
         return ''.join([counts, '\n', currents_text(self.rules, facts),
@@ -313,5 +313,5 @@ class Play:
 
 
 def told_of(rules, pool):
-    """What is told of each history."""
+    """The answers to each history."""
     return [Play(rules, pool, history).text for history in pool.histories]

@@ -1,12 +1,12 @@
 """run.py [--write | --many CASES [--seed N] [--files N]]
 
-Histories of offices by chance: imports, exchanges, and imports of volumes that another office has
-written; and what offices answer after them, by a model that is made of docs/DEFINITIONS.md anew
-(model.py). The histories of one seed stand in data/ of crates/cvr_calls, whose program plays them in
-offices of both kinds; what the model tells is the end of its file stdout.
+Random histories of offices: imports, exchanges, and imports of volumes that another office has
+written; and what offices answer after them, by a model made anew from the definitions in
+docs/reference (model.py). The histories of one seed stand in data/ of crates/cvr_calls, whose program
+plays them in offices of both kinds; the model's answers are the end of its file stdout.
 
-Without a word it is seen, in a second or two, that these are the files that the model gives, that
-each thing happens in them that they are for, and that each slip of wrong_rules.py has another
+Without a word it checks, in a second or two, that these are the files that the model gives, that
+each thing that they have to show happens in them, and that each slip of wrong_rules.py has another
 answer. --write makes the files anew. --many has the built program play so many other histories.
 
 The last line is `histories: N right, M wrong`; the status is 0 only where M is 0 and N is not."""
@@ -28,9 +28,9 @@ import wrong_rules   # noqa: E402 (they stand beside this file)
 TOP = os.path.dirname(os.path.dirname(HERE))
 CRATE = os.path.join(TOP, 'crates', 'cvr_calls')
 DATA, STDOUT, PROGRAM = (os.path.join(CRATE, *it) for it in (['data'], ['stdout'], ['out', 'cvr_calls']))
-BEGIN = 'histories\n'        # the line behind which they are told
+BEGIN = 'histories\n'        # the line before their answers
 SEED, CASES, FILES, STEPS = 20261141, 32, 18, 8
-# What has to stand in some history: a header with two bodies, a snapshot and a device with three, a
+# What has to happen in some history: a header with two bodies, a snapshot and a device with three, a
 # refusal of each kind, offices that aren't the same, rows without unit and with a batch, and votes
 # of both contests in either unit.
 WANTED = [r'"[a-z0-9]+" "\d+" header [2-9]', r'"[a-z0-9]+" "\d+" snapshot "[^\n]* [3-9]\n',
@@ -78,31 +78,31 @@ def write_told(told):
 
 
 def is_written(pool, told):
-    """Whether these histories stand in the files, with what is told of them."""
+    """Whether these histories stand in the files, with their answers."""
     return (all(read(os.path.join(DATA, name)) == text for name, text in texts(pool).items())
             and read(STDOUT).partition(BEGIN)[2] == ''.join(told))
 
 
-# ---- what is seen
+# ---- what is checked
 
 def seen(pool, told):
-    """Each thing that is looked at, and whether it is right."""
+    """Each thing that is checked, and whether it is right."""
     yield 'the files of cvr_calls are stale: --write', is_written(pool, told)
     for text in WANTED:
-        yield 'no history tells %s' % text, any(re.search(text, it) for it in told)
+        yield 'no history shows %s' % text, any(re.search(text, it) for it in told)
     for said, of, name, rule in wrong_rules.WRONG:
         with wrong_rules.in_place(of, name, rule):
             yield 'no history shows that %s' % said, is_shown(pool, told)
 
 
 def is_shown(pool, told):
-    """Whether another thing is told of some history, as the rules stand now."""
+    """Whether some history has another answer under the rules as they now are."""
     return any(model.Play(model.Rules(), pool, history).text != text
                for history, text in zip(pool.histories, told))
 
 
 def is_played(pool, told):
-    """Whether the built program tells the same of these histories."""
+    """Whether the built program gives the same answers to these histories."""
     with tempfile.TemporaryDirectory() as folder:
         data = os.path.join(folder, 'data')
         shutil.copytree(DATA, data)
@@ -112,13 +112,13 @@ def is_played(pool, told):
 
 
 def told_by(seed, cases, files):
-    """Histories of a seed, and what the model tells of them."""
+    """Histories of a seed, and the model's answers to them."""
     pool = chance.made(seed, cases, files, STEPS)
     return pool, model.told_of(model.Rules(), pool)
 
 
 def others(cases, seed, files):
-    """So many other histories, and whether the program goes their way."""
+    """So many other histories, and whether the program gives the model's answers."""
     pool, told = told_by(seed, cases, files)
     yield 'the program goes another way', is_played(pool, told)
 

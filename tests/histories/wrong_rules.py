@@ -1,11 +1,11 @@
-"""wrong_rules.py: slips that the model could have. Each takes the place of one rule, and has to
-give another answer for some history."""
+"""wrong_rules.py: slips that the model could have. Each replaces one rule, and has to give another
+answer for some history."""
 import contextlib
 import json
 
 from model import RANKS, Import, Play, Rules, in_bytes, spelled
 
-WRONG = []          # what is said of a slip, whose rule it is, its name, and what takes its place
+WRONG = []          # the description of a slip, whose rule it is, the rule's name, and what replaces it
 RIGHT = {name: rule for name, rule in vars(Rules).items() if callable(rule)}
 RIGHT_PLAY = {name: rule for name, rule in vars(Play).items() if callable(rule)}
 
@@ -18,7 +18,7 @@ def wrong(said, of=Rules):
 
 
 def wrong_key(said, place, change):
-    """A slip of one part of the key of choosing."""
+    """A slip in one part of the key of the order of choosing."""
     def key(rules, body):
         parts = list(RIGHT['key'](rules, body))
         parts[place] = change(parts[place])
@@ -27,14 +27,14 @@ def wrong_key(said, place, change):
 
 
 def wrong_sums(said, change):
-    """A slip of a contest's sums."""
+    """A slip in a contest's sums."""
     def sums(rules, vote, selections):
         return change(RIGHT['sums'](rules, vote, selections))
     WRONG.append((said, Rules, 'sums', sums))
 
 
 def wrong_votes(said, change):
-    """A slip of which CVRContestSelections of a contest are added up."""
+    """A slip in which CVRContestSelections of a contest are added up."""
     def sums(rules, vote, selections):
         chosen = change([dict(it) for it in vote['CVRContestSelection']])
         return RIGHT['sums'](rules, dict(vote, CVRContestSelection=chosen), selections)
@@ -43,7 +43,7 @@ def wrong_votes(said, change):
 
 @contextlib.contextmanager
 def in_place(of, name, rule):
-    """Has a rule in the place of the right one."""
+    """Puts a rule in the place of the right one."""
     right = vars(of)[name]
     setattr(of, name, rule)
     try:

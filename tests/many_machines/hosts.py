@@ -1,6 +1,6 @@
-"""hosts.py: examples/many-machines/tally.py on three hosts, with `distributed`: network namespaces
-of this machine, joined by pairs of virtual devices, with a scheduler in one, a worker in each, and
-files that all see. Where these can't be made a line `skipped` says why."""
+"""hosts.py: examples/many-machines/tally.py on three hosts, with `distributed`. The hosts are network
+namespaces of this machine, joined by pairs of virtual devices, with a scheduler in one, a worker in
+each, and files that all see. Where these can't be made a line `skipped` says why."""
 import os
 import shutil
 import subprocess
@@ -12,10 +12,10 @@ import sets
 import ways
 import workers
 
-PORT, SECONDS = 8786, 60        # how long a host may take to be ready
+PORT, SECONDS = 8786, 60        # SECONDS: how long a host may take to be ready
 ADDRESSES = ['10.213.77.%d' % (1 + host) for host in range(3)]
 SCHEDULER = 'tcp://%s:%d' % (ADDRESSES[0], PORT)
-# Notes each part and its host, and takes so long for one that others begin meanwhile.
+# Notes each part and its host, and takes long enough for one that others start meanwhile.
 PROGRAM = '''#!/bin/sh
 if [ "$3" = --files-from ]; then echo "$HOST" >>"%(log)s"; sleep 0.5; fi
 exec "%(cvr)s" "$@"
@@ -23,7 +23,7 @@ exec "%(cvr)s" "$@"
 
 
 def python():
-    """A Python that has `distributed`, or none."""
+    """A Python that has `distributed`, or None."""
     for it in (sys.executable, '/usr/bin/python3'):
         if os.path.exists(it) and workers.run([it, '-c', 'import distributed'])[0] == 0:
             return it
@@ -37,7 +37,7 @@ def ip(*words):
 
 
 class Hosts:
-    """Three namespaces; the first one has a bridge, to which the others are joined."""
+    """Three namespaces; the first has a bridge, to which the others are joined."""
 
     def __init__(self, program):
         self.program, self.running = program, []
@@ -78,7 +78,7 @@ class Hosts:
         shutil.rmtree(self.folder)
 
     def start(self, host, *words, **more):
-        """A process on a host, which goes on."""
+        """Starts a process on a host, which goes on."""
         words = ['ip', 'netns', 'exec', self.names[host], self.program, *words]
         return subprocess.Popen(words, cwd=ways.TOP, stdin=subprocess.DEVNULL,
                                 env=dict(os.environ, HOST=str(host)), **more)
@@ -121,7 +121,7 @@ class Run:
         return workers.text_of(self.log).split() if os.path.exists(self.log) else []
 
     def until(self, host):
-        """Waits until that host works out a part."""
+        """Waits until that host works on a part."""
         end = time.monotonic() + SECONDS
         while str(host) not in self.parts():
             if time.monotonic() > end:
@@ -144,7 +144,7 @@ def same(hosts, folder):
 
 
 def without_one(hosts, folder, last):
-    """A worker is killed with a part in its hands: another does that part."""
+    """A worker is killed while it works on a part: another does that part."""
     run = Run(hosts, folder)
     run.until(2)
     last.kill()
@@ -175,7 +175,7 @@ def lost(run, log):
 
 
 def none_there(hosts, folder):
-    """There is no scheduler at all."""
+    """There is no scheduler."""
     told = Run(hosts, folder, wait=3).told()
     return '' if told[:2] == (69, b'') and b'no `distributed`: ' in told[2] else repr(told)
 
@@ -194,7 +194,7 @@ def all_of(hosts, folder):
 
 
 def lacking():
-    """What is lacking, or nothing."""
+    """What is missing here, or nothing."""
     if not shutil.which('ip'):
         return 'ip: it is not there'
     if not python():
@@ -221,7 +221,7 @@ def tries(cvr):
 
 
 def on_hosts(cvr):
-    """The same of three hosts."""
+    """The same for three hosts."""
     told = lacking()
     if told:
         print('skipped several hosts: %s' % told)

@@ -1,12 +1,12 @@
 #!/usr/bin/env python3
 """run.py --cvr PATH [--cases N] [--seed N]
 
-Holds examples/many-machines/tally.py against one run of `cvr` over all files: output, log and
-status have to be the same. First sets of files by chance (sets.py), each by all commands; then
-slips that the script could have, each of which such a set has to find (ways.py). Then the script
-itself is run: on the county of the examples, also with a definition that is refused, files that
-aren't there, names that begin with a hyphen, words that it refuses; with workers and programs that
-die (workers.py); and on three hosts, which are network namespaces of this machine (hosts.py): where
+Compares examples/many-machines/tally.py with one run of `cvr` over all files: output, log and
+status have to be the same. First random sets of files (sets.py), each with all commands; then slips
+that the script could have, each of which such a set has to find (ways.py). Then the script itself
+runs: on the county of the examples, also with a definition that is refused, files that aren't
+there, names that begin with a hyphen, and words that it refuses; with workers and programs that die
+(workers.py); and on three hosts, which are network namespaces of this machine (hosts.py). Where
 these can't be made, or `distributed` isn't there, a line `skipped` says so.
 
 The last line is `many machines: N right, M wrong`; the status is 0 only where M is 0 and N is
@@ -31,7 +31,7 @@ COUNTY = ['examples/county/%s.json' % name
 
 
 def by_script(cvr, definition, files, folder=ways.TOP, more=()):
-    """What is wrong of the script's answer to each command, as it is started."""
+    """What is wrong with the script's answer to each command, as it is started."""
     return ''.join(one(cvr, it, definition, files, folder, more) for it in sets.COMMANDS)
 
 
@@ -43,7 +43,7 @@ def one(cvr, command, definition, files, folder, more):
 
 
 def hyphens(cvr):
-    """The same of files whose names begin with a hyphen, one of which is refused, and one not
+    """The same for files whose names begin with a hyphen; one of them is refused, and one isn't
     there."""
     with tempfile.TemporaryDirectory() as folder:
         names = ['-%s' % os.path.basename(path) for path in [DEFINITION] + COUNTY]
@@ -54,7 +54,7 @@ def hyphens(cvr):
 
 
 def odd_names(cvr):
-    """The same of names that hold a line end, what a log line holds, or no UTF-8."""
+    """The same for names that contain a line end, the text of a log line, or bytes that are no UTF-8."""
     with tempfile.TemporaryDirectory() as folder:
         names = ['a', 'a: E2', 'b\n', 'a: E3 /CVR 2\nb', '\u20ac \U0001f600', os.fsdecode(b'\xff')]
         os.mkdir(os.path.join(folder, 'a: E3 '))
@@ -75,7 +75,7 @@ def refused(*more):
 
 
 def by_file(cvr):
-    """The tallies of the files, added up, are not the tally of the files."""
+    """The tallies of single files, added up, are not the tally of all files."""
     module, files = ways.script(), [COUNTY[0], COUNTY[2]]
     texts = [module.run([cvr, 'tally', DEFINITION, path])[1] for path in files]
     added = module.added(texts, module.places_in(DEFINITION))
@@ -84,7 +84,7 @@ def by_file(cvr):
 
 
 def no_room(cvr):
-    """A full device at the output."""
+    """The output is a full device."""
     with open('/dev/full', 'wb') as full:
         done = workers.subprocess.run([sys.executable, ways.SCRIPT, '--cvr', cvr, DEFINITION,
                                        COUNTY[0]], stdout=full, stderr=workers.subprocess.PIPE)
@@ -93,7 +93,7 @@ def no_room(cvr):
 
 
 def no_file(cvr):
-    """A device in the place of a file, and in that of the definition."""
+    """A device in the place of a file, and of the definition."""
     words = [sys.executable, ways.SCRIPT, '--cvr', cvr]
     told = [workers.run(words + it)[::2] for it in ([DEFINITION, '/dev/null'], ['/dev/null'])]
     log = b'tally.py: /dev/null: no regular file; it has to be read more than once\n'
@@ -121,7 +121,7 @@ ROWS = [
 
 
 def tries(cvr, cases, seed):
-    """(name, what gives what is wrong of it) of all."""
+    """(name, what gives what is wrong with it) of each try."""
     module = ways.script()
 
     def passes(changed, number):
@@ -151,7 +151,7 @@ def main():
     cvr, right, wrong = os.path.abspath(words.cvr), 0, 0
     os.chdir(ways.TOP)
     with ThreadPoolExecutor(1 + os.cpu_count()) as lanes:
-        several = lanes.submit(hosts.tries, cvr)        # which wait for the most part
+        several = lanes.submit(hosts.tries, cvr)        # these mostly wait
         named = list(tries(cvr, words.cases, words.seed))
         answers = list(zip((name for name, _ in named),
                            lanes.map(told_of, (work for _, work in named))))

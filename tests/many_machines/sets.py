@@ -1,11 +1,11 @@
-"""sets.py: sets of files by chance, and what examples/many-machines/tally.py answers of them, held
-against one run of `cvr` over all files: output, log and status have to be the same.
+"""sets.py: random sets of files. What examples/many-machines/tally.py answers for them is compared
+with one run of `cvr` over all files: output, log and status have to be the same.
 
 A set is one to five reports, made as those of round_trip.py. In some sets most records come again
-in another file; in others each file has records of its own, of one device, and a few that others
+in another file; in others each file has records of its own, from one device, and a few that others
 have too. Devices, headers and snapshots are in conflict. In a third of the sets a file is refused.
-Some files spell letters by their codes, name a member twice, have members of other objects that
-look like the name of a record, or stand twice in the set."""
+Some files spell letters by their codes, have a member twice, have members of other objects that
+look like the name of a record, or come twice in the set."""
 import json
 import os
 import random
@@ -56,7 +56,7 @@ class Case(round_trip.Case):
 
 
 def spelled(chance, report):
-    """The same report, with other bytes."""
+    """The same report in other bytes."""
     ways = [
         lambda: json.dumps(json.loads(report), ensure_ascii=False,
                            separators=(',', ':')).encode('utf-8'),
@@ -73,7 +73,7 @@ def refused(chance, report):
 
 
 def reports_of(chance):
-    """The bytes of the files of a set."""
+    """The bytes of a set's files."""
     held = [spelled(chance, it) for it in Case(chance).files]
     if chance.random() < 1 / 3:
         place = chance.randrange(len(held))
@@ -87,7 +87,7 @@ def words_for(cvr, definition, files, **more):
 
 
 class Watched:
-    """Does jobs one after the other, and looks at what they give."""
+    """Does jobs one after the other, and checks their answers."""
 
     def __init__(self, module):
         self.module, self.told = module, ''
@@ -104,11 +104,11 @@ class Watched:
 
 
 def tried(module, cvr, seed):
-    """What is wrong of a set, or nothing."""
+    """What is wrong with a set, or nothing."""
     chance = random.Random(seed)
     with tempfile.TemporaryDirectory() as folder:
         data = [round_trip.DEFINITION] + reports_of(chance)
-        if chance.random() < 0.5:       # the second contest has the lesser name
+        if chance.random() < 0.5:       # the second contest's name comes first
             data = [it.replace(b'"q1"', b'"a1"') for it in data]
         definition, *files = [os.path.join(folder, round_trip.put(folder, 'file-%d' % n, it))
                               for n, it in enumerate(data)]
@@ -119,7 +119,7 @@ def tried(module, cvr, seed):
 
 
 def one(module, words):
-    """The same of one command."""
+    """The same for one command."""
     watched = Watched(module)
     answer = module.tried(words, watched.each)
     whole = module.run([words.cvr, words.command, '--', words.definition] + words.files)

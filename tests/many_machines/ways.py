@@ -1,5 +1,5 @@
 """ways.py: slips that examples/many-machines/tally.py could have. Each changes a text that stands
-once in it, and has to be found by one of the sets of files by chance."""
+once in it, and one of the random sets of files has to find it."""
 import importlib.util
 import os
 import sys
@@ -9,7 +9,7 @@ from collections import namedtuple
 sys.dont_write_bytecode = True
 TOP = os.path.dirname(os.path.dirname(os.path.dirname(os.path.abspath(__file__))))
 SCRIPT = os.path.join(TOP, 'examples', 'many-machines', 'tally.py')
-MOST = 250          # sets that may pass before a slip counts as one that is not found
+MOST = 250          # sets that may pass before a slip counts as not found
 
 Way = namedtuple('Way', 'name old new')
 WAYS = [
@@ -95,8 +95,8 @@ def changed(way):
 
 
 def unfound(way, passes):
-    """What is wrong of a slip, or nothing: `passes` says of the script whether a set of a number
-    passes."""
+    """What is wrong with a slip, or nothing: `passes` says whether the script passes the set of a
+    number."""
     try:
         module = changed(way)
     except ValueError as fault:

@@ -1,6 +1,6 @@
 """workers.py: what examples/many-machines/tally.py does where a worker or a program dies, where
 memory is refused or a file changes, and what it keeps of parts for a later run. A program in the
-place of `cvr` does as the files of a folder say, and then as `cvr`."""
+place of `cvr` does what the files of a folder say, and else runs `cvr`."""
 import glob
 import os
 import subprocess
@@ -12,8 +12,8 @@ import ways
 
 COUNTY = ['examples/county/%s.json' % name for name in ('scan', 'adjudicated', 'damaged')]
 DEFINITION = 'examples/county/definition.json'
-# Notes each part in a file `log`. Where a file `kill` is there, it ends by a signal at the first
-# part; at `worker` its worker does; at `piece` it reports a piece as refused; and so on.
+# Notes each part in a file `log`. Where there is a file `kill`, it ends by a signal at the first part;
+# with `worker` its worker ends so; with `piece` it reports a piece as refused; and so on.
 PROGRAM = '''#!/bin/sh
 here=$(dirname "$0")
 if [ "$3" = --files-from ]; then
@@ -31,8 +31,8 @@ exec "%(cvr)s" "$@"
 
 
 class Folder:
-    """A folder with that program, with scans whose records have names of their own, but for some
-    of them that a desk has adjudicated, and with the file of that desk."""
+    """A folder with that program and with scans and a desk's file. The scans' records have names of
+    their own, except for some that the desk has adjudicated."""
 
     def __init__(self, cvr, folder):
         self.cvr, self.folder = cvr, folder
@@ -56,7 +56,7 @@ class Folder:
         return self.put('scan-%d.json' % number, text)
 
     def run(self, *more):
-        """(status, output, log) of the script, and how many parts it has worked out."""
+        """(status, output, log) of the script, and how many parts it works out."""
         log = os.path.join(self.folder, 'log')
         if os.path.exists(log):
             os.remove(log)
@@ -88,7 +88,7 @@ def in_folder(work):
 
 
 def ends(name, status, log, *more):
-    """The run ends with this status and log, and prints nothing, where the program does that."""
+    """The run ends with this status and log, and prints nothing, where the program does what the file `name` says."""
     def work(at):
         at.put(name)
         told = at.run(*more)[0]
@@ -98,14 +98,14 @@ def ends(name, status, log, *more):
 
 @in_folder
 def nothing_amiss(at):
-    """The program in the place of `cvr` answers as `cvr` where no file says otherwise."""
+    """The program in the place of `cvr` answers as `cvr` does where no file says otherwise."""
     told, parts = at.run('--hold')
     return '' if told == at.whole() and not told[0] and parts == 6 else repr((told, parts))
 
 
 @in_folder
 def kept(at):
-    """After a run that died the parts that were done aren't worked out again, nor any after it."""
+    """After a run that died, the next works out only the parts that weren't done, and the one after it none."""
     keep = os.path.join(at.folder, 'keep')
     os.mkdir(keep)
     at.put('kill')
@@ -126,7 +126,7 @@ def seen(at, held, second, third):
 
 @in_folder
 def kept_of_other_bytes(at):
-    """A part is worked out again where a file of it, what was kept of it, or the program has other
+    """A part is worked out again where one of its files, what was kept of it, or the program has other
     bytes, and where the command is another."""
     keep, told = os.path.join(at.folder, 'keep'), []
     os.mkdir(keep)
@@ -148,8 +148,8 @@ def kept_of_other_bytes(at):
 
 @in_folder
 def one_file_is_split(at):
-    """Of two scans that share a record each with the desk's file, and of that file, that one alone
-    is split."""
+    """Two scans share no record, and each shares one with the desk's file: only the desk's file is
+    split."""
     module, split = ways.script(), []
     words = module.read_words(['--cvr', at.cvr, '--parts', '6', DEFINITION] + at.files)
 
@@ -161,7 +161,7 @@ def one_file_is_split(at):
 
 
 def under_way(at):
-    """A run that works out its first part, and the folder of its pieces."""
+    """A run that works on its first part, and the folder of its pieces."""
     place = os.path.join(at.folder, 'pieces')
     os.mkdir(place)
     at.put('slow')
@@ -174,7 +174,7 @@ def under_way(at):
 
 
 def processes_of(parent):
-    """The processes that have this parent."""
+    """The child processes of a process."""
     held = []
     for path in glob.glob('/proc/[0-9]*/stat'):
         try:
@@ -212,8 +212,8 @@ def killed(at):
 
 
 def fewest_bytes(_):
-    """A desk's file that bridges many is split, though it is the longest; not one that is longer
-    than all the others; of copies one stays whole, and so does a file that shares nothing."""
+    """A desk's file that bridges many is split, though it is the longest; one that is longer than all
+    others together is not. Of copies one stays whole, and so does a file that shares nothing."""
     module = ways.script()
     cases = [([60] + [16] * 10, [[0, n] for n in range(1, 11)], set(range(1, 11))),
              ([60] + [1] * 10, [[0, n] for n in range(1, 11)], {0}),

@@ -1,12 +1,12 @@
 #!/usr/bin/env python3
 """changes.py [-v]
 
-Which changes of the format's rules would no row notice? The rules are those of docs/FORMAT.md, as rules.py reads them. First
-they have to give every row's refusals as the row states them. Then one thing of them is changed at a time: a member is no
-longer walked, or demanded, or is demanded, or is of another kind; a class or a listed text is taken, or no longer; a bound
-is moved by one; ids may repeat, or may not; a text has to name something, or another thing, or need not; an object need not
-be the definition's. A row notices a change where its refusals are no longer those that it states. With -v each change is
-told with the row that notices it.
+Which changes of the format's rules does no row notice? The rules are those of docs/FORMAT.md, as rules.py reads them.
+First they have to give every row's refusals as the row states them. Then one thing in them is changed at a time: a
+member is not walked, or not required, or is required, or has another kind; a class or a listed text is accepted, or no
+longer; a bound moves by one; ids may repeat, or may not; a text has to name something, or something else, or nothing;
+an object need not be the definition's. A row notices a change where its refusals are no longer those that it states.
+With -v each change is printed with the row that notices it.
 
 The last line is `changes: N noticed, M not`; the status is 0 only where M is 0 and N is not."""
 import hashlib
@@ -24,12 +24,12 @@ import printed                # noqa: E402
 import rules as format_rules  # noqa: E402
 import run as rows            # noqa: E402 (all of them stand beside this file)
 
-LONG = 1000000              # bytes of a row's files, above which it is asked last, and of bounds alone
+LONG = 1000000              # bytes of a row's files; a row with more is tried last, and only for bounds
 
 
 class Row:
     """A row's files, and the refusals that it states."""
-    read = {}               # what reading a file gives, a value or its refusal, by its content
+    read = {}               # the value of a file, or its refusal, by the file's content
 
     def __init__(self, where, row, short):
         self.is_of_limits = where == 'limits.json'
@@ -46,7 +46,7 @@ class Row:
         return rows.content(self.files[name], self.short) if name in self.files else rows.VECTORS[name]
 
     def value(self, rules, path):
-        """What reading a file gives. It is kept while the rules of reading are not changed."""
+        """What reading a file gives. It is kept as long as the rules of reading are unchanged."""
         if rules.is_read_otherwise:
             return tried(rules, self.data(path))
         if path not in self.marks:
@@ -69,7 +69,7 @@ class Row:
                 yield '%s: %s\n' % (what, fault)
 
     def is_as_stated(self, rules):
-        """Whether the rules give the refusals that the row states; no file is looked at after the first difference."""
+        """Whether the rules give the refusals that the row states; files after the first difference aren't read."""
         left = self.stated
         for line in self.refusals(rules):
             if not left.startswith(line):
@@ -86,7 +86,8 @@ def tried(rules, data):
 
 
 def fault_in(rules, value, definition):
-    """The fault that the rules give. Changed ones may accept a form of which no references can be read: a fault of its own."""
+    """The fault that the rules give. Changed rules may accept a form in which references can't be read: that is a fault
+    of its own."""
     try:
         return format_rules.fault_in(rules, value, definition)
     except (AttributeError, KeyError, TypeError):
@@ -94,7 +95,7 @@ def fault_in(rules, value, definition):
 
 
 def is_asked(row, short):
-    """Whether the words of a row ask for a task, and its files can be read to their end."""
+    """Whether the words of a row ask for a task, and the whole of its files can be read."""
     lines = rows.spelled(row['err'], short).splitlines()
     return (row['words'][:1] != [] and row['words'][0] in printed.TASKS and row['status'] != 2
             and not {'--help', '-h', '/dev/zero', '--files-from'} & set(row['words'])
@@ -102,7 +103,8 @@ def is_asked(row, short):
 
 
 def asked():
-    """The rows that try the format. Of the long ones those of the limits do, which alone try a rule by their length."""
+    """The rows that test the format. Of the long rows only those of the limits, as no others test a rule by their
+    length."""
     every = rows.all_rows() + [('members.py', row, {}) for row in members.rows()]
     held = (Row(*it) for it in every if is_asked(*it[1:]))
     return [row for row in held if row.size <= LONG or row.is_of_limits]
@@ -114,7 +116,7 @@ LEAVES = [['text'], ['name'], ['count'], ['whole'], ['truth'], ['moment'], ['fra
 
 
 def kinds_changed(rules, kind):
-    """The kinds that are one change away, each with its name."""
+    """The kinds that differ by one change, each with its name."""
     word = kind[0]
     if word == 'array':
         _, inner, least, most = kind
@@ -137,13 +139,15 @@ def is_same(rules, leaf, kind):
 
 
 def bounds_changed(least, most):
-    yield 'wants one item more', [least + 1, most]
+    yield 'needs one item more', [least + 1, most]
     if least:
-        yield 'wants one item less', [least - 1, most]
+        yield 'needs one item less', [least - 1, most]
     if most is not None:
         yield 'takes one item more', [least, most + 1]
         yield 'takes one item less', [least, most - 1]
         yield 'takes any number', [least, None]
+    else:
+        yield 'takes one item at most', [least, max(least, 1)]
 
 
 def set_row(name, member, row):
@@ -220,12 +224,14 @@ def changes_of_looks(rules):
 
 
 def is_near(name, target):
-    """Whether what may be named is known in an object of a class: a selection inside a CVRContest, a snapshot inside a CVR."""
+    """Whether the things that may be named are known in objects of a class: a selection in a CVRContest, a snapshot in
+    a CVR."""
     return {'selection': name == 'CVRContestSelection', 'CVRSnapshot': name in ('CVR', 'CVRSnapshot', 'CVRContest')}.get(target, True)
 
 
 def is_own(name, target):
-    """Whether the objects of a class are what may be named: then each `@id` names its own object, and no answer changes."""
+    """Whether objects of a class are the things that may be named: then each `@id` names its own object, and no answer
+    changes."""
     return (target == name or target == 'any ' + name or target == 'contest' and name.endswith('Contest')
             or target == 'any selection' and name.endswith('Selection'))
 
@@ -247,8 +253,8 @@ def all_changes(rules):
 
 
 def noticing(held, rules, name):
-    """The first row that notices, or None. The row of the member that is changed comes first, where a bound is changed then
-    those of the limits, and then the row that noticed last. Long rows are asked of bounds alone."""
+    """The first row that notices, or None. The changed member's own row comes first, for a changed bound then those of
+    the limits, and then the row that noticed last. Long rows are tried for bounds alone."""
     mine, is_bound = 'member ' + name.split(' ')[0], bool(re.search('one item|any number|changed by', name))
     for row in sorted(held, key=lambda row: (row.name != mine, is_bound and not row.is_of_limits, row.size > LONG)):
         if (is_bound or row.size <= LONG) and not row.is_as_stated(rules):
@@ -258,7 +264,7 @@ def noticing(held, rules, name):
 
 
 def read_otherwise(held, rules):
-    """How many rows state other refusals than the rules give, each told."""
+    """How many rows state other refusals than the rules give. Prints each."""
     wrong = 0
     for row in held:
         if not row.is_as_stated(rules):
@@ -276,7 +282,7 @@ def main():
     every = list(all_changes(rules))
     wrong, noticed = read_otherwise(held, rules), 0
 
-    global notice                       # the processes of the pool are copies of this one, and find it there
+    global notice                       # the pool's processes are copies of this one, and have it too
 
     def notice(place):
         changed = rules.copy()

@@ -1,8 +1,8 @@
 #!/usr/bin/env python3
 """make_vectors.py [--write]
 
-The small reports that the rows start from, built from their rules. With --write the files of the folder `vectors`
-are written anew; without it they are compared, and the status is 1 where one differs."""
+The small reports that the rows start from, built from their rules. With --write the files of the folder `vectors` are
+written anew; without it they are compared, and the status is 1 where one differs."""
 import os
 import sys
 
@@ -10,7 +10,7 @@ FOLDER = os.path.join(os.path.dirname(os.path.abspath(__file__)), 'vectors')
 
 
 def item(kind, *members):
-    """An object of a class: its `@id`, where the first member is one, its `@type`, and its other members."""
+    """An object of a class: its `@id`, where that is the first member, its `@type`, and its other members."""
     first = [m for m in members if m.startswith('"@id":')]
     rest = [m for m in members if not m.startswith('"@id":')]
     return '{' + ','.join(first + ['"@type":"CVR.%s"' % kind] + rest) + '}'
@@ -64,7 +64,7 @@ def election_with_parties():
 
 
 def report_on(held, parties, cvrs):
-    """A report of an election, the parties being given as the member Party, or not at all."""
+    """A report of an election, with these parties as its member Party, or without that member."""
     return item(
         'CastVoteRecordReport',
         listing('CVR', cvrs),
@@ -130,8 +130,8 @@ def cvr(unit, snapshots, current):
 
 
 def respelled(whole):
-    """The first scan in another spelling: a space after each colon that follows a member name, the members of
-    the CVR in reverse order, and `u1` spelled by its code points. No text of that report has a quote before a colon."""
+    """The first scan in another spelling: a space after each colon that follows a member name, the CVR's members in
+    reverse order, and `u1` spelled by its code points. No text of that report has a quote before a colon."""
     members = ['"@type":"CVR.CVR"'] + cvr_members('p1', vote('a', 'original', 'ann'), 'a')
     forward, backward = '{' + ','.join(members) + '}', '{' + ','.join(reversed(members)) + '}'
     assert whole.count(forward) == 1 and whole.count('"u1"') == 1
@@ -231,7 +231,7 @@ def vectors():
 
 
 def differing():
-    """The names of the vectors whose file is missing or has other bytes, and of files that are no vector."""
+    """The names of the vectors whose file is missing or has other bytes, and of files that are not vectors."""
     wanted = vectors()
     held = {}
     for name in os.listdir(FOLDER):

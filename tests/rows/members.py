@@ -1,9 +1,9 @@
 #!/usr/bin/env python3
-"""members.py: rows for every member of every class, made of the tables of docs/FORMAT.md.
+"""members.py: rows for every member of every class, made from the tables of docs/FORMAT.md.
 
-Each row is one run of `check` over many files: vectors/classes.json with one value after another at one member. A file is
-called by the value. The answers are worked out from the tables by rules.py, and not by the program. Where the form of a
-changed Election, GpUnit or Party is right, it isn't the definition's, and the answer is E5."""
+Each row is one run of `check` over many files: vectors/classes.json with one value after another at one member. A file
+is named after the value. rules.py works out the answers from the tables, without the program. Where a changed Election,
+GpUnit or Party has the right form, it isn't the definition's, and the answer is E5."""
 import copy
 import json
 
@@ -51,7 +51,7 @@ def without(report, path, member):
 
 
 def leaf_values(rules, kind):
-    """The values that are tried where one of a kind is to be."""
+    """The values that are tried where a value of a kind belongs."""
     yield from PLAIN
     if kind[0] in ('text', 'name', 'moment', 'listed'):
         yield from map(spelled, TEXTS)
@@ -68,16 +68,17 @@ def leaf_values(rules, kind):
 
 
 def twins(item):
-    """Two items that differ but in one of the members that may not repeat."""
+    """Two items that are the same only in one of the members that may not repeat."""
     for same, other in (('@id', 'ContestId'), ('ContestId', '@id')):
         yield 'two of one ' + same, spelled([dict(item, **{same: 'same', other: text}) for text in ('one', 'other')])
 
 
 def values(rules, kind, held):
-    """The values that are tried at a member of a kind, each with its name; `held` stands there in the vector, or is None."""
+    """The values that are tried at a member of a kind, each with its name; `held` is the vector's value there, or
+    None."""
     texts = ['[]', '["x"]', '[[]]'] + PLAIN
     if kind[0] == 'array':
-        texts += ['[%s]' % text for text in leaf_values(rules, kind[1])]
+        texts += ['["x","y"]'] + ['[%s]' % text for text in leaf_values(rules, kind[1])]
     else:
         texts += leaf_values(rules, kind)
     yield from ((text, text) for text in texts)
@@ -86,7 +87,7 @@ def values(rules, kind, held):
 
 
 def row(rules, report, name, member, path):
-    """The row of a member, over the object of its class at the path."""
+    """The row of a member, with the object of its class at the path."""
     whole, before = with_here(report, path, member), at(report, path).get(member)
     files = {'absent': without(report, path, member)}
     for value_name, text in values(rules, rules.classes[name][member][1], before):
@@ -110,10 +111,10 @@ def answer(rules, text, definition):
 
 
 def rows():
-    """The rows, as run.py runs them."""
+    """The rows, in the form that run.py runs."""
     rules = format_rules.Rules()
     report = json.loads(make_vectors.vectors()[VECTOR])
-    places = dict(objects(report, []))      # of each class the last object, which nothing names
+    places = dict(objects(report, []))      # the last object of each class, which nothing names
     for name, table in rules.classes.items():
         for member in table:
             yield row(rules, report, name, member, places[name])

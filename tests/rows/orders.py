@@ -1,15 +1,16 @@
 #!/usr/bin/env python3
 """orders.py --cvr PATH
 
-Runs the rows again with the members of each file in other orders: by name, the other way round, `CVR` first and last, each time
-with members that no table has between them. What is printed, what is told and the status have to be those of the row: a file
-is read record by record where that can be done, else as a whole, and no answer may tell which. Then with a second, empty
-`CVR` behind all: that has to do what the file does with an empty one alone, since of two members of one name the last counts,
-but where a row's file is no JSON, which a list that doesn't count may be the reason of.
+Runs the rows again with the members of each file in other orders: by name, reversed, `CVR` first and last, each time
+with the members of no table between them. What is printed and logged and the status have to be the row's: a file is
+read record by record where that can be done, else as a whole, and no answer may show which. Then with a second, empty
+`CVR` after all: the answer has to be the one for an empty `CVR` alone, since of two members of one name the last
+counts. This doesn't hold where a row's file is no JSON, as the list that doesn't count may be the reason.
 
-Members are moved as text, so that each number and each text stays as it is spelled. A file that is no object, or has a name
-twice, stays as it is, and so does one of more than 256 KiB; a row without any other file isn't run, nor one of more than a
-hundred files, which differ in a byte, nor a row's second run with its file as the definition. It tries itself first. The last line is `orders: N right, M wrong`; the status is 0 only where M is 0 and N is not."""
+Members are moved as text, so that each number and each text keeps its spelling. A file stays as it is where it is no
+object, has a name twice, or has more than 256 KiB. A row without any other file isn't run, nor one of more than a
+hundred files, which differ in a byte, nor a row's second run with its file as the definition. It tries itself first.
+The last line is `orders: N right, M wrong`; the status is 0 only where M is 0 and N is not."""
 import argparse
 import functools
 import multiprocessing
@@ -21,18 +22,18 @@ sys.dont_write_bytecode = True
 import run           # noqa: E402
 import members       # noqa: E402 (both stand beside this file)
 
-MOST = 1 << 18      # bytes of a file that is arranged
-FILES = 100         # of a row that is run
+MOST = 1 << 18      # the most bytes of a file that is arranged
+FILES = 100         # the most files of a row that is run
 BLANK = ' \t\n\r'
 BETWEEN = ['"Of no table %d":{"CVR":[{"@type":"CVR.CVR"}],"GpUnit":[-1]}' % n for n in range(3)]
 
 
 class NoMembers(Exception):
-    """The text is no object of members with names of their own."""
+    """The text is no object whose members have different names."""
 
 
 def end_of_text(text, first):
-    """The place behind the JSON string that begins at a place."""
+    """The index behind the JSON string that begins at an index."""
     place = first + 1
     while text[place] != '"':
         place += 2 if text[place] == '\\' else 1
@@ -85,13 +86,13 @@ def records_last(named):
 
 
 def mixed(named):
-    """The texts of members, with the members of no table behind the first, in the middle and at the end."""
+    """The texts of members, with the members of no table after the first, in the middle and at the end."""
     texts = [text for _, text in named]
     return texts[:1] + BETWEEN[:1] + texts[1:len(texts) // 2 + 1] + BETWEEN[1:2] + texts[len(texts) // 2 + 1:] + BETWEEN[2:]
 
 
 def emptied(named):
-    """With an empty list of records."""
+    """The members' texts with an empty list of records."""
     return [(name, '"CVR":[]' if name == '"CVR"' else text) for name, text in named]
 
 
@@ -110,7 +111,7 @@ ORDERS = [lambda named, order=order: mixed(order(named)) for order in (by_name, 
 
 
 def twice(named):
-    """With a second list of records, which is empty, behind all; None where there is no list."""
+    """The members' texts with a second, empty list of records after all; None where there is no list."""
     return [text for _, text in named] + ['"CVR":[]'] if '"CVR"' in dict(named) else None
 
 
@@ -119,7 +120,7 @@ def once(named):
 
 
 def lay(folder, row, short, arrange):
-    """Lays the files of a row, each arranged where that can be done, and answers how many were."""
+    """Writes the files of a row, each arranged where that can be done; answers how many were."""
     run.lay(folder, row, short)
     count = 0
     for name in os.listdir(folder):
@@ -142,7 +143,7 @@ def answer(cvr, row, short, arrange):
 
 
 def tried(cvr, held):
-    """(how many runs of a row were right, what differs in the others)."""
+    """(how many runs of a row are right, what differs in the others)."""
     _, row, short = held
     right, wrong = 0, []
     for arrange in ORDERS:
@@ -158,7 +159,7 @@ def tried(cvr, held):
 
 
 def try_itself():
-    """What the arranging does with a few texts."""
+    """What is wrong with how a few texts are arranged."""
     text = b' {"b" : [1.50,"}\\"]"] , "CVR":[{"a":{}}],\n"a":"\\u0041,"} '
     a, b, records = b'"a":"\\u0041,"', b'"b" : [1.50,"}\\"]"]', b'"CVR":[{"a":{}}]'
     told = []
@@ -177,14 +178,14 @@ def main():
     words = argparse.ArgumentParser()
     words.add_argument('--cvr', required=True, help='the program to try')
     words = words.parse_args()
-    sys.stdout.reconfigure(errors='backslashreplace')       # a word may be no UTF-8
+    sys.stdout.reconfigure(errors='backslashreplace')       # a word may be invalid UTF-8
     cvr, right, wrong = os.path.abspath(words.cvr), 0, 0
     for line in try_itself():
         print('WRONG the tool itself: %s' % line)
         wrong += 1
     rows = [it for it in run.all_rows() + [('members.py', row, {}) for row in members.rows()]
             if len(it[1].get('files', {})) <= FILES and not it[1]['name'].endswith('(as definition)')]
-    # processes, since the members are moved here
+    # processes, since moving the members takes the time
     with multiprocessing.get_context('fork').Pool(min(run.SIDE_BY_SIDE, len(os.sched_getaffinity(0)))) as pool:
         for (where, row, _), (count, found) in zip(rows, pool.imap(functools.partial(tried, cvr), rows)):
             right, wrong = right + count, wrong + bool(found)

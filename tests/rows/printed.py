@@ -1,9 +1,9 @@
 #!/usr/bin/env python3
-"""printed.py: the texts of docs/FORMAT.md as a small Python program: what each command prints of files that are read.
+"""printed.py: the texts of docs/FORMAT.md as a small Python program: what each command prints for files that are read.
 
-It is a second reading of what is printed, as rules.py is one of what is accepted. random_files.py holds the program
-against it, and printed_changes.py changes it rule by rule and asks which rows notice. Words that no command takes, and help,
-are left to `words.json`."""
+It is a second reading of what is printed, as rules.py is one of what is accepted. random_files.py compares the program
+with it; printed_changes.py changes it rule by rule and reports changes that no row notices. Words that no command
+takes, and help, are left to `words.json`."""
 import itertools
 import json
 import re
@@ -13,7 +13,7 @@ import rules as format_rules
 TASKS = ('currents', 'tally', 'conflicts', 'check', 'merge', 'drill')
 BEFORE_FILES = {'merge': 4, 'drill': 2}     # the words of a command before its files or steps, where it has more than DEF
 NEVER = float('-inf')       # the moment of a snapshot that has none
-# A step: into an office a file is taken in, or all that an office holds goes to another.
+# A step: an office imports a file, or takes in all that another office holds.
 STEP = re.compile(r'(?P<office>[0-9]{1,9})=(?P<path>.+)|(?P<giver>[0-9]{1,9})>(?P<taker>[0-9]{1,9})', re.S)
 
 
@@ -22,7 +22,7 @@ def by_bytes(text):
 
 
 def arguments(words):
-    """The words after the command. The first `--` among them stands for nothing."""
+    """The words after the command. The first `--` among them is left out."""
     place = words.index('--') if '--' in words else len(words)
     return words[1:place] + words[place + 1:]
 
@@ -33,7 +33,8 @@ def last(words):
 
 
 def told_files(words):
-    """Of each file beside the definition what the log calls it, its path, and the number of the office that takes it in, of a drill."""
+    """For each file beside the definition: its name in the log, its path and, in a drill, the number of the office that
+    imports it."""
     if words[0] != 'drill':
         return [(path, path, None) for path in last(words)]
     found = [(text, STEP.fullmatch(text)) for text in last(words)]
@@ -51,15 +52,15 @@ def offices_of(words):
 
 
 def put(held, name, body):
-    """Keeps a body under its name, equal ones once."""
+    """Keeps a body under its name; equal bodies once."""
     bodies = held.setdefault(name, [])
     if body not in bodies:
         bodies.append(body)
 
 
 class Held:
-    """What an office holds: of each device its bodies, and of each record its headers, under None, and its snapshots by id. The
-    greatest body of each name stands first."""
+    """What an office holds: the bodies of each device; and of each record the headers, under None, and the snapshots by
+    id. The greatest body of each name comes first."""
 
     def __init__(self, devices, records):
         self.devices, self.records = devices, records
@@ -70,10 +71,10 @@ class Held:
 
 
 class Texts:
-    """The rules, each of which may be set to another one."""
-    types = ['original', 'interpreted', 'modified']         # the least first
+    """The rules; each may be replaced by another."""
+    types = ['original', 'interpreted', 'modified']         # least first
     choosing = ['type', 'moment', 'body']
-    lacking = ['CVRSnapshot', 'CurrentSnapshotId']          # of a header
+    lacking = ['CVRSnapshot', 'CurrentSnapshotId']          # not in a header
     counting = {(None, 'yes'), ('yes', 'yes'), ('yes', 'no'), ('yes', 'unknown')}       # IsAllocable and HasIndication
     pending = {('unknown', 'yes')}
     columns = ['ballots', 'Overvotes', 'Undervotes', 'WriteIns', 'pending', 'unassigned']
@@ -84,7 +85,7 @@ class Texts:
     office_line = ['office', 'number', 'records', 'facts', 'same']
     step = STEP
     members = ['@type', 'CVR', 'Election', 'GeneratedDate', 'GpUnit', 'Party', 'ReportGeneratingDeviceIds', 'ReportType', 'ReportingDevice', 'Version']
-    may_lack = ['CVR', 'Party']                             # where they have no item
+    may_lack = ['CVR', 'Party']                             # left out where they have no item
     line_end, gap = '\n', ' '
 
     def __init__(self):
@@ -115,7 +116,7 @@ class Texts:
         return max(map(format_rules.instant, stamps), default=NEVER)
 
     def key(self, body):
-        """The key of choosing of a snapshot."""
+        """A snapshot's key in the order of choosing."""
         snapshot = json.loads(body)
         stamps = [it['TimeStamp'] for it in snapshot.get('Annotation', []) if 'TimeStamp' in it]
         parts = {'type': self.types.index(snapshot['Type']), 'moment': self.moment_of(stamps), 'body': self.orders['snapshot body'](body)}
@@ -128,7 +129,7 @@ class Texts:
         return self.compact({name: part for name, part in cvr.items() if name not in self.lacking})
 
     def reports(self, definition, files):
-        """The reports of which the devices are taken, and those of which the records are."""
+        """The reports that give the devices, and those that give the records."""
         return [definition] + files, files
 
     def take_records(self, records, report):
@@ -142,7 +143,7 @@ class Texts:
         return sorted(bodies, key=key, reverse=True)
 
     def in_order(self, names, order, key_of):
-        """Names in an order, None first, each with its bodies, the greatest first."""
+        """Names in an order, None first, each with its bodies, greatest first."""
         chosen = sorted(names, key=lambda name: (name is not None, order(name) if name is not None else None))
         return {name: self.greatest_first(names[name], key_of(name)) for name in chosen}
 
@@ -204,7 +205,7 @@ class Texts:
         return [position for it in selections for position in it['SelectionPosition']]
 
     def sums(self, contest, known):
-        """The six numbers of a contest of a snapshot, and the votes of the selections that are known."""
+        """The six numbers of a snapshot's contest, and the votes of the selections that are known."""
         every = contest.get('CVRContestSelection', [])
         named = {one: [it for it in every if it.get('ContestSelectionId') == one] for one in [None] + known}
         columns = {'ballots': 1, 'pending': self.sum_of(self.positions(every), self.pending),
@@ -217,7 +218,7 @@ class Texts:
         return header.get('BallotStyleUnitId'), header.get('BatchId')
 
     def counted(self, record):
-        """The contests of a record that stand in rows."""
+        """The contests of a record that have rows."""
         return self.current(record).get('CVRContest', [])
 
     def selections(self, definition):
@@ -293,7 +294,7 @@ class Texts:
         return i <= self.volumes(held)
 
     def cause(self, definition, held, moment, device, i):
-        """Why nothing is merged, as the log tells it, or nothing."""
+        """Why nothing is merged, as the log reports it, or nothing."""
         stands = {'H1': not self.is_moment(moment), 'H2': not self.is_device(definition, held, device), 'V1': not self.is_volume(held, i)}
         told = [name for name in self.causes if stands[name]]
         return self.line(['merge:'] + told[:1] + ([self.volumes(held)] if told[0] == 'V1' else [])) if told else ''
@@ -301,7 +302,7 @@ class Texts:
     # ---- drill
 
     def first_bad(self, steps):
-        """The first step that has no form, or none."""
+        """The first step that has no step's form, or None."""
         return next((text for text in steps if not self.step.fullmatch(text)), None)
 
     def is_office(self, number, offices):
@@ -312,15 +313,17 @@ class Texts:
         return True
 
     def imported(self, reached, office, place):
-        """What has reached each office once one has taken in a file, which is told by its place among those of the imports."""
+        """What has reached each office once one has imported a file, which is known by its index among the imports'
+        files."""
         return [held | {place} if number == office else held for number, held in enumerate(reached, 1)]
 
     def exchanged(self, reached, giver, taker):
-        """What has reached each office once one has taken in what another holds."""
+        """What has reached each office once one has taken in all that another holds."""
         return [held | reached[giver - 1] if number == taker else held for number, held in enumerate(reached, 1)]
 
     def placed(self, steps):
-        """The steps as they are played: each as its text, its form and the place of its file among those of the imports."""
+        """The steps as they are played: each as its text, its form and the index of its file among the imports'
+        files."""
         imports, held = itertools.count(), []
         for text in steps:
             step = self.step.fullmatch(text)
@@ -328,18 +331,18 @@ class Texts:
         return held
 
     def refusal(self, step, place, offices, files):
-        """Why a step is refused, as the log tells it, or None."""
+        """Why a step is refused, as the log reports it, or None."""
         numbers = [int(step[name]) for name in ('office', 'giver', 'taker') if step[name]]
         if not all(self.is_office(number, offices) for number in numbers):
             return 'N1'
         return files[place][1] if place is not None and isinstance(files[place][1], str) else None
 
     def told_step(self, text, step):
-        """What the log calls a step."""
+        """A step's name in the log."""
         return text
 
     def played_unless(self, reached, step, place, fault):
-        """What has reached each office after a step that a fault may refuse."""
+        """What has reached each office after a step; a step with a fault changes nothing."""
         if fault:
             return reached
         if place is None:
@@ -347,7 +350,7 @@ class Texts:
         return self.imported(reached, int(step['office']), place)
 
     def play(self, steps, offices, files):
-        """The files that have reached each office after all steps, and the lines of the steps that are refused."""
+        """The files that have reached each office after all steps, and the lines of refused steps."""
         reached, log = [set() for _ in range(offices)], ''
         for text, step, place in self.placed(steps):
             fault = self.refusal(step, place, offices, files)
@@ -358,7 +361,7 @@ class Texts:
         return reached, log
 
     def facts(self, held):
-        """How many facts an office holds: each body of a name is one."""
+        """How many facts an office holds: each body under a name is one."""
         return sum(held.counts())
 
     def is_same(self, held, other):
@@ -380,7 +383,7 @@ class Texts:
         return lines
 
     def drill(self, words, definition, files):
-        """The lines of the offices, and those of the steps that are refused."""
+        """The lines of the offices, and those of refused steps."""
         reached, log = self.play(last(words), offices_of(words), files)
         every = [self.hold(definition, [files[place][1] for place in sorted(places)]) for places in reached]
         return ''.join(self.office_lines(every)), log
@@ -388,7 +391,7 @@ class Texts:
     # ---- a run
 
     def text(self, words, definition, files):
-        """What is printed, and what is told of it."""
+        """What is printed, and what is logged beside the refused files."""
         if words[0] == 'drill':
             return self.drill(words, definition, files)
         task, held = words[0], self.hold(definition, [it for _, it in files if not isinstance(it, str)])
@@ -403,13 +406,13 @@ class Texts:
 
 
 def refused(words, files):
-    """The lines of refused files. Those of a drill stand among the lines of its steps."""
+    """The lines of refused files. A drill has them among the lines of its steps."""
     return ''.join('%s: %s\n' % it for it in files if isinstance(it[1], str)) if words[0] != 'drill' else ''
 
 
 def answer(texts, words, definition, files, is_full=False):
-    """Standard output, standard error and status. The definition, and each file under its path, is a value, or a fault's text; of a
-    drill each import has a file of its own."""
+    """Standard output, standard error and status. The definition, and each file with its path, is a value, or a fault's
+    text; each import of a drill has a file of its own."""
     bad = texts.first_bad(last(words)) if words[0] == 'drill' else None
     if bad is not None:
         return '', '%s: L3\n' % bad, 2

@@ -1,11 +1,12 @@
 #!/usr/bin/env python3
 """printed_changes.py [-v]
 
-Which changes of what is printed would no row notice? What is printed is what docs/FORMAT.md says, as printed.py reads it. First
-it has to give each row's output, log and status as the row states them. Then one rule of it is changed at a time: an order, a
-part of a line or of a volume, which body of a name is shown, which record stands in a volume, what counts, what is escaped,
-which cause is told first, what a step is and does, what is told of an office. A row notices a change where its answer is no longer the one that it states. With -v each change
-is told with the row that notices it. Which files are accepted is left to changes.py, as are rows of more than a megabyte.
+Which changes of what is printed does no row notice? What is printed is what docs/FORMAT.md says, as printed.py reads
+it. First it has to give each row's output, log and status as the row states them. Then one of its rules is changed at a
+time: an order, a part of a line or of a volume, which body of a name is shown, which record stands in a volume, what
+counts, what is escaped, which cause is reported first, what a step is and does, what is printed of an office. A row
+notices a change where its answer is no longer the one that it states. With -v each change is printed with the row that
+notices it. Which files are accepted is left to changes.py; rows of more than a megabyte are left out.
 
 The last line is `printed changes: N noticed, M not`; the status is 0 only where M is 0 and N is not."""
 import itertools
@@ -25,7 +26,7 @@ import run as rows            # noqa: E402 (all of them stand beside this file)
 
 
 class Row:
-    """A row's answer, and what its files are read as; those of a row in which a step has no form are not."""
+    """A row's answer, and what its files are read as; in a row with a step that has no step's form, no file is read."""
 
     def __init__(self, held, row, short):
         self.name, self.words, self.is_full = row['name'], row['words'], row.get('full', False)
@@ -40,7 +41,7 @@ class Row:
         return printed.answer(texts, self.words, self.definition, self.files, self.is_full)
 
     def notices(self, texts):
-        """Whether the answer is another one, or there is none, since a rule that is changed may not fit the files."""
+        """Whether the answer differs, or there is none, since a changed rule may not fit the files."""
         try:
             return self.answer(texts) != self.stated
         except (AttributeError, IndexError, KeyError, TypeError, ValueError):
@@ -61,12 +62,12 @@ def asked():
 # ---- changes: a name, and what is done to the rules
 
 def sets(**rules):
-    """A change that sets rules to others."""
+    """A change that replaces rules."""
     return lambda texts: vars(texts).update(rules)
 
 
 def method(name, other):
-    """A change of a method: the other is given the rules, the method as it is, and what the method is given."""
+    """A change of a method. The other one gets the rules, the method as it is, and the method's arguments."""
     def change(texts):
         held = getattr(texts, name)
         setattr(texts, name, lambda *given: other(texts, held, *given))
@@ -74,7 +75,7 @@ def method(name, other):
 
 
 def lists_changed(name, held):
-    """Each list that lacks one part of a list, or has two neighbours exchanged."""
+    """Each list without one part of a list, or with two neighbours exchanged."""
     for place, part in enumerate(held):
         yield '%s lacks %s' % (name, part), held[:place] + held[place + 1:]
     for place in range(len(held) - 1):
@@ -144,7 +145,7 @@ def changes_of_choosing():
 
 
 def recorded(name, change):
-    """A change of the records of a file, before they are taken."""
+    """A change of the records of a file, before they are taken in."""
     def other(texts, held, records, report):
         held(records, dict(report, CVR=change(report.get('CVR', []))))
     return name, method('take_records', other)
@@ -186,7 +187,7 @@ def without(report, name):
 
 
 def replacing(keep):
-    """A change of which bodies are kept under a name beside one more."""
+    """A change of which bodies are kept when a name gets one more."""
     def change(texts):
         def put(held, name, body):
             held[name] = keep(held.get(name, []), body)
@@ -237,7 +238,7 @@ def changes_of_conflicts():
 
 
 def headers_last(lines):
-    """The lines of conflicts with the line of each record's header after those of its snapshots."""
+    """The lines of conflicts, with the line of each record's header after those of its snapshots."""
     def of(line):
         return re.match(r'("(?:[^"\\]|\\.)*" "(?:[^"\\]|\\.)*" )?', line).group()
     groups = [list(group) for _, group in itertools.groupby(lines, of)]
@@ -335,7 +336,7 @@ def changes_of_volumes():
 
 def changes_of_shown_records():
     def shown_if(keep):
-        """The snapshots of a record of which a part is shown."""
+        """A change: a volume shows only these snapshots of a record."""
         return method('shown_record', lambda texts, held, record, i: held({name: record[name] for name in record if name is None or keep(texts, record, name, i)}, i))
     yield 'the current snapshot alone is shown', shown_if(lambda texts, record, name, i: name == texts.current(record)['@id'])
     yield 'snapshots with fewer bodies are not shown', shown_if(lambda texts, record, name, i: len(record[name]) >= i)
@@ -384,11 +385,11 @@ def changes_of_causes():
     yield 'one volume more is taken', method('is_volume', lambda texts, held, office, i: i <= texts.volumes(office) + 1)
     yield 'the last volume is not taken', method('is_volume', lambda texts, held, office, i: i < texts.volumes(office))
     yield 'the number of volumes is not told', method('cause', lambda texts, held, *given: re.sub(r'V1 \d+', 'V1', held(*given)))
-    yield 'the number that was asked for is told', method('cause', lambda texts, held, known, office, date, device, i: re.sub(
+    yield 'the number that was asked for is printed', method('cause', lambda texts, held, known, office, date, device, i: re.sub(
         r'V1 \d+', 'V1 %d' % i, held(known, office, date, device, i)))
 
 
-# The form of a step, otherwise.
+# Other forms of a step.
 STEPS = {
     'a number of ten digits is taken': ('{1,9}', '{1,10}'),
     'a number of nine digits is not taken': ('{1,9}', '{1,8}'),
@@ -423,7 +424,7 @@ STEPS = {
 def changes_of_steps():
     for name, (old, new) in STEPS.items():
         yield 'steps: ' + name, sets(step=re.compile(printed.STEP.pattern.replace(old, new), re.S))
-    yield 'steps: the last one without a form is told', method('first_bad', lambda texts, held, steps: held(steps[::-1]))
+    yield 'steps: the last one without a form is printed', method('first_bad', lambda texts, held, steps: held(steps[::-1]))
     yield 'steps: one without a form is passed over', method('first_bad', lambda texts, held, steps: None)
     for name, other in (('offices count from 0', lambda number, offices: 0 <= number < offices), ('office 0 is one more', lambda number, offices: number <= offices),
                         ('there is one office more', lambda number, offices: 1 <= number <= offices + 1), ('the last office is none', lambda number, offices: 1 <= number < offices),
@@ -432,17 +433,17 @@ def changes_of_steps():
         yield 'steps: ' + name, method('is_office', lambda texts, held, number, offices, other=other: other(number, offices))
     yield 'steps: the fault of a file comes before N1', method('refusal', lambda texts, held, step, place, offices, files: (
         files[place][1] if place is not None and isinstance(files[place][1], str) else held(step, place, offices, files)))
-    yield 'steps: N1 of an import alone is told', method('refusal', lambda texts, held, step, place, offices, files: held(step, place, offices, files) if step['path'] else None)
-    yield 'steps: N1 of an exchange alone is told', method('refusal', lambda texts, held, step, place, offices, files: (
+    yield 'steps: N1 of an import alone is reported', method('refusal', lambda texts, held, step, place, offices, files: held(step, place, offices, files) if step['path'] else None)
+    yield 'steps: N1 of an exchange alone is reported', method('refusal', lambda texts, held, step, place, offices, files: (
         None if held(step, place, offices, files) == 'N1' and step['path'] else held(step, place, offices, files)))
     for name in ('giver', 'taker'):
         yield 'steps: N1 of a %s is not told' % name, method('refusal', lambda texts, held, step, place, offices, files, name=name: (
             held(dict(step.groupdict(), **{name: None}), place, offices, files)))
     yield 'steps: an exchange of an office with itself is refused', method('refusal', lambda texts, held, step, place, offices, files: (
         'N1' if step['giver'] and int(step['giver']) == int(step['taker']) else held(step, place, offices, files)))
-    yield 'steps: the fault of a file is told without its path', method('refusal', lambda texts, held, *given: (held(*given) or '').split(' ')[0] or None)
-    yield 'steps: a path is told for a step', method('told_step', lambda texts, held, text, step: step['path'] or text)
-    yield 'steps: a number is told for a step', method('told_step', lambda texts, held, text, step: text.split('=')[0])
+    yield 'steps: the fault of a file is reported without its path', method('refusal', lambda texts, held, *given: (held(*given) or '').split(' ')[0] or None)
+    yield 'steps: a path is reported for a step', method('told_step', lambda texts, held, text, step: step['path'] or text)
+    yield 'steps: a number is reported for a step', method('told_step', lambda texts, held, text, step: text.split('=')[0])
 
 
 def changes_of_play():
@@ -480,7 +481,7 @@ def changes_of_play():
 
 
 def own_alone(texts):
-    """A change: of what an office was handed by others nothing is handed on."""
+    """A change: an office doesn't hand on what others handed to it."""
     own = {}
 
     def imported(reached, office, place):
@@ -519,7 +520,7 @@ def changes_of_offices():
         yield 'offices are the same by their ' + name, method('is_same', lambda texts, held, one, two, other=other: other(texts, one) == other(texts, two))
     yield 'offices are the same in any case', method('is_same', lambda texts, held, one, two: True)
     yield 'an office is the same as itself alone', method('is_same', lambda texts, held, one, two: one is two)
-    yield 'the greatest office that is the same is told', method('least_same', lambda texts, held, every, office: len(every) + 1 - held(every[::-1], office))
+    yield 'the greatest office that is the same is printed', method('least_same', lambda texts, held, every, office: len(every) + 1 - held(every[::-1], office))
     yield 'offices that are the same count from 0', method('least_same', lambda texts, held, every, office: held(every, office) - 1)
     yield 'the first office is not looked at', method('least_same', lambda texts, held, every, office: 1 if office is every[0] else 1 + held(every[1:], office))
     for name, other in (('in turned order', lambda lines: lines[::-1]), ('but the last', lambda lines: lines[:-1]), ('but the first', lambda lines: lines[1:]),
@@ -535,7 +536,7 @@ FAMILIES = (changes_of_orders, changes_of_choosing, changes_of_holding, changes_
 
 
 def read_otherwise(held):
-    """How many rows state another answer than the rules give, each told."""
+    """How many rows state another answer than the rules give. Prints each."""
     wrong = 0
     for row in held:
         answer = row.answer(printed.Texts())
@@ -553,7 +554,7 @@ def main():
     held, every = asked(), [change for family in FAMILIES for change in family()]
     wrong, noticed = read_otherwise(held), 0
 
-    global notice                       # the processes of the pool are copies of this one, and find it there
+    global notice                       # the pool's processes are copies of this one, and have it too
 
     def notice(place):
         texts = printed.Texts()

@@ -1,14 +1,13 @@
 #!/usr/bin/env python3
 """random_files.py --cvr PATH [--seed N] [--seconds N]
 
-Holds the program against rules.py and printed.py on files that no one has thought of. First vectors with one to three changes
-by chance, members in any order and now and then twice: each file is checked beside its vector's definition, and has to have
-the fault that rules.py gives, or its number of records; and output, log and status have to be those of all of them. Then
-several files at once, reports by chance as of round_trip.py and changed vectors: what `currents`, `tally`, `conflicts` and
-`merge` print of them, and a `drill` of steps by chance, and what they tell, has to be what printed.py gives. Each difference is
-told with its files. With one seed the files are the same on every machine; how many there are depends on the seconds. The last
-line is `files: N right, M wrong`, of files that were checked and of commands; the status
-is 0 only where M is 0 and N is not."""
+Compares the program with rules.py and printed.py on random files. First vectors with one to three random changes, with
+members in any order and sometimes twice: each file is checked beside its vector's definition, and has to have the fault
+that rules.py gives, or its number of records; and output, log and status have to be those of all of them. Then several
+files at once, random reports as of round_trip.py and changed vectors: what `currents`, `tally`, `conflicts` and `merge`
+print and log for them, and a `drill` of random steps, has to be what printed.py gives. Each difference is printed with
+its files. One seed gives the same files on every machine; how many depends on the seconds. The last line is `files: N
+right, M wrong`, of files that were checked and of commands; the status is 0 only where M is 0 and N is not."""
 import argparse
 import copy
 import json
@@ -29,9 +28,9 @@ import rules as format_rules  # noqa: E402 (all of them stand beside this file)
 
 VECTORS = make_vectors.vectors()
 DEFINITIONS = {'classes.json': 'classes.json', 'parties.json': 'parties-def.json', 'f2.json': 'def.json', 'f11.json': 'def.json', 'f20.json': 'def.json'}
-FILES = 150                 # of one run of the program
-CASES = 12                  # of several files, after each such run
-DRILLS = 3                  # of the files of a case
+FILES = 150                 # in one run of the program
+CASES = 12                  # with several files, after each such run
+DRILLS = 3                  # over the files of a case
 DATES = ['2024-11-06T08:00:00Z'] * 10 + ['2024-11-06T03:00:00.5-05:00', '20241106 08Z', '2024-11-06', '2024-11-06T08:00:00Z[UTC]']
 DEVICES = ['desk'] * 9 + ['s1', 's2', 's3', 'p1']
 OFFICES = [1, 2, 2, 3, 3, 3, 4, 7, 64]
@@ -53,7 +52,7 @@ def paths(value, path=()):
 
 
 def change(chance, value, names):
-    """Changes one part of a value: it gets another value, goes, stands twice or under another name, or a member is added."""
+    """Changes one part of a value: it is replaced, removed, doubled or renamed, or a member is added."""
     path = chance.choice([path for path in paths(value) if path])
     held, name = members.at(value, path[:-1]), path[-1]
     kind = chance.choice(['set', 'set', 'set', 'drop', 'copy', 'more'])
@@ -70,7 +69,7 @@ def change(chance, value, names):
 
 
 def text_of(chance, value):
-    """The JSON text, with the members of each object in any order, and now and then one of them twice."""
+    """The JSON text, with the members of each object in any order, and sometimes one of them twice."""
     if isinstance(value, Spelled):
         return value.text
     if isinstance(value, list):
@@ -93,7 +92,7 @@ def made(chance, vector, names, amounts=(1, 1, 1, 2, 3)):
 
 
 def laid(files, work):
-    """What is done in a folder of its own with the files in it."""
+    """The answer of `work` in a folder of its own with the files in it."""
     with tempfile.TemporaryDirectory() as folder:
         for name, data in files.items():
             with open(os.path.join(folder, name), 'wb') as file:
@@ -107,7 +106,7 @@ def run(cvr, words, folder):
 
 
 def told_of(out, err):
-    """What the program tells of each file: its fault, or the number of its records where it is accepted."""
+    """What the program reports of each file: its fault, or the number of its records where it is accepted."""
     return dict([line.rsplit(' ', 1) for line in out.splitlines()] + [line.split(': ', 1) for line in err.splitlines()])
 
 
@@ -127,7 +126,7 @@ def checked(cvr, rules, chance, names):
 # ---- several files
 
 def reports(chance, names):
-    """The definition's bytes, and those of some files for it by name."""
+    """The definition's bytes, and those of some files for it, by name."""
     if chance.random() < 0.7:
         definition, held = VECTORS['def.json'], round_trip.Case(chance).files
         held += [made(chance, chance.choice(['f2.json', 'f11.json', 'f20.json']), names, (0, 1)).encode('utf-8') for _ in range(chance.randint(0, 2))]
@@ -139,7 +138,7 @@ def reports(chance, names):
 
 
 def read(rules, data, definition=None):
-    """The value of a file, or its fault as a log line tells it."""
+    """The value of a file, or its fault as a log line has it."""
     try:
         value = format_rules.read(rules, data)
     except format_rules.Fault as fault:
@@ -148,23 +147,23 @@ def read(rules, data, definition=None):
 
 
 def number(chance, offices):
-    """The number of an office, now and then of none, or with zeros before it."""
+    """An office's number, sometimes one of no office, or with zeros before it."""
     if chance.random() < 0.05:
         return chance.choice(['0', '000', str(offices + 1), '999999999'])
     return chance.choice(['', '', '', '', '0']) + str(chance.randint(1, offices))
 
 
 def drill(chance, files):
-    """The words of a drill of these files, in steps by chance."""
+    """The words of a drill of these files, in random steps."""
     offices = chance.choice(OFFICES)
-    few = min(offices, chance.choice([3, 3, 64]))       # of many offices most take in nothing, as a rule
+    few = min(offices, chance.choice([3, 3, 64]))       # of many offices most usually take in nothing
     steps = ['%s=%s' % (number(chance, few), chance.choice(files)) if chance.random() < 0.5 else '%s>%s' % (number(chance, few), number(chance, few))
              for _ in range(chance.randint(0, 12))]
     return ['drill', 'definition', str(offices)] + ['--'] * (chance.random() < 0.1) + steps
 
 
 def printed_of(cvr, rules, chance, names):
-    """What the program prints of some files, by command. Yields each difference, or None."""
+    """What the program prints for some files, by command. Yields each difference, or None."""
     definition, files = reports(chance, names)
     known = read(rules, definition)
     values = {name: read(rules, data, known) for name, data in files.items()}

@@ -1,12 +1,12 @@
 #!/usr/bin/env python3
 """round_trip.py --cvr PATH [--cases N] [--seed N]
 
-Writes what an office holds as volumes, reads them back in another order, and holds the two offices against each other.
-Each case is a small election by chance: one to five reports, with few names, so that most names come again with another
-body. All their volumes are read back shuffled, some twice and some beside the reports themselves; then `currents`,
-`conflicts`, `tally` and each volume have to be the same bytes as before. One seed gives the same cases on every machine. The
-last line is `round trips: N right, M wrong`; the status is 0 only where M is 0 and N is not, and where every kind of
-conflict and three volumes have occurred."""
+Writes what an office holds as volumes, reads them back in another order, and compares the two offices. Each case is a
+small random election: one to five reports, with few names, so that most names come again with another body. All their
+volumes are read back shuffled, some twice and some beside the reports themselves; then `currents`, `conflicts`, `tally`
+and each volume have to be the same bytes as before. One seed gives the same cases on every machine. The last line is
+`round trips: N right, M wrong`; the status is 0 only where M is 0 and N is not, and where every kind of conflict and
+three volumes have occurred."""
 import argparse
 import json
 import os
@@ -25,7 +25,7 @@ import make_vectors  # noqa: E402 (it stands beside this file)
 DEFINITION = make_vectors.vectors()['def.json']
 HEADING = ['2024-11-07T09:30:00-05:00', 'desk']
 SELECTIONS = {'mayor': ['ann', 'bob', 'wi'], 'q1': ['no', 'yes']}
-# Names before, between and behind those that a volume's writer looks for, and such as need an escape.
+# Names before, between and after those that a volume's writer looks for, and names that need an escape.
 UNKNOWN = ['', '@', 'A"', 'B\\', 'CVRSnapshos', 'CVRSnapshot ', 'CVRSnapshotx', 'CurrentSnapshotI', 'CurrentSnapshotId\n', 'Dx', '{', 'z\x7f', '\u00e9',
            '\u2028', '\ue000', '\U0001f600']
 VALUES = [None, True, 0, -9223372036854775808, 18446744073709551615, 'x', '', '"', '\\', ',"CVRSnapshot":[', '}', '\x01\t\n', '\u20ac', '\U0001f5f3', [], {}]
@@ -34,7 +34,7 @@ MOMENTS = ['2024-11-05T23:30:00-05:00', '2024-11-06T04:30:00Z', '2024-11-06T04:3
 
 
 class Case:
-    """An election's reports by chance."""
+    """The reports of a random election."""
 
     def __init__(self, chance):
         self.chance = chance
@@ -102,7 +102,7 @@ class Case:
 
 
 class Office:
-    """What the program prints of files in a folder."""
+    """What the program prints for files in a folder."""
 
     def __init__(self, cvr, folder, files):
         self.cvr, self.folder, self.files, self.told = cvr, folder, files, ''
@@ -111,7 +111,7 @@ class Office:
         self.texts += [self.text(['merge'] + HEADING + [str(n)]) for n in range(1, self.count + 1)]
 
     def text(self, words):
-        """Standard output; what is told beside it, and another status than 0, is kept."""
+        """Standard output. A log, and another status than 0, is kept."""
         done = subprocess.run([self.cvr, words[0], 'definition'] + words[1:] + self.files, cwd=self.folder, stdout=subprocess.PIPE, stderr=subprocess.PIPE)
         if done.returncode or done.stderr:
             self.told += 'status %d, %r; ' % (done.returncode, done.stderr)
@@ -128,7 +128,7 @@ def put(folder, name, data):
 
 
 def tried(cvr, seed):
-    """What is wrong of a case, or nothing; and what occurred in it."""
+    """What is wrong with a case, or nothing; and what occurred in it."""
     chance = random.Random(seed)
     case = Case(chance)
     with tempfile.TemporaryDirectory() as folder:

@@ -2,7 +2,8 @@
 """rules.py: the rules of docs/FORMAT.md, read from its tables, and the fault that they give a file.
 
 It is a second reading of the format, beside the definitions and the code: slow, short and in another language.
-members.py takes the answers of its rows from it, and changes.py changes it rule by rule and asks which rows notice."""
+members.py takes the answers of its rows from it; changes.py changes it rule by rule and reports changes that no row
+notices."""
 import copy
 import itertools
 import json
@@ -17,7 +18,7 @@ MOMENT = re.compile(r'((?P<sign>[+-])00)?(?P<year>\d{4})(?P<dash>-?)(?P<month>\d
                     r'(?P<hour>\d\d)((?P<colon>:?)(?P<minute>\d\d)((?P=colon)(?P<second>\d\d)([.,]\d{1,9})?)?)?'
                     r'([Zz]|[+-](?P<off>\d\d)((?P<mark>:?)(?P<offm>\d\d)((?P=mark)(?P<offs>\d\d))?)?)', re.ASCII)
 NUMBERS = 'year', 'month', 'day', 'hour', 'minute', 'second', 'off', 'offm', 'offs'
-FIRST_SECOND, LAST_SECOND = -377705023201, 253402207200     # since 1970, of the instants that `jiff` has
+FIRST_SECOND, LAST_SECOND = -377705023201, 253402207200     # since 1970: the range of instants in `jiff`
 CYCLE = 146097              # the days of 400 years
 TEXT = re.compile(r'"(?:[^"\\]|\\.)*"', re.S)
 STEPS = {ord('['): 1, ord('{'): 1, ord(']'): -1, ord('}'): -1}
@@ -25,7 +26,7 @@ NO_BRACKETS = bytes(set(range(256)) - set(STEPS))
 
 
 class Fault(Exception):
-    """What a file is refused with, as a log line tells it."""
+    """The fault of a refused file, as a log line has it."""
 
 
 class Bad:
@@ -55,7 +56,7 @@ class Rules:
 
     @staticmethod
     def tables(text):
-        """Each class with its table: of each member whether it is required, its kind, and the rule that refuses repeats or 0."""
+        """The table of each class: whether a member is required, its kind, and the rule against repeats or 0."""
         for part in text.split('\n### ')[1:]:
             head, _, rest = part.partition('\n')
             rows = lines_of(rest.replace('| Member | | Kind | Repeats |', ''), r'`([^`]+)` \| ([RO]) \| (.*?) \|(?: rule (\d+))?')
@@ -86,7 +87,7 @@ def part_of(text, head):
 
 
 def split_at_commas(text):
-    """The parts of a text at its commas that stand in no bracket."""
+    """The parts of a text between its commas outside brackets."""
     parts, depth = [''], 0
     for sign in text:
         depth += (sign == '(') - (sign == ')')
@@ -98,7 +99,8 @@ def split_at_commas(text):
 
 
 def kind_of(text):
-    """A kind as [word, ..]: listed with its list's name, classes with their names, array with kind, least and most."""
+    """A kind as [word, ..]: `listed` with its list's name, `classes` with their names, `array` with kind, least and
+    most."""
     word, _, rest = text.partition('(')
     parts = split_at_commas(rest[:-1]) if rest else []
     if word == 'listed':
@@ -117,7 +119,7 @@ def no_json(*_):
 
 
 def is_deeper(data, most):
-    """Whether arrays and objects are nested deeper than that, brackets in texts left out."""
+    """Whether arrays and objects are nested deeper than `most`; brackets in texts don't count."""
     if data.count(b'[') + data.count(b'{') <= most:
         return False
     signs = re.sub(rb'"(?:[^"\\]|\\.)*"?', b'', data, flags=re.S).translate(None, NO_BRACKETS)
@@ -125,7 +127,7 @@ def is_deeper(data, most):
 
 
 def read(rules, data):
-    """The value of the bytes of a file, in which each number is whole."""
+    """The value of a file's bytes; each of its numbers is whole."""
     if len(data) > rules.most_bytes:
         raise Fault('E1')
     bad = []
@@ -144,7 +146,7 @@ def read(rules, data):
             no_json()
         value = json.loads(data.decode('utf-8'), parse_int=integer, parse_float=fraction, parse_constant=no_json)
         for text in TEXT.findall(data.decode('utf-8')) if b'\\u' in data else ():
-            json.loads(text).encode('utf-8')        # half a pair of surrogates is no text, in a member that doesn't count neither
+            json.loads(text).encode('utf-8')        # half a surrogate pair is no text, even in an overridden member
     except (ValueError, RecursionError):
         raise Fault('E2') from None
     if bad:
@@ -155,7 +157,7 @@ def read(rules, data):
 # ---- the form
 
 def told(code, path, rule=None):
-    """The fault at a path, which is given as its names and places."""
+    """The fault at a path, which is given as its names and indices."""
     path = ''.join('/' + str(name).replace('~', '~0').replace('/', '~1') for name in path)
     path = json.dumps(path, ensure_ascii=False)[1:-1]
     return Fault('%s %s%s' % (code, path, ' %d' % rule if rule else ''))
@@ -175,7 +177,7 @@ def see_numbers(value, path):
 
 
 def numbers_of(text):
-    """The numbers of a date-time with an offset, 0 where one is left out; None of another text."""
+    """The numbers of a date-time with an offset, 0 for one that is left out; None for any other text."""
     found = MOMENT.fullmatch(text)
     if not found or found['sign'] == '-' and found['year'] == '0000':
         return None
@@ -184,7 +186,7 @@ def numbers_of(text):
 
 
 def instant(text):
-    """The nanoseconds of a date-time with an offset, from the same day on."""
+    """The nanoseconds of a date-time with an offset, counted from the same day for all."""
     part = numbers_of(text)
     days = date(part['year'] % 400 + 400, part['month'], part['day']).toordinal() + part['year'] // 400 * CYCLE
     offset = part['off'] * 3600 + part['offm'] * 60 + part['offs']
@@ -233,7 +235,8 @@ def rule_of(rules, value, kind):
 
 
 def see(rules, value, kind, path, repeated=0):
-    """Stops at the first fault of a value that is to be of a kind. `repeated`: rule 12 or 13, of an array that repeats no id."""
+    """Stops at the first fault of a value that has to be of a kind. `repeated`: rule 12 or 13, which repeated ids in it
+    break, or 0."""
     if kind[0] == 'fractional':
         raise told('E3', path, 10)
     if kind[0] == 'classes':
@@ -257,7 +260,7 @@ def see_items(rules, items, kind, path, repeated):
 
 
 def see_object(rules, value, classes, path, again=None):
-    """`again`: the member whose text an earlier item has, and the rule that this breaks."""
+    """`again`: the member whose text an earlier item also has, and the rule that this breaks."""
     if not isinstance(value, dict):
         raise told('E3', path, 1)
     stated = value.get('@type')
@@ -332,8 +335,8 @@ def see_agreement(rules, report, definition):
 
 
 def fault_in(rules, value, definition=None):
-    """The first fault of a file's value, or the one with which it was not read, as a log line tells it, or None. Beside a
-    definition's value it may be one of agreement."""
+    """The first fault of a file's value, or the one with which it wasn't read, as a log line has it, or None. Beside a
+    definition's value it may be a fault of agreement."""
     if isinstance(value, Fault):
         return str(value)
     try:

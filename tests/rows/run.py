@@ -2,8 +2,8 @@
 """run.py --cvr PATH [--only NAME] [-v]
 
 Runs the program on every row of the *.json files beside this one, each in a temporary folder of its own, and compares
-standard output, standard error and status byte for byte. The folder has to be as it was: the program writes no file, and
-changes and removes none. README.md says how a row is written. The last line is `rows: N right, M wrong`; the status is 0
+standard output, standard error and status byte for byte. The folder has to stay as it was: the program creates, changes
+and removes no file. README.md says how a row is written. The last line is `rows: N right, M wrong`; the status is 0
 only where M is 0 and N is not."""
 import argparse
 import glob
@@ -23,17 +23,18 @@ import members       # noqa: E402 (both stand beside this file)
 HERE = os.path.dirname(os.path.abspath(__file__))
 VECTORS = make_vectors.vectors()
 SECONDS = 300
-SIDE_BY_SIDE = 4            # rows at most; the largest takes some 600 MB
+SIDE_BY_SIDE = 4            # rows at most; the largest takes about 600 MB
 SHOWN = 1200
 ROW_MEMBERS = {'name', 'words', 'files', 'folders', 'out', 'err', 'status', 'full', 'file', 'fault', 'cvrs', 'why'}
 
 
 class BadRow(Exception):
-    """A row that is not written as README.md says."""
+    """A row whose form isn't that of README.md."""
 
 
 def spelled(part, short):
-    """The text of a TEXT: a string with the short names expanded, a list of texts, or a repeated text, numbered or not."""
+    """The text of a TEXT: a string with its short names expanded, a list of texts, or a repeated text, numbered or
+    not."""
     if isinstance(part, str):
         for name, long in short.items():
             part = part.replace(name, long)
@@ -54,7 +55,7 @@ def replaced(text, old, new):
 
 
 def content(part, short):
-    """The bytes of a file of a row: a TEXT, or an object that says which vector it is and what is changed."""
+    """The bytes of a row's file: a TEXT, or an object that names a vector and what is changed in it."""
     if not (isinstance(part, dict) and 'of' in part):
         return spelled(part, short).encode('utf-8')
     if set(part) - {'of', 'replace', 'cut', 'byte', 'pad'}:
@@ -82,7 +83,8 @@ def whole_row(name, words, files, out='', err='', status=0):
 
 
 def short_rows(row):
-    """The two rows of a short one: its file is checked under the usual definition, and is itself the definition."""
+    """The two rows that a short one stands for: its file is checked under the usual definition, and is itself the
+    definition."""
     name, files = row['name'], {'file.json': row['file']}
     if ('fault' in row) == ('cvrs' in row):
         raise BadRow('one of fault and cvrs')
@@ -95,7 +97,7 @@ def short_rows(row):
 
 
 def prefix_row(row):
-    """One run over every proper prefix of a vector, each in a file of its own: each of them is refused."""
+    """One run over every proper prefix of a vector, each in a file of its own: each is refused."""
     length = len(VECTORS[row['prefixes']])
     names = ['prefix-%05d' % n for n in range(length)]
     files = {name: {'of': row['prefixes'], 'cut': n} for n, name in enumerate(names)}
@@ -104,7 +106,7 @@ def prefix_row(row):
 
 
 def damage_row(row):
-    """One run over a vector with one byte replaced, for each of its bytes: each of them is refused."""
+    """One run over a vector with one byte replaced, for each of its bytes: each is refused."""
     vector, value = row['damaged'], row['value']
     names = ['byte-%05d' % n for n in range(len(VECTORS[vector]))]
     files = {name: {'of': vector, 'byte': [n, value]} for n, name in enumerate(names)}
@@ -133,7 +135,7 @@ def rows_of(path):
 
 
 def by_paths(row, short):
-    """The row with `list` where its words name a list that is there, and with the paths of that as words if it is UTF-8."""
+    """The row with `list` where its words name a list that is there; if the list is UTF-8, its paths become words."""
     words = row['words']
     null = words[-1:] == ['--null']
     before, flag = words[:-2 - null], words[-2 - null:-1 - null]
@@ -149,7 +151,7 @@ def by_paths(row, short):
 
 
 def lay(folder, row, short):
-    """Lays the vectors that a word or a list names and the row's own files into the folder."""
+    """Writes the vectors that a word or a list names, and the row's own files, into the folder."""
     words = row['words'] + by_paths(row, short)['words']
     for name, data in VECTORS.items():
         if any(name in word for word in words):
@@ -176,7 +178,7 @@ def run(cvr, row, folder):
 
 
 def shown(data):
-    """The bytes as a literal; of long ones the first and the last."""
+    """The bytes as a literal; of long ones the first and the last bytes."""
     if len(data) <= SHOWN:
         return repr(data)
     return '%r .. %r (%d bytes)' % (data[:SHOWN // 2], data[-SHOWN // 2:], len(data))
@@ -201,7 +203,7 @@ def differences(row, short, answer):
 
 
 def look(path):
-    """What an entry of a folder is: its kind and rights, and a checksum of the bytes of a file."""
+    """What an entry of a folder is: its kind and rights, and for a file a checksum of its bytes."""
     try:
         mode = os.lstat(path).st_mode
         if not stat.S_ISREG(mode):
@@ -222,7 +224,7 @@ def entries(folder):
 
 
 def touched(before, after):
-    """What a run did to its folder, as lines: the program only reads."""
+    """What a run did to its folder, as lines: the program may only read."""
     return (['%r is gone' % name for name in sorted(set(before) - set(after))]
             + ['%r is new' % name for name in sorted(set(after) - set(before))]
             + ['%r has changed' % name for name in sorted(set(before) & set(after))
@@ -244,7 +246,7 @@ def tried(cvr, row, short):
 
 
 def all_rows():
-    """Every row as (name of its file, row, short names); no two of them have one name."""
+    """Every row as (name of its file, row, short names); no two of them have the same name."""
     names = set()
     held = []
     for path in sorted(glob.glob(os.path.join(HERE, '*.json'))):
@@ -269,7 +271,7 @@ def main():
     words.add_argument('--only', help='rows whose name begins with this text')
     words.add_argument('-v', action='store_true', help='name each row')
     words = words.parse_args()
-    sys.stdout.reconfigure(errors='backslashreplace')       # a word may be no UTF-8
+    sys.stdout.reconfigure(errors='backslashreplace')       # a word may be invalid UTF-8
     cvr = os.path.abspath(words.cvr)
     right = wrong = 0
     if vectors_differ():
