@@ -1,10 +1,11 @@
 #!/usr/bin/env python3
 """build.py
 
-How `./cvr` builds the program where it isn't built: which crates, in which order and side by side, what it tells, when it builds
-nothing, and what is left of a build that fails or is stopped. Each run is in a false repository of small crates, with the `cvr` and
-`tools` of this one and a false `rt` first on the PATH. This takes as long as a crate's source says, notes when it began and ended,
-and wants the crates below to be built. The last line is `build: N right, M wrong`; the status is 0 only where M is 0 and N is not."""
+How `./cvr` builds the program where it isn't built: which crates, in which order and side by side, what it reports,
+when it builds nothing, and what a build leaves that fails or is stopped. Each run is in a false repository of small
+crates, with the `cvr` and `tools` of this one and a false `rt` first on the PATH. That takes as long as a crate's
+source says, notes when it began and ended, and needs the crates below to be built. The last line is `build: N right, M
+wrong`; the status is 0 only where M is 0 and N is not."""
 import os
 import pty
 import re
@@ -106,7 +107,7 @@ class Tree:
         write('%s/%s' % (self.top, path), text)
 
     def rt(self, line):
-        """A false rt that is of the kit of this line."""
+        """A false rt, whose kit this line names."""
         write(self.bin + '/rt', RT % {'python': sys.executable, 'kit': line, 'log': self.log})
         os.chmod(self.bin + '/rt', 0o755)
 
@@ -132,7 +133,7 @@ class Tree:
         return [name for what, name in self.noted() if what == 'begins']
 
     def waits_for(self, *names):
-        """Waits until these crates are begun."""
+        """Waits until these crates have begun."""
         end = time.time() + SECONDS
         while not {*names} <= {*self.begun()} and time.time() < end:
             time.sleep(0.05)
@@ -151,7 +152,7 @@ def builds_what_it_needs(tree):
     noted = tree.noted()
     yield 'the program is run with the words, and its status and output are its own', (status, output) == (7, 'tally\na b\n')
     yield 'a line for each crate', re.findall(r'^cvr: (\w+): 3 functions proved in \d:\d\d; (\d) of 5 crates$', told, re.M)[-1:] == [('cvr', '5')]
-    yield 'nothing else is told', len(told.splitlines()) == 7 and told.endswith('\ntold\n')
+    yield 'nothing else is printed', len(told.splitlines()) == 7 and told.endswith('\ntold\n')
     yield 'each crate once, and none that the program does not need', sorted(tree.begun()) == ['cvr', 'left', 'low', 'right', 'top']
     yield 'each once those below have ended', all(noted.index(('ends', it)) < noted.index(('begins', name)) for name, uses in CRATES.items()
                                                   if name != 'beside' for it in uses.split() if it in CRATES)
@@ -166,7 +167,7 @@ def keeps_to_its_jobs(tree):
 def builds_nothing_twice(tree):
     tree.run()
     before = tree.files()
-    yield 'a second call builds nothing and tells nothing, and no rt is needed', tree.run('a', rt=False) == (7, 'a\n', 'told\n')
+    yield 'a second call builds and reports nothing, and needs no rt', tree.run('a', rt=False) == (7, 'a\n', 'told\n')
     yield 'nor does it write', tree.files() == before
     for path, _ in before:
         os.utime(path)
@@ -272,16 +273,16 @@ def keeps_what_another_built(tree):
 
 
 def shown_on_a_terminal(tree):
-    """What a build shows on a terminal, by what was written over."""
+    """The texts that a build shows on a terminal, with those that were overwritten."""
     ours, theirs = pty.openpty()
     process, shown = tree.begin(stdout=subprocess.PIPE, stderr=theirs), b''
-    os.close(theirs)
-    try:
-        while True:
-            shown += os.read(ours, 4096)
-    except OSError:             # so a terminal ends
-        process.communicate(timeout=SECONDS)
-    return [it.rstrip() for it in shown.decode().replace('\r\n', '\n').split('\r')]
+    process.communicate(timeout=SECONDS)
+    os.write(theirs, b'\0')     # what is written just before the last writer closes a terminal can be lost
+    while not shown.endswith(b'\0'):
+        shown += os.read(ours, 4096)
+    for end in ours, theirs:
+        os.close(end)
+    return [it.rstrip() for it in shown[:-1].decode().replace('\r\n', '\n').split('\r')]
 
 
 def on_a_terminal(tree):

@@ -1,20 +1,20 @@
 #!/usr/bin/env python3
 """terminal.py --cvr PATH
 
-What a run shows on a terminal, beside what it prints. Where standard error is a terminal, a line `read N files` stands on it
-from the second file on, is written over by the next one, and is taken away before anything else is written and at the end. So
-the screen ends with the log and the notes of the run, and with output, log and notes where all go to it. Where standard error
-is no terminal, it takes the log and not a byte more, also beside an output that is a terminal.
+What a run shows on a terminal, beside what it prints. Where standard error is a terminal, it has a line `read N files`
+from the second file on. The next such line overwrites it, and it is removed before anything else is written and at the
+end. So the screen ends with the log and the notes of the run; with output, log and notes where all go to it. Where
+standard error is no terminal, it gets the log and not a byte more, also beside an output that is a terminal.
 
-- Runs over files that are accepted, refused or missing, of each command, and of help and refused words, on a terminal
-  each, on one terminal for both, and on pipes.
-- Notes: where a file is no JSON, and what it seems to be, as stated below by hand; records of the definition's own; names with
-  several texts; no files; what the system says of a file that can't be read.
-- A file that is read slowly, by a pipe of the file system: the line stands while the run waits for it.
-- The terminal fails at each call of the line, one byte a call (devices.c): output, log and status are as ever.
+- Runs over files that are accepted, refused or missing, of each command, and of help and refused words: on a terminal
+each, on one terminal for both, and on pipes.
+- Notes: where a file is no JSON, and what it seems to be, as stated below by hand; records of the definition's own;
+names with several texts; no files; what the system says of a file that can't be read.
+- A file that is read slowly, by a named pipe: the line stays while the run waits for it.
+- The terminal fails at each call of the line, with one byte a call (devices.c): output, log and status are as usual.
 
-The texts are those of tests/rows/printed.py. The judge of a screen is tried first, on right and on wrong ones. The last line
-is `terminal: N right, M wrong`; the status is 0 only where M is 0 and N is not."""
+The texts are those of tests/rows/printed.py. The judge of a screen is tried first, on right and on wrong ones. The last
+line is `terminal: N right, M wrong`; the status is 0 only where M is 0 and N is not."""
 import argparse
 import errno
 import gzip
@@ -34,11 +34,12 @@ sys.path.insert(0, HERE)
 import damage  # noqa: E402 (it stands here)
 
 SECONDS = 60
+MARK = b'\0'         # no run prints it
 ENDS = ('terminal', 'pipe')
 F2 = damage.rows.VECTORS['f2.json']
 DEF = damage.rows.VECTORS['def.json']
 
-# Files that are no JSON, each with the line and the byte where it stops being JSON, and what it seems to be.
+# Files that are no JSON, each with the line and the byte where JSON ends in it, and what it seems to be.
 NO_JSON = {
     'half': (F2[:100], 1, 88, '; it seems to be cut off'),
     'word': (b'{"a": tru', 1, 7, '; it seems to be cut off'),
@@ -60,12 +61,12 @@ NO_JSON = {
 # ---- the judge
 
 def line(files):
-    """What the line says, or nothing where it doesn't stand."""
+    """The text of the line, or nothing where there is no line."""
     return 'read %d files' % files if files > 1 else ''
 
 
 def screen(text):
-    """The rows that a terminal shows, and what stood on the row of the cursor at each carriage return."""
+    """The rows that a terminal shows, and the row of the cursor at each carriage return."""
     found, row, column, before = [], '', 0, []
     for sign in text:
         if sign == '\r':
@@ -80,16 +81,16 @@ def screen(text):
 
 
 def wrong_of(text, files, told):
-    """What is wrong with what a terminal took, where so many files were read and this was told on it, or nothing."""
+    """What is wrong with what a terminal got, or nothing. So many files were read, and `told` was printed on it."""
     shown, before = screen(text)
     lines = [line(number) for number in range(2, files + 1)]
     if shown != screen(told)[0]:
-        return 'the screen shows %r, and was told %r' % (shown, told)
+        return 'the screen shows %r, expected %r' % (shown, told)
     if [one for one in before if one] != lines:
         return 'the line said %r, expected %r' % (before, lines)
     if lines and (before[0] or before[-1]):
         return 'the line was not taken away: %r' % before
-    return '' if '\r' in text or text == told else 'no line, and other bytes than those told: %r' % text
+    return '' if '\r' in text or text == told else 'no line, and other bytes than those expected: %r' % text
 
 
 def judged():
@@ -110,23 +111,20 @@ def judged():
 # ---- runs
 
 class End:
-    """A terminal or a pipe that a run writes to, and what it took."""
+    """A terminal or a pipe that a run writes to, and what it got. It stays open until MARK comes behind the run's text,
+    since what is written just before the last writer closes a terminal can be lost."""
 
     def __init__(self, kind):
         self.got, self.stood = b'', threading.Condition()
         self.ours, self.theirs = pty.openpty() if kind == 'terminal' else os.pipe()
         if kind == 'terminal':
-            tty.setraw(self.theirs)     # or it would make two signs of a line feed
+            tty.setraw(self.theirs)     # else it makes two characters of a line feed
         self.reading = threading.Thread(target=self.read, daemon=True)
         self.reading.start()
 
     def read(self):
-        data = b' '
-        while data:
-            try:
-                data = os.read(self.ours, 4096)
-            except OSError:             # so a terminal ends
-                data = b''
+        while not self.got.endswith(MARK):
+            data = os.read(self.ours, 4096)
             with self.stood:
                 self.got += data
                 self.stood.notify_all()
@@ -137,10 +135,12 @@ class End:
             return self.stood.wait_for(lambda: text in self.got, SECONDS)
 
     def all(self):
-        """All that it took, once the run has ended."""
+        """All that it got, once the run has ended."""
+        os.write(self.theirs, MARK)
         self.reading.join(SECONDS)
-        os.close(self.ours)
-        return self.got.decode('utf-8')
+        for end in self.ours, self.theirs:
+            os.close(end)
+        return self.got.removesuffix(MARK).decode('utf-8')
 
 
 class Run:
@@ -151,11 +151,9 @@ class Run:
         self.out, self.log = out, log
         self.process = subprocess.Popen([program.cvr] + words, cwd=program.folder, env=env, stdin=subprocess.DEVNULL,
                                         stdout=out.theirs, stderr=log.theirs)
-        for end in {out, log}:
-            os.close(end.theirs)
 
     def left(self):
-        """What the ends took, and the status."""
+        """What the ends got, and the status."""
         try:
             status = self.process.wait(SECONDS)
         except subprocess.TimeoutExpired:
@@ -170,7 +168,7 @@ def differs(got, wanted):
 
 
 def notes(program, asked):
-    """The notes of a run, by what its log says, and by the table above."""
+    """The notes of a run, by its log and by the table above."""
     log = asked.log.decode('utf-8')
     if asked.status == 3:
         code = errno.EISDIR if '.: K1' in log else errno.ENOENT
@@ -194,8 +192,8 @@ def notes(program, asked):
 
 
 def wrongs(program, asked, files, noted):
-    """Yields what is wrong with a run that reads so many files beside its first, and has these notes, or nothing: for each kind of
-    its ends."""
+    """Yields, for each kind of its ends, what is wrong with a run, or nothing. The run reads so many files beside its
+    first, and has these notes."""
     told, log = asked.out.decode('utf-8'), asked.log.decode('utf-8')
     for out_kind in ENDS:
         for log_kind in ENDS:
@@ -211,7 +209,7 @@ def wrongs(program, asked, files, noted):
 
 
 def slow(program, names):
-    """What is wrong with a run over files, the last of which comes slowly, or nothing."""
+    """What is wrong with a run over files, or nothing; the last file comes slowly."""
     asked = damage.case('currents', damage.held(*names))
     path = program.path('slow')
     os.mkfifo(path)
@@ -225,8 +223,8 @@ def slow(program, names):
 
 
 def failing(program, asked):
-    """Yields what is wrong with a run whose terminal fails at a call of the line or of taking it away, or nothing. The log is whole
-    in each, and stands alone but where the line could not be taken away."""
+    """Yields what is wrong with a run, or nothing. Its terminal fails at a call that writes or removes the line. The
+    log is whole in each, and stands alone unless the line could not be removed."""
     log = asked.log.decode('utf-8') + notes(program, asked)
     took = Run(program, asked.words, End('pipe'), End('terminal')).left()[1]
     last = took.rfind('\r')

@@ -39,7 +39,6 @@ def terminal_differences(companion, cvr):
         done = subprocess.run([sys.executable, os.path.join(companion, 'cvr-audit')] + words,
                               cwd=folder, env=dict(os.environ, CVR=cvr), stdin=subprocess.DEVNULL,
                               stdout=subprocess.PIPE, stderr=log.theirs, timeout=rows.SECONDS)
-        os.close(log.theirs)
     screen, before = terminal.screen(log.all())
     found = []
     if (screen, done.returncode) != (['damaged.json: E3 /CVR/0/UniqueId 2', ''], 1):
