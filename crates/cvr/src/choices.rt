@@ -49,12 +49,3 @@ pub fn behind_the_name(words: &[String]) -> &[String]
         _ => words,
     }
 }
-
-/// Whether the line about files is shown, by how many come after the first.
-pub fn shows(is_terminal: bool, files: usize) -> bool
-    ensures quiet { is_terminal ≡ false → result ≡ false }
-    ensures several { result ≡ true → 1 < files }
-    ensures shown { is_terminal ≡ true → 1 < files → result ≡ true }
-{
-    is_terminal && files > 1
-}

@@ -2,23 +2,17 @@
 #![tactic(auto)]
 
 mod choices;
-mod notes;
-mod progress;
-mod seen;
-mod watched;
 
 ghost use Rattle.std.specs.Prelude.{◌≡◌, None, false, true};
 ghost use Rattle.cvr_run.specs.Opening.{Unknown};
 
 use choices::{behind_the_name, file_fault, words_line, words_status};
 use cvr_cli::{FileFault, Open, OverRead, OverWrite, Status, listing_of, respond};
-use notes::Notes;
-use progress::{Cleared, Progress};
+use cvr_screen::{Cleared, Log, Notes, Progress, Watched};
 use std::io::IsTerminal;
 use std::process::ExitCode;
 use std::rt::{Env, Files, Stderr, Stdout};
 use std::{env, fs};
-use watched::{Log, Watched};
 
 // The files of the system. Contracts leave open what they hold.
 #[derive(Drop)]

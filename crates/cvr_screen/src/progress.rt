@@ -1,4 +1,5 @@
-use crate::choices::shows;
+ghost use Rattle.std.specs.Prelude.{◌≡◌, ◌<◌, false, true};
+
 use std::cell::Cell;
 use std::io;
 use std::io::Write;
@@ -70,4 +71,13 @@ impl<W: Write, R: Eprint> Write for Cleared<'_, W, R> {
     fn flush(&mut self) -> io::Result<()> {
         self.output.flush()
     }
+}
+
+// Whether the line about files is shown, by how many come after the first.
+fn shows(is_terminal: bool, files: usize) -> bool
+    ensures quiet { is_terminal ≡ false → result ≡ false }
+    ensures several { result ≡ true → 1 < files }
+    ensures shown { is_terminal ≡ true → 1 < files → result ≡ true }
+{
+    is_terminal && files > 1
 }

@@ -1,5 +1,5 @@
 use crate::seen::{Flaw, Seen, see};
-use cvr_cli::{HELD, Status};
+use cvr_run::{HELD, Status};
 use std::cell::{Cell, RefCell};
 use std::io;
 

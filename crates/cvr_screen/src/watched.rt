@@ -5,7 +5,7 @@ ghost use Rattle.cdf_types.specs.Device.{count, fails_write};
 use crate::notes::Notes;
 use crate::progress::Progress;
 use cdf_types::{DeviceFault, Sink};
-use cvr_cli::OverWrite;
+use cvr_run::OverWrite;
 use std::io;
 use std::io::{Read, Write};
 
