@@ -12,9 +12,10 @@ units of random sizes. For each, on pages for offices and for the public, it tes
   page as HTML5 (page_form.py);
 - how Chromium shows it in a wide and a narrow window, and prints it (page_views.py).
 
-Last the slips of page_ways.py: each is made in a copy, and the county or the sets have to find it.
-With --companion the copy in that folder is tested, without a browser and without the largest sets.
-Where a tool isn't there a line `skipped` says so. --picture writes the picture that README shows.
+Beside that the slips of page_ways.py: each is made in a copy, and the county or the sets have to
+find it. With --companion the copy in that folder is tested, without a browser and without the
+largest sets. Where a tool isn't there a line `skipped` says so. --picture writes the picture that
+README shows.
 The last line is `page: N right, M wrong`; the status is 0 only where M is 0 and N is not."""
 import argparse
 import hashlib
@@ -234,12 +235,12 @@ def main():
     words = words.parse_args()
     companion = os.path.abspath(words.companion or os.path.join(TOP, 'companion'))
     trial = Trial(os.path.abspath(words.cvr), companion, not words.companion)
-    see_all(trial, words)
-    if not words.companion:
-        with ThreadPoolExecutor(min(SIDE_BY_SIDE, len(os.sched_getaffinity(0)))) as pool:
-            tries = pool.map(lambda way: see_way(trial, way), page_ways.WAYS)
-            for way, wrong in zip(page_ways.WAYS, tries):
-                trial.see('way %s' % way.name, wrong)
+    ways = [] if words.companion else page_ways.WAYS
+    with ThreadPoolExecutor(min(SIDE_BY_SIDE, len(os.sched_getaffinity(0)))) as pool:
+        tries = pool.map(lambda way: see_way(trial, way), ways)     # they begin at once
+        see_all(trial, words)
+        for way, wrong in zip(ways, tries):
+            trial.see('way %s' % way.name, wrong)
     print('page: %d right, %d wrong' % (trial.right, trial.wrong))
     sys.exit(0 if trial.right and not trial.wrong else 1)
 
