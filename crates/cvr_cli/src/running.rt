@@ -24,9 +24,10 @@ use std::alloc::Global;
 /// no fault of a merge is reported. That fault comes after the refused files, and nothing is
 /// printed then either.
 ///
-/// How much was printed with status Memory no clause says: nothing, or, of `merge`, a prefix, or,
-/// where only the path of a line could not be spelled, the text or a prefix of it, is only tested.
-/// So is that Memory stands above all other statuses. That memory was really refused isn't said.
+/// No clause says how much was printed if the status is `Memory`. It is only tested that this is
+/// nothing; of `merge`, a prefix; and where memory was refused only for the path in a log line, the
+/// text or a prefix of it. Nor does a clause say that `Memory` comes before all other statuses, or
+/// that memory was really refused: both are only tested.
 pub fn run<W: Sink, L: Sink>(
     alloc: Global,
     request: &Request,
@@ -49,14 +50,15 @@ pub fn run<W: Sink, L: Sink>(
 /// Does what the words after the program's name ask for: reads the definition and the files of
 /// their request, each at its path and in this order, and runs over them. Where one isn't read, the
 /// log says so, and nothing else is opened or done. Words that ask for no request are reported in
-/// the log, and the status is `CommandLine`; those that ask for help have it printed; nothing is
-/// opened then. Where the opener says what stands at each path, the run is one over these files.
+/// the log, and the status is `CommandLine`; for words that ask for help, the help is printed;
+/// either way nothing is opened. Where the opener says what is at each path, the run is one over
+/// these files.
 ///
 /// No clause says what a file of the system holds, nor that it was opened at its path. Over the
-/// opener of the system, which promises nothing of any path, a run that ends early is only said to
-/// log one of its paths, with K1 or K2, or `memory`; the order, and which path is first, are said
-/// of openers that say what stands at each path. That the texts of help and of refused words are
-/// not empty is only tested.
+/// opener of the system, which promises nothing of any path, the clauses say of a run that ends
+/// early only that it logs one of its paths, with K1 or K2, or `memory`. The order, and which path
+/// comes first, they say of openers that say what is at each path. It is only tested that the
+/// texts of help and of refused words are not empty.
 pub fn work<O: Open, W: Sink, L: Sink>(
     alloc: Global,
     opener: &mut O,
@@ -83,12 +85,12 @@ pub fn work<O: Open, W: Sink, L: Sink>(
 }
 
 /// Does what the words after the program's name ask for. Where they ask for the version, or what a
-/// code means, that is printed, and no file is opened. Where a list stands in the place of the
-/// files, it is read, and the request is done over the files of its paths. All other words go to
-/// `work`. What `work` says of words that ask for a request holds as it stands.
+/// code means, that is printed, and no file is opened. Where they name a list of files, the list is
+/// read, and the request is done over the files at its paths. All other words go to `work`, and
+/// what its clauses say of words that ask for a request holds here, too.
 ///
-/// Only tested: that no words with a list ask for a request as they stand, and that the texts of
-/// codes are those of docs/FAULTS.md.
+/// It is only tested that words with a list ask for no other request, and that the texts of codes
+/// are those of docs/FAULTS.md.
 pub fn respond<O: Open, W: Sink, L: Sink>(
     alloc: Global,
     opener: &mut O,

@@ -10,7 +10,8 @@ struct File {
     seen: Seen,
 }
 
-// What is printed at the end of a run, where standard error is a terminal; else nothing is kept.
+/// The notes that are printed at the end of a run where standard error is a terminal. Elsewhere
+/// nothing is kept, and nothing printed.
 #[derive(Drop)]
 pub struct Notes<'a, R> {
     rt: &'a R,
@@ -32,7 +33,8 @@ pub struct Notes<'a, R> {
 }
 
 impl<'a, R: Eprint + AllocGlobal> Notes<'a, R> {
-    // The notes of a run that has read nothing.
+    /// The notes of a run that has read nothing. `before` is the number of files that are read
+    /// before the definition: 1 where a list names the others, else 0.
     pub fn new(rt: &'a R, is_terminal: bool, before: usize) -> Notes<'a, R> {
         Notes {
             rt,
@@ -48,11 +50,13 @@ impl<'a, R: Eprint + AllocGlobal> Notes<'a, R> {
         }
     }
 
+    /// Whether standard error is a terminal.
     pub fn is_terminal(&self) -> bool {
         self.is_terminal
     }
 
-    // Where the path and the bytes of an opened file are kept, if they are.
+    /// The path of a file that was opened, and no bytes yet, to keep those that are read. None
+    /// where nothing is kept, or memory was refused.
     pub fn open(&self, path: &str) -> Option<(String, Vec<u8>)> {
         if !self.is_terminal {
             return None;
@@ -62,7 +66,7 @@ impl<'a, R: Eprint + AllocGlobal> Notes<'a, R> {
         Some((path?, Vec::new(self.rt.alloc())))
     }
 
-    // Keeps what is seen of a file that was read.
+    /// Keeps what is seen of a file: its path, and the bytes that were read.
     pub fn close(&self, path: String, bytes: &[u8]) {
         let seen = if bytes.len() < HELD {
             see(self.rt.alloc(), bytes)
@@ -76,12 +80,12 @@ impl<'a, R: Eprint + AllocGlobal> Notes<'a, R> {
         self.is_lacking.set(self.is_lacking.get() || !is_kept);
     }
 
-    // Keeps that memory was refused for a file.
+    /// Keeps that memory was refused for a file: no note on a file is printed then.
     pub fn lack(&self) {
         self.is_lacking.set(true);
     }
 
-    // Keeps why a file could not be opened or read.
+    /// Keeps why a file could not be opened or read.
     pub fn fail(&self, fault: &io::Error) {
         self.code.set(fault.raw_os_error());
     }
@@ -97,7 +101,8 @@ impl<'a, R: Eprint + AllocGlobal> Notes<'a, R> {
         }
     }
 
-    // Hears bytes of the log, which comes path by path and code by code.
+    /// Takes note of bytes of the log, which comes path by path and code by code: whether the
+    /// definition was refused, and whether a file was E2.
     pub fn hear(&self, bytes: &[u8]) {
         if !self.has_log.replace(true) {
             self.is_def_refused.set(self.is_def(bytes));
@@ -107,12 +112,12 @@ impl<'a, R: Eprint + AllocGlobal> Notes<'a, R> {
         }
     }
 
-    // Hears how many names have several bodies.
+    /// Takes note of how many names have several bodies.
     pub fn hear_several(&self, names: usize) {
         self.several.set(names);
     }
 
-    // Prints the notes of a run that has ended so. What the terminal answers is ignored.
+    /// Prints the notes of a run that ended with this status. What the terminal answers is ignored.
     pub fn print(&self, status: &Status) {
         if !self.is_terminal {
             return;

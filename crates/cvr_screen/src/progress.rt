@@ -4,7 +4,7 @@ use std::cell::Cell;
 use std::io;
 use std::io::Write;
 
-// How many files were read, as a line of a terminal that is written over.
+/// How many files were read, as a line of a terminal that is overwritten.
 #[derive(Drop)]
 pub struct Progress<'a, R> {
     rt: &'a R,
@@ -12,12 +12,12 @@ pub struct Progress<'a, R> {
     is_terminal: bool,
     // The files that were closed, the definition among them.
     closed: Cell<usize>,
-    // The line stands on the terminal.
+    // The line is on the terminal.
     is_shown: Cell<bool>,
 }
 
 impl<'a, R: Eprint> Progress<'a, R> {
-    // No file was read, and no line stands.
+    /// No file was read, and there is no line.
     pub fn new(rt: &'a R, is_terminal: bool) -> Progress<'a, R> {
         Progress {
             rt,
@@ -27,8 +27,8 @@ impl<'a, R: Eprint> Progress<'a, R> {
         }
     }
 
-    // Counts a file, and shows how many there are beside the first, which is the definition or a
-    // list of files. One alone is not shown. What the terminal answers is ignored.
+    /// Counts a file, and shows how many there are beside the first, which is the definition or a
+    /// list of files. One alone is not shown. What the terminal answers is ignored.
     pub fn count(&self) {
         let files = self.closed.get();
         self.closed.set(files.saturating_add(1));
@@ -38,8 +38,8 @@ impl<'a, R: Eprint> Progress<'a, R> {
         }
     }
 
-    // Clears the line, if it stands, with as many blanks as it may be long. What the terminal
-    // answers is ignored.
+    /// Removes the line, if there is one, by as many blanks as it may be long. What the terminal
+    /// answers is ignored.
     pub fn clear(&self) {
         if self.is_shown.replace(false) {
             let _ = eprint!(self.rt; "\r{:31}\r", "");
@@ -47,7 +47,7 @@ impl<'a, R: Eprint> Progress<'a, R> {
     }
 }
 
-// An output that clears the line before it takes bytes.
+/// An output that removes the line before it takes bytes.
 #[derive(Drop)]
 pub struct Cleared<'a, W, R> {
     output: W,
@@ -55,6 +55,7 @@ pub struct Cleared<'a, W, R> {
 }
 
 impl<'a, W, R: Eprint> Cleared<'a, W, R> {
+    /// The output over a writer.
     pub fn new(output: W, progress: &'a Progress<'a, R>) -> Cleared<'a, W, R> {
         Cleared { output, progress }
     }

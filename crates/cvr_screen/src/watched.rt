@@ -9,7 +9,7 @@ use cvr_run::OverWrite;
 use std::io;
 use std::io::{Read, Write};
 
-// A file that counts as read when it is closed, and whose bytes are kept for the notes.
+/// A file that counts as read when it is closed, and whose bytes are kept for the notes.
 pub struct Watched<'a, F, R: Eprint + AllocGlobal> {
     file: F,
     // Its path, and its bytes; None where they aren't kept.
@@ -19,6 +19,7 @@ pub struct Watched<'a, F, R: Eprint + AllocGlobal> {
 }
 
 impl<'a, F, R: Eprint + AllocGlobal> Watched<'a, F, R> {
+    /// The file that was opened at this path.
     pub fn new(
         file: F,
         path: &str,
@@ -76,7 +77,7 @@ impl<F: Drop, R: Eprint + AllocGlobal> Drop for Watched<'_, F, R> {
     }
 }
 
-// The log: the line is cleared before it takes bytes, and the notes hear them.
+/// The log: it removes the line before it takes bytes, and the notes take note of them.
 #[derive(Drop)]
 pub struct Log<'a, W, R> {
     inner: OverWrite<W>,
@@ -85,6 +86,7 @@ pub struct Log<'a, W, R> {
 }
 
 impl<'a, W: Write + Drop, R: Eprint + AllocGlobal> Log<'a, W, R> {
+    /// The log over a writer; it hasn't failed.
     pub fn new(output: W, progress: &'a Progress<'a, R>, notes: &'a Notes<'a, R>) -> Log<'a, W, R>
         ensures { result.inner.failed ≡ false }
     {
@@ -99,7 +101,7 @@ impl<'a, W: Write + Drop, R: Eprint + AllocGlobal> Log<'a, W, R> {
 impl<W: Write + Drop, R: Eprint + AllocGlobal> Sink for Log<'_, W, R> {
     ghost taken = { λ s. record { bytes = None; failed = s.inner.failed } };
 
-    // Hands the bytes on, and nothing else.
+    /// Hands the bytes on, and nothing else.
     fn write(&mut self, bytes: &[u8]) -> Result<usize, DeviceFault>
         requires working { self.old.inner.failed ≡ false }
         requires some { 0 < length bytes.now }
