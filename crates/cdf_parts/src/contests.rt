@@ -1,3 +1,8 @@
+ghost use Rattle.std.specs.Prelude.{◌≡◌, ◌<◌, length, map, IfOk, option_map, codes};
+ghost use Rattle.cdf_node.specs.View.{view};
+ghost use Rattle.cdf_parts.specs.Parts.{ids_at};
+ghost use Rattle.cdf_parts.specs.Places.{contest_of, contest_ids, selections_at, selections_of};
+
 use crate::ids::Ids;
 use crate::part::items_at;
 use cdf_node::Node;
@@ -26,10 +31,6 @@ impl Model for Contests {
 }
 
 impl Contests {
-    ghost use Rattle.std.specs.Prelude.{◌≡◌, ◌<◌, length, map, IfOk, option_map};
-    ghost use Rattle.cdf_node.specs.View.{view};
-    ghost use Rattle.cdf_parts.specs.Places.{contest_of, contest_ids, selections_at, selections_of};
-
     /// The contests of an Election's array, in order.
     ///
     /// # Errors
@@ -37,13 +38,9 @@ impl Contests {
     pub fn of_items(alloc: Global, items: &[Node<'_>]) -> Result<Contests, Memory>
         ensures { IfOk result (λ n. n ≡ map contest_of (map view items.now)) }
     {
-        let mut selections = Vec::with_capacity(alloc, items.len())?;
-        for item in items {
-            selections.push(Ids::of_items(alloc, items_at("ContestSelection", item))?)?;
-        }
         Ok(Contests {
             ids: Ids::of_items(alloc, items)?,
-            selections,
+            selections: selections_in(alloc, items)?,
         })
     }
 
@@ -54,13 +51,9 @@ impl Contests {
     pub fn copy(&self, alloc: Global) -> Result<Contests, Memory>
         ensures { IfOk result (λ n. n ≡ self.now) }
     {
-        let mut selections = Vec::with_capacity(alloc, self.selections.len())?;
-        for ids in &self.selections {
-            selections.push(ids.copy(alloc)?)?;
-        }
         Ok(Contests {
             ids: self.ids.copy(alloc)?,
-            selections,
+            selections: copies(alloc, &self.selections)?,
         })
     }
 
@@ -88,4 +81,27 @@ impl Contests {
             Some(place) => Some(&self.selections[place]),
         }
     }
+}
+
+// The ids of the selections of each contest.
+fn selections_in(alloc: Global, items: &[Node<'_>]) -> Result<Vec<Ids>, Memory>
+    ensures { IfOk result (λ each. each.items
+        ≡ map (ids_at (codes "ContestSelection")) (map view items.now)) }
+{
+    let mut each = Vec::with_capacity(alloc, items.len())?;
+    for item in items {
+        each.push(Ids::of_items(alloc, items_at("ContestSelection", item))?)?;
+    }
+    Ok(each)
+}
+
+// Equal ids, in order.
+fn copies(alloc: Global, each: &[Ids]) -> Result<Vec<Ids>, Memory>
+    ensures { IfOk result (λ copies. copies.items ≡ each.now) }
+{
+    let mut copies = Vec::with_capacity(alloc, each.len())?;
+    for ids in each {
+        copies.push(ids.copy(alloc)?)?;
+    }
+    Ok(copies)
 }

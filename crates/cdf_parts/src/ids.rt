@@ -1,3 +1,10 @@
+ghost use Rattle.std.specs.Prelude.{◌≡◌, ◌<◌, length, slice_index_or, map, IfOk, [], bytes_eq};
+ghost use Rattle.std.specs.List.{list_any};
+ghost use Rattle.cdf_node.specs.View.{view};
+ghost use Rattle.cdf_parts.specs.Parts.{id_of};
+ghost use Rattle.cdf_parts.specs.Places.{place_in};
+ghost use Rattle.cdf_parts.specs.Kept.{bytes_of};
+
 use crate::noting::note_place;
 use crate::part::{copy_texts, text_at};
 use cdf_node::Node;
@@ -26,13 +33,6 @@ impl Model for Ids {
 }
 
 impl Ids {
-    ghost use Rattle.std.specs.Prelude.{◌≡◌, ◌<◌, length, slice_index_or, map, IfOk, [], bytes_eq};
-    ghost use Rattle.std.specs.List.{list_any};
-    ghost use Rattle.cdf_node.specs.View.{view};
-    ghost use Rattle.cdf_parts.specs.Parts.{id_of};
-    ghost use Rattle.cdf_parts.specs.Places.{place_in};
-    ghost use Rattle.cdf_parts.specs.Kept.{bytes_of};
-
     /// The ids in the order that is given.
     ///
     /// # Errors
@@ -54,14 +54,7 @@ impl Ids {
     pub fn of_items(alloc: Global, items: &[Node<'_>]) -> Result<Ids, Memory>
         ensures { IfOk result (λ n. n ≡ map id_of (map view items.now)) }
     {
-        let mut ids = Vec::with_capacity(alloc, items.len())?;
-        let mut places = BTreeMap::new(alloc);
-        for (place, item) in items.iter().enumerate() {
-            let id = text_at("@id", item);
-            note_place(alloc, &mut places, id, place)?;
-            ids.push(String::from_str(alloc, id)?)?;
-        }
-        Ok(Ids { ids, places })
+        Ids::of(alloc, ids_in(alloc, items)?)
     }
 
     /// The same ids.
@@ -103,4 +96,15 @@ impl Ids {
     {
         self.find(id).is_some()
     }
+}
+
+// The ids of objects, in order.
+fn ids_in(alloc: Global, items: &[Node<'_>]) -> Result<Vec<String>, Memory>
+    ensures { IfOk result (λ ids. bytes_of ids.items ≡ map id_of (map view items.now)) }
+{
+    let mut ids = Vec::with_capacity(alloc, items.len())?;
+    for item in items {
+        ids.push(String::from_str(alloc, text_at("@id", item))?)?;
+    }
+    Ok(ids)
 }

@@ -1,8 +1,8 @@
 ghost use Rattle.std.specs.Prelude.{◌≡◌, IfOk, refl};
 ghost use Rattle.std.specs.Ordering.{as_partial_cmp, eq_by_cmp};
-ghost use Rattle.std.specs.Cmp.Rules.{comparing};
-ghost use Rattle.std.proofs.Common.{rules};
-ghost use Rattle.cvr_fact_types.specs.Orders.{header_cmp};
+ghost use Rattle.std.specs.Cmp.{eq_by_cmp_equiv, partial_equiv_from_equiv};
+ghost use Rattle.std.specs.Cmp.{partial_order_from_total};
+ghost use Rattle.cvr_fact_types.specs.Orders.{header_cmp, header_total};
 
 use crate::name::RecordName;
 use crate::text::copy_optional;
@@ -43,7 +43,7 @@ impl HeaderFact {
 impl PartialEq for HeaderFact {
     ghost eq = { eq_by_cmp header_cmp };
 
-    ghost laws = { Prim.search (comparing, rules) depth 9 };
+    ghost laws = { partial_equiv_from_equiv (eq_by_cmp_equiv header_total) };
 
     fn eq(&self, other: &HeaderFact) -> bool {
         self.cmp(other).is_eq()
@@ -51,13 +51,13 @@ impl PartialEq for HeaderFact {
 }
 
 impl Eq for HeaderFact {
-    ghost laws = { Prim.search (comparing, rules) depth 9 };
+    ghost laws = { eq_by_cmp_equiv header_total };
 }
 
 impl Ord for HeaderFact {
     ghost cmp = { header_cmp };
 
-    ghost total = { Prim.search (comparing, rules) depth 9 };
+    ghost total = { header_total };
 
     ghost matches_partial_cmp = { λ _ _. refl };
 
@@ -73,7 +73,7 @@ impl Ord for HeaderFact {
 impl PartialOrd for HeaderFact {
     ghost partial_cmp = { as_partial_cmp header_cmp };
 
-    ghost laws = { Prim.search (comparing, rules) depth 9 };
+    ghost laws = { partial_order_from_total header_total };
 
     fn partial_cmp(&self, other: &HeaderFact) -> Option<Ordering> {
         Some(self.cmp(other))

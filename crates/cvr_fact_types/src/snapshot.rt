@@ -1,8 +1,8 @@
 ghost use Rattle.std.specs.Prelude.{◌≡◌, IfOk, refl};
 ghost use Rattle.std.specs.Ordering.{as_partial_cmp, eq_by_cmp};
-ghost use Rattle.std.specs.Cmp.Rules.{comparing};
-ghost use Rattle.std.proofs.Common.{rules};
-ghost use Rattle.cvr_fact_types.specs.Orders.{snapshot_cmp};
+ghost use Rattle.std.specs.Cmp.{eq_by_cmp_equiv, partial_equiv_from_equiv};
+ghost use Rattle.std.specs.Cmp.{partial_order_from_total};
+ghost use Rattle.cvr_fact_types.specs.Orders.{snapshot_cmp, snapshot_total};
 
 use crate::name::RecordName;
 use crate::sums::VoteSums;
@@ -61,7 +61,7 @@ fn copy_votes(alloc: Global, votes: &[VoteSums]) -> Result<Seq<VoteSums>, Memory
 impl PartialEq for SnapshotFact {
     ghost eq = { eq_by_cmp snapshot_cmp };
 
-    ghost laws = { Prim.search (comparing, rules) depth 9 };
+    ghost laws = { partial_equiv_from_equiv (eq_by_cmp_equiv snapshot_total) };
 
     fn eq(&self, other: &SnapshotFact) -> bool {
         self.cmp(other).is_eq()
@@ -69,13 +69,13 @@ impl PartialEq for SnapshotFact {
 }
 
 impl Eq for SnapshotFact {
-    ghost laws = { Prim.search (comparing, rules) depth 9 };
+    ghost laws = { eq_by_cmp_equiv snapshot_total };
 }
 
 impl Ord for SnapshotFact {
     ghost cmp = { snapshot_cmp };
 
-    ghost total = { Prim.search (comparing, rules) depth 9 };
+    ghost total = { snapshot_total };
 
     ghost matches_partial_cmp = { λ _ _. refl };
 
@@ -92,7 +92,7 @@ impl Ord for SnapshotFact {
 impl PartialOrd for SnapshotFact {
     ghost partial_cmp = { as_partial_cmp snapshot_cmp };
 
-    ghost laws = { Prim.search (comparing, rules) depth 9 };
+    ghost laws = { partial_order_from_total snapshot_total };
 
     fn partial_cmp(&self, other: &SnapshotFact) -> Option<Ordering> {
         Some(self.cmp(other))

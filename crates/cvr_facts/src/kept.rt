@@ -8,6 +8,7 @@ ghost use Rattle.cdf_parts.specs.Places.{Contest};
 ghost use Rattle.cdf_typed.specs.Typed.{cvr_of, snapshot_of};
 ghost use Rattle.cdf_typed.specs.Range.{SnapshotInRange};
 ghost use Rattle.cvr_facts.specs.Lists.{IsKeptOf, told_device, told_header, told_under, facts_in};
+ghost use Rattle.cvr_facts.specs.Lists.{record_name};
 ghost use Rattle.cvr_facts.specs.Lists.{AreOfRecords, ListsRise};
 ghost use Rattle.cvr_facts.specs.Reports.{facts};
 ghost use Rattle.cvr_facts.specs.Stands.{ListIsSpelled};
@@ -91,15 +92,22 @@ fn header_in(alloc: Global, cvr: &Node<'_>) -> Result<HeaderFact, Memory>
     ensures { IfOk result (λ fact. (contests : List Contest)
         → fact ≡ told_header (cvr_of contests (view cvr.now))) }
 {
-    let key = RecordName {
-        device: own_text(alloc, text_at("CreatingDeviceId", cvr))?,
-        unique: own_text(alloc, text_at("UniqueId", cvr))?,
-    };
     Ok(HeaderFact {
-        key,
+        key: name_in(alloc, cvr)?,
         unit: own_text_in(alloc, text_in("BallotStyleUnitId", cvr))?,
         batch: own_text_in(alloc, text_in("BatchId", cvr))?,
         body: header_text(alloc, cvr)?,
+    })
+}
+
+// The name of a record, straight from its value.
+fn name_in(alloc: Global, cvr: &Node<'_>) -> Result<RecordName, Memory>
+    ensures { IfOk result (λ name. (contests : List Contest)
+        → name ≡ record_name (cvr_of contests (view cvr.now))) }
+{
+    Ok(RecordName {
+        device: own_text(alloc, text_at("CreatingDeviceId", cvr))?,
+        unique: own_text(alloc, text_at("UniqueId", cvr))?,
     })
 }
 

@@ -66,7 +66,7 @@ impl<'a, R: Eprint + AllocGlobal> Notes<'a, R> {
         Some((path?, Vec::new(self.rt.alloc())))
     }
 
-    /// Keeps what is seen of a file: its path, and the bytes that were read.
+    /// Keeps the path of a file that was read, and what its bytes seem to be.
     pub fn close(&self, path: String, bytes: &[u8]) {
         let seen = if bytes.len() < HELD {
             see(self.rt.alloc(), bytes)

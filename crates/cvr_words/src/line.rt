@@ -1,5 +1,5 @@
-ghost use Rattle.std.specs.Prelude.{◌≡◌, IfOk, false, codes};
-ghost use Rattle.clap.specs.Words.{app_of, new_app, rule_of};
+ghost use Rattle.std.specs.Prelude.{◌≡◌, IfOk, Ok, true, false, codes};
+ghost use Rattle.clap.specs.Words.{app_of, new_app, rule_of, with_subcommand};
 ghost use Rattle.cvr_words.specs.Line.{bare_line, cvr_line, drill_line, files_line, merge_line};
 ghost use Rattle.cvr_words.specs.Line.{required_word, one_number, several};
 
@@ -217,15 +217,28 @@ fn bare_command<'a>(alloc: Global) -> Command<'a>
         )
 }
 
+// The line with one more command. It has a body of its own, since one body with all such steps
+// takes much longer to prove.
+fn with_command<'a>(
+    line: Command<'a>,
+    command: Result<Command<'a>, AllocError>,
+) -> Result<Command<'a>, AllocError>
+    ensures { IfOk result (λ r. (c : Command)
+        × (command.entry ≡ Ok c)
+        × ((app_of c).top.is_plain ≡ true
+        → app_of r ≡ with_subcommand (app_of line.entry) (app_of c).top)) }
+{
+    line.subcommand(command?)
+}
+
 /// The whole command line.
 pub(crate) fn cvr_command<'a>(alloc: Global) -> Result<Command<'a>, AllocError>
     ensures { IfOk result (λ c. app_of c ≡ cvr_line) }
 {
-    bare_command(alloc)
-        .subcommand(currents_command(alloc)?)?
-        .subcommand(conflicts_command(alloc)?)?
-        .subcommand(tally_command(alloc)?)?
-        .subcommand(check_command(alloc)?)?
-        .subcommand(merge_command(alloc)?)?
-        .subcommand(drill_command(alloc)?)
+    let line = with_command(bare_command(alloc), currents_command(alloc))?;
+    let line = with_command(line, conflicts_command(alloc))?;
+    let line = with_command(line, tally_command(alloc))?;
+    let line = with_command(line, check_command(alloc))?;
+    let line = with_command(line, merge_command(alloc))?;
+    with_command(line, drill_command(alloc))
 }
