@@ -536,7 +536,9 @@ class Distributed:
             self.late = TimeoutError, asyncio.TimeoutError, concurrent.futures.TimeoutError
             logging.disable(logging.CRITICAL)       # its own lines say less than this script's last one
             where = [words.scheduler] if words.scheduler else []
-            own = {} if where else {'n_workers': words.workers, 'threads_per_worker': 1}
+            own = {} if where else dict(
+                n_workers=words.workers, threads_per_worker=1, silence_logs=logging.CRITICAL,
+                dashboard_address='127.0.0.1:0')        # any port: others may have such workers here
             self.client = self.module.Client(*where, timeout=words.wait, **own)
             words.workers = len(self.client.scheduler_info()['workers']) or words.workers
         except (ImportError, OSError) as fault:

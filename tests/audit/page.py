@@ -14,8 +14,8 @@ units of random sizes. For each, on pages for offices and for the public, it tes
 
 Beside that the slips of page_ways.py: each is made in a copy, and the county or the sets have to
 find it. With --companion the copy in that folder is tested, without a browser and without the
-largest sets. Where a tool isn't there a line `skipped` says so. --picture writes the picture that
-README shows.
+largest sets, until something is wrong. Where a tool isn't there a line `skipped` says so. --picture
+writes the picture that README shows.
 The last line is `page: N right, M wrong`; the status is 0 only where M is 0 and N is not."""
 import argparse
 import hashlib
@@ -28,6 +28,7 @@ import shutil
 import subprocess
 import sys
 import tempfile
+import threading
 from concurrent.futures import ThreadPoolExecutor
 
 sys.dont_write_bytecode = True
@@ -52,20 +53,27 @@ SIDE_BY_SIDE = 4
 FEW = 8             # the sets with which a slip is tried
 
 
+class Found(Exception):
+    """Something is wrong with a copy."""
+
+
 class Trial:
-    """A companion and a program that are tested."""
+    """A companion and a program that are tested. Of a copy the first wrong thing is enough."""
 
     def __init__(self, cvr, companion, is_seen=True):
         self.cvr, self.companion, self.is_seen = cvr, companion, is_seen
-        self.right = self.wrong = 0
+        self.right, self.wrong, self.lock = 0, 0, threading.Lock()
         sys.path.insert(0, companion)
         self.package = importlib.import_module('cvr_audit.line') and sys.modules['cvr_audit']
 
     def see(self, what, wrong):
         """Counts a thing that was tested, and prints what is wrong with it."""
-        self.right, self.wrong = self.right + (not wrong), self.wrong + bool(wrong)
-        for line in wrong[:9]:
-            print('WRONG %s: %s' % (what, line))
+        with self.lock:
+            self.right, self.wrong = self.right + (not wrong), self.wrong + bool(wrong)
+            for line in wrong[:9]:
+                print('WRONG %s: %s' % (what, line))
+        if wrong and not self.is_seen:
+            raise Found
 
     def page(self, folder, definition, files, *words):
         """(page, log, status) of the words."""
@@ -141,12 +149,12 @@ def differences(got, wanted):
 # ---- sets
 
 def sets(trial, words):
-    """The sets, by name: the bytes of their files by name."""
-    yield 'odd names', page_sets.texts_of(page_sets.odd())
-    yield '60 units', page_sets.texts_of(page_sets.many_units(60))
+    """The sets, by name: the bytes of their files by name; those that take longest first."""
     if not words.companion:
         yield '300 contests', page_sets.texts_of(page_sets.many_contests())
         yield '2,000 units', page_sets.texts_of(page_sets.many_units())
+    yield 'odd names', page_sets.texts_of(page_sets.odd())
+    yield '60 units', page_sets.texts_of(page_sets.many_units(60))
     definition = page_sets.many_contests(2)[0]
     yield 'no record', page_sets.texts_of((definition, {}))
     refused = page_sets.texts_of((definition, {'a.json': dict(definition, Version='2.0.0')}))
@@ -162,15 +170,15 @@ def counts_of(trial, folder, files):
     return [held.get(name) for name in ['def.json'] + files]
 
 
-def see_set(trial, folder, name, held):
-    """Tests the pages of a set, and how they look where the set has a name of its own."""
-    for path, data in held.items():
-        with open(os.path.join(folder, path), 'wb') as file:
-            file.write(data)
+def see_set(trial, name, held, is_public):
+    """Tests a page of a set, and how it looks where the set has a name of its own."""
     files, definition = [it for it in held if it != 'def.json'], json.loads(held['def.json'])
-    text, status = trial.printed(folder, 'tally', '--', 'def.json', *files)
-    tally, counts = page_numbers.Tally(text, definition), counts_of(trial, folder, files)
-    for is_public in (False, True):
+    with tempfile.TemporaryDirectory() as folder:
+        for path, data in held.items():
+            with open(os.path.join(folder, path), 'wb') as file:
+                file.write(data)
+        text, status = trial.printed(folder, 'tally', '--', 'def.json', *files)
+        tally, counts = page_numbers.Tally(text, definition), counts_of(trial, folder, files)
         what, path = name + ' for the public' * is_public, os.path.join(folder, 'page.html')
         text, log, got = trial.page(folder, 'def.json', files, *['--public'] * is_public)
         wrong = ['status %d: %s' % (got, log)] * (got != status)
@@ -209,20 +217,34 @@ def see_way(trial, way):
     return [] if status == 1 and lines and not is_broken else ['nothing finds it: %s' % log]
 
 
-def see_all(trial, words):
-    """Tests everything but the slips."""
-    trial.see('masks', list(page_masks.judged()))
-    trial.see('style', list(page_form.style_wrong(trial.package.page_style.STYLE)))
-    trial.see('faults', list(page_form.faults_wrong(trial.package.page_faults)))
+def see_own(trial, words):
+    """Tests the pages of the county."""
     with tempfile.TemporaryDirectory() as folder:
         see_county(trial, folder)
         for name in ('county', 'public') if trial.is_seen else ():
             page_views.see(trial, os.path.join(folder, name + '.html'), name)
         if words.picture:
             picture(trial, folder, words.picture)
+
+
+def pages(trial, words):
+    """What is tested in a browser too: a function beside the trial, and what else it takes."""
+    yield see_own, words
     for name, held in sets(trial, words):
-        with tempfile.TemporaryDirectory() as folder:
-            see_set(trial, folder, name, held)
+        yield see_set, name, held, False
+        yield see_set, name, held, True
+
+
+def see_all(trial, words):
+    """Tests everything but the slips: pages of the companion side by side, since most of the time
+    is the browsers'; those of a copy in turn, up to the first that finds its slip."""
+    trial.see('masks', list(page_masks.judged()))
+    trial.see('style', list(page_form.style_wrong(trial.package.page_style.STYLE)))
+    trial.see('faults', list(page_form.faults_wrong(trial.package.page_faults)))
+    with ThreadPoolExecutor(page_views.BROWSERS) as pool:
+        each = pool.map if trial.is_seen else map
+        for _ in each(lambda it: it[0](trial, *it[1:]), pages(trial, words)):
+            pass
 
 
 def main():
@@ -238,7 +260,10 @@ def main():
     ways = [] if words.companion else page_ways.WAYS
     with ThreadPoolExecutor(min(SIDE_BY_SIDE, len(os.sched_getaffinity(0)))) as pool:
         tries = pool.map(lambda way: see_way(trial, way), ways)     # they begin at once
-        see_all(trial, words)
+        try:
+            see_all(trial, words)
+        except Found:
+            pass
         for way, wrong in zip(ways, tries):
             trial.see('way %s' % way.name, wrong)
     print('page: %d right, %d wrong' % (trial.right, trial.wrong))

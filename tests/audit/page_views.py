@@ -1,12 +1,12 @@
 """page_views.py: how a page looks: in Chromium, in a wide and a narrow window, and printed."""
 import atexit
 import collections
-import functools
 import os
 import re
 import shutil
 import subprocess
 import tempfile
+import threading
 
 import page_browser
 import page_picture
@@ -22,6 +22,8 @@ OVER = '''[document.documentElement.scrollWidth - innerWidth,
     .filter(it => it.getBoundingClientRect().right > innerWidth + 1 &&
       (matchMedia('print').matches || !it.closest('.wide')))
     .map(it => it.tagName + ' ' + it.textContent.slice(0, 40)).slice(0, 3)]'''
+BROWSERS = 3        # that run side by side
+OWN = threading.local()
 LACKING = set()     # the tools that a line `skipped` has named
 
 
@@ -33,13 +35,13 @@ def lacks(what, is_there):
     return not is_there
 
 
-@functools.lru_cache(None)
 def shown():
-    """A run's one browser, which ends with the run."""
-    folder = tempfile.mkdtemp()
-    browser = page_browser.Browser(folder)
-    atexit.register(lambda: (browser.end(), shutil.rmtree(folder, ignore_errors=True)))
-    return browser
+    """The browser of this thread, which ends with the run."""
+    if not hasattr(OWN, 'browser'):
+        folder = tempfile.mkdtemp()
+        browser = OWN.browser = page_browser.Browser(folder)
+        atexit.register(lambda: (browser.end(), shutil.rmtree(folder, ignore_errors=True)))
+    return OWN.browser
 
 
 def see(trial, path, what):

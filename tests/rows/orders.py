@@ -96,14 +96,17 @@ def emptied(named):
     return [(name, '"CVR":[]' if name == '"CVR"' else text) for name, text in named]
 
 
-def arranged(data, arrange):
-    """The bytes of a file with its members arranged, or None where that can't be done."""
-    if len(data) > MOST:
-        return None
+def cut(data):
+    """The members of a file, or None where it stays as it is."""
     try:
-        texts = arrange(members_of(data.decode('utf-8')))
+        return members_of(data.decode('utf-8')) if len(data) <= MOST else None
     except (UnicodeDecodeError, NoMembers):
         return None
+
+
+def arranged(named, arrange):
+    """The bytes of a file of these members, arranged, or None where that can't be done."""
+    texts = arrange(named) if named is not None else None
     return ('{%s}' % ','.join(texts)).encode('utf-8') if texts else None
 
 
@@ -119,40 +122,50 @@ def once(named):
     return [text for _, text in emptied(named)] if '"CVR"' in dict(named) else None
 
 
-def lay(folder, row, short, arrange):
-    """Writes the files of a row, each arranged where that can be done; answers how many were."""
-    run.lay(folder, row, short)
-    count = 0
-    for name in os.listdir(folder):
-        path = os.path.join(folder, name)
-        if os.path.isdir(path):
-            continue
-        with open(path, 'rb') as file:
-            made = arranged(file.read(), arrange)
-        if made is not None:
-            with open(path, 'wb') as file:
-                file.write(made)
-            count += 1
-    return count
+class Laid:
+    """The folder of a row: its folders, and of each file the bytes and the members."""
+
+    def __init__(self, row, short):
+        self.folders, self.files = [], {}
+        with tempfile.TemporaryDirectory() as top:
+            run.lay(top, row, short)
+            for folder, folders, files in os.walk(top):
+                self.folders += [os.path.relpath(os.path.join(folder, name), top) for name in folders]
+                for path in (os.path.join(folder, name) for name in files):
+                    with open(path, 'rb') as file:
+                        data = file.read()
+                    self.files[os.path.relpath(path, top)] = data, cut(data)
+
+    def arrange(self, top, arrange):
+        """Makes the folder again, each file arranged where that can be done."""
+        for name in self.folders:
+            os.mkdir(os.path.join(top, name))
+        for name, (data, named) in self.files.items():
+            made = arranged(named, arrange)
+            with open(os.path.join(top, name), 'wb') as file:
+                file.write(data if made is None else made)
 
 
-def answer(cvr, row, short, arrange):
+def answer(cvr, row, laid, arrange):
     """What the program does over the arranged files of a row, or None where none could be arranged."""
+    if all(arranged(named, arrange) is None for _, named in laid.files.values()):
+        return None
     with tempfile.TemporaryDirectory() as folder:
-        return run.run(cvr, row, folder) if lay(folder, row, short, arrange) else None
+        laid.arrange(folder, arrange)
+        return run.run(cvr, row, folder)
 
 
 def tried(cvr, held):
     """(how many runs of a row are right, what differs in the others)."""
     _, row, short = held
-    right, wrong = 0, []
+    laid, right, wrong = Laid(row, short), 0, []
     for arrange in ORDERS:
-        got = answer(cvr, row, short, arrange)
+        got = answer(cvr, row, laid, arrange)
         found = run.differences(row, short, got) if got else []
         right, wrong = right + bool(got and not found), wrong + found
     if ': E2\n' in run.spelled(row['err'], short):
         return right, wrong
-    got, wanted = answer(cvr, row, short, twice), answer(cvr, row, short, once)
+    got, wanted = answer(cvr, row, laid, twice), answer(cvr, row, laid, once)
     if got and got != wanted:
         wrong.append('a second, empty CVR: got %r, expected %r' % (got, wanted))
     return right + bool(got and got == wanted), wrong
@@ -165,12 +178,12 @@ def try_itself():
     told = []
     for order, wanted in zip(ORDERS, [(records, a, b), (b, a, records), (records, b, a), (b, a, records)]):
         pieces = [piece for pair in zip(wanted, BETWEEN) for piece in (pair[0], pair[1].encode())]
-        if arranged(text, order) != b'{%s}' % b','.join(pieces):
-            told.append('%r' % arranged(text, order))
-    if arranged(text, twice) != text.strip()[:-1].replace(b' , ', b',').replace(b',\n', b',') + b',"CVR":[]}':
-        told.append('twice: %r' % arranged(text, twice))
+        if arranged(cut(text), order) != b'{%s}' % b','.join(pieces):
+            told.append('%r' % arranged(cut(text), order))
+    if arranged(cut(text), twice) != text.strip()[:-1].replace(b' , ', b',').replace(b',\n', b',') + b',"CVR":[]}':
+        told.append('twice: %r' % arranged(cut(text), twice))
     told += ['%r is arranged' % it for it in (b'', b'[]', b'{"a":1', b'{"a":1,"a":2}', b'{"a":1}x', b'"{}"', b'\xff{}', b'{"\\u0061":1}')
-             if arranged(it, ORDERS[0]) is not None]
+             if arranged(cut(it), ORDERS[0]) is not None]
     return told
 
 
