@@ -136,22 +136,29 @@ class Laid:
                         data = file.read()
                     self.files[os.path.relpath(path, top)] = data, cut(data)
 
-    def arrange(self, top, arrange):
-        """Makes the folder again, each file arranged where that can be done."""
+    def arranged(self, arrange):
+        """The bytes of each file, arranged where that can be done; None where it can't for any."""
+        made = {name: arranged(named, arrange) for name, (_, named) in self.files.items()}
+        if all(it is None for it in made.values()):
+            return None
+        return {name: self.files[name][0] if it is None else it for name, it in made.items()}
+
+    def lay(self, top, files):
+        """Makes the folder again, with these bytes of its files."""
         for name in self.folders:
             os.mkdir(os.path.join(top, name))
-        for name, (data, named) in self.files.items():
-            made = arranged(named, arrange)
+        for name, data in files.items():
             with open(os.path.join(top, name), 'wb') as file:
-                file.write(data if made is None else made)
+                file.write(data)
 
 
 def answer(cvr, row, laid, arrange):
     """What the program does over the arranged files of a row, or None where none could be arranged."""
-    if all(arranged(named, arrange) is None for _, named in laid.files.values()):
+    files = laid.arranged(arrange)
+    if files is None:
         return None
     with tempfile.TemporaryDirectory() as folder:
-        laid.arrange(folder, arrange)
+        laid.lay(folder, files)
         return run.run(cvr, row, folder)
 
 

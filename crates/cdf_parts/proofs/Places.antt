@@ -1,5 +1,5 @@
 -- Places of ids, and what stands there.
-use Rattle.std.proofs.Common.{◌≡◌, ℕ, zero, suc, ◌+◌, ◌<◌, ◌≤◌, List, [], ◌∷◌, ◌++◌, length, get_or}
+use Rattle.std.proofs.Common.{◌≡◌, ℕ, zero, suc, ◌+◌, ◌<◌, List, [], ◌∷◌, ◌++◌, length, get_or}
 use Rattle.std.proofs.Common.{map, Bool, true, false, cond, Option, Some, None, bytes_eq, refl, sym}
 use Rattle.std.proofs.Common.{ap, ◌∙◌, subst, arith, String, Global, string_bytes}
 use Rattle.std.specs.Option.{option_or}
@@ -11,7 +11,7 @@ use Rattle.std.proofs.Common.{take, ◌||◌}
 use Rattle.std.proofs.lemmas.Option.{none-some}
 use Rattle.std.proofs.lemmas.Cmp.{nat_list_eq_equiv}
 use Rattle.std.proofs.lemmas.Slice.Eq.{bytes_eq-Decides}
-use Rattle.std.proofs.lemmas.List.{map-append, take_more, length-map, length-take-le}
+use Rattle.std.proofs.lemmas.List.{map-append, take_more}
 use Rattle.std.proofs.lemmas.Map.Text.{btree_map_updates_text}
 use Rattle.cdf_node.specs.View.{view}
 use Rattle.cdf_node.specs.declared.node.Node.{Node}
@@ -106,10 +106,6 @@ ids_more xs s vs i v h e t = map-append (λ x. string_bytes x) xs (s ∷ [])
       e,
       t,
     )
-
-pub ids_len : (xs : List (String Global)) (vs : List Node) (i : ℕ) → i ≤ length vs
-    → bytes_of xs ≡ map id_of (map view (take i vs)) → length (bytes_of xs) ≡ i
-ids_len xs vs i h e = rw (e, length-map, length-map) (length-take-le i vs h)
 
 -- an id is among those that have a place
 some_cond : (t : Bool) (i : ℕ) (o : Option ℕ) (b : Bool) → is_some o ≡ b

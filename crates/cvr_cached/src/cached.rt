@@ -4,13 +4,12 @@ use cdf_check::Definition;
 use cdf_types::{Body, Memory, ReadFault};
 use cvr_facts::{HeaderFact, RecordName, SnapshotFact};
 use cvr_lists::devices::{device_body_in, device_count_in, next_device_in};
-use cvr_lists::putting::{of_devices, of_records, own_devices, put_in};
+use cvr_lists::putting::{of_devices, of_records, put_in};
 use cvr_lists::read_facts;
 use cvr_lists::record_lists::{grouped, headers_down};
 use cvr_office::{ConflictList, JoinFault, Office, Receipt, RecordFacts};
 use cvr_tally::{Row, RowKey, Totals, tally_text};
 use std::alloc::Global;
-use std::collections::BTreeMap;
 use std::marker::Model;
 
 /// An office that remembers what it answers: the content of each record by its name, and the rows
@@ -76,17 +75,7 @@ impl Office for CachedOffice {
     ghost defined = { λ o. o.content.frame };
 
     fn new(alloc: Global, definition: Definition) -> Result<Self, Memory> {
-        let mut devices = Vec::new(alloc);
-        put_in(&mut devices, own_devices(alloc, &definition)?)?;
-        let totals = Totals::new(alloc, &definition)?;
-        definition.made_of_a_report();
-        let count = devices.len();
-        let store = Store {
-            devices,
-            records: BTreeMap::new(alloc),
-            totals,
-            count,
-        };
+        let store = Store::new(alloc, &definition)?;
         Ok(CachedOffice { definition, store })
     }
 

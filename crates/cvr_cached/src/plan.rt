@@ -1,5 +1,4 @@
-ghost use Rattle.std.specs.Prelude.{◌≡◌, ◌≤◌, ◌+◌, ◌++◌, ◌∷◌, [], OnOk, IfOk, IsTrue, Some, false};
-ghost use Rattle.std.specs.Prelude.{length};
+ghost use Rattle.std.specs.Prelude.{◌≡◌, OnOk, IfOk, IsTrue, Some, false};
 ghost use Rattle.std.specs.List.{Contains};
 ghost use Rattle.std.specs.FinSet.{contains};
 ghost use Rattle.cvr_office.specs.declared.any_fact.AnyFact.{AnyFact};
@@ -12,7 +11,7 @@ ghost use Rattle.cvr_office.specs.Place.{fact_of, any_cmp};
 ghost use Rattle.cvr_office.specs.Plain.{set_of, IsPut};
 ghost use Rattle.cvr_office.specs.Runs.{run};
 ghost use Rattle.cvr_cached.specs.Contents.{facts_at};
-ghost use Rattle.cvr_cached.specs.Plans.{IsPlan, IsStep};
+ghost use Rattle.cvr_cached.specs.Plans.{IsAdded, IsPlan, IsStep};
 
 use crate::content::RecordContent;
 use cdf_types::Memory;
@@ -94,8 +93,7 @@ fn add_change(
     if has_all(old.facts(), &group) {
         return Ok(());
     }
-    let content = old.with(alloc, group)?;
-    push_change(plan, name, old, content)
+    push_change(alloc, plan, name, old, group)
 }
 
 // Adds what another office's content of a record changes in its content, if it does.
@@ -114,24 +112,23 @@ fn add_join(
     if has_all(old.facts(), theirs.facts()) {
         return Ok(());
     }
-    let name = name.copy()?;
-    let content = old.with(alloc, copies(alloc, theirs.facts())?)?;
-    push_change(plan, name, old, content)
+    let more = copies(alloc, theirs.facts())?;
+    push_change(alloc, plan, name.copy()?, old, more)
 }
 
-// Adds a record's new content to a plan.
+// Adds a record's content with more put in to a plan; some of it is new.
 fn push_change(
+    alloc: Global,
     plan: &mut Plan,
     name: RecordName,
     old: &RecordContent,
-    content: RecordContent,
+    more: Vec<AnyFact>,
 ) -> Result<(), Memory>
-    requires { length old.now ≤ length content }
-    ensures pushed { OnOk result
-        (plan.new.contents.items ≡ plan.old.contents.items ++ (name, content) ∷ []) }
-    ensures counted { OnOk result
-        (plan.new.new_facts + length old.now ≡ plan.old.new_facts + length content) }
+    requires { (x : AnyFact) × Contains more.items x
+        × (contains (set_of old.now) (fact_of x) ≡ false) }
+    ensures { OnOk result (IsAdded old.now more.items name plan.old plan.new) }
 {
+    let content = old.with(alloc, more)?;
     let grown = content.facts().len() - old.facts().len();
     let new_facts = match plan.new_facts.checked_add(grown) {
         Some(sum) => sum,

@@ -1,8 +1,10 @@
 use crate::content::RecordContent;
 use crate::plan::{Plan, plan_of, plan_of_contents};
 use crate::taking::{devices_with, put_in, replace};
+use cdf_definition::Definition;
 use cdf_types::Memory;
 use cvr_facts::RecordName;
+use cvr_lists::putting;
 use cvr_office::any_fact::AnyFact;
 use cvr_tally::Totals;
 use std::alloc::Global;
@@ -42,11 +44,31 @@ impl Store {
     ghost use Rattle.std.specs.List.Sorted.{IsStrictlySortedBy};
     ghost use Rattle.cvr_fact_types.specs.declared.name.RecordName.{RecordName};
     ghost use Rattle.cvr_office.specs.declared.any_fact.AnyFact.{AnyFact};
+    ghost use Rattle.cvr_office.specs.Keeps.{starting_content};
     ghost use Rattle.cvr_office.specs.Names.{record_of};
     ghost use Rattle.cvr_office.specs.Place.{fact_of, any_cmp};
     ghost use Rattle.cvr_office.specs.Plain.{set_of};
-    ghost use Rattle.cvr_cached.specs.Held.{facts_of, CanTake};
+    ghost use Rattle.cvr_cached.specs.Held.{facts_of, IsCached, CanTake};
     ghost use Rattle.cvr_cached.specs.Taking.{IsPlanOf, IsTaken};
+
+    // What an office of this definition starts with: the devices of the definition, and no record.
+    pub(crate) fn new(alloc: Global, definition: &Definition) -> Result<Store, Memory>
+        ensures cached { IfOk result (λ s. IsCached definition.now s) }
+        ensures content { IfOk result
+            (λ s. set_of (facts_of s) ≡ starting_content definition.now) }
+    {
+        let mut devices = Vec::new(alloc);
+        putting::put_in(&mut devices, putting::own_devices(alloc, definition)?)?;
+        let totals = Totals::new(alloc, definition)?;
+        definition.made_of_a_report();
+        let count = devices.len();
+        Ok(Store {
+            devices,
+            records: BTreeMap::new(alloc),
+            totals,
+            count,
+        })
+    }
 
     // Takes in facts of devices, and those of records in order: all of them, or none. Answers how
     // many were new.
