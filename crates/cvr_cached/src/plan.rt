@@ -116,7 +116,7 @@ fn add_join(
     push_change(alloc, plan, name.copy()?, old, more)
 }
 
-// Adds a record's content with more put in to a plan; some of it is new.
+// Adds to a plan a record's content with more facts put in, of which some are new.
 fn push_change(
     alloc: Global,
     plan: &mut Plan,
