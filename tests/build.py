@@ -24,53 +24,81 @@ import fcntl, os, re, sys, time, types
 KIT, LOG = %(kit)r, %(log)r
 
 def held(crates):
-    for it in crates:
-        fcntl.flock(os.open(it.folder, os.O_RDONLY), fcntl.LOCK_EX)
+    found = [os.open(it.folder, os.O_RDONLY) for it in crates]
+    for it in found:
+        fcntl.flock(it, fcntl.LOCK_EX)
+    return found
 
-rtlib = types.SimpleNamespace(lock=held)
-
-class Crate:
-    def __init__(self, folder):
-        self.folder, self.name = folder, os.path.basename(folder)
-        self.text = open(folder + '/src/lib.rt').read()
-
-    def is_built(self):
-        return os.path.exists(self.folder + '/out/rlib') and open(self.folder + '/out/rlib').read() == self.text
-
-def below(name, rows):
-    return [other for it in rows[name] if it in rows for other in [*below(it, rows), it]]
+def text_of(path):
+    return open(path).read() if os.path.isfile(path) else None
 
 def note(what, name):
     with open(LOG, 'a') as file:
         file.write('%%s %%s %%d\n' %% (what, name, os.getpid()))
 
+class Crate:
+    def __init__(self, folder, *_):
+        self.folder, self.name, self.rlib = folder, os.path.basename(folder), folder + '/out/rlib'
+        self.text = text_of(folder + '/src/lib.rt')
+        crates = os.path.dirname(folder)
+        rows = dict(line.split(':') for line in open(os.path.dirname(crates) + '/crates.txt') if ':' in line)
+        self.uses = [Crate('%%s/%%s' %% (crates, it)) for it in rows[self.name].split() if it in rows]
+
+    def below(self):
+        found = {other.name: other for it in self.uses for other in [*it.below(), it]}
+        return [*found.values()]
+
+    def stamp(self):
+        texts = [text_of('%%s/%%s' %% (self.folder, it)) for it in ('src/lib.rt', 'specs/Lib.antt', 'proofs/Lib.antt')]
+        return repr([texts, [it.stamp() for it in self.uses]])
+
+    def is_built(self):
+        return text_of(self.rlib) == self.stamp()
+
+    def words(self, flags, keeps):
+        return flags
+
+    def prove(self):
+        note('begins', self.name)
+        print('so far: 1 of 3 functions checked', flush=True)
+        time.sleep(float(self.text.split()[1]))
+        if 'fails' in self.text:
+            print('fn %%s::wrong: not proved' %% self.name)
+            return 1
+        print('logic=proved functions=3 sum=1')
+        return 0
+
+    def call(self, *words):
+        if not all(os.path.exists(it.rlib) for it in self.below()):
+            return 2
+        status = self.prove()
+        if not status:
+            open(words[-1], 'w').write(self.stamp())
+        note('ends', self.name)
+        return status
+
+    def run(self, flags, arguments):
+        os.makedirs('out', exist_ok=True)
+        status = self.call('out/cvr')
+        for it in self.held:
+            os.close(it)
+        with open('out/cvr', 'w') as file:
+            file.write('#!/bin/sh\n[ "$*" != pipe ] || kill -PIPE $$\nprintf "%%s\\n" "$@"\necho told >&2\nexit 7\n# ' + self.text)
+        os.chmod('out/cvr', 0o755)
+        return status
+
+rtlib = types.SimpleNamespace(lock=held, Crate=Crate, RATTLE='rattle', KIT=os.path.dirname(os.path.realpath(__file__)))
+
 def main(words):
     if words == ['version']:
         print(KIT)
         return 0
-    here = os.getcwd()
-    crates = os.path.dirname(here)
-    lines = [line.split(':') for line in open(os.path.dirname(crates) + '/crates.txt') if ':' in line]
-    rows = {name: uses.split() for name, uses in lines}
-    own = Crate(here)
-    rtlib.lock([*[Crate(crates + '/' + it) for it in dict.fromkeys(below(own.name, rows))], own])
-    note('begins', own.name)
-    is_new = words[0] == 'run' or not own.is_built()
+    own = Crate(os.getcwd())
+    own.held = rtlib.lock([*own.below(), own])
     os.makedirs('out', exist_ok=True)
-    if is_new:
-        print('so far: 1 of 3 functions checked', flush=True)
-        time.sleep(float(own.text.split()[1]))
-        if 'fails' in own.text:
-            print('fn %%s::wrong: not proved' %% own.name)
-            return 1
-        open('out/rlib', 'w').write(own.text)
-        print('logic=proved functions=3 sum=1')
     if words[0] == 'run':
-        with open('out/cvr', 'w') as file:
-            file.write('#!/bin/sh\n[ "$*" != pipe ] || kill -PIPE $$\nprintf "%%s\\n" "$@"\necho told >&2\nexit 7\n# ' + own.text)
-        os.chmod('out/cvr', 0o755)
-    note('ends', own.name)
-    return 0
+        return own.run([], [])
+    return 0 if own.is_built() else own.call(own.rlib)
 
 if __name__ == '__main__':
     sys.exit(main(sys.argv[1:]))
@@ -182,16 +210,34 @@ def builds_nothing_twice(tree):
 
 def builds_what_changed(tree):
     tree.run()
-    for path in 'crates/left/src/lib.rt', 'crates/left/specs/Lib.antt', 'crates/left/proofs/Lib.antt', 'crates.txt', 'HANDLES', 'crates/cvr/out/cvr':
+    above = ['left', 'top', 'cvr']
+    changes = {'crates/left/src/lib.rt': above, 'crates/left/specs/Lib.antt': above, 'crates/left/proofs/Lib.antt': above,
+               'out/rlib/left.rlib.sum': ['left', 'cvr'], 'crates.txt': ['cvr'], 'HANDLES': ['cvr'], 'crates/cvr/out/cvr': ['cvr']}
+    for path, crates in changes.items():
         tree.write(path, open('%s/%s' % (tree.top, path)).read() + '\n')
+        if path.startswith('out/'):
+            os.remove(tree.top + '/out/built')
         status, _, _ = tree.run()
-        yield 'a change of %s' % path, status == 7 and len(tree.begun()) == 5
+        yield 'a change of %s' % path, status == 7 and tree.begun() == crates
         yield '%s as it is then' % path, tree.run(rt=False)[0] == 7
     os.rename(tree.top + '/crates/left/src/lib.rt', tree.top + '/crates/left/src/other.rt')
     yield 'a new name', tree.run(rt=False)[0] == 69
     os.rename(tree.top + '/crates/left/src/other.rt', tree.top + '/crates/left/src/lib.rt')
     os.remove(tree.top + '/crates/cvr/out/cvr')
-    yield 'a program that is gone', tree.run()[0] == 7 and len(tree.begun()) == 5
+    yield 'a program that is gone', tree.run()[0] == 7 and tree.begun() == ['cvr']
+
+
+def keeps_libraries(tree):
+    kept = lambda: [name for name in CRATES if os.path.exists('%s/crates/%s/out/rlib' % (tree.top, name))]
+    tree.run()
+    yield 'a build keeps nothing beside the crates', not kept()
+    status, output, told = tree.run('libraries', cvr=tree.top + '/tools/build')
+    yield 'libraries are built beside the crates', (status, output) == (0, '') and kept() == ['low', 'left', 'right', 'top']
+    yield 'the program with them', tree.run('a', rt=False) == (7, 'a\n', 'told\n')
+    tree.write('crates/left/src/lib.rt', 'seconds 0\n')
+    yield 'from then on a build is made over them', tree.run()[0] == 7 and tree.begun() == ['left', 'top', 'cvr']
+    tree.run('libraries', cvr=tree.top + '/tools/build')
+    yield 'none is built twice', tree.begun() == ['cvr']
 
 
 def wants_its_kit(tree):
@@ -230,7 +276,7 @@ def is_stopped(tree):
         output, told = process.communicate(timeout=SECONDS)
         yield 'signal %d ends it' % number, (process.returncode, output) == (128 + number, '') and 'stopped' in told
         yield 'and what it began', not [it for it in pids if os.path.exists('/proc/%d' % it)]
-        yield 'nothing half done', not os.path.exists(tree.top + '/out/built') and not os.path.exists(tree.top + '/crates/left/out/rlib')
+        yield 'nothing half done', not os.path.exists(tree.top + '/out/built') and not os.path.exists(tree.top + '/out/rlib/left.rlib')
     tree.write('crates/left/src/lib.rt', 'seconds 0\n')
     yield 'the next call builds', tree.run()[0] == 7
 
@@ -301,8 +347,8 @@ def on_a_terminal(tree):
     yield 'of what has changed and what stands on it', 'cvr: 0 of 5 crates and 0 of 15 functions proved, 0:00 gone, some 0:57 left' in shown_on_a_terminal(tree)
 
 
-RUNS = [builds_what_it_needs, keeps_to_its_jobs, builds_nothing_twice, builds_what_changed, wants_its_kit, tells_what_fails, is_stopped, two_at_once,
-        changes_meanwhile, keeps_what_another_built, on_a_terminal]
+RUNS = [builds_what_it_needs, keeps_to_its_jobs, builds_nothing_twice, builds_what_changed, keeps_libraries, wants_its_kit, tells_what_fails, is_stopped,
+        two_at_once, changes_meanwhile, keeps_what_another_built, on_a_terminal]
 
 
 def main():
