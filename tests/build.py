@@ -233,6 +233,7 @@ def keeps_libraries(tree):
     yield 'a build keeps nothing beside the crates', not kept()
     status, output, told = tree.run('libraries', cvr=tree.top + '/tools/build')
     yield 'libraries are built beside the crates', (status, output) == (0, '') and kept() == ['low', 'left', 'right', 'top']
+    yield 'and nowhere else', not os.path.exists(tree.top + '/out/rlib')
     yield 'the program with them', tree.run('a', rt=False) == (7, 'a\n', 'told\n')
     tree.write('crates/left/src/lib.rt', 'seconds 0\n')
     yield 'from then on a build is made over them', tree.run()[0] == 7 and tree.begun() == ['left', 'top', 'cvr']
