@@ -212,7 +212,7 @@ def builds_what_changed(tree):
     tree.run()
     above = ['left', 'top', 'cvr']
     changes = {'crates/left/src/lib.rt': above, 'crates/left/specs/Lib.antt': above, 'crates/left/proofs/Lib.antt': above,
-               'out/rlib/left.rlib.sum': ['left', 'cvr'], 'crates.txt': ['cvr'], 'HANDLES': ['cvr'], 'crates/cvr/out/cvr': ['cvr']}
+               'out/rlib/left.rlib.sum': above, 'crates.txt': ['cvr'], 'HANDLES': ['cvr'], 'crates/cvr/out/cvr': ['cvr']}
     for path, crates in changes.items():
         tree.write(path, open('%s/%s' % (tree.top, path)).read() + '\n')
         if path.startswith('out/'):
