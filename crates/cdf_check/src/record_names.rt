@@ -12,11 +12,21 @@ use cdf_types::Memory;
 use std::alloc::{AllocError, Global};
 
 /// The devices, units and parties that records name, which the rest of their file has to list.
-#[derive(Drop)]
 pub(crate) struct RecordNames {
     pub devices: TextSet,
     pub units: TextSet,
     pub parties: TextSet,
+}
+
+// By hand: what holds one has shorter proofs than with a derived `Drop`.
+impl Drop for RecordNames {
+    fn drop(self) {
+        let RecordNames {
+            devices: _,
+            units: _,
+            parties: _,
+        } = self;
+    }
 }
 
 impl RecordNames {

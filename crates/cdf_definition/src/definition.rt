@@ -9,13 +9,25 @@ use std::marker::Model;
 /// An election definition: what is kept of a sound report. Two reports have the same definition
 /// where the texts of their Election, GpUnits and Parties are the same; which members make a
 /// definition is this project's own. Contracts see it as a record of lists.
-#[derive(Drop)]
 pub struct Definition {
     elections: Named,
     units: Named,
     parties: Named,
     devices: Named,
     contests: Contests,
+}
+
+// By hand: what holds one has shorter proofs than with a derived `Drop`.
+impl Drop for Definition {
+    fn drop(self) {
+        let Definition {
+            elections: _,
+            units: _,
+            parties: _,
+            devices: _,
+            contests: _,
+        } = self;
+    }
 }
 
 impl Model for Definition {

@@ -15,10 +15,19 @@ use std::alloc::Global;
 use std::marker::Model;
 
 /// An office that keeps its facts in one list, and computes each answer anew from it.
-#[derive(Drop)]
 pub struct PlainOffice {
     definition: Definition,
     facts: Vec<AnyFact>,
+}
+
+// By hand: what holds one has shorter proofs than with a derived `Drop`.
+impl Drop for PlainOffice {
+    fn drop(self) {
+        let PlainOffice {
+            definition: _,
+            facts: _,
+        } = self;
+    }
 }
 
 impl Model for PlainOffice {
