@@ -1,5 +1,5 @@
 -- Words that name a list in the place of files.
-use Rattle.std.proofs.Common.{◌≡◌, ◌≢◌, ◌∙◌, ◌++◌, ◌+◌, ◌<◌, ◌≤◌, ℕ, Bool, true, false, List, []}
+use Rattle.std.proofs.Common.{◌↔◌, ◌≡◌, ◌≢◌, ◌∙◌, ◌++◌, ◌+◌, ◌<◌, ◌≤◌, ℕ, Bool, true, false, List, []}
 use Rattle.std.proofs.Common.{◌∷◌, length, take, drop, min, codes, Option, Some, None, is_some}
 use Rattle.std.proofs.Common.{IfSome, IfNone, arith, refl, ap, sym, subst, inl, inr}
 use Rattle.std.proofs.lemmas.List.{length-append, length-take, length-take-le, take-append-drop}
@@ -142,15 +142,17 @@ asked_before words before list by_null other short is asks =
     subst (λ (w : List (List ℕ)). IsRequest (with_program w) other.request) (sym same.0)
     asks.request
 
--- what holds of a request that was found, and where none was
-pub some_found : (o : Option Request) (P : Request → Type 0) → is_some o ≡ true → IfSome o P
-    → ((request : Request) → ¬ P request) → ⊥
-some_found None P is given none = cc
-some_found (Some request) P is given none = none request given
+-- a request was found exactly where there is one
+pub some_found : (o : Option Request) (P : Request → Type 0) → IfSome o P
+    → IfNone o ((request : Request) → ¬ P request)
+    → (is_some o ≡ true) ↔ ((request : Request) × P request)
+some_found None P some none = (λ is. cc, λ there. absurd (none there.0 there.1))
+some_found (Some request) P some none = (λ is. (request, some), λ there. refl)
 
-pub none_found : (o : Option Request) (Q : Type 0) → is_some o ≡ false → IfNone o Q → Q
-none_found None Q is given = given
-none_found (Some request) Q is given = cc
+-- what follows where none was
+pub none_has : (o : Option Request) (P Q : Type 0) → (P → Q) → IfNone o P → IfNone o Q
+none_has None P Q has none = has none
+none_has (Some request) P Q has none = tt
 
 -- ---- where the list stands
 

@@ -1,5 +1,5 @@
 ghost use Rattle.std.specs.Prelude.{◌≡◌, ◌≢◌, [], map, true, false, string_bytes, IfOk, IfSome};
-ghost use Rattle.std.specs.Prelude.{IfNone};
+ghost use Rattle.std.specs.Prelude.{IfNone, IsTrue, ◌↔◌};
 ghost use Rattle.cvr_words.specs.declared.fault.LineFault.TheVariants.{Memory as NoMemory};
 ghost use Rattle.cvr_words.specs.declared.request.Request.{Request};
 ghost use Rattle.cvr_words.specs.Line.{with_program};
@@ -54,6 +54,27 @@ fn request_of(alloc: Global, words: &[String]) -> Result<Option<Request>, Memory
     }
 }
 
+// Whether words ask for a request.
+fn is_request(alloc: Global, words: &[String]) -> Result<bool, Memory>
+    ensures { IfOk result (λ is. IsTrue is ↔ ((request : Request)
+        × IsRequest (with_program (map string_bytes words.now)) request)) }
+{
+    Ok(request_of(alloc, words)?.is_some())
+}
+
+// A request whose files can stand in a list.
+fn with_list(request: Request) -> Option<Request>
+    ensures some { IfSome result (λ found. (found ≡ request)
+        × (takes_files request.task ≡ true) × (request.paths ≡ [])) }
+    ensures none { IfNone result (takes_files request.task ≡ true → request.paths ≢ []) }
+{
+    if takes_list(&request) {
+        Some(request)
+    } else {
+        None
+    }
+}
+
 /// The request that words ask for with a list, if they ask for one: as they stand they ask for
 /// none, and those before the list ask for it, without files.
 ///
@@ -77,19 +98,11 @@ pub fn listed_request(
     ensures none { IfOk result (λ found. IfNone found
         ((asked : ListedRequest) → ¬ AsksListed (map string_bytes words.now) asked)) }
 {
-    let asked = request_of(alloc, words)?;
-    if asked.is_some() {
+    if is_request(alloc, words)? {
         return Ok(None);
     }
-    let found = request_of(alloc, listing.before)?;
-    match found {
-        Some(request) => {
-            if takes_list(&request) {
-                Ok(Some(request))
-            } else {
-                Ok(None)
-            }
-        }
+    match request_of(alloc, listing.before)? {
+        Some(request) => Ok(with_list(request)),
         None => Ok(None),
     }
 }

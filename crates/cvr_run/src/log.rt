@@ -1,10 +1,12 @@
 ghost use Rattle.std.specs.Prelude.{◌≡◌, ℕ, ◌≤◌, List, [], ◌∷◌, ◌++◌, length, false, OnOk, OnErr};
 ghost use Rattle.std.specs.Prelude.{IsOk};
 ghost use Rattle.std.specs.List.{flat_map};
+ghost use Rattle.json.specs.Print.{escape};
+ghost use Rattle.cdf_types.specs.declared.fault.ReadFault.TheVariants.{Schema};
 ghost use Rattle.cvr_run.specs.Log.{fault_line, cause_line, memory_line, has_path, has_path_in};
 ghost use Rattle.cvr_run.specs.Log.{Logs};
 
-use cdf_types::{Memory, ReadFault, Sink, write_all};
+use cdf_types::{Body, Memory, ReadFault, Rule, Sink, write_all};
 use cvr_fact_types::text::quoted;
 use cvr_office::{Cause, JoinFault};
 use itoa::Buffer;
@@ -41,9 +43,49 @@ fn inner(text: &[u8]) -> &[u8]
     &text[1..text.len() - 1]
 }
 
+// Reports in the log a file that was refused by a rule at a path, as `tell_fault` does.
+#[tactic(auto, using(crate::proofs::Pieces::end_of_rule))]
+fn tell_rule<L: Sink>(
+    alloc: Global,
+    log: &mut L,
+    what: &[u8],
+    path: &Body,
+    rule: Rule,
+) -> Result<(), Memory>
+    ensures line { OnOk result
+        (Logs (L.taken log.old) (L.taken log.new) (fault_line what.now (Schema path.now rule))) }
+    ensures unchanged { OnErr result (log.new ≡ log.old) }
+{
+    let path = quoted(alloc, path.as_str())?;
+    let mut buffer = Buffer::new();
+    let rule = buffer.format(rule.number()).as_bytes();
+    say(
+        log,
+        &[what, b": E3 ", inner(path.as_bytes()), b" ", rule, b"\n"],
+    );
+    Ok(())
+}
+
+// Reports in the log a file that was refused with this code for what stands at a path, as
+// `tell_fault` does.
+fn tell_at<L: Sink>(
+    alloc: Global,
+    log: &mut L,
+    what: &[u8],
+    code: &[u8],
+    path: &Body,
+) -> Result<(), Memory>
+    ensures line { OnOk result (Logs (L.taken log.old) (L.taken log.new)
+        (what.now ++ (code.now ++ (escape path.now ++ 10 ∷ [])))) }
+    ensures unchanged { OnErr result (log.new ≡ log.old) }
+{
+    let path = quoted(alloc, path.as_str())?;
+    say(log, &[what, code, inner(path.as_bytes()), b"\n"]);
+    Ok(())
+}
+
 // Reports in the log a file that was refused. `Memory` where its path could not be spelled: the log
 // is then as it was.
-#[tactic(auto, using(crate::proofs::Pieces::end_of_rule))]
 fn tell_fault<L: Sink>(
     alloc: Global,
     log: &mut L,
@@ -59,21 +101,9 @@ fn tell_fault<L: Sink>(
     match fault {
         ReadFault::TooLong => say(log, &[what, b": E1\n"]),
         ReadFault::NotJson => say(log, &[what, b": E2\n"]),
-        ReadFault::Schema { path, rule } => {
-            let path = quoted(alloc, path.as_str())?;
-            let path = inner(path.as_bytes());
-            let mut buffer = Buffer::new();
-            let rule = buffer.format(rule.number()).as_bytes();
-            say(log, &[what, b": E3 ", path, b" ", rule, b"\n"]);
-        }
-        ReadFault::Reference { path } => {
-            let path = quoted(alloc, path.as_str())?;
-            say(log, &[what, b": E4 ", inner(path.as_bytes()), b"\n"]);
-        }
-        ReadFault::Disagrees { path } => {
-            let path = quoted(alloc, path.as_str())?;
-            say(log, &[what, b": E5 ", inner(path.as_bytes()), b"\n"]);
-        }
+        ReadFault::Schema { path, rule } => return tell_rule(alloc, log, what, path, *rule),
+        ReadFault::Reference { path } => return tell_at(alloc, log, what, b": E4 ", path),
+        ReadFault::Disagrees { path } => return tell_at(alloc, log, what, b": E5 ", path),
         ReadFault::Memory => say(log, &[what, b": E6\n"]),
     }
     Ok(())
