@@ -268,7 +268,8 @@ def tells_what_fails(tree):
 
 
 def is_stopped(tree):
-    tree.write('crates/left/src/lib.rt', 'seconds 30\n')
+    for name in 'left', 'right':
+        tree.write('crates/%s/src/lib.rt' % name, 'seconds 30\n')
     for number, to_all in (signal.SIGINT, True), (signal.SIGTERM, False):
         process = tree.begin()
         tree.waits_for('left', 'right')
@@ -278,11 +279,13 @@ def is_stopped(tree):
         yield 'signal %d ends it' % number, (process.returncode, output) == (128 + number, '') and 'stopped' in told
         yield 'and what it began', not [it for it in pids if os.path.exists('/proc/%d' % it)]
         yield 'nothing half done', not os.path.exists(tree.top + '/out/built') and not os.path.exists(tree.top + '/out/rlib/left.rlib')
-    tree.write('crates/left/src/lib.rt', 'seconds 0\n')
+    for name in 'left', 'right':
+        tree.write('crates/%s/src/lib.rt' % name, 'seconds 0\n')
     yield 'the next call builds', tree.run()[0] == 7
 
 
 def two_at_once(tree):
+    tree.write('crates/right/src/lib.rt', 'seconds 3\n')
     first = tree.begin('a')
     tree.waits_for('low')
     log, tree.log = tree.log, tree.log + '-2'
@@ -294,13 +297,13 @@ def two_at_once(tree):
 
 
 def changes_meanwhile(tree):
-    tree.write('crates/right/src/lib.rt', 'seconds 1\n')
+    tree.write('crates/right/src/lib.rt', 'seconds 3\n')
     process = tree.begin()
     tree.waits_for('right')
     tree.write('crates/beside/src/lib.rt', 'seconds 9\n')
     _, told = process.communicate(timeout=SECONDS)
     yield 'a source that is changed meanwhile', process.returncode == 70 and 'changed' in told and not os.path.exists(tree.top + '/out/built')
-    tree.write('crates/top/src/lib.rt', 'seconds 1\n')
+    tree.write('crates/top/src/lib.rt', 'seconds 3\n')
     process = tree.begin()
     tree.waits_for('top')
     tree.write('crates/low/src/lib.rt', 'seconds 0.2\n')
@@ -345,7 +348,8 @@ def on_a_terminal(tree):
     took = {'low': '100', 'left': '200', 'right': '300', 'top': '50', 'cvr': '7'}
     tree.write('out/times', ''.join('%s %s %s %s\n' % (name, took[name], functions, sources) for name, _, functions, sources in last))
     tree.write('crates/top/src/lib.rt', 'seconds 0.2\n')
-    yield 'of what has changed and what stands on it', 'cvr: 0 of 5 crates and 0 of 15 functions proved, 0:00 gone, some 0:57 left' in shown_on_a_terminal(tree)
+    yield 'of what has changed and what stands on it', any(re.fullmatch(r'cvr: 0 of 5 crates and 0 of 15 functions proved, 0:0\d gone, some 0:57 left', it)
+                                                            for it in shown_on_a_terminal(tree))
 
 
 RUNS = [builds_what_it_needs, keeps_to_its_jobs, builds_nothing_twice, builds_what_changed, keeps_libraries, wants_its_kit, tells_what_fails, is_stopped,

@@ -15,9 +15,12 @@ import workers
 PORT, SECONDS = 8786, 60        # SECONDS: how long a host may take to be ready
 ADDRESSES = ['10.213.77.%d' % (1 + host) for host in range(3)]
 SCHEDULER = 'tcp://%s:%d' % (ADDRESSES[0], PORT)
-# Notes each part and its host, and takes long enough for one that others start meanwhile.
+# Notes each part and its host, and works on it as long as there is a file that says so.
 PROGRAM = '''#!/bin/sh
-if [ "$3" = --files-from ]; then echo "$HOST" >>"%(log)s"; sleep 0.5; fi
+if [ "$3" = --files-from ]; then
+    echo "$HOST" >>"%(log)s"
+    while [ -e "%(log)s-stays" ]; do sleep 0.1; done
+fi
 exec "%(cvr)s" "$@"
 '''
 
@@ -105,12 +108,16 @@ class Hosts:
 
 
 class Run:
-    """A run of the script on the second host, which notes its parts in a file."""
+    """A run of the script on the second host, which notes its parts in a file. With `stays` no part
+    ends before `lose`."""
 
-    def __init__(self, hosts, folder, *more, wait=SECONDS):
+    def __init__(self, hosts, folder, *more, wait=SECONDS, stays=False):
         self.log = os.path.join(folder.folder, 'log')
+        self.stays = self.log + '-stays'
         if os.path.exists(self.log):
             os.remove(self.log)
+        if stays:
+            open(self.stays, 'w').close()
         words = ['--engine', 'distributed', '--scheduler', SCHEDULER, '--parts', '6',
                  '--wait', str(wait)]
         self.process = hosts.start(1, ways.SCRIPT, '--cvr', folder.program, *words, *more, '--',
@@ -120,13 +127,17 @@ class Run:
     def parts(self):
         return workers.text_of(self.log).split() if os.path.exists(self.log) else []
 
-    def until(self, host):
-        """Waits until that host works on a part."""
+    def lose(self, host, *processes):
+        """Kills the processes once that host works on a part."""
         end = time.monotonic() + SECONDS
         while str(host) not in self.parts():
             if time.monotonic() > end:
                 raise OSError('host %d has no part' % host)
             time.sleep(0.01)
+        for process in processes:
+            process.kill()
+            process.wait()
+        os.remove(self.stays)
 
     def told(self):
         out, log = self.process.communicate(timeout=2 * SECONDS)
@@ -145,9 +156,8 @@ def same(hosts, folder):
 
 def without_one(hosts, folder, last):
     """A worker is killed while it works on a part: another does that part."""
-    run = Run(hosts, folder)
-    run.until(2)
-    last.kill()
+    run = Run(hosts, folder, stays=True)
+    run.lose(2, last)
     told, parts = run.told(), run.parts()
     is_right = told == folder.whole() and len(parts) > 6 and {'0', '1'} & set(parts)
     return '' if is_right else repr((told, parts))
@@ -155,17 +165,14 @@ def without_one(hosts, folder, last):
 
 def without_all(hosts, folder, others):
     """All workers are killed: the run ends."""
-    run = Run(hosts, folder, wait=10)
-    run.until(1)
-    for process in others:
-        process.kill()
+    run = Run(hosts, folder, wait=10, stays=True)
+    run.lose(1, *others)
     return lost(run, b'tally.py: no worker is there\n')
 
 
 def without_scheduler(hosts, folder, scheduler):
-    run = Run(hosts, folder)
-    run.until(1)
-    scheduler.kill()
+    run = Run(hosts, folder, stays=True)
+    run.lose(1, scheduler)
     return lost(run, b'tally.py: the scheduler is lost\n')
 
 
