@@ -4,7 +4,8 @@
 How `./cvr` builds the program where it isn't built: which crates, in which order and side by side, what it reports,
 when it builds nothing, and what a build leaves that fails or is stopped. Each run is in a false repository of small
 crates, with the `cvr` and `tools` of this one and a false `rt` first on the PATH. That takes as long as a crate's
-source says, notes when it began and ended, and needs the crates below to be built. The last line is `build: N right, M
+source says, notes when it began and ended, and needs the crates below to be built. A crate that a signal or another call
+has to meet takes seconds, so that a busy machine doesn't change what happens. The last line is `build: N right, M
 wrong`; the status is 0 only where M is 0 and N is not."""
 import os
 import pty
