@@ -2,8 +2,9 @@
 """commands.py --cvr PATH [FILE..]
 
 Runs the commands that the documents named in FILES show, and compares what they print. A command stands in a fenced
-block whose first line begins with `$ `: each line that begins so is a command for `sh`, run at the top of the
-repository, and the lines up to the next one are what it prints on both outputs together. `./cvr` in a command is the
+block whose first line begins with `$ `: each line that begins so is a command for `sh`, and the lines up to the next
+one are what it prints on both outputs together. It is run at the top of a copy of the repository without what is built,
+since some commands write files, and others who look at the repository should see none. `./cvr` in a command is the
 given program, and the variable CVR names it, so that nothing is built here. A command ends with status 0, unless the
 next command is `echo $?`, which prints the status. Other blocks are not run. Where a machine has no tool of TOOLS that
 a block names, the block is not run: a line `skipped NAME` says so, and none of its commands counts as right. Each file
@@ -16,6 +17,7 @@ import shlex
 import shutil
 import subprocess
 import sys
+import tempfile
 
 TOP = os.path.dirname(os.path.dirname(os.path.abspath(__file__)))
 FILES = ['README.md', 'docs/GUIDE.md', 'docs/AUDITING.md', 'docs/PAGE.md', 'examples/README.md',
@@ -65,7 +67,7 @@ def commands(text, skip):
             yield command, expected, is_shown
 
 
-def run(command, cvr, status, folder=TOP):
+def run(command, cvr, status, folder):
     """(output, status) of a command, run in a folder; `$?` is the status of the command before."""
     words = re.sub(r'(?<![^\s;|&(])\./cvr(?![^\s;|&)])', lambda _: shlex.quote(cvr), command)
     done = subprocess.run(['sh', '-c', '(exit %d)\n%s' % (status, words)], cwd=folder,
@@ -74,10 +76,10 @@ def run(command, cvr, status, folder=TOP):
     return done.stdout.decode('utf-8', 'replace'), done.returncode
 
 
-def differences(command, cvr, expected, is_shown, before):
+def differences(command, cvr, expected, is_shown, before, folder):
     """What is wrong with one command, as lines, and its status."""
     try:
-        output, status = run(command, cvr, before)
+        output, status = run(command, cvr, before, folder)
     except subprocess.TimeoutExpired:
         return ['no end within %d s' % SECONDS], 1
     found = []
@@ -89,29 +91,33 @@ def differences(command, cvr, expected, is_shown, before):
     return found, status
 
 
+def try_all(name, cvr, folder):
+    """Runs the commands of a document in a folder. Answers how many are right, and how many wrong."""
+    with open(os.path.join(TOP, name), encoding='utf-8') as file:
+        shown = list(commands(file.read(), lambda line, tools: print('skipped %s: %s: %s' % (', '.join(tools), name, line))))
+    if not shown:
+        print('WRONG %s: no command is run' % name)
+        return 0, 1
+    wrong = status = 0
+    for command, expected, is_shown in shown:
+        found, status = differences(command, cvr, expected, is_shown, status, folder)
+        if found:
+            wrong += 1
+            print('WRONG %s: $ %s' % (name, command))
+        for line in found:
+            print('    ' + line)
+    return len(shown) - wrong, wrong
+
+
 def main():
     words = argparse.ArgumentParser()
     words.add_argument('--cvr', required=True, help='the built program')
     words.add_argument('files', nargs='*', default=FILES, help='texts below the top of the repository')
     words = words.parse_args()
-    cvr = os.path.abspath(words.cvr)
-    right = wrong = 0
-    for name in words.files or FILES:
-        with open(os.path.join(TOP, name), encoding='utf-8') as file:
-            shown = list(commands(file.read(), lambda line, tools: print('skipped %s: %s: %s' % (', '.join(tools), name, line))))
-        if not shown:
-            wrong += 1
-            print('WRONG %s: no command is run' % name)
-        status = 0
-        for command, expected, is_shown in shown:
-            found, status = differences(command, cvr, expected, is_shown, status)
-            if found:
-                wrong += 1
-                print('WRONG %s: $ %s' % (name, command))
-                for line in found:
-                    print('    ' + line)
-            else:
-                right += 1
+    with tempfile.TemporaryDirectory() as folder:
+        copy = shutil.copytree(TOP, os.path.join(folder, 'cvr'), ignore=shutil.ignore_patterns('.git', 'out', 'dist'))
+        found = [try_all(name, os.path.abspath(words.cvr), copy) for name in words.files or FILES]
+    right, wrong = map(sum, zip(*found))
     print('commands: %d right, %d wrong' % (right, wrong))
     sys.exit(0 if right and not wrong else 1)
 
