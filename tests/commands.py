@@ -3,13 +3,13 @@
 
 Runs the commands that the documents named in FILES show, and compares what they print. A command stands in a fenced
 block whose first line begins with `$ `: each line that begins so is a command for `sh`, and the lines up to the next
-one are what it prints on both outputs together. It is run at the top of a copy of the repository without what is built,
-since some commands write files, and others who look at the repository should see none. `./cvr` in a command is the
-given program, and the variable CVR names it, so that nothing is built here. A command ends with status 0, unless the
-next command is `echo $?`, which prints the status. Other blocks are not run. Where a machine has no tool of TOOLS that
-a block names, the block is not run: a line `skipped NAME` says so, and none of its commands counts as right. Each file
-must have a command that is run; the last line is `commands: N right, M wrong`, and the status is 0 only where M is
-0."""
+one are what it prints on both outputs together. It is run at the top of a copy of the repository without what is built:
+some commands write files, and tests/package.py, which runs beside them, asks git whether the repository was changed.
+`./cvr` in a command is the given program, and the variable CVR names it, so that nothing is built here. A command ends
+with status 0, unless the next command is `echo $?`, which prints the status. Other blocks are not run. Where a machine
+has no tool of TOOLS that a block names, the block is not run: a line `skipped NAME` says so, and none of its commands
+counts as right. Each file must have a command that is run; the last line is `commands: N right, M wrong`, and the
+status is 0 only where M is 0."""
 import argparse
 import os
 import re
