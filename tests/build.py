@@ -5,8 +5,9 @@ How `./cvr` builds the program where it isn't built: which crates, in which orde
 when it builds nothing, and what a build leaves that fails or is stopped. Each run is in a false repository of small
 crates, with the `cvr` and `tools` of this one and a false `rt` first on the PATH. That takes as long as a crate's
 source says, notes when it began and ended, and needs the crates below to be built. A crate that a signal or another call
-has to meet takes seconds, so that a busy machine doesn't change what happens. The last line is `build: N right, M
-wrong`; the status is 0 only where M is 0 and N is not."""
+has to meet takes seconds, so that a busy machine doesn't change what happens. Signals have their defaults in each run,
+also where this ignores them, as in the background of a shell. The last line is `build: N right, M wrong`; the status is
+0 only where M is 0 and N is not."""
 import os
 import pty
 import re
@@ -22,7 +23,7 @@ SECONDS = 60
 CRATES = {'low': '', 'left': 'low', 'right': 'low json', 'top': 'left right', 'cvr': 'low top', 'beside': 'low'}
 RT = r'''#!%(python)s
 import fcntl, os, re, sys, time, types
-KIT, LOG = %(kit)r, %(log)r
+KIT, LOG, IS_ODD = %(kit)r, %(log)r, %(is_odd)r
 
 def held(crates):
     found = [os.open(it.folder, os.O_RDONLY) for it in crates]
@@ -70,6 +71,9 @@ class Crate:
         return 0
 
     def call(self, *words):
+        if 'flagless' in self.text and '--statements' in words:
+            print('error: unexpected argument')
+            return 2
         if not all(os.path.exists(it.rlib) for it in self.below()):
             return 2
         status = self.prove()
@@ -88,7 +92,8 @@ class Crate:
         os.chmod('out/cvr', 0o755)
         return status
 
-rtlib = types.SimpleNamespace(lock=held, Crate=Crate, RATTLE='rattle', KIT=os.path.dirname(os.path.realpath(__file__)))
+insides = dict(lock=held, Crate=Crate, RATTLE='rattle', KIT=os.path.dirname(os.path.realpath(__file__)))
+rtlib = types.SimpleNamespace(**({'lock': held} if IS_ODD else insides))
 
 def main(words):
     if words == ['version']:
@@ -97,6 +102,10 @@ def main(words):
     own = Crate(os.getcwd())
     own.held = rtlib.lock([*own.below(), own])
     os.makedirs('out', exist_ok=True)
+    for it in own.below():
+        os.makedirs(it.folder + '/out', exist_ok=True)
+        if not it.is_built() and it.call(it.rlib):
+            return 1
     if words[0] == 'run':
         return own.run([], [])
     return 0 if own.is_built() else own.call(own.rlib)
@@ -106,9 +115,14 @@ if __name__ == '__main__':
 '''
 
 
-def kit():
+def logic():
     with open(TOP + '/README.md', encoding='utf-8') as file:
-        return re.search(r'rattle-kit-\S+ logic [0-9a-f]+', file.read()).group()
+        return re.search(r'`(logic [0-9a-f]+)`', file.read()).group(1)
+
+
+def set_signals():
+    for it in signal.SIGINT, signal.SIGTERM, signal.SIGHUP:
+        signal.signal(it, signal.SIG_DFL)
 
 
 def write(path, text):
@@ -130,14 +144,14 @@ class Tree:
         for name in CRATES:
             for path in 'src/lib.rt', 'specs/Lib.antt', 'proofs/Lib.antt':
                 self.write('crates/%s/%s' % (name, path), 'seconds 0.1\n')
-        self.rt(kit())
+        self.rt('kit-a ' + logic())
 
     def write(self, path, text):
         write('%s/%s' % (self.top, path), text)
 
-    def rt(self, line):
-        """A false rt, whose kit this line names."""
-        write(self.bin + '/rt', RT % {'python': sys.executable, 'kit': line, 'log': self.log})
+    def rt(self, line, is_odd=False):
+        """A false rt, whose kit this line names; with other insides where it `is_odd`."""
+        write(self.bin + '/rt', RT % {'python': sys.executable, 'kit': line, 'log': self.log, 'is_odd': is_odd})
         os.chmod(self.bin + '/rt', 0o755)
 
     def begin(self, *words, cvr=None, jobs='2', rt=True, **how):
@@ -146,7 +160,7 @@ class Tree:
         path = (self.bin + ':' if rt else '') + '/usr/bin:/bin'
         how = {'stdout': subprocess.PIPE, 'stderr': subprocess.PIPE, **how}
         return subprocess.Popen([cvr or self.top + '/cvr', *words], stdin=subprocess.DEVNULL, text=True, cwd='/',
-                                env={'PATH': path, 'RT_JOBS': jobs}, start_new_session=True, **how)
+                                env={'PATH': path, 'RT_JOBS': jobs}, start_new_session=True, preexec_fn=set_signals, **how)
 
     def run(self, *words, **how):
         """(status, standard output, standard error) of a call."""
@@ -242,18 +256,51 @@ def keeps_libraries(tree):
     yield 'none is built twice', tree.begun() == ['cvr']
 
 
-def wants_its_kit(tree):
+def needs_a_kit(tree):
     status, output, told = tree.run(rt=False)
-    yield 'no rt', (status, output) == (69, '') and kit() in told and 'no `rt`' in told
-    tree.rt('rattle-kit-1 logic 0')
-    status, output, told = tree.run()
-    yield 'another rt', (status, output) == (69, '') and kit() in told and 'rattle-kit-1 logic 0' in told and told.count('\n') == 1
+    yield 'no rt: what it needs, and what can be done without', (status, output) == (69, '') and 'no `rt`' in told and 'package' in told and told.count('\n') == 1
+    for line in '', 'rt 4.4.2', logic(), 'kit-a ' + logic() + ' and more', 'kit-a logic none':
+        tree.rt(line)
+        status, output, told = tree.run()
+        yield '`rt version` prints %r' % line, (status, output) == (69, '') and repr(line) in told and told.count('\n') == 1
     yield 'nothing is begun', not tree.begun() and not os.path.exists(tree.top + '/out')
-    tree.rt(kit())
-    tree.run()
-    readme = open(tree.top + '/README.md').read()
-    tree.write('README.md', readme.replace(kit(), 'rattle-kit-2 logic 0'))
-    yield 'a program of the kit before', tree.run()[0] == 69
+
+
+def builds_by_any_kit(tree):
+    kit = lambda: open(tree.top + '/out/kit').read()
+    status, _, told = tree.run()
+    yield 'a kit of the logic that README names', status == 7 and 'logic' not in told and kit() == 'kit-a %s\n' % logic()
+    tree.rt('kit-b ' + logic())
+    yield 'another letter: what is built stands', tree.run('a') == (7, 'a\n', 'told\n') and kit() == 'kit-a %s\n' % logic()
+    tree.write('crates/cvr/src/lib.rt', 'seconds 0\n')
+    status, _, told = tree.run()
+    yield 'and builds without a word', status == 7 and 'logic' not in told and kit() == 'kit-b %s\n' % logic()
+    tree.rt('kit-c logic 0')
+    tree.write('crates/cvr/src/lib.rt', 'seconds 0.1\n')
+    status, _, told = tree.run()
+    said = [line for line in told.splitlines() if 'logic' in line]
+    yield 'another logic proves it, and one line says so', status == 7 and len(said) == 1 and logic() in said[0] and 'kit-c logic 0' in said[0]
+    yield 'the kit that built it', kit() == 'kit-c logic 0\n'
+    tree.write('crates/cvr/src/lib.rt', 'seconds 0 fails\n')
+    status, output, told = tree.run()
+    yield 'another logic refuses it', (status, output) == (70, '') and logic() in told and 'fn cvr::wrong: not proved\n' in told
+
+
+def proves_by_rt_alone(tree):
+    for is_odd, source in (True, 'seconds 0.1\n'), (False, 'seconds 0.1 flagless\n'):
+        shutil.rmtree(tree.top + '/out', ignore_errors=True)
+        for name in CRATES:
+            shutil.rmtree('%s/crates/%s/out' % (tree.top, name), ignore_errors=True)
+        tree.rt('kit-a ' + logic(), is_odd)
+        tree.write('crates/left/src/lib.rt', source)
+        status, output, told = tree.run('a')
+        yield 'a kit with %s: one line says so' % ('other insides' if is_odd else 'fewer flags'), len(re.findall('on its own, which takes longer', told)) == 1
+        yield 'the program is built and run', (status, output) == (7, 'a\n') and tree.begun()[-1] == 'cvr'
+        yield 'and not again', tree.run('a', rt=False) == (7, 'a\n', 'told\n')
+    tree.write('crates/left/src/lib.rt', 'seconds 0 fails\n')
+    tree.rt('kit-a ' + logic(), True)
+    status, output, told = tree.run()
+    yield 'what fails', (status, output) == (70, '') and 'fn left::wrong: not proved\n' in told
 
 
 def tells_what_fails(tree):
@@ -353,8 +400,8 @@ def on_a_terminal(tree):
                                                             for it in shown_on_a_terminal(tree))
 
 
-RUNS = [builds_what_it_needs, keeps_to_its_jobs, builds_nothing_twice, builds_what_changed, keeps_libraries, wants_its_kit, tells_what_fails, is_stopped,
-        two_at_once, changes_meanwhile, keeps_what_another_built, on_a_terminal]
+RUNS = [builds_what_it_needs, keeps_to_its_jobs, builds_nothing_twice, builds_what_changed, keeps_libraries, needs_a_kit, builds_by_any_kit, proves_by_rt_alone, tells_what_fails,
+        is_stopped, two_at_once, changes_meanwhile, keeps_what_another_built, on_a_terminal]
 
 
 def main():

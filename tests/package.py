@@ -99,7 +99,8 @@ def provenance(text, program):
     told = dict(re.findall(r'^(\w+) +(.*)$', text.split('\n\n')[1], re.M))
     yield 'the sum of the program', told['program'] == hashlib.sha256(held(program)).hexdigest()
     yield 'the sum of the sources', told['sources'] == done('sh', '-c', re.search(r'^ +(git ls-files .*)$', text, re.M).group(1))[1].split()[0]
-    yield 'the kit', told['kit'] == done('rt', 'version')[1].strip()
+    noted = os.path.join(TOP, 'out/kit')        # which `rt ci` leaves to what is called after it
+    yield 'the kit', told['kit'] == (held(noted).decode('utf-8') if os.path.exists(noted) else done('rt', 'version')[1]).strip()
     yield 'the commit', told['commit'].split(',')[0] == done('git', 'rev-parse', 'HEAD')[1].strip()
 
 
