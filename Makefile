@@ -4,9 +4,10 @@ DESTDIR =
 CVR = crates/cvr/out/cvr
 ZSH = $(PREFIX)/share/zsh/site-functions
 SHARE = $(DESTDIR)$(PREFIX)/share
-DOCUMENTS = README.md CHANGELOG.md docs/GUIDE.md docs/AUDITING.md docs/PAGE.md docs/page.png \
-	docs/FORMAT.md docs/FAULTS.md docs/GLOSSARY.md docs/HEADLINE.md docs/theorem.svg docs/ARCHITECTURE.md docs/crates.svg \
-	$(wildcard docs/reference/*.md) SECURITY.md examples/README.md $(wildcard examples/*/*.*)
+DOCUMENTS = README.md CHANGELOG.md LICENSE SECURITY.md examples/README.md \
+	$(wildcard docs/*.* docs/reference/*.md examples/*/*.*)
+# What the repository alone has: of a link to it, an installed document has the text.
+ALONE = CONTRIBUTING\.md|(bench|crates|man|tests)/
 
 .PHONY: all install package
 
@@ -25,6 +26,7 @@ install:
 		install -D -m 644 "man/_$$name" "$(DESTDIR)$(ZSH)/_$$name" && \
 		install -D -m 644 "man/$$name.fish" "$(SHARE)/fish/vendor_completions.d/$$name.fish" || exit; done
 	for file in $(DOCUMENTS); do install -D -m 644 "$$file" "$(SHARE)/doc/cvr/$$file" || exit; done
+	cd "$(SHARE)/doc/cvr" && sed -zEi 's:\[([^][]*)\]\((\.\./)*($(ALONE))[^)]*\):\1:g' $(filter %.md,$(DOCUMENTS))
 
 package: all
 	tools/package --cvr "$(CVR)"

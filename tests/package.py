@@ -2,15 +2,17 @@
 """package.py --cvr PATH
 
 What is installed and packed: `make install` below a folder, and the package of Debian and the archive of tools/package,
-unpacked. In each the commands of README and of AUDITING are run with its programs, over its examples. `man` finds and
-reads the pages of the package, and the program needs the C library alone. PROVENANCE has the checksums of the program
-and of the sources, as the commands in it print them. A second packing gives the same bytes. Where lintian is installed,
-it finds no error. Where git finds no commit at the top, as in an unpacked archive, a commit made of its files takes its
-place.
+unpacked. In each the commands of README and of AUDITING are run with its programs, over its examples, and each
+link of a document leads to something there. `man` finds and reads the pages of the package, and the program needs the C
+library alone. PROVENANCE has the checksums of the program and of the sources, as the commands in it print them. A
+second packing gives the same bytes. Where lintian is installed, it finds no error. Where git finds no commit at the top,
+as in an unpacked archive, a commit made of its files takes its place.
 
 The last line is `package: N right, M wrong`; the status is 0 only where M is 0 and N is not."""
 import argparse
 import hashlib
+import importlib.machinery
+import importlib.util
 import os
 import re
 import shlex
@@ -61,6 +63,13 @@ def is_installed(prefix):
     return modes == [0o755] * len(RUN) + [0o644] * len(READ)
 
 
+def pages(prefix):
+    """The text of each document below a prefix, by its path."""
+    folder = os.path.join(prefix, 'share/doc/cvr')
+    paths = [os.path.join(below, name) for below, _, names in os.walk(folder) for name in names if name.endswith('.md')]
+    return {os.path.relpath(path, folder): held(path).decode('utf-8') for path in paths}
+
+
 def first_runs(prefix):
     """Yields each command of README and AUDITING and whether the programs installed below a prefix
     print what it shows, over the examples there."""
@@ -72,6 +81,16 @@ def first_runs(prefix):
             command = command.replace('companion/cvr-audit', audit)
             found, status = commands.run(command, os.path.join(prefix, 'bin/cvr'), status, folder)
             yield '%s below %s' % (command, os.path.basename(prefix)), found == expected
+
+
+def links(prefix):
+    """Which links of the documents below a prefix lead nowhere, and whether none does."""
+    loader = importlib.machinery.SourceFileLoader('wording', os.path.join(TOP, 'tools/wording'))
+    wording = importlib.util.module_from_spec(importlib.util.spec_from_loader('wording', loader))
+    loader.exec_module(wording)
+    texts, folder = pages(prefix), os.path.join(prefix, 'share/doc/cvr')
+    lost = [it for name, text in texts.items() for it in wording.lost(name, text, texts, lambda path: os.path.exists(os.path.join(folder, path)))]
+    return 'links below %s: %s' % (os.path.basename(prefix), ', '.join(lost)), not lost
 
 
 def packed(cvr, out):
@@ -108,6 +127,7 @@ def tried(cvr, folder):
     """Yields each trial, and whether it is right."""
     prefix = os.path.join(folder, 'a prefix')
     yield 'make install', done('make', 'install', 'CVR=' + cvr, 'PREFIX=' + prefix)[0] == 0 and is_installed(prefix)
+    yield links(prefix)
     yield from first_runs(prefix)
     made, again = packed(cvr, os.path.join(folder, 'one')), packed(cvr, os.path.join(folder, 'other'))
     for end in '.deb', '.tar.gz', 'PROVENANCE':
@@ -117,6 +137,7 @@ def tried(cvr, folder):
     yield 'dpkg-deb unpacks it', done('dpkg-deb', '-x', made['.deb'], os.path.dirname(unpacked))[0] == 0
     yield 'tar unpacks it', done('tar', '-xzf', made['.tar.gz'], '-C', below, '--strip-components=1')[0] == 0 and is_installed(below)
     for place in unpacked, below:
+        yield links(place)
         yield from first_runs(place)
         yield 'the program in ' + place, held(os.path.join(place, 'bin/cvr')) == held(cvr)
         yield 'PROVENANCE in ' + place, held(os.path.join(place, 'share/doc/cvr/PROVENANCE')) == held(made['PROVENANCE'])
