@@ -9,7 +9,7 @@ DOCUMENTS = README.md CHANGELOG.md LICENSE SECURITY.md examples/README.md \
 # What the repository alone has: of a link to it, an installed document has the text.
 ALONE = CONTRIBUTING\.md|(bench|crates|man|tests)/
 
-.PHONY: all install package
+.PHONY: all install uninstall package
 
 all:
 	./cvr --help >/dev/null
@@ -27,6 +27,15 @@ install:
 		install -D -m 644 "man/$$name.fish" "$(SHARE)/fish/vendor_completions.d/$$name.fish" || exit; done
 	for file in $(DOCUMENTS); do install -D -m 644 "$$file" "$(SHARE)/doc/cvr/$$file" || exit; done
 	cd "$(SHARE)/doc/cvr" && sed -zEi 's:\[([^][]*)\]\((\.\./)*($(ALONE))[^)]*\):\1:g' $(filter %.md,$(DOCUMENTS))
+
+# Removes what `install` with the same variables puts there, as an install into an empty folder shows; then the folders
+# below PREFIX that are empty, but for those that a system has in /usr/local.
+uninstall:
+	tree=$$(mktemp -d) && trap 'rm -r "$$tree"' EXIT && prefix=$$(realpath -ms "$(DESTDIR)$(PREFIX)") && \
+	$(MAKE) -s install CVR=/dev/null DESTDIR="$$tree" PREFIX="$$prefix" ZSH="$$(realpath -ms "$(DESTDIR)$(ZSH)")" && \
+	cd "$$tree" && find . ! -type d -print0 | (cd / && xargs -0 rm -f) && \
+	find ".$$prefix" -mindepth 1 -depth -type d ! -path './usr/local/bin' ! -path './usr/local/share' \
+		! -path './usr/local/share/man' -print0 | (cd / && xargs -0 rmdir 2>/dev/null || :)
 
 package: all
 	tools/package --cvr "$(CVR)"

@@ -3,8 +3,9 @@
 
 What is installed and packed: `make install` below a folder, and the package of Debian and the archive of tools/package,
 unpacked. In each the commands of README and of AUDITING are run with its programs, over its examples, and each
-link of a document leads to something there. `man` finds and reads the pages of the package, and the program needs the C
-library alone. PROVENANCE has the checksums of the program and of the sources, as the commands in it print them. A
+link of a document leads to something there. `make uninstall` leaves all that was there before
+`make install`, also what a package adds, and nothing else. `man` finds and reads the pages of the package, and the
+program needs the C library alone. PROVENANCE has the checksums of the program and of the sources, as the commands in it print them. A
 second packing gives the same bytes. Where lintian is installed, it finds no error. Where git finds no commit at the top,
 as in an unpacked archive, a commit made of its files takes its place.
 
@@ -93,6 +94,29 @@ def links(prefix):
     return 'links below %s: %s' % (os.path.basename(prefix), ', '.join(lost)), not lost
 
 
+def everything(folder):
+    """The paths of all files and folders below a folder."""
+    return {os.path.join(below, name) for below, folders, names in os.walk(folder) for name in folders + names}
+
+
+def is_uninstalled(cvr, folder, others, *words):
+    """Whether files of others below a folder, and nothing else, are left there after `make install` and `make uninstall`."""
+    for path in others:
+        os.makedirs(os.path.join(folder, os.path.dirname(path)))
+        open(os.path.join(folder, path), 'x').close()
+    before = everything(folder)
+    is_done = all(done('make', rule, 'CVR=' + cvr, *words)[0] == 0 for rule in ('install', 'uninstall'))
+    return is_done and everything(folder) == before
+
+
+def uninstalls(cvr, folder):
+    """Yields each trial of `make uninstall`, and whether it is right."""
+    new, old, tree = (os.path.join(folder, name) for name in ('a new prefix', 'an old prefix', 'a tree'))
+    yield 'make uninstall, of a new prefix', is_uninstalled(cvr, new, [], 'PREFIX=' + new)
+    yield 'make uninstall, beside other files', is_uninstalled(cvr, old, ['bin/other', 'share/doc/cvr/PROVENANCE'], 'PREFIX=' + old)
+    yield 'make uninstall, below DESTDIR', is_uninstalled(cvr, tree, ['usr/other'], 'DESTDIR=' + tree, 'PREFIX=/usr', 'ZSH=/usr/share/zsh/vendor-completions')
+
+
 def packed(cvr, out):
     """The paths of what tools/package makes, by their endings."""
     status, told = done(sys.executable, 'tools/package', '--cvr', cvr, '--out', out)
@@ -129,6 +153,7 @@ def tried(cvr, folder):
     yield 'make install', done('make', 'install', 'CVR=' + cvr, 'PREFIX=' + prefix)[0] == 0 and is_installed(prefix)
     yield links(prefix)
     yield from first_runs(prefix)
+    yield from uninstalls(cvr, folder)
     made, again = packed(cvr, os.path.join(folder, 'one')), packed(cvr, os.path.join(folder, 'other'))
     for end in '.deb', '.tar.gz', 'PROVENANCE':
         yield 'packed twice: ' + end, held(made[end]) == held(again[end])
