@@ -2,10 +2,11 @@
 """package.py --cvr PATH
 
 What is installed and packed: `make install` below a folder, and the package of Debian and the archive of tools/package,
-unpacked. In each the commands of README and of AUDITING are run with its programs, over its examples, and each
-link of a document leads to something there. `make uninstall` leaves all that was there before
-`make install`, also what a package adds, and nothing else. `man` finds and reads the pages of the package, and the
-program needs the C library alone. PROVENANCE has the checksums of the program and of the sources, as the commands in it print them. A
+unpacked. In the first the commands of all documents are run with its programs, but for those that read the sources, and
+in the others those of README and of AUDITING, each time in a folder with a copy of its examples, made as the guide
+says. Each link of a document leads to something there. `make uninstall` leaves all that was there before `make install`,
+also what a package adds, and nothing else. `man` finds and reads the pages of the package, and the program needs the C
+library alone. PROVENANCE has the checksums of the program and of the sources, as the commands in it print them. A
 second packing gives the same bytes. Where lintian is installed, it finds no error. Where git finds no commit at the top,
 as in an unpacked archive, a commit made of its files takes its place.
 
@@ -71,16 +72,16 @@ def pages(prefix):
     return {os.path.relpath(path, folder): held(path).decode('utf-8') for path in paths}
 
 
-def first_runs(prefix):
-    """Yields each command of README and AUDITING and whether the programs installed below a prefix
-    print what it shows, over the examples there."""
-    folder, status = os.path.join(prefix, 'share/doc/cvr'), 0
-    for document in 'README.md', 'docs/AUDITING.md', 'docs/PAGE.md':
-        text = held(os.path.join(folder, document)).decode('utf-8')
-        for command, expected, _ in commands.commands(text, lambda *_: None):
-            audit = shlex.quote(os.path.join(prefix, 'bin/cvr-audit'))
-            command = command.replace('companion/cvr-audit', audit)
-            found, status = commands.run(command, os.path.join(prefix, 'bin/cvr'), status, folder)
+def first_runs(prefix, names):
+    """Yields each command of some documents and whether the programs installed below a prefix print what it shows, in a
+    folder with what the guide says to copy there. Commands that read the sources are left out."""
+    texts, status, audit = pages(prefix), 0, shlex.quote(os.path.join(prefix, 'bin/cvr-audit'))
+    copy = re.search('^    (cp -r )/usr/local(/share/doc/cvr/.*)$', texts['docs/GUIDE.md'], re.M)
+    with tempfile.TemporaryDirectory() as folder:
+        yield 'what the guide copies', commands.run(copy.group(1) + shlex.quote(prefix) + copy.group(2), '', 0, folder) == ('', 0)
+        shown = [it for name in names for it in commands.commands(texts[name], lambda *_: None)]
+        for command, expected, _ in (it for it in shown if 'crates/' not in it[0]):
+            found, status = commands.run(command.replace('companion/cvr-audit', audit), os.path.join(prefix, 'bin/cvr'), status, folder)
             yield '%s below %s' % (command, os.path.basename(prefix)), found == expected
 
 
@@ -152,7 +153,7 @@ def tried(cvr, folder):
     prefix = os.path.join(folder, 'a prefix')
     yield 'make install', done('make', 'install', 'CVR=' + cvr, 'PREFIX=' + prefix)[0] == 0 and is_installed(prefix)
     yield links(prefix)
-    yield from first_runs(prefix)
+    yield from first_runs(prefix, commands.FILES)
     yield from uninstalls(cvr, folder)
     made, again = packed(cvr, os.path.join(folder, 'one')), packed(cvr, os.path.join(folder, 'other'))
     for end in '.deb', '.tar.gz', 'PROVENANCE':
@@ -163,7 +164,7 @@ def tried(cvr, folder):
     yield 'tar unpacks it', done('tar', '-xzf', made['.tar.gz'], '-C', below, '--strip-components=1')[0] == 0 and is_installed(below)
     for place in unpacked, below:
         yield links(place)
-        yield from first_runs(place)
+        yield from first_runs(place, ['README.md', 'docs/AUDITING.md'])
         yield 'the program in ' + place, held(os.path.join(place, 'bin/cvr')) == held(cvr)
         yield 'PROVENANCE in ' + place, held(os.path.join(place, 'share/doc/cvr/PROVENANCE')) == held(made['PROVENANCE'])
         yield 'copyright in ' + place, held(os.path.join(TOP, 'LICENSE')).strip() in held(os.path.join(place, 'share/doc/cvr/copyright'))
