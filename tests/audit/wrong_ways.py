@@ -11,6 +11,8 @@ WAYS = [
     Way('runs_any_program', 'program.py',
         'if done.returncode or not VERSION.fullmatch(done.stdout):', 'if False:',
         'another program'),
+    Way('runs_no_version_with_a_note', 'program.py', '( [^\\n]*)?', '',
+        'a later program of version 1'),
     Way('runs_any_version', 'program.py', "rb'cvr 1", "rb'cvr [0-9]+",
         'a program of another version'),
     Way('looks_for_records_in_refused_files', 'program.py',

@@ -11,9 +11,9 @@ use Rattle.cvr_run.specs.Devices.{Outputs}
 use Rattle.cvr_run.specs.Log.{Logs}
 use Rattle.cvr_run.specs.Told.{out_line}
 
--- the version, and the kit that built the program
+-- the program's name and its version
 abbrev pub version_text : List ℕ
-version_text = codes "cvr 1.0.0 (rattle-kit-13f)\n"
+version_text = codes "cvr 1.0.0\n"
 
 -- the words ask for the version: `--version` or `-V`, alone
 abbrev pub AsksVersion : List (List ℕ) → Type 0

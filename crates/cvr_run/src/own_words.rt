@@ -32,12 +32,12 @@ pub fn print_own<W: Sink, L: Sink>(text: &str, out: &mut W, log: &mut L) -> Stat
     end_with(printed, Refusals::none(), log)
 }
 
-/// Prints the version, and the kit that built the program. Takes no memory.
+/// Prints the version. Takes no memory.
 pub fn print_version<W: Sink, L: Sink>(out: &mut W, log: &mut L) -> Status
     requires { (W.taken out.old).failed ≡ false }
     ensures { PrintsOwn version_text result
         (record { out = W.taken out.old; log = L.taken log.old })
         (record { out = W.taken out.new; log = L.taken log.new }) }
 {
-    print_own("cvr 1.0.0 (rattle-kit-13f)\n", out, log)
+    print_own("cvr 1.0.0\n", out, log)
 }
