@@ -3,7 +3,7 @@ _cvr_audit() {
     COMPREPLY=()
     if [ "$COMP_CWORD" -eq 1 ]; then
         compopt +o default
-        COMPREPLY=($(compgen -W 'records compare trace page warnings -h --help' -- "$2"))
+        COMPREPLY=($(compgen -W 'records compare trace page warnings -h --help --version' -- "$2"))
         return
     fi
     case $3 in

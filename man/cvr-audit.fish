@@ -1,6 +1,7 @@
 # Made by tools/audit_manual from companion/cvr_audit/line.py. Change that.
 complete -c cvr-audit -f
 complete -c cvr-audit -s h -l help -d 'Print help'
+complete -c cvr-audit -n __fish_use_subcommand -l version -d 'Print the version'
 complete -c cvr-audit -n __fish_use_subcommand -a records -d 'Print a line of CSV for each record: its current snapshot, and what it adds to the tally'
 complete -c cvr-audit -n __fish_use_subcommand -a compare -d 'Print what differs between two sets of files, and between their tallies'
 complete -c cvr-audit -n __fish_use_subcommand -a trace -d 'Print the records, the places in files and the votes that make up a number of the tally'

@@ -2,7 +2,7 @@
 import argparse
 import sys
 
-from . import compare, page, program, records, table, trace, warnings
+from . import VERSION, compare, page, program, records, table, trace, warnings
 
 ABOUT = ('Print cast vote records one by one, compare two sets of files, trace a number of the '
          'tally, and warn of what needs a person.')
@@ -110,9 +110,19 @@ class Command:
         return values
 
 
+class Version(argparse.Action):
+    """Prints the version, in the place of a command."""
+
+    def __call__(self, parser, *_):
+        write('cvr-audit %s\n' % VERSION, None)
+        parser.exit()
+
+
 def parsers():
     """The parser of the first word, and the commands by name."""
-    first = argparse.ArgumentParser(prog='cvr-audit', description=ABOUT, epilog=EPILOG)
+    first = argparse.ArgumentParser(prog='cvr-audit', allow_abbrev=False, description=ABOUT,
+                                    epilog=EPILOG)
+    first.add_argument('--version', action=Version, nargs=0, help='print the version')
     commands = first.add_subparsers(metavar='COMMAND', required=True)
     return first, {name: Command(name, commands) for name in COMMANDS}
 
@@ -171,8 +181,8 @@ def write(text, path):
 
 def main(words):
     """Does what the words ask for; answers the status."""
-    words = read(words)
     try:
+        words = read(words)
         text, status = made(words)
         write(text, words.output)
         return status
