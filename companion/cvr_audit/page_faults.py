@@ -33,9 +33,9 @@ def place_in(fault):
     return place or 'the whole file', int(rule)
 
 
-def in_words(fault, is_public):
-    """What a fault means, and what to do. On a page for the public it has no place."""
+def in_words(fault):
+    """What a fault means, and what to do."""
     what, advice = CODES[fault.split(' ', 1)[0]]
     place, rule = place_in(fault)
-    said = [part for part in (RULES.get(rule), not is_public and place) if part]
-    return what.replace(': ', '.') if not said else what + ', at '.join(said) + '.', advice
+    said = [part for part in (RULES.get(rule), place) if part]
+    return what + ', at '.join(said) + '.' if said else what, advice

@@ -5,7 +5,7 @@ import os
 import shlex
 import shutil
 
-from . import page_faults, page_masking, program, warnings
+from . import page_faults, program, warnings
 from .page_tree import code, codes, element, listed, section, table
 from .reading import spelled
 
@@ -59,32 +59,23 @@ def head(facts):
                 ('Command', element('pre', command))]))
 
 
-def state_of(fault, is_public):
+def state_of(fault):
     """What is said about a file: accepted, or why not and what to do."""
     if fault is None:
         return 'accepted'
-    what, advice = page_faults.in_words(fault, is_public)
+    what, advice = page_faults.in_words(fault)
     return element('span', element('strong', 'refused, ' + fault.split(' ', 1)[0]), '. %s %s'
                    % (what, advice))
 
 
-def records_of(facts):
-    """The number of records of each accepted file, in their order, as the page shows it."""
-    counts = [count for _, count in facts.files.accepted]
-    hidden = page_masking.withheld(counts) if facts.is_public else ()
-    return ['*' if place in hidden else count for place, count in enumerate(counts)]
-
-
 def input_rows(facts):
     """DEF and the files, each with what it is and how it was judged."""
-    files, records = facts.files, iter(records_of(facts))
+    files, records = facts.files, (count for _, count in facts.files.accepted)
     for number, path in enumerate([files.definition] + files.files):
         fault = facts.refused.get(spelled(path)) if number else None
-        label = 'FILE %d' % number if number else 'DEF'
         count = '' if fault else next(records) if number else files.own_records
-        yield [label if facts.is_public else code(path), *file_cells(path), count,
-               codes(facts.devices.get(path, [])),
-               state_of(fault, facts.is_public) if number else 'definition']
+        yield [code(path), *file_cells(path), count, codes(facts.devices.get(path, [])),
+               state_of(fault) if number else 'definition']
 
 
 def file_cells(path):
@@ -92,20 +83,34 @@ def file_cells(path):
     return code(digest), length
 
 
+def public_inputs(facts):
+    """The definition and the number of the files. Nothing is said of a single file: a reader could make
+    each file that it may be, and see which one fits. Nor of DEF, where it has records."""
+    files = facts.files
+    given, accepted = len(files.files), len(files.accepted)
+    said = ['SHA-256 ', code(digest_of(files.definition)[0])]
+    if files.own_records:
+        said = ['SHA-256 withheld, since DEF has records']
+    counts = '{:,} given, {:,} accepted, {:,} refused'.format(given, accepted, given - accepted)
+    return listed([('DEF', *said), ('Files', counts)])
+
+
 def inputs(facts):
     """The definition and the files."""
     heads = ['File', 'SHA-256', 'Bytes', 'Records', 'Device', 'State']
-    return section('inputs', 'Inputs', table('DEF and the files', heads, input_rows(facts)),
-                   element('p', 'The records of DEF are not counted.'))
+    said = public_inputs(facts) if facts.is_public else \
+        table('DEF and the files', heads, input_rows(facts))
+    return section('inputs', 'Inputs', said, element('p', 'The records of DEF are not counted.'))
 
 
 def shown_warnings(facts):
-    """The warnings; on a page for the public only their kinds."""
+    """The warnings; on a page for the public only their kinds, always in the same order."""
     if not facts.is_public:
         for kind, parts in facts.warnings:
             yield KINDS[kind], ' '.join(parts), warnings.ADVICE[kind]
         return
-    for kind in dict.fromkeys(kind for kind, _ in facts.warnings):
+    found = {kind for kind, _ in facts.warnings}
+    for kind in filter(found.__contains__, KINDS):
         yield KINDS[kind], None, warnings.ADVICE[kind]
 
 

@@ -1,13 +1,14 @@
 #!/usr/bin/env python3
 """page.py --cvr PATH [--sets N] [--seed N] [--companion FOLDER] [--picture PNG]
 
-Tests `cvr-audit page`. First the county of examples/: its two pages are compared line by line with
-page/county.txt and page/public.txt, which were written by hand. Then sets of files (page_sets.py):
-odd names, 60 units and 2,000, 300 contests, no record, nothing but refused files, and contests and
-units of random sizes. For each, on pages for offices and for the public, it tests
+Tests `cvr-audit page`. The county of examples/: its two pages are compared line by line with
+page/county.txt and page/public.txt, which were written by hand. Sets of files (page_sets.py):
+odd names, 60 units and 2,000, 300 contests, no record, nothing but refused files, one ballot a file, and
+contests and units of random sizes. For each, on pages for offices and for the public, it tests
 
 - every number, compared with what `cvr` prints (page_numbers.py);
-- what a reader can work out of the numbers that are withheld (page_masks.py);
+- what a reader can work out of the numbers that are withheld, also by trying what each file could be
+  (page_masks.py);
 - the tree of heads, the heads of tables, that nothing is fetched or run, and that `tidy` reads the
   page as HTML5 (page_form.py);
 - how Chromium shows it in a wide and a narrow window, and prints it (page_views.py).
@@ -158,6 +159,7 @@ def sets(trial, words):
     definition = page_sets.many_contests(2)[0]
     yield 'no record', page_sets.texts_of((definition, {}))
     refused = page_sets.texts_of((definition, {'a.json': dict(definition, Version='2.0.0')}))
+    yield 'a ballot of DEF', page_sets.one_each(is_in_definition=True)[0]
     yield 'refused files', dict(refused, **{'b.json': b'{', 'c.json': b'\xff'})
     for seed in range(words.seed, words.seed + words.sets):
         yield 'set %d' % seed, page_sets.texts_of(page_sets.uneven(random.Random(seed)))
@@ -170,8 +172,9 @@ def counts_of(trial, folder, files):
     return [held.get(name) for name in ['def.json'] + files]
 
 
-def see_set(trial, name, held, is_public):
-    """Tests a page of a set, and how it looks where the set has a name of its own."""
+def see_set(trial, name, held, is_public, possible=()):
+    """Tests a page of a set, and how it looks where the set has a name of its own. A reader of it may try
+    what each file could be."""
     files, definition = [it for it in held if it != 'def.json'], json.loads(held['def.json'])
     with tempfile.TemporaryDirectory() as folder:
         for path, data in held.items():
@@ -182,14 +185,14 @@ def see_set(trial, name, held, is_public):
         what, path = name + ' for the public' * is_public, os.path.join(folder, 'page.html')
         text, log, got = trial.page(folder, 'def.json', files, *['--public'] * is_public)
         wrong = ['status %d: %s' % (got, log)] * (got != status)
-        trial.see(what, wrong + list(set_wrong(text, tally, counts, is_public)))
+        trial.see(what, wrong + list(set_wrong(text, tally, counts, is_public, possible)))
         with open(path, 'w', encoding='utf-8') as file:
             file.write(text)
         if trial.is_seen and not name.startswith('set '):
             page_views.see(trial, path, what)
 
 
-def set_wrong(text, tally, counts, is_public):
+def set_wrong(text, tally, counts, is_public, possible):
     """What is wrong with a page of a set, as lines."""
     yield from page_form.wrong_of(page_text.read(text), text)
     try:
@@ -197,8 +200,8 @@ def set_wrong(text, tally, counts, is_public):
     except (IndexError, KeyError, StopIteration, ValueError) as fault:
         yield 'the numbers can\'t be read: %s' % fault
         return
+    yield from page_masks.wrong_of(equations, votes, page_masks.tried(text, possible))
     yield from wrong
-    yield from page_masks.wrong_of(equations, votes)
     if votes and not is_public:
         yield 'a number is withheld'
 
@@ -212,7 +215,7 @@ def see_way(trial, way):
         words = [sys.executable, os.path.abspath(__file__), '--cvr', trial.cvr, '--sets', str(FEW),
                  '--companion', copy]
         out, log, status = run(folder, *words)
-    lines = [line for line in out.splitlines() if line.startswith('WRONG ')]
+    lines = [line for line in out.splitlines() if line.startswith('WRONG ') and way.seen in line]
     is_broken = any(it in out + log for it in ('Error', 'Traceback'))
     return [] if status == 1 and lines and not is_broken else ['nothing finds it: %s' % log]
 
@@ -228,7 +231,10 @@ def see_own(trial, words):
 
 
 def pages(trial, words):
-    """What is tested in a browser too: a function beside the trial, and what else it takes."""
+    """What is tested in a browser too: a function beside the trial, and what else it takes. The files of
+    one ballot are first, so that a slip which these have to find is found by them."""
+    held, possible = page_sets.one_each()
+    yield see_set, 'one ballot a file', held, True, possible
     yield see_own, words
     for name, held in sets(trial, words):
         yield see_set, name, held, False

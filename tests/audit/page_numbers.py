@@ -10,6 +10,9 @@ WORD = re.compile(r'"(?:[^"\\]|\\.)*"|[^ ]+')
 COLUMNS = 'Ballots', 'Overvotes', 'Undervotes', 'Write-ins', 'Pending', 'Unassigned'
 HIDDEN = '*'
 MEMBERS = {'Overvotes': 1, 'Undervotes': 2}
+WARNINGS = ['File refused', 'Records in DEF', 'Two texts of a device', 'Two headers of a record',
+            'Two texts of a snapshot', 'Pending', 'Unassigned', 'Too many votes', 'Sum', 'Not stated',
+            'Contest without a record', 'Record without a contest', 'Batch', 'One ballot twice']
 ODD = '\x00\x07\x85\ufffe'      # the characters of page_sets.py that HTML can't have
 
 
@@ -210,13 +213,36 @@ class Held:
 
     def see_inputs(self, records):
         """The records of DEF and of each file in order; None for a refused one."""
+        if self.is_public:
+            self.see_counts(records[0], records[1:])
+            return
         table = next(self.sections['inputs'].all('table'))
         rows = page_text.rows(table)[1:]
         if len(rows) != len(records):
             self.wrong.append('%d inputs' % len(rows))
         for row, number in zip(rows, records):
             self.seen.add(id(row[2]))
-            self.see('records', row[3], '' if number is None else number, True)
+            self.see('records', row[3], '' if number is None else number)
+
+    def see_counts(self, own, records):
+        """On a page for the public: DEF, by its SHA-256 only if it has no records, and the number of
+        the files."""
+        refused = records.count(None)
+        counts = len(records), len(records) - refused, refused
+        digest = '#' if own == '0' else 'withheld, since DEF has records'
+        wanted = ['## Inputs', 'DEF: SHA-256 ' + digest,
+                  'Files: {:,} given, {:,} accepted, {:,} refused'.format(*counts),
+                  'The records of DEF are not counted.']
+        lines = [re.sub('[0-9a-f]{64}', '#', it) for it in page_text.lines(self.sections['inputs'])]
+        if lines != wanted:
+            self.wrong.append('inputs: %s' % lines[:4])
+
+    def see_warnings(self):
+        """On a page for the public each kind of the warnings stands once, and always at the same place
+        among the others, so that their order says nothing."""
+        kinds = [it.text() for it in self.sections['warnings'].all('strong')]
+        if self.is_public and kinds != [it for it in WARNINGS if it in kinds]:
+            self.wrong.append('warnings: %s' % kinds)
 
     def see_batches(self, sizes):
         """The records of each batch, where there is a manifest."""
@@ -251,6 +277,7 @@ def wrong_of(text, tally, records, is_public=False, sizes=None):
     """What is wrong with the numbers of a page, as lines; and what it withholds."""
     held = Held(text, tally, is_public)
     held.see_inputs(records)
+    held.see_warnings()
     held.see_contests()
     held.see_units()
     held.see_batches(sizes or {})

@@ -1,5 +1,5 @@
-"""page_sets.py: definitions and reports for pages: odd names, many contests, many units, and no
-records."""
+"""page_sets.py: definitions and reports for pages: odd names, many contests, many units, one ballot a
+file, and no records."""
 import json
 
 MOMENT = '2024-11-05T20:00:00Z'
@@ -87,6 +87,21 @@ def many_units(count=2000):
     return report(contests, units), {'records.json': report(contests, units, records)}
 
 
+def one_each(is_in_definition=False):
+    """The files of a set with one ballot each, of which four have a vote with a longer id, and what each
+    file could be: its bytes by the vote. DEF may have the first ballot, too. No ballot has the contest
+    that comes first."""
+    keys, files, possible, units = ['ada', 'bob', 'constantine'], {}, [], [('u', 'Unit')]
+    contests = [('tax', 'Tax', 1, [('yes', 'Yes')]), ('mayor', 'Mayor', 1, [(it, it) for it in keys])]
+    for number, place in enumerate([0] * 25 + [1] * 30 + [2] * 4):
+        made = [report(contests, units, [record(number, 'u', 'batch', {'mayor': key})])
+                for key in keys]
+        files['%02d.json' % number] = made[place]
+        possible.append({('mayor', one): text_of(it) for one, it in enumerate(made)})
+    definition = files['00.json'] if is_in_definition else report(contests, units)
+    return texts_of((definition, files)), possible
+
+
 def vote(chance, selections, can_be_less):
     """A random vote; where that can be, one in twenty is none, is pending or is rejected."""
     chosen = chance.choice(selections)
@@ -111,8 +126,12 @@ def uneven(chance, units=7):
     return report(contests, places), {'records.json': report(contests, places, records)}
 
 
+def text_of(value):
+    return json.dumps(value).encode('utf-8')
+
+
 def texts_of(made):
     """The files of a set: their bytes by name."""
     definition, files = made
     held = {'def.json': definition, **files}
-    return {name: json.dumps(value).encode('utf-8') for name, value in held.items()}
+    return {name: text_of(value) for name, value in held.items()}

@@ -1,8 +1,11 @@
 """page_ways.py: slips that the page could have. Each changes one line, which stands once in its
-file, and the county or the sets have to find it, without a browser."""
+file, and the county or the sets have to find it, without a browser; some have to be found by what is
+seen there."""
 from collections import namedtuple
 
-Way = namedtuple('Way', 'name file old new')
+Way = namedtuple('Way', 'name file old new seen', defaults=[''])
+FOLLOWS = 'one ballot a file for the public: (\'mayor\', 2) follows'     # by trying what files could be
+FILES = 'return listed([(\'DEF\', *said), (\'Files\', counts)])'
 WAYS = [
     Way('withholds_what_is_below_five', 'page_masking.py', 'number < LEAST', 'number < 5'),
     Way('withholds_small_numbers_alone', 'page_masking.py', 'hidden < LEAST:', 'False:'),
@@ -32,11 +35,20 @@ WAYS = [
         '\'the same\' if True else'),
     Way('loses_a_column', 'page_contests.py', 'range(0, len(columns), COLUMNS)',
         'range(0, len(columns), COLUMNS + 1)'),
-    Way('names_paths_in_public', 'page_inputs.py', 'label if facts.is_public else code(path)',
-        'code(path)'),
+    Way('shows_the_public_the_files', 'page_inputs.py', 'if facts.is_public else \\\n        table',
+        'if False else \\\n        table', FOLLOWS),
+    Way('gives_the_public_lengths', 'page_inputs.py', FILES,
+        FILES.replace('counts)', 'counts, *(\' %d\' % digest_of(it)[1] for it in files.files))'), FOLLOWS),
+    Way('gives_the_public_digests', 'page_inputs.py', FILES,
+        FILES.replace('counts)', 'counts, *(\' \' + digest_of(it)[0] for it in files.files))'), FOLLOWS),
+    Way('gives_the_public_the_digest_of_a_ballot', 'page_inputs.py', 'if files.own_records:',
+        'if False:'),
+    Way('counts_refused_files_as_accepted', 'page_inputs.py', 'given, accepted, given - accepted',
+        'given, given, 0'),
+    Way('leaves_warnings_in_their_order', 'page_inputs.py', 'in filter(found.__contains__, KINDS)',
+        'in dict.fromkeys(kind for kind, _ in facts.warnings)'),
     Way('tells_the_public_all_warnings', 'page_inputs.py', 'if not facts.is_public:\n        for',
         'if True:\n        for'),
-    Way('tells_the_public_the_place', 'page_faults.py', 'not is_public and place', 'place'),
     Way('gives_the_public_a_digest', 'page.py', '[WITHHELD] if facts.is_public else said', 'said'),
     Way('shows_records_to_the_public', 'page.py', 'if not facts.is_public:', 'if True:'),
     Way('signs_another_text', 'page.py', 'facts.tally.encode', 'facts.tally.strip().encode'),
