@@ -118,6 +118,19 @@ def uninstalls(cvr, folder):
     yield 'make uninstall, below DESTDIR', is_uninstalled(cvr, tree, ['usr/other'], 'DESTDIR=' + tree, 'PREFIX=/usr', 'ZSH=/usr/share/zsh/vendor-completions')
 
 
+def kit():
+    """The kit that built the program: as it is noted, which `rt ci` leaves to what is called after it, or the one on the PATH."""
+    noted = os.path.join(TOP, 'out/kit')
+    return (held(noted).decode('utf-8') if os.path.exists(noted) else done('rt', 'version')[1]).strip()
+
+
+def names_kit(prefix):
+    """Whether a page of the programs below a prefix names the kit, which stands in PROVENANCE there."""
+    words = [os.path.join(prefix, 'bin/cvr-audit'), 'page', 'examples/county/definition.json']
+    status, page = done(*words, env=dict(os.environ, CVR=os.path.join(prefix, 'bin/cvr')))
+    return status == 0 and ', kit %s</dd>' % kit() in page
+
+
 def packed(cvr, out):
     """The paths of what tools/package makes, by their endings."""
     status, told = done(sys.executable, 'tools/package', '--cvr', cvr, '--out', out)
@@ -143,8 +156,7 @@ def provenance(text, program):
     told = dict(re.findall(r'^(\w+) +(.*)$', text.split('\n\n')[1], re.M))
     yield 'the sum of the program', told['program'] == hashlib.sha256(held(program)).hexdigest()
     yield 'the sum of the sources', told['sources'] == done('sh', '-c', re.search(r'^ +(git ls-files .*)$', text, re.M).group(1))[1].split()[0]
-    noted = os.path.join(TOP, 'out/kit')        # which `rt ci` leaves to what is called after it
-    yield 'the kit', told['kit'] == (held(noted).decode('utf-8') if os.path.exists(noted) else done('rt', 'version')[1]).strip()
+    yield 'the kit', told['kit'] == kit()
     yield 'the commit', told['commit'].split(',')[0] == done('git', 'rev-parse', 'HEAD')[1].strip()
 
 
@@ -167,6 +179,7 @@ def tried(cvr, folder):
         yield from first_runs(place, ['README.md', 'docs/AUDITING.md'])
         yield 'the program in ' + place, held(os.path.join(place, 'bin/cvr')) == held(cvr)
         yield 'PROVENANCE in ' + place, held(os.path.join(place, 'share/doc/cvr/PROVENANCE')) == held(made['PROVENANCE'])
+        yield 'the page names the kit in ' + place, names_kit(place)
         yield 'copyright in ' + place, held(os.path.join(TOP, 'LICENSE')).strip() in held(os.path.join(place, 'share/doc/cvr/copyright'))
     yield from provenance(held(made['PROVENANCE']).decode('utf-8'), cvr)
     yield 'the C library alone', 'libc.so.6' in libraries(os.path.join(unpacked, 'bin/cvr')) <= LIBRARIES

@@ -2,6 +2,7 @@
 import datetime
 import hashlib
 import os
+import re
 import shlex
 import shutil
 
@@ -10,6 +11,7 @@ from .page_tree import code, codes, element, listed, section, table
 from .reading import spelled
 
 SIZE = 1 << 20
+PROVENANCE = '../share/doc/cvr/PROVENANCE'      # beside the folder of an installed program
 KINDS = {
     'refused': 'File refused', 'definition': 'Records in DEF', 'device': 'Two texts of a device',
     'header': 'Two headers of a record', 'snapshot': 'Two texts of a snapshot',
@@ -40,22 +42,36 @@ def moment():
 
 
 def version_of(cvr):
-    """What the program prints as its version, and the SHA-256 of its file."""
+    """What the program prints as its version, the SHA-256 of its file, and the kit that built it."""
     text = program.started([cvr, '--version']).stdout.decode('utf-8', 'replace')
-    return text.split('\n')[0], digest_of(shutil.which(cvr) or cvr)[0]
+    path = shutil.which(cvr) or cvr
+    digest = digest_of(path)[0]
+    return text.split('\n')[0], digest, kit_of(path, digest)
+
+
+def kit_of(path, digest):
+    """The kit that built a program, by the PROVENANCE of its package; None where there is none, or it
+    is another program's."""
+    folder = os.path.dirname(os.path.realpath(path))
+    try:
+        with open(os.path.join(folder, PROVENANCE), encoding='utf-8') as file:
+            found = re.search(r'^kit +(.+)\nprogram +%s$' % digest, file.read(), re.M)
+    except (OSError, UnicodeDecodeError):
+        return None
+    return found and found.group(1)
 
 
 def head(facts):
     """The election, and how to get the same numbers again."""
     files = facts.files
-    version, digest = version_of(files.program)
+    version, digest, kit = version_of(files.program)
     command = 'cvr tally -- DEF FILE ...'
     if not facts.is_public:
         command = ' '.join(map(shlex.quote, ['cvr', 'tally', '--', files.definition] + files.files))
     return element(
         'header', element('p', 'UNOFFICIAL', class_='unofficial'),
         element('h1', element('bdi', facts.names.election)),
-        listed([('Made', moment()), ('By', version, ', SHA-256 ', code(digest)),
+        listed([('Made', moment()), ('By', version, ', SHA-256 ', code(digest), kit and ', kit ' + kit),
                 ('Command', element('pre', command))]))
 
 

@@ -13,6 +13,8 @@ contests and units of random sizes. For each, on pages for offices and for the p
   page as HTML5 (page_form.py);
 - how Chromium shows it in a wide and a narrow window, and prints it (page_views.py).
 
+It also tests that the page names the kit by the PROVENANCE of an installed program.
+
 Beside that the slips of page_ways.py: each is made in a copy, and the county or the sets have to
 find it. With --companion the copy in that folder is tested, without a browser and without the
 largest sets, until something is wrong. Where a tool isn't there a line `skipped` says so. --picture
@@ -48,6 +50,7 @@ import wrong_ways    # noqa: E402
 COUNTY = os.path.join(TOP, 'examples', 'county')
 FILES = ['scan.json', 'adjudicated.json', 'corrected.json', 'damaged.json']
 REFUSED = 'damaged.json: E3 /CVR/0/UniqueId 2\n'
+PROVENANCE = 'cvr 1.0.0 was built of\n\ncommit   a\nsources  b\nkit      kit-1 logic 2\nprogram  '
 MADE = '1730930400'         # 2024-11-06T22:00:00Z
 SECONDS = 600
 SIDE_BY_SIDE = 4
@@ -76,11 +79,11 @@ class Trial:
         if wrong and not self.is_seen:
             raise Found
 
-    def page(self, folder, definition, files, *words):
+    def page(self, folder, definition, files, *words, cvr=None):
         """(page, log, status) of the words."""
         companion = os.path.join(self.companion, 'cvr-audit')
         return run(folder, sys.executable, companion, 'page', definition, *files, *words,
-                   CVR=self.cvr, SOURCE_DATE_EPOCH=MADE)
+                   CVR=cvr or self.cvr, SOURCE_DATE_EPOCH=MADE)
 
     def printed(self, folder, *words):
         """What a command of `cvr` prints, and its status."""
@@ -130,6 +133,24 @@ def see_county(trial, folder):
         trial.see('county, %s' % name, wrong)
         with open(os.path.join(folder, name + '.html'), 'w', encoding='utf-8') as file:
             file.write(text)
+
+
+def see_kit(trial, folder):
+    """An installed program, beside the PROVENANCE of it or of another one, and the kit that the page of a
+    county names."""
+    cvr, digest = os.path.join(folder, 'top/bin/cvr'), digest_of('cvr', trial, folder)
+    provenance = os.path.join(folder, 'top/share/doc/cvr/PROVENANCE')
+    for path in (cvr, provenance):
+        os.makedirs(os.path.dirname(path))
+    shutil.copy(trial.cvr, cvr)
+    for program, kit in (None, ''), (digest, ', kit kit-1 logic 2'), ('0' * 64, ''):
+        if program:
+            with open(provenance, 'w', encoding='utf-8') as file:
+                file.write(PROVENANCE + program + '\n')
+        text, _, _ = trial.page(folder, 'definition.json', [], cvr=cvr)
+        said = [it for it in page_text.lines(page_text.read(text)) if it.startswith('By: ')]
+        wanted = filled('By: {version}, SHA-256 {digest of cvr}' + kit, trial, folder)
+        trial.see('the kit of %s' % program, list(differences(said, [wanted])))
 
 
 def picture(trial, folder, to):
@@ -224,6 +245,7 @@ def see_own(trial, words):
     """Tests the pages of the county."""
     with tempfile.TemporaryDirectory() as folder:
         see_county(trial, folder)
+        see_kit(trial, folder)
         for name in ('county', 'public') if trial.is_seen else ():
             page_views.see(trial, os.path.join(folder, name + '.html'), name)
         if words.picture:

@@ -45,6 +45,8 @@ WAYS = [
         'if False:'),
     Way('counts_refused_files_as_accepted', 'page_inputs.py', 'given, accepted, given - accepted',
         'given, given, 0'),
+    Way('names_the_kit_of_another_program', 'page_inputs.py', 'program +%s$\' % digest',
+        'program \''),
     Way('leaves_warnings_in_their_order', 'page_inputs.py', 'in filter(found.__contains__, KINDS)',
         'in dict.fromkeys(kind for kind, _ in facts.warnings)'),
     Way('tells_the_public_all_warnings', 'page_inputs.py', 'if not facts.is_public:\n        for',
