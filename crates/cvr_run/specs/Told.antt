@@ -141,13 +141,6 @@ task_dues definition task paths files =
       dues = dues_of definition task files;
     }
 
--- the nth of them has this text, and this is due to it
-pub record IsNext (of : Dues) (n : ℕ) (text : List ℕ) (due : Due) : Type 0 where
-  pub named : n < length of.texts
-  pub there : n < length of.dues
-  pub text_is : text ≡ slice_index_or of.texts n []
-  pub due_is : slice_index_or of.dues n no_due ≡ due
-
 -- a log that took the lines of the first n of them, and what a run then keeps of its refusals
 pub record LogsFirst (of : Dues) (n : ℕ) (refusals : Refusals) (old new : Taken) : Type 0 where
   pub tellings : List Telling

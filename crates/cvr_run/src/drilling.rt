@@ -12,12 +12,13 @@ ghost use Rattle.cvr_run.specs.Refusals.{cause_in, is_refusal, is_want, AreDue, 
 ghost use Rattle.cvr_run.specs.Told.{drill_dues, LogsFirst, TellsRun, IsCutShort, LogsSome};
 
 use crate::ending::{end_in_memory, end_with};
+use crate::noting::note_refused;
 use crate::offices::print_offices;
 use crate::refusals::Refusals;
 use crate::status::Status;
 use cdf_check::Definition;
 use cdf_types::{Memory, Sink};
-use cvr_office::{Cause, Event, Office, Outcome, play};
+use cvr_office::{Event, Office, play};
 use cvr_words::{Act, Step};
 use std::alloc::Global;
 
@@ -78,39 +79,6 @@ fn new_offices<O: Office + Drop>(
         made += 1;
     }
     Ok(offices)
-}
-
-// The cause for which an event was refused.
-fn cause_in(outcome: &Outcome) -> Option<&Cause>
-    ensures { option_map (λ c. c.now) result ≡ cause_in outcome.now }
-{
-    match outcome {
-        Outcome::Accepted(_) => None,
-        Outcome::Refused(cause) => Some(cause),
-    }
-}
-
-// Reports each step that was refused in the log.
-fn note_refused<L: Sink>(
-    alloc: Global,
-    steps: &[Step],
-    outcomes: &[Outcome],
-    log: &mut L,
-) -> Refusals
-    requires { length steps.now ≡ length outcomes.now }
-    ensures any_refusal { result.any_refusal ≡ list_any is_refusal outcomes.now }
-    ensures file_lacking { result.file_lacking ≡ list_any is_want outcomes.now }
-    ensures log { (dues : List Due) → AreDue dues outcomes.now
-        → LogsFirst (record { by_file = false; texts = step_texts steps.now; dues = dues })
-        (length outcomes.now) result (L.taken log.old) (L.taken log.new) }
-{
-    let mut refusals = Refusals::none();
-    for (place, outcome) in outcomes.iter().enumerate() {
-        if let Some(cause) = cause_in(outcome) {
-            refusals.note(alloc, log, steps[place].text.as_str(), cause);
-        }
-    }
-    refusals
 }
 
 // Plays steps among this many new offices of one definition, in order, and reports each refused one

@@ -22,6 +22,7 @@ mod listing;
 mod log;
 mod memory_files;
 mod merge;
+mod noting;
 mod number;
 mod offices;
 mod opening;

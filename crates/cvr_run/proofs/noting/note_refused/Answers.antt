@@ -1,17 +1,13 @@
-use Rattle.std.proofs.Common.{◌≡◌, false, ℕ, List, ◌+◌, ◌<◌, ◌∙◌, length, map, Some, None}
+use Rattle.std.proofs.Common.{◌≡◌, false, ◌+◌, ◌<◌, ◌∙◌, length, map, Some, None}
 use Rattle.std.proofs.Common.{option_map, sym, ap, subst, arith, rules, []}
 use Rattle.std.proofs.lemmas.List.{length-map, get_or-map}
-use Rattle.cvr_words.specs.declared.request.Step.{Step}
 use Rattle.cvr_run.specs.Refusals.{cause_in}
 use Rattle.cvr_run.specs.Told.{LogsFirst}
 use Rattle.cvr_run.proofs.Outcomes.{due_where_told, none_where_not, refused_here, wanted_here}
 use Rattle.cvr_run.proofs.Outcomes.{accepted_here, unwanted_here}
 use Rattle.cvr_run.proofs.Telling.{tells_none, tells_noted, tells_accepted}
-use Rattle.cvr_run.proofs.drilling.note_refused.Goals as goal
-use Rattle.cvr_run.proofs.drilling.note_refused.Goals.{in-Some, in_default}
-
-abbrev step_text : Step → List ℕ
-step_text step = step.text
+use Rattle.cvr_run.proofs.noting.note_refused.Goals as goal
+use Rattle.cvr_run.proofs.noting.note_refused.Goals.{in-Some, in_default}
 
 pub loop-place-init : goal.loop-place-init
 loop-place-init g c = record {
@@ -19,7 +15,7 @@ loop-place-init g c = record {
   file_lacking = search rules;
   log = λ dues due. tells_none (record {
     by_file = false;
-    texts = map step_text c.args.steps.now;
+    texts = map g.A.Argument.spelled c.args.arguments.now;
     dues = dues;
   }) _ c.none-refusals.result c.none-refusals.ensures.file_lacking
       c.none-refusals.ensures.path_unspelled;
@@ -27,8 +23,8 @@ loop-place-init g c = record {
 
 pub loop-place-preserved : goal.loop-place-preserved
 loop-place-preserved g c =
-    let text_of = step_text in
-    let named = c.args.steps.now in
+    let text_of = g.A.Argument.spelled in
+    let named = c.args.arguments.now in
     let texts = map text_of named in
     let rs = c.args.outcomes.now in
     let n = c.loop-place.place in
@@ -59,10 +55,10 @@ loop-place-preserved g c =
                 (subst (λ l. LogsFirst (record { by_file = false; texts = texts; dues = dues })
                 (n + 1) now (g.L.Sink.taken c.args.log.now) (g.L.Sink.taken l)) (sym w.log-is)
                 (tells_noted (record { by_file = false; texts = texts; dues = dues }) _ _ _ n before
-                now w.as_str.result.now cause (was.log dues due) within
+                now w.text.result.now cause (was.log dues due) within
                 (omega (arith, lt, due.count))
-                (w.as_str.ensures ∙ sym
-                (get_or-map text_of named n w.index-steps-place.result [] there))
+                (w.text.ensures ∙ (ap text_of w.index-arguments-place.is ∙ sym
+                (get_or-map text_of named n w.index-arguments-place.result [] there)))
                 (due_where_told rs n o lt at dues due cause told) w.note.ensures.file_lacking
                 w.note.ensures.told));
           }
@@ -93,7 +89,7 @@ returns-clause-log g c = λ dues due.
     omega (arith, c.loop-place-test.false, c.loop-place.auto.place-end) in
     subst (λ k. LogsFirst (record {
       by_file = false;
-      texts = map step_text c.args.steps.now;
+      texts = map g.A.Argument.spelled c.args.arguments.now;
       dues = dues;
     }) k c.loop-place.refusals (g.L.Sink.taken c.args.log.now)
     (g.L.Sink.taken c.loop-place.log)) all
