@@ -1,7 +1,6 @@
-ghost use Rattle.std.specs.Prelude.{◌≡◌, ◌<◌, ◌≤◌, ◌+◌, ℕ, OnOk, OnErr, IfOk, [], true, false};
+ghost use Rattle.std.specs.Prelude.{◌≡◌, ◌<◌, ◌≤◌, ◌+◌, ℕ, OnOk, IfOk, [], true, false};
 ghost use Rattle.std.specs.Prelude.{if◌then◌else◌, option_map, length};
 ghost use Rattle.std.specs.FinMap.{get};
-ghost use Rattle.std.specs.FinSet.{empty, len, union};
 ghost use Rattle.std.specs.Ordering.{eq_by_cmp};
 ghost use Rattle.std.specs.List.Sorted.{IsStrictlySortedBy};
 ghost use Rattle.std.specs.Cmp.{partial_equiv_from_equiv, eq_by_cmp_equiv};
@@ -9,9 +8,7 @@ ghost use Rattle.std.specs.Cmp.Lexicographic.{pointwise, lists_equiv};
 ghost use Rattle.cvr_tally.specs.Rows.{row_closed, limit_of};
 ghost use Rattle.cvr_tally.specs.declared.key.RowKey.{RowKey};
 ghost use Rattle.cvr_office.specs.Place.{any_cmp, any_total};
-ghost use Rattle.cvr_office.specs.Plain.{set_of, IsPut};
-ghost use Rattle.cvr_fact_types.specs.Facts.{Facts, fact_total, fact_exact};
-ghost use Rattle.cvr_facts.specs.Unions.{union_laws};
+ghost use Rattle.cvr_office.specs.Plain.{IsPut};
 ghost use Rattle.cvr_cached.specs.Contents.{header_in, current_in, pairs_of};
 ghost use Rattle.cvr_fact_types.specs.Columns.{Column};
 ghost use Rattle.cvr_cached.specs.Cells.{cell, shares, has_row, is_row_of};
@@ -21,7 +18,7 @@ use crate::remembered::{
     current_place, header_fact_at, header_place, key_at, no_key, snapshot_at, votes_at,
 };
 use cdf_types::Memory;
-use cvr_facts::{HeaderFact, Join, SnapshotFact};
+use cvr_facts::{HeaderFact, SnapshotFact};
 use cvr_lists::putting::{copies, put_in};
 use cvr_office::any_fact::AnyFact;
 use cvr_tally::{RowKey, Totals};
@@ -197,35 +194,6 @@ impl RecordContent {
             totals.take(key, sums);
         }
     }
-}
-
-// The set that a content holds is that of its facts. `put` says besides that each of them, with its
-// fields, comes from one of the two.
-impl Join for RecordContent {
-    ghost Set = { Facts };
-
-    ghost held = { set_of };
-
-    ghost joined = { union };
-
-    ghost nothing = { empty };
-
-    ghost size = { len };
-
-    fn join(&mut self, other: &Self) -> Result<usize, Memory>
-        ensures ok { OnOk result (set_of self.new ≡ union (set_of self.old) (set_of other.now)) }
-        ensures new { IfOk result (λ n. len (set_of self.old) + n ≡ len (set_of self.new)) }
-        ensures unchanged { OnErr result (self.new ≡ self.old) }
-        ensures put { OnOk result (IsPut self.old other.now self.new) }
-    {
-        let alloc = *self.facts.allocator();
-        let joined = self.with(alloc, copies(alloc, other.facts())?)?;
-        let new_facts = joined.facts.len() - self.facts.len();
-        *self = joined;
-        Ok(new_facts)
-    }
-
-    ghost laws = { union_laws fact_total fact_exact };
 }
 
 // Contents are equal where their facts are, in order.

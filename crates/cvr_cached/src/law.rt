@@ -1,4 +1,6 @@
 //! Laws of parts that are joined, of offices of two kinds, and of how often rows are changed.
+ghost use Rattle.std.specs.FinSet.{empty, union};
+ghost use Rattle.cvr_office.specs.Plain.{set_of};
 ghost use Rattle.cvr_cached.specs.Kinds.{KindsLaw};
 ghost use Rattle.cvr_cached.specs.Moves.{NothingMovesLaw, RowsOfRecordLaw};
 ghost use Rattle.cvr_cached.specs.Wholes.{WholesLaw};
@@ -7,9 +9,12 @@ use cvr_facts::Join;
 use cvr_office::Office;
 
 /// Parts stand under names of records. Where the part of each name is the join of two others', all
-/// parts together are the join of all of theirs. This follows from the laws of `Join` alone.
+/// parts together are the join of all of theirs. This follows from the laws of `Join` alone. The
+/// union of facts keeps these laws (`law::joining` of `cvr_facts`), so it holds of what two offices
+/// have under each name.
 pub fn wholes_are_joined<J: Join>()
-    ensures { WholesLaw J.held J.joined J.nothing }
+    ensures parts { WholesLaw J.held J.joined J.nothing }
+    ensures contents { WholesLaw set_of union empty }
 {}
 
 /// Offices of one kind and of another that held the same facts, place by place, and played the same
