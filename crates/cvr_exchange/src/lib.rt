@@ -2,6 +2,3 @@
 #![tactic(auto)]
 
 pub mod law;
-mod reading;
-
-pub use reading::can_be_read;
