@@ -184,6 +184,7 @@ def tried(cvr, folder):
     yield from provenance(held(made['PROVENANCE']).decode('utf-8'), cvr)
     yield 'the C library alone', 'libc.so.6' in libraries(os.path.join(unpacked, 'bin/cvr')) <= LIBRARIES
     yield 'libc6 alone', re.fullmatch(r'libc6 \(>= 2\.\d+\)\n', done('dpkg-deb', '-f', made['.deb'], 'Depends')[1]) is not None
+    yield 'no address of a commit', done('dpkg-deb', '-f', made['.deb'], 'Maintainer')[1].endswith('.invalid>\n')
     for name, about in ('cvr', r'cvr +- +check'), ('cvr-audit', r'cvr-audit +- +print'):
         status, text = man_page(unpacked, name)
         is_read = status == 0 and re.search(about, text) and not re.search(r':\d+: warning', text)
