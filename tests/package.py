@@ -62,7 +62,8 @@ def held(path):
 def is_installed(prefix):
     """Whether everything is below a prefix, for everybody to read, and the programs to run."""
     modes = [os.stat(os.path.join(prefix, name)).st_mode & 0o777 for name in RUN + READ]
-    return modes == [0o755] * len(RUN) + [0o644] * len(READ)
+    folders = {os.stat(it).st_mode & 0o777 for top in ('bin', 'share') for it, _, _ in os.walk(os.path.join(prefix, top))}
+    return modes == [0o755] * len(RUN) + [0o644] * len(READ) and folders == {0o755}
 
 
 def pages(prefix):
@@ -131,9 +132,19 @@ def names_kit(prefix):
     return status == 0 and ', kit %s</dd>' % kit() in page
 
 
-def packed(cvr, out):
+def elsewhere(folder):
+    """Other settings of the user who runs a command: its files go to a folder that passes on its group, as one for several
+    people does, and a `make` above it was given other folders."""
+    room = os.path.join(folder, 'a room')
+    os.mkdir(room)
+    os.chmod(room, 0o2700)
+    more = {'TMPDIR': room, 'MAKEFLAGS': ' -- DESTDIR=/nonexistent ZSH=/nonexistent', 'LC_ALL': 'C', 'TZ': 'Asia/Kolkata'}
+    return {'umask': 0o077, 'env': dict(os.environ, **more)}
+
+
+def packed(cvr, out, **more):
     """The paths of what tools/package makes, by their endings."""
-    status, told = done(sys.executable, 'tools/package', '--cvr', cvr, '--out', out)
+    status, told = done(sys.executable, 'tools/package', '--cvr', cvr, '--out', out, **more)
     if status:
         sys.exit(told + 'package: 0 right, 1 wrong')
     return {end: os.path.join(out, name) for name in os.listdir(out) for end in ('.deb', '.tar.gz', 'PROVENANCE') if name.endswith(end)}
@@ -163,17 +174,17 @@ def provenance(text, program):
 def tried(cvr, folder):
     """Yields each trial, and whether it is right."""
     prefix = os.path.join(folder, 'a prefix')
-    yield 'make install', done('make', 'install', 'CVR=' + cvr, 'PREFIX=' + prefix)[0] == 0 and is_installed(prefix)
+    yield 'make install', done('make', 'install', 'CVR=' + cvr, 'PREFIX=' + prefix, umask=0o077)[0] == 0 and is_installed(prefix)
     yield links(prefix)
     yield from first_runs(prefix, commands.FILES)
     yield from uninstalls(cvr, folder)
-    made, again = packed(cvr, os.path.join(folder, 'one')), packed(cvr, os.path.join(folder, 'other'))
+    made, again = packed(cvr, os.path.join(folder, 'one')), packed(cvr, os.path.join(folder, 'other'), **elsewhere(folder))
     for end in '.deb', '.tar.gz', 'PROVENANCE':
         yield 'packed twice: ' + end, held(made[end]) == held(again[end])
     unpacked, below = os.path.join(folder, 'unpacked/usr'), os.path.join(folder, 'local')
     os.mkdir(below)
     yield 'dpkg-deb unpacks it', done('dpkg-deb', '-x', made['.deb'], os.path.dirname(unpacked))[0] == 0
-    yield 'tar unpacks it', done('tar', '-xzf', made['.tar.gz'], '-C', below, '--strip-components=1')[0] == 0 and is_installed(below)
+    yield 'tar unpacks it', done('tar', '-xzf', made['.tar.gz'], '-C', below, '--strip-components=1', umask=0o022)[0] == 0 and is_installed(below)
     for place in unpacked, below:
         yield links(place)
         yield from first_runs(place, ['README.md', 'docs/AUDITING.md'])
