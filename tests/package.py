@@ -49,7 +49,7 @@ def done(*words, **more):
 def stand_in_a_commit(folder):
     """Makes git find a commit of the files at the top, in this process and those that it starts."""
     if done('git', 'rev-parse', 'HEAD')[0]:
-        os.environ.update(GIT_DIR=os.path.join(folder, 'git'), GIT_WORK_TREE=TOP)
+        os.environ.update(GIT_DIR=os.path.join(folder, 'git'), GIT_WORK_TREE=TOP, GIT_CONFIG_GLOBAL=os.devnull)     # which may ask for a signature
         for words in ['init', '-q'], ['add', '-A'], ['-c', 'user.name=cvr', '-c', 'user.email=cvr@example.org', 'commit', '-m', 'The files that stand here']:
             subprocess.run(['git', *words], cwd=TOP, stdout=subprocess.DEVNULL, check=True)
 
@@ -152,7 +152,7 @@ def packed(cvr, out, **more):
 
 def libraries(program):
     """The libraries that a program needs."""
-    return {os.path.basename(word) for word in re.findall(r'^\s*(\S+)', done('ldd', program)[1], re.M)}
+    return {os.path.basename(word) for word in re.findall(r'^\s*(\S+)', done('env', '-u', 'LD_PRELOAD', 'ldd', program)[1], re.M)}
 
 
 def man_page(prefix, name):
@@ -209,6 +209,7 @@ def main():
     words = argparse.ArgumentParser()
     words.add_argument('--cvr', required=True, help='the built program')
     cvr = os.path.abspath(words.parse_args().cvr)
+    os.environ.pop('MAKEFLAGS', None)       # of a `make` that runs this, whose DESTDIR is not for what is installed here
     with tempfile.TemporaryDirectory() as folder:
         stand_in_a_commit(folder)
         found = list(tried(cvr, folder))
