@@ -168,6 +168,7 @@ def provenance(text, program):
     yield 'the sum of the program', told['program'] == hashlib.sha256(held(program)).hexdigest()
     yield 'the sum of the sources', told['sources'] == done('sh', '-c', re.search(r'^ +(git ls-files .*)$', text, re.M).group(1))[1].split()[0]
     yield 'the kit', told['kit'] == kit()
+    yield 'the same bytes where a clone changes ends of lines', '\r' not in done('git', '-c', 'core.autocrlf=true', 'archive', 'HEAD', 'cvr')[1]
     yield 'the commit', told['commit'].split(',')[0] == done('git', 'rev-parse', 'HEAD')[1].strip()
 
 
