@@ -595,6 +595,16 @@ def read_words(given=None):
     return words.parse_args(given)
 
 
+def is_written(stream, data):
+    """Whether the bytes could be written to standard output or error."""
+    try:
+        with open(stream.fileno(), 'wb', closefd=False) as out:
+            out.write(data)
+    except (AttributeError, OSError):       # it is closed, or can't be written
+        return False
+    return True
+
+
 def main():
     words = read_words()
     # so that pieces are removed
@@ -606,12 +616,9 @@ def main():
     else:
         status, text, log = tried(words, engine.each)
         engine.close()
-    try:
-        sys.stdout.buffer.write(text)
-        sys.stdout.flush()
-    except OSError:
+    if not is_written(sys.stdout, text):
         status, log = FAILED, log + b'out: X1\n'
-    sys.stderr.buffer.write(log)
+    is_written(sys.stderr, log)
     sys.exit(status)
 
 
