@@ -83,6 +83,12 @@ def stated(name):
     return Case(row['words'], None, rows.spelled(row['out'], short).encode('utf-8'), rows.spelled(row['err'], short).encode('utf-8'), row['status'])
 
 
+def with_device(device):
+    """The variables with which a run in the program's folder has a device that fails, if any."""
+    # without the path, since LD_PRELOAD takes a space for the end of a name
+    return dict(os.environ, LD_PRELOAD='./devices.so', DEVICE=device) if device else None
+
+
 class Program:
     """The program, in a folder with the files of its runs."""
 
@@ -102,10 +108,9 @@ class Program:
 
     def ran(self, words, device):
         """(output, log, status) of a run whose output is a file."""
-        env = dict(os.environ, LD_PRELOAD=self.path('devices.so'), DEVICE=device) if device else None
         with tempfile.TemporaryFile() as out:
             try:
-                done = subprocess.run([self.cvr] + words, cwd=self.folder, env=env, stdin=subprocess.DEVNULL, stdout=out,
+                done = subprocess.run([self.cvr] + words, cwd=self.folder, env=with_device(device), stdin=subprocess.DEVNULL, stdout=out,
                                       stderr=subprocess.PIPE, timeout=SECONDS)
             except subprocess.TimeoutExpired:
                 return b'', b'', 'no end'

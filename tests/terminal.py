@@ -147,9 +147,8 @@ class Run:
     """A run of the program whose output and log are ends; one for both where they are the same."""
 
     def __init__(self, program, words, out, log, device=None):
-        env = dict(os.environ, LD_PRELOAD=program.path('devices.so'), DEVICE=device) if device else None
         self.out, self.log = out, log
-        self.process = subprocess.Popen([program.cvr] + words, cwd=program.folder, env=env, stdin=subprocess.DEVNULL,
+        self.process = subprocess.Popen([program.cvr] + words, cwd=program.folder, env=damage.with_device(device), stdin=subprocess.DEVNULL,
                                         stdout=out.theirs, stderr=log.theirs)
 
     def left(self):
