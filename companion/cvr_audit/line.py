@@ -138,8 +138,9 @@ def read(words):
 def log(lines):
     """Writes lines to standard error. Where that fails the run goes on, as one of `cvr` does."""
     try:
-        sys.stderr.buffer.write(lines)
-        sys.stderr.buffer.flush()
+        # not by Python's own buffer, which would be written once more, and fail, at the end
+        with open(sys.stderr.fileno(), 'wb', closefd=False) as file:
+            file.write(lines)
     except (AttributeError, OSError):       # standard error is closed, or can't be written
         pass
 

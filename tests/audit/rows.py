@@ -106,6 +106,7 @@ def run(companion, cvr, row, folder):
     script = '%s\nexec "$@" %s' % (row.get('before', ':'), row.get('redirected', ''))
     words = ['sh', '-c', script, 'sh', sys.executable, os.path.join(companion, 'cvr-audit')]
     env = dict(os.environ, CVR=row.get('program', cvr), REAL=cvr)
+    env.pop('PYTHONUNBUFFERED', None)       # with it Python writes at once, and nothing at the end
     with open(os.path.join(folder, 'out'), 'wb') as out:
         done = subprocess.run(words + row['words'], cwd=folder, env=env, stdin=subprocess.DEVNULL,
                               stdout=closed_pipe() if row.get('pipe') else out,
