@@ -2,6 +2,7 @@
 import base64
 import json
 import os
+import pathlib
 import select
 import shutil
 import subprocess
@@ -74,7 +75,9 @@ class Browser:
         self.call('Emulation.setEmulatedMedia', media=media)
         self.call('Emulation.setDeviceMetricsOverride', width=width, height=height,
                   deviceScaleFactor=scale, mobile=False)
-        self.call('Page.navigate', url='file://' + path)
+        told = self.call('Page.navigate', url=pathlib.Path(path).as_uri())
+        if 'errorText' in told:         # it then shows a page that says so
+            raise ValueError('%s: %s' % (path, told['errorText']))
         while self.next().get('method') != 'Page.loadEventFired':
             pass
 
