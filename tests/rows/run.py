@@ -17,10 +17,11 @@ import tempfile
 from concurrent.futures import ThreadPoolExecutor
 
 sys.dont_write_bytecode = True
+HERE = os.path.dirname(os.path.abspath(__file__))
+sys.path.insert(0, HERE)
 import make_vectors  # noqa: E402
 import members       # noqa: E402 (both stand beside this file)
 
-HERE = os.path.dirname(os.path.abspath(__file__))
 VECTORS = make_vectors.vectors()
 SECONDS = 300
 SIDE_BY_SIDE = 4            # rows at most; the largest takes about 600 MB
