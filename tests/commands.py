@@ -68,10 +68,11 @@ def commands(text, skip):
 
 
 def run(command, cvr, status, folder):
-    """(output, status) of a command, run in a folder; `$?` is the status of the command before."""
+    """(output, status) of a command, run in a folder; `$?` is the status of the command before. Other tools answer in
+    English, as the documents show them."""
     words = re.sub(r'(?<![^\s;|&(])\./cvr(?![^\s;|&)])', lambda _: shlex.quote(cvr), command)
     done = subprocess.run(['sh', '-c', '(exit %d)\n%s' % (status, words)], cwd=folder,
-                          env=dict(os.environ, CVR=cvr), stdin=subprocess.DEVNULL,
+                          env=dict(os.environ, CVR=cvr, LANGUAGE='C'), stdin=subprocess.DEVNULL,
                           stdout=subprocess.PIPE, stderr=subprocess.STDOUT, timeout=SECONDS)
     return done.stdout.decode('utf-8', 'replace'), done.returncode
 
