@@ -2,7 +2,8 @@
 examples/county and its own files; its output, log and status are compared.
 
 A log of argparse isn't compared, as it differs between versions of Python. A line that ends with
-`@KIND` is one of `warnings`, with its advice for that kind."""
+`@KIND` is one of `warnings`, with its advice for that kind. A row that `needs` a path of the system
+is left out where that isn't there, and a line `skipped` says so."""
 import json
 import os
 import shutil
@@ -19,7 +20,11 @@ SECONDS = 300
 
 def held():
     with open(os.path.join(HERE, 'rows.json'), encoding='utf-8') as file:
-        return json.load(file)['rows']
+        rows = json.load(file)['rows']
+    lacking = [row for row in rows if not os.path.exists(row.get('needs', HERE))]
+    for row in lacking:
+        print('skipped row %s: %s is not there' % (row['name'], row['needs']))
+    return [row for row in rows if row not in lacking]
 
 
 # ---- the files of a row
