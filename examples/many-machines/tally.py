@@ -623,4 +623,6 @@ def main():
 
 
 if __name__ == '__main__':
+    if sys.getfilesystemencoding() != 'utf-8':      # paths are UTF-8, as for `cvr`, whatever the language
+        os.execve(sys.executable, [sys.executable] + sys.argv, dict(os.environ, PYTHONUTF8='1'))
     main()

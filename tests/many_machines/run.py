@@ -65,6 +65,22 @@ def odd_names(cvr):
                        for it in (names[:-1], names))
 
 
+def other_language(cvr):
+    """The same for a name that is no ASCII where the language has another encoding, if there is one."""
+    if not os.path.exists('/usr/share/i18n/locales/de_DE'):
+        print('skipped a language of another encoding: the system has none')
+        return ''
+    script = ('unset PYTHONUTF8; localedef -i de_DE -f ISO-8859-1 ./de_DE.ISO-8859-1; '
+              'export LOCPATH="$PWD" LC_ALL=de_DE.ISO-8859-1; exec "$@"')
+    with tempfile.TemporaryDirectory() as folder:
+        shutil.copy(COUNTY[0], os.path.join(folder, '\u20ac'))
+        words = [os.path.abspath(DEFINITION), '\u20ac']
+        start = [sys.executable, ways.SCRIPT, '--cvr', cvr]
+        told = workers.run(['sh', '-c', script, 'sh', *start, *words], folder)
+        whole = workers.run([cvr, 'tally', *words], folder)
+    return '' if told == whole else repr(told)
+
+
 def refused(*more):
     """The words are refused with the usage, and nothing is printed."""
     def work(_):
@@ -114,6 +130,7 @@ ROWS = [
     ('a folder', in_county(DEFINITION, 'examples')),
     ('a file that comes again', in_county(DEFINITION, COUNTY[0], COUNTY[1])),
     ('names that begin with a hyphen', hyphens), ('odd names', odd_names),
+    ('a language of another encoding', other_language),
     ('no part', refused('--parts', '0')), ('no worker', refused('--workers', '0')),
     ('parts that are no number', refused('--parts', 'x')),
     ('no such engine', refused('--engine', 'plian')),
