@@ -324,7 +324,7 @@ def is_stopped(tree):
         pids = [int(line.split()[2]) for line in open(tree.log)]
         (os.killpg if to_all else os.kill)(process.pid, number)
         output, told = process.communicate(timeout=SECONDS)
-        yield 'signal %d ends it' % number, (process.returncode, output) == (128 + number, '') and 'stopped' in told
+        yield 'signal %d ends it: status %d, %r' % (number, process.returncode, told), (process.returncode, output) == (128 + number, '') and 'stopped' in told
         yield 'and what it began', not [it for it in pids if os.path.exists('/proc/%d' % it)]
         yield 'nothing half done', not os.path.exists(tree.top + '/out/built') and not os.path.exists(tree.top + '/out/rlib/left.rlib')
     for name in 'left', 'right':
