@@ -33,13 +33,8 @@ same_row a b long same =
 
 -- a contest with n selections has this column
 abbrev pub IsColumnOf : ℕ → Column → Type 0
-IsColumnOf n Ballots = ⊤
-IsColumnOf n Overvotes = ⊤
-IsColumnOf n Undervotes = ⊤
-IsColumnOf n WriteIns = ⊤
-IsColumnOf n Pending = ⊤
-IsColumnOf n Unassigned = ⊤
 IsColumnOf n (VotesFor place) = place < n
+IsColumnOf n _ = ⊤
 
 module _ (n : ℕ) (number : Column → ℕ) where
   pub length-row_by : length (row_by n number).votes ≡ n
@@ -47,14 +42,9 @@ module _ (n : ℕ) (number : Column → ℕ) where
 
   pub number_in-row_by : (column : Column) → IsColumnOf n column
       → number_in column (row_by n number) ≡ number column
-  number_in-row_by Ballots here = refl
-  number_in-row_by Overvotes here = refl
-  number_in-row_by Undervotes here = refl
-  number_in-row_by WriteIns here = refl
-  number_in-row_by Pending here = refl
-  number_in-row_by Unassigned here = refl
   number_in-row_by (VotesFor place) here = get_or-map-range_with_len
       (λ place. number (VotesFor place)) 0 n place place 0 here (omega arith)
+  number_in-row_by _ here = refl
 
   -- beyond its selections there is nothing
   past_row_by : (place : ℕ) → n ≤ place → number_in (VotesFor place) (row_by n number) ≡ 0
@@ -63,28 +53,18 @@ module _ (n : ℕ) (number : Column → ℕ) where
 
   pub all_in-row_by : ((place : ℕ) → n ≤ place → number (VotesFor place) ≡ 0) → (column : Column)
       → number_in column (row_by n number) ≡ number column
-  all_in-row_by none Ballots = refl
-  all_in-row_by none Overvotes = refl
-  all_in-row_by none Undervotes = refl
-  all_in-row_by none WriteIns = refl
-  all_in-row_by none Pending = refl
-  all_in-row_by none Unassigned = refl
   all_in-row_by none (VotesFor place) = elim (cases_lt place n) [
     | inl less ↦ number_in-row_by (VotesFor place) less
     | inr past ↦ past_row_by place past ∙ sym (none place past)
   ]
+  all_in-row_by none _ = refl
 
   pub number_in-row_by-le : (column : Column) → number_in column (row_by n number) ≤ number column
-  number_in-row_by-le Ballots = omega arith
-  number_in-row_by-le Overvotes = omega arith
-  number_in-row_by-le Undervotes = omega arith
-  number_in-row_by-le WriteIns = omega arith
-  number_in-row_by-le Pending = omega arith
-  number_in-row_by-le Unassigned = omega arith
   number_in-row_by-le (VotesFor place) = elim (cases_lt place n) [
     | inl less ↦ let is = number_in-row_by (VotesFor place) less in omega (arith, is)
     | inr past ↦ let none = past_row_by place past in omega (arith, none)
   ]
+  number_in-row_by-le _ = omega arith
 
 -- the same numbers make the same row
 pub row_by-same : (n : ℕ) (f g : Column → ℕ)
@@ -153,12 +133,7 @@ pub below_limits : (number : Column → ℕ) → number Ballots ≤ ballot_limit
     → ((column : Column) → number column < 2 ^ 128) → (column : Column)
     → number column < limit_of column
 below_limits number few below Ballots = omega (arith, few)
-below_limits number few below Overvotes = below Overvotes
-below_limits number few below Undervotes = below Undervotes
-below_limits number few below WriteIns = below WriteIns
-below_limits number few below Pending = below Pending
-below_limits number few below Unassigned = below Unassigned
-below_limits number few below (VotesFor place) = below (VotesFor place)
+below_limits number few below column = below column
 
 -- zeros in a list
 pub all_zero : (a n : ℕ) → replicate n zero ≡ map (λ (i : ℕ). zero) (range_with_len a n)

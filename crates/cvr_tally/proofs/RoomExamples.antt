@@ -1,45 +1,29 @@
 -- Whether a row has room for the sums of a ballot, and whether it has them: column by column.
 use Rattle.std.proofs.Common.{zero, suc, [], ◌∷◌, arith}
-use Rattle.cvr_fact_types.specs.Columns.{Ballots, Overvotes, Undervotes, WriteIns, Pending}
-use Rattle.cvr_fact_types.specs.Columns.{Unassigned, VotesFor}
+use Rattle.cvr_fact_types.specs.Columns.{Ballots, Undervotes, VotesFor}
 use Rattle.cvr_tally.specs.Rows.{HasRoom, HasSums}
 use Rattle.cvr_tally.specs.Examples.{RoomOfARow, SumsOfARow, sums_of_a_ballot, with_ballots}
 use Rattle.cvr_tally.specs.Examples.{with_undervotes, with_votes}
 
 room_for_a_ballot : HasRoom (with_ballots 18_446_744_073_709_551_614) sums_of_a_ballot
-room_for_a_ballot Ballots = omega arith
-room_for_a_ballot Overvotes = omega arith
-room_for_a_ballot Undervotes = omega arith
-room_for_a_ballot WriteIns = omega arith
-room_for_a_ballot Pending = omega arith
-room_for_a_ballot Unassigned = omega arith
 room_for_a_ballot (VotesFor zero) = omega arith
 room_for_a_ballot (VotesFor (suc zero)) = omega arith
 room_for_a_ballot (VotesFor (suc (suc place))) = omega arith
+room_for_a_ballot _ = omega arith
 
 room_for_undervotes : HasRoom (with_undervotes 340_282_366_920_938_463_463_374_607_431_768_211_435)
     sums_of_a_ballot
-room_for_undervotes Ballots = omega arith
-room_for_undervotes Overvotes = omega arith
-room_for_undervotes Undervotes = omega arith
-room_for_undervotes WriteIns = omega arith
-room_for_undervotes Pending = omega arith
-room_for_undervotes Unassigned = omega arith
 room_for_undervotes (VotesFor zero) = omega arith
 room_for_undervotes (VotesFor (suc zero)) = omega arith
 room_for_undervotes (VotesFor (suc (suc place))) = omega arith
+room_for_undervotes _ = omega arith
 
 room_for_votes : HasRoom (with_votes (600 ∷ 340_282_366_920_938_463_463_374_607_431_768_211_375
     ∷ [])) sums_of_a_ballot
-room_for_votes Ballots = omega arith
-room_for_votes Overvotes = omega arith
-room_for_votes Undervotes = omega arith
-room_for_votes WriteIns = omega arith
-room_for_votes Pending = omega arith
-room_for_votes Unassigned = omega arith
 room_for_votes (VotesFor zero) = omega arith
 room_for_votes (VotesFor (suc zero)) = omega arith
 room_for_votes (VotesFor (suc (suc place))) = omega arith
+room_for_votes _ = omega arith
 
 has_just : HasSums (record {
   ballots = 1;
@@ -50,15 +34,10 @@ has_just : HasSums (record {
   unassigned = 5;
   votes = 7 ∷ 80 ∷ [];
 }) sums_of_a_ballot
-has_just Ballots = omega arith
-has_just Overvotes = omega arith
-has_just Undervotes = omega arith
-has_just WriteIns = omega arith
-has_just Pending = omega arith
-has_just Unassigned = omega arith
 has_just (VotesFor zero) = omega arith
 has_just (VotesFor (suc zero)) = omega arith
 has_just (VotesFor (suc (suc place))) = omega arith
+has_just _ = omega arith
 
 pub rooms : RoomOfARow
 rooms = record {

@@ -48,14 +48,7 @@ impl Row {
     pub fn copy(&self, alloc: Global) -> Result<Row, Memory>
         ensures { IfOk result (λ r. r ≡ self.now) }
     {
-        Ok(Row {
-            ballots: self.ballots,
-            overvotes: self.overvotes,
-            undervotes: self.undervotes,
-            write_ins: self.write_ins,
-            pending: self.pending,
-            unassigned: self.unassigned,
-            votes: self.votes.copy(alloc)?,
-        })
+        let votes = self.votes.copy(alloc)?;
+        Ok(Row { votes, ..*self })
     }
 }
