@@ -52,10 +52,7 @@ unit_at false n u e = absurd (cc)
 
 all_four : (p q r s : Bool) → (p && q && r && s) ≡ true
     → (p ≡ true) × (q ≡ true) × (r ≡ true) × (s ≡ true)
-all_four true true true s e = (refl, refl, refl, e)
-all_four true true false s e = absurd (cc)
-all_four true false r s e = absurd (cc)
-all_four false q r s e = absurd (cc)
+all_four p q r s e = grind arith
 
 code_unit_is : (a b c d u : ℕ) → code_unit a b c d ≡ Some u → IsUnit a b c d u
 unfolding code_unit

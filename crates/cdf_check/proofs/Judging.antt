@@ -1,7 +1,7 @@
 -- The answer for a file, by what was seen of its records and by what is left beside them.
 use Rattle.std.proofs.Common.{◌≡◌, inl, inr, ◌+◌, ℕ, List, [], ◌∷◌, ◌++◌, Contains, true, false}
 use Rattle.std.proofs.Common.{Result, Ok, Err, Option, Some, None, IsSome, option_map, codes, refl}
-use Rattle.std.proofs.Common.{sym, ap, subst, ◌∙◌}
+use Rattle.std.proofs.Common.{sym, ap, subst, ◌∙◌, arith}
 use Rattle.std.specs.Prelude.{option_and_then, unwrap_or, IfOk, IfErr, OnOk}
 use Rattle.std.specs.Option.{option_or}
 use Rattle.serde_json.specs.Data.{Data, array, object, Items, no_items, Members}
@@ -253,9 +253,7 @@ array_of _ e = absurd (cc)
 
 none_at : (o : Option Data) → is_array o ≡ false
     → unwrap_or (option_map list_of (option_and_then as_array o)) [] ≡ []
-none_at None e = refl
-none_at (Some (array es)) e = absurd (cc)
-none_at (Some d) e = refl
+none_at o e = grind arith
 
 -- where no array stands, there are no records
 pub no_records : (d : Data) → is_array (get records d) ≡ false → array_at records d ≡ []

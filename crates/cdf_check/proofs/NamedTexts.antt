@@ -1,7 +1,7 @@
 -- Texts that records name: each once, and whether ids list them.
 use Rattle.std.proofs.Common.{◌≡◌, ◌↔◌, ℕ, ◌+◌, List, [], ◌∷◌, ◌++◌, slice_index_or, Contains, Bool}
 use Rattle.std.proofs.Common.{true, false, cond, ◌&&◌, bytes_eq, nat_cmp, Option, None, Some, codes}
-use Rattle.std.proofs.Common.{refl, sym, ap, ap₂, subst, ◌∙◌}
+use Rattle.std.proofs.Common.{refl, sym, ap, ap₂, subst, ◌∙◌, arith}
 use Rattle.std.specs.Prelude.{◌||◌, String, string_bytes, string_cmp}
 use Rattle.std.specs.BTreeMap.{is_at}
 use Rattle.std.specs.BTreeSet.{BTreeSet, UpdatesBy}
@@ -43,10 +43,7 @@ turned s t =
     ((λ e. sym (back.0 e)), λ e. back.1 (sym e))
 
 either : (t a : Bool) → cond t true a ≡ (a || (t || false))
-either true true = refl
-either true false = refl
-either false true = refl
-either false false = refl
+either t a = grind arith
 
 added : (xs ys : Texts) (text : List ℕ)
     → ((s : List ℕ) → list_any (bytes_eq s) ys

@@ -77,12 +77,7 @@ is_named spell (x ∷ xs) s h =
     h
 
 turned : (a b c : Bool) → (a || (b || (c || false))) ≡ true → (c || (a || (b || false))) ≡ true
-turned true b true h = refl
-turned true b false h = refl
-turned false true true h = refl
-turned false true false h = refl
-turned false false true h = refl
-turned false false false h = h
+turned a b c h = grind arith
 
 pub kind_is_named : (s : List ℕ) → list_any (bytes_eq s) (listed_in listing.CvrType) ≡ true
     → IsSome (kind_named s)

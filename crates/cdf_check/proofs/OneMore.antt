@@ -58,9 +58,7 @@ first_next (x ∷ xs) ys s = refl
 mapped_next : (f : Fault → List ℕ) (o p : Option Fault) (s : Step)
     → option_map f (option_or o (option_map (deeper_fault s) p))
     ≡ option_or (option_map f o) (option_map (λ x. f (deeper_fault s x)) p)
-mapped_next f None None s = refl
-mapped_next f None (Some x) s = refl
-mapped_next f (Some y) p s = refl
+mapped_next f o p s = grind arith
 
 module _ (ds : List Data) (d : Data) (place : ℕ) (at : place ≡ length ds) where
   pub fraction_next : option_map in_file (first (float_faults (array (items_of (ds ++ d ∷ [])))))

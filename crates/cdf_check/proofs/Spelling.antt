@@ -66,11 +66,7 @@ shorter x xs e = (e.0 ++ x ∷ [], subst IsUtf8 (sym (append_assoc e.0 (x ∷ []
 
 is_quote : (a b c d : Bool) → cond a quote (cond b backslash (cond c operator (cond d space other)))
     ≡ quote → a ≡ true
-is_quote true b c d e = refl
-is_quote false true c d e = absurd (cc)
-is_quote false false true d e = absurd (cc)
-is_quote false false false true e = absurd (cc)
-is_quote false false false false e = absurd (cc)
+is_quote a b c d e = grind arith
 
 -- what follows a quote
 past_quote : (x : ℕ) (xs : List ℕ) → class x ≡ quote → IsEnd (x ∷ xs) → IsUtf8 xs
@@ -91,12 +87,7 @@ either false x y h k = k
 operator_utf8 : (a b c d e : Bool) → LexemeIsUtf8
     (cond a (token Token.begin_object) (cond b (token Token.end_object)
     (cond c (token Token.begin_array) (cond d (token Token.end_array) (cond e comma colon)))))
-operator_utf8 true b c d e = tt
-operator_utf8 false true c d e = tt
-operator_utf8 false false true d e = tt
-operator_utf8 false false false true e = tt
-operator_utf8 false false false false true = tt
-operator_utf8 false false false false false = tt
+operator_utf8 a b c d e = grind arith
 
 of_operator : (x : ℕ) → LexemeIsUtf8 (operator_lexeme x)
 of_operator x = operator_utf8 (x == 123) (x == 125) (x == 91) (x == 93) (x == 44)
@@ -267,17 +258,7 @@ RestIsUtf8 None = ⊤
 RestIsUtf8 (Some ts) = TokensAreUtf8 ts
 
 after_array : (ts : List Token) → TokensAreUtf8 ts → RestIsUtf8 (after_end_array ts)
-after_array [] h = tt
-after_array (Token.begin_object ∷ ts) h = tt
-after_array (Token.end_object ∷ ts) h = tt
-after_array (Token.begin_array ∷ ts) h = tt
-after_array (Token.end_array ∷ ts) h = h.1
-after_array (Token.key s ∷ ts) h = tt
-after_array (Token.string s ∷ ts) h = tt
-after_array (Token.number s ∷ ts) h = tt
-after_array (Token.boolean b ∷ ts) h = tt
-after_array (Token.null ∷ ts) h = tt
-after_array (Token.bad ∷ ts) h = tt
+after_array ts h = grind arith
 
 abbrev KeyIsUtf8 : Option (List ℕ) → Type 0
 KeyIsUtf8 None = ⊤
@@ -421,9 +402,7 @@ mutual
 
 last_utf8 : (o : Option (Json × List Token)) → Parsed JsonIsUtf8 o
     → Within JsonIsUtf8 (option_and_then (λ p. json.if_last p.0 p.1) o)
-last_utf8 None x = tt
-last_utf8 (Some (j, [])) x = x.0
-last_utf8 (Some (j, t ∷ ts)) x = tt
+last_utf8 o x = grind arith
 
 pub read_utf8 : (text : List ℕ) (d : Data) → IsUtf8 text → read text ≡ Some d → HasUtf8 d
 read_utf8 text d u e =

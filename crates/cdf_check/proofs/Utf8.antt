@@ -46,20 +46,10 @@ item_utf8 zero (item d ds) e h is = subst HasUtf8 (inside d e is) h.0
 item_utf8 (suc i) (item d ds) e h is = item_utf8 i ds e h.1 is
 
 get_utf8 : (k : List ℕ) (d e : Data) → HasUtf8 d → get k d ≡ Some e → HasUtf8 e
-get_utf8 k null e h is = absurd (cc)
-get_utf8 k (boolean b) e h is = absurd (cc)
-get_utf8 k (number n) e h is = absurd (cc)
-get_utf8 k (string s) e h is = absurd (cc)
-get_utf8 k (array ds) e h is = absurd (cc)
-get_utf8 k (object ms) e h is = member_utf8 k ms e h is
+get_utf8 k d e h is = grind (arith, member_utf8)
 
 at_utf8 : (i : ℕ) (d e : Data) → HasUtf8 d → at i d ≡ Some e → HasUtf8 e
-at_utf8 i null e h is = absurd (cc)
-at_utf8 i (boolean b) e h is = absurd (cc)
-at_utf8 i (number n) e h is = absurd (cc)
-at_utf8 i (string s) e h is = absurd (cc)
-at_utf8 i (array ds) e h is = item_utf8 i ds e h is
-at_utf8 i (object ms) e h is = absurd (cc)
+at_utf8 i d e h is = grind (arith, item_utf8)
 
 pub part_utf8 : (e d : Data) → IsPart e d → HasUtf8 d → HasUtf8 e
 part_utf8 e d itself h = h

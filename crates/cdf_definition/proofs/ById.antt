@@ -32,9 +32,7 @@ both_right true b h = h
 both_right false b h = absurd h
 
 less_is : (o : Ordering) → T (is_lt o) → o ≡ Less
-less_is Less h = refl
-less_is Equal h = absurd h
-less_is Greater h = absurd h
+less_is o h = grind arith
 
 module _ {K X : Type 0} (R : K → K → Ordering) where
   below_is : (k : K) (es : List (K × X)) → T (below_all R k es)

@@ -29,9 +29,7 @@ Held = String Global × List ℕ
 at_order : (o : Ordering) (a b c : List Held)
     → map_entries (match_ordering o a b c)
     ≡ by_order o (map_entries a) (map_entries b) (map_entries c)
-at_order Less a b c = refl
-at_order Equal a b c = refl
-at_order Greater a b c = refl
+at_order o a b c = grind arith
 
 pub entries_of-insert_entry : (es : List Held) (k : String Global) (v : List ℕ)
     → map_entries (insert_entry string_cmp es k v)

@@ -66,9 +66,7 @@ many_tells true true more h e = absurd (h e)
 
 many_told : (a b : Bool) (more : List Fault) → a ≡ true → b ≡ false
     → first ((unless a rule.TooFew ++ unless b rule.TooMany) ++ more) ≡ Some (here rule.TooMany)
-many_told true false more p q = refl
-many_told false b more p q = cc
-many_told true true more p q = cc
+many_told a b more p q = grind arith
 
 -- with fewer items than the least, and only then, the array has rule 8
 pub too_few : (l : Leaf) (least most : ℕ) (k : Key) (ds : Items)

@@ -81,12 +81,7 @@ type_nil g (Some d) e = type_text_nil g (as_str d) e
 
 pub object_nil : (g : Group) (d : Data) → leaf_faults (leaf.Object g) d ≡ []
     → (c : Class) × (class_in g d ≡ Some c)
-object_nil g null e = cc
-object_nil g (boolean b) e = cc
-object_nil g (number n) e = cc
-object_nil g (string s) e = cc
-object_nil g (array ds) e = cc
-object_nil g (object ms) e = type_nil g (get_member (codes "@type") ms) e
+object_nil g d e = grind (arith, type_nil, get_member, codes)
 
 -- ---- tables
 
@@ -99,28 +94,7 @@ both_right true b e = e
 both_right false b e = cc
 
 table_keyed : (c : Class) → are_keyed (table c) ≡ true
-table_keyed class_of.CastVoteRecordReport = refl
-table_keyed class_of.Cvr = refl
-table_keyed class_of.CvrSnapshot = refl
-table_keyed class_of.Annotation = refl
-table_keyed class_of.CvrContest = refl
-table_keyed class_of.CvrContestSelection = refl
-table_keyed class_of.SelectionPosition = refl
-table_keyed class_of.CvrWriteIn = refl
-table_keyed class_of.Election = refl
-table_keyed class_of.BallotMeasureContest = refl
-table_keyed class_of.CandidateContest = refl
-table_keyed class_of.Contest = refl
-table_keyed class_of.PartyContest = refl
-table_keyed class_of.RetentionContest = refl
-table_keyed class_of.BallotMeasureSelection = refl
-table_keyed class_of.CandidateSelection = refl
-table_keyed class_of.ContestSelection = refl
-table_keyed class_of.PartySelection = refl
-table_keyed class_of.Candidate = refl
-table_keyed class_of.GpUnit = refl
-table_keyed class_of.Party = refl
-table_keyed class_of.ReportingDevice = refl
+table_keyed c = grind arith
 
 row_keyed : (rs : List Entry) (r : Entry) → are_keyed rs ≡ true → IsRow rs r
     → is_keyed r.kind ≡ true
@@ -261,15 +235,7 @@ stands_contest e = cc
 marked_leaf : (l : Leaf) (d : Data) (m : Key) (n s : List ℕ) → leaf_has_row n l ≡ true
     → option_and_then as_str (get n d) ≡ Some s → (repeat_faults m n ≡ [] → ⊥)
     → faults d (One l) m ≡ [] → ⊥
-marked_leaf leaf.Text d m n s q is stands e = cc
-marked_leaf leaf.Name d m n s q is stands e = cc
-marked_leaf leaf.Count d m n s q is stands e = cc
-marked_leaf leaf.Whole d m n s q is stands e = cc
-marked_leaf leaf.Truth d m n s q is stands e = cc
-marked_leaf leaf.Moment d m n s q is stands e = cc
-marked_leaf leaf.Fractional d m n s q is stands e = cc
-marked_leaf (leaf.Listed l) d m n s q is stands e = cc
-marked_leaf (leaf.Object g) d m n s q is stands e = marked_object d g m n s q is stands e
+marked_leaf l d m n s q is stands e = grind (arith, marked_object)
 
 marked : (l : Leaf) (k : Key) (d : Data) (s : List ℕ) → key_has_row k l ≡ true
     → key_text k d ≡ Some s → faults d (One l) k ≡ [] → ⊥
@@ -379,12 +345,7 @@ type_ok g (Some d) c is = type_text_ok g (as_str d) c is
 
 pub object_ok : (g : Group) (d : Data) (c : Class) → class_in g d ≡ Some c
     → leaf_faults (leaf.Object g) d ≡ []
-object_ok g null c is = cc
-object_ok g (boolean b) c is = cc
-object_ok g (number n) c is = cc
-object_ok g (string s) c is = cc
-object_ok g (array ds) c is = cc
-object_ok g (object ms) c is = type_ok g (get_member (codes "@type") ms) c is
+object_ok g d c is = grind (arith, type_ok, get_member, codes)
 
 absent_ok : (b : Bool) (r : Rule) → (b ≡ true → ⊥) → unless (not b) r ≡ []
 absent_ok true r never = absurd (never refl)
@@ -438,25 +399,4 @@ no_faults (items {d = d} {ds = ds} {l = l} {least = least} {most = most} {k = k}
     (items_ok ds l k 0 [] (λ j e there. no_faults (each j e there)) (apart_from k ds apart))
 
 pub in_order : TablesInOrder
-in_order class_of.CastVoteRecordReport = refl
-in_order class_of.Cvr = refl
-in_order class_of.CvrSnapshot = refl
-in_order class_of.Annotation = refl
-in_order class_of.CvrContest = refl
-in_order class_of.CvrContestSelection = refl
-in_order class_of.SelectionPosition = refl
-in_order class_of.CvrWriteIn = refl
-in_order class_of.Election = refl
-in_order class_of.BallotMeasureContest = refl
-in_order class_of.CandidateContest = refl
-in_order class_of.Contest = refl
-in_order class_of.PartyContest = refl
-in_order class_of.RetentionContest = refl
-in_order class_of.BallotMeasureSelection = refl
-in_order class_of.CandidateSelection = refl
-in_order class_of.ContestSelection = refl
-in_order class_of.PartySelection = refl
-in_order class_of.Candidate = refl
-in_order class_of.GpUnit = refl
-in_order class_of.Party = refl
-in_order class_of.ReportingDevice = refl
+in_order h = grind arith

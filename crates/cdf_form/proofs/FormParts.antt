@@ -35,28 +35,13 @@ some_of None h = absurd (cc)
 some_of (Some a) h = (a, refl)
 
 pub is_string : (e : Data) (s : List ℕ) → as_str e ≡ Some s → e ≡ string s
-is_string null s is = absurd (cc)
-is_string (boolean b) s is = absurd (cc)
-is_string (number x) s is = absurd (cc)
-is_string (string t) s is = ap string (inside t s is)
-is_string (array es) s is = absurd (cc)
-is_string (object ms) s is = absurd (cc)
+is_string e s is = grind (arith, string, inside)
 
 pub is_number : (e : Data) (n : Num) → as_number e ≡ Some n → e ≡ number n
-is_number null n is = absurd (cc)
-is_number (boolean b) n is = absurd (cc)
-is_number (number x) n is = ap number (inside x n is)
-is_number (string s) n is = absurd (cc)
-is_number (array es) n is = absurd (cc)
-is_number (object ms) n is = absurd (cc)
+is_number e n is = grind (arith, number, inside)
 
 pub is_array : (e : Data) (ds : Items) → as_array e ≡ Some ds → e ≡ array ds
-is_array null ds is = absurd (cc)
-is_array (boolean b) ds is = absurd (cc)
-is_array (number x) ds is = absurd (cc)
-is_array (string s) ds is = absurd (cc)
-is_array (array es) ds is = ap array (inside es ds is)
-is_array (object ms) ds is = absurd (cc)
+is_array e ds is = grind (arith, array, inside)
 
 -- a text under a name is all of its member
 pub is_text_in : (n s : List ℕ) (d : Data) → text_in n d ≡ Some s → get n d ≡ Some (string s)
@@ -207,9 +192,7 @@ must_have_form {n = n} {d = d} row q = row.part (string (text_at n d)) (must_be_
 -- ---- counts
 
 counted : (n : Num) → is_count n ≡ true → (m : ℕ) × (n ≡ unsigned m) × (m ≤ 4_294_967_295)
-counted (unsigned m) h = (m, refl, grind (arith, h, nat_tests))
-counted (negative z) h = absurd (cc)
-counted (float x) h = absurd (cc)
+counted n h = grind (arith, nat_tests)
 
 pub count_form : {e : Data} → HasForm (One leaf.Count) e
     → (m : ℕ) × (e ≡ number (unsigned m)) × (m ≤ 4_294_967_295)

@@ -51,9 +51,7 @@ look-match_ordering : (o : Ordering) (kind : Kind) (a b : Option Data)
     → match_ordering o (option_map (λ e. faults e kind key.Free) a)
     (option_map (λ e. faults e kind key.Free) b) (option_map (λ e. faults e kind key.Free) a)
     ≡ option_map (λ e. faults e kind key.Free) (match_ordering o a b a)
-look-match_ordering Less kind a b = refl
-look-match_ordering Equal kind a b = refl
-look-match_ordering Greater kind a b = refl
+look-match_ordering o kind a b = grind arith
 
 pub found_faults-get_member : (ms : Members) (name : List ℕ) (kind : Kind)
     → found_faults ms name kind ≡ option_map (λ e. faults e kind key.Free) (get_member name ms)
@@ -74,15 +72,7 @@ flat-one : (d : Data) (l : Leaf) (look : List ℕ → Kind → Option (List Faul
 flat-one d l look mark e = rw e (append-nil (leaf_faults l d))
 
 none_below : (d : Data) (l : Leaf) → ((name : List ℕ) → get name d ≡ None) → class_below l d ≡ None
-none_below d leaf.Text e = refl
-none_below d leaf.Name e = refl
-none_below d leaf.Count e = refl
-none_below d leaf.Whole e = refl
-none_below d leaf.Truth e = refl
-none_below d leaf.Moment e = refl
-none_below d leaf.Fractional e = refl
-none_below d (leaf.Listed l) e = refl
-none_below d (leaf.Object g) e = rw (e _)
+none_below d l e = grind arith
 
 pub faults-one : (d : Data) (l : Leaf) (mark : Key)
     → faults d (One l) mark ≡ leaf_faults l d
@@ -104,23 +94,12 @@ faults-one (object ms) l mark = ap (λ fs. leaf_faults l (object ms) ++ fs)
 
 pub faults-no_array : (d : Data) (l : Leaf) (least most : ℕ) (k mark : Key) → as_array d ≡ None
     → faults d (Array l least most k) mark ≡ here rule.WrongKind ∷ []
-faults-no_array null l least most k mark e = refl
-faults-no_array (boolean b) l least most k mark e = refl
-faults-no_array (number n) l least most k mark e = refl
-faults-no_array (string s) l least most k mark e = refl
-faults-no_array (array ds) l least most k mark e = cc
-faults-no_array (object ms) l least most k mark e = refl
+faults-no_array d l least most k mark e = grind arith
 
 pub faults-array : (d : Data) (ds : Items) (l : Leaf) (least most : ℕ) (k mark : Key)
     → as_array d ≡ Some ds → faults d (Array l least most k) mark
     ≡ length_faults least most (items_len ds) ++ items_faults ds l k 0 []
-faults-array null ds l least most k mark e = cc
-faults-array (boolean b) ds l least most k mark e = cc
-faults-array (number n) ds l least most k mark e = cc
-faults-array (string s) ds l least most k mark e = cc
-faults-array (array es) ds l least most k mark e = let same : es ≡ ds = cc in
-    ap (λ xs. length_faults least most (items_len xs) ++ items_faults xs l k 0 []) same
-faults-array (object ms) ds l least most k mark e = cc
+faults-array d ds l least most k mark e = grind (arith, length_faults, items_len, items_faults)
 
 -- ---- the first fault, from those of the parts
 
@@ -190,12 +169,7 @@ member_is_lighter (member l d ms) name e is = member_lighter (slice_cmp nat_cmp 
 
 pub part_is_lighter : (d : Data) (name : List ℕ) (e : Data) → get name d ≡ Some e
     → weight e < weight d
-part_is_lighter null name e is = cc
-part_is_lighter (boolean b) name e is = cc
-part_is_lighter (number n) name e is = cc
-part_is_lighter (string s) name e is = cc
-part_is_lighter (array ds) name e is = cc
-part_is_lighter (object ms) name e is = let w = member_is_lighter ms name e is in omega arith
+part_is_lighter d name e is = grind (arith, member_is_lighter)
 
 pub item_is_lighter : (vs : List Node) (i : ℕ) (v : Node) → i < length vs
     → weight (view (get_or vs i v)) < items_weight (items_view vs)

@@ -14,9 +14,7 @@ use Rattle.serde_json.proofs.Numbers.{number_of-negative}
 
 pub kind_of : (n : Num) → MatchOption (as_u64 n)
     (MatchOption (as_i64 n) (float (to_float n) ≡ n) (λ z. negative z ≡ n)) (λ w. unsigned w ≡ n)
-kind_of (unsigned w) = refl
-kind_of (negative z) = refl
-kind_of (float x) = refl
+kind_of n = grind arith
 
 abbrev pub in_range : Num → Bool
 in_range (unsigned w) = true
@@ -24,9 +22,7 @@ in_range (negative z) = int_lt z (pos 0)
 in_range (float x) = float_is_finite x
 
 pub in_range-valid : (n : N) → in_range (num_of n) ≡ is_valid n
-in_range-valid (made.PosInt w) = refl
-in_range-valid (made.NegInt z) = refl
-in_range-valid (made.Float x) = refl
+in_range-valid n = grind arith
 
 pub number_of_below_zero : (z : ℤ) → int_lt z (pos 0) ≡ true → SFits w64 z
     → number_of (signed_decimal z) ≡ Some (negative z)

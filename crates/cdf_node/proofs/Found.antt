@@ -1,7 +1,7 @@
 -- What stands at a name among members.
 use Rattle.std.proofs.Common.{◌≡◌, ℕ, List, [], ◌∷◌, Bool, true, false, bytes_eq, Option, Some}
 use Rattle.std.proofs.Common.{option_map, Ordering, Less, Equal, Greater, is_eq, nat_cmp, refl, ap₂}
-use Rattle.std.proofs.Common.{◌∙◌}
+use Rattle.std.proofs.Common.{◌∙◌, arith}
 use Rattle.std.specs.Prelude.{if◌then◌else◌}
 use Rattle.std.specs.List.{find}
 use Rattle.std.proofs.lemmas.Map.Text.{is_eq-slice_cmp}
@@ -13,9 +13,7 @@ use Rattle.cdf_node.specs.View.{view, members_view}
 use Rattle.cdf_node.proofs.Views.{Entry}
 
 either : (o : Ordering) (a b : Option Data) → match_ordering o a b a ≡ (if is_eq o then b else a)
-either Less a b = refl
-either Equal a b = refl
-either Greater a b = refl
+either o a b = grind arith
 
 chosen : (b : Bool) (e : Entry) (o : Option Entry)
     → (if b then Some (view e.1) else option_map (λ e. view e.1) o)

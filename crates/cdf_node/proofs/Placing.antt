@@ -22,9 +22,7 @@ by_bytes k l = slice_cmp nat_cmp k.now l.now
 viewed : (o : Ordering) (a b c : List Entry)
     → members_view (match_ordering o a b c)
     ≡ match_ordering o (members_view a) (members_view b) (members_view c)
-viewed Less a b c = refl
-viewed Equal a b c = refl
-viewed Greater a b c = refl
+viewed o a b c = grind arith
 
 pub members_view-insert_entry : (es : List Entry) (k : Bor (List ℕ)) (v : Node)
     → members_view (insert_entry by_bytes es k v) ≡ put k.now (view v) (members_view es)
@@ -74,9 +72,7 @@ abbrev pub is_before : Entry → Entry → Bool
 is_before e f = is_lt (slice_cmp nat_cmp e.0.now f.0.now)
 
 before_is : (k l : List ℕ) (o : Ordering) → slice_cmp nat_cmp k l ≡ o → true ≡ is_lt o → o ≡ Less
-before_is k l Less is e = refl
-before_is k l Equal is e = absurd cc
-before_is k l Greater is e = absurd cc
+before_is k l o is e = grind arith
 
 pub rises_each : (es : List Entry) → AllAdjacentBelow (λ e f. true ≡ is_before e f) es (length es)
     → Rises (members_view es)

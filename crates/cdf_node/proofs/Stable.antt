@@ -1,7 +1,7 @@
 -- A stable sort by names leaves what members are put in order.
 use Rattle.std.proofs.Common.{◌≡◌, ℕ, List, [], ◌∷◌, Bool, true, false, cond, not, ◌&&◌, Option}
 use Rattle.std.proofs.Common.{None, Some, Ordering, Less, Equal, Greater, is_eq, nat_cmp, refl, sym}
-use Rattle.std.proofs.Common.{ap, ◌∙◌}
+use Rattle.std.proofs.Common.{ap, ◌∙◌, arith}
 use Rattle.std.specs.Cmp.Lexicographic.{slice_cmp}
 use Rattle.std.specs.FinMap.{slice_cmp-IsAntisymmetric, nat_cmp-IsAntisymmetric}
 use Rattle.std.specs.FinMap.Entries.{by_order, put, find, is_sorted, is_sorted-put, find-put}
@@ -29,9 +29,7 @@ of_pairs (p ∷ ps) = member p.0 p.1 (of_pairs ps)
 
 of_pairs_at : (o : Ordering) (a b c : List (List ℕ × Data))
     → of_pairs (by_order o a b c) ≡ match_ordering o (of_pairs a) (of_pairs b) (of_pairs c)
-of_pairs_at Less a b c = refl
-of_pairs_at Equal a b c = refl
-of_pairs_at Greater a b c = refl
+of_pairs_at o a b c = grind arith
 
 of_pairs-put : (k : List ℕ) (d : Data) (ps : List (List ℕ × Data))
     → of_pairs (put order k d ps) ≡ data_of.put k d (of_pairs ps)
@@ -63,9 +61,7 @@ abbrev named : List ℕ → Entry
 named q = (record { ref_ptr = (0, 0); now = q }, made.Null)
 
 tied_at : (o : Ordering) → (not (is_lt o) && not (is_lt (ordering_reverse o))) ≡ is_eq o
-tied_at Less = refl
-tied_at Equal = refl
-tied_at Greater = refl
+tied_at o = grind arith
 
 tied : (k l : List ℕ) → (not (is_lt (order k l)) && not (is_lt (order l k))) ≡ is_eq (order k l)
 tied k l = ap (λ o. not (is_lt (order k l)) && not (is_lt o)) (nat_list_cmp_total.antisymm l k)

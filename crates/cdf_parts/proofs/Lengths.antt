@@ -72,26 +72,11 @@ member_short b k (member l d ms) e is =
 
 member_within : (k : List ℕ) (d e : Data)
     → get k d ≡ Some e → length (compact_text e) ≤ length (compact_text d)
-member_within k null e is = absurd (cc)
-member_within k (boolean b) e is = absurd (cc)
-member_within k (number x) e is = absurd (cc)
-member_within k (string s) e is = absurd (cc)
-member_within k (array ds) e is = absurd (cc)
-member_within k (object ms) e is =
-    let p : length (compact_text e) ≤ length (members_text false ms) =
-    member_short false k ms e is in
-    omega (arith, p)
+member_within k d e is = grind (arith, length, compact_text, members_text, member_short)
 
 item_within : (i : ℕ) (d e : Data) → at i d ≡ Some e
     → length (compact_text e) ≤ length (compact_text d)
-item_within i null e is = absurd (cc)
-item_within i (boolean b) e is = absurd (cc)
-item_within i (number x) e is = absurd (cc)
-item_within i (string s) e is = absurd (cc)
-item_within i (object ms) e is = absurd (cc)
-item_within i (array ds) e is =
-    let p : length (compact_text e) ≤ length (items_text false ds) = item_short false i ds e is in
-    omega (arith, p)
+item_within i d e is = grind (arith, length, compact_text, items_text, item_short)
 
 pub part_short : (e d : Data) → IsPart e d → length (compact_text e) ≤ length (compact_text d)
 part_short e d itself = omega arith

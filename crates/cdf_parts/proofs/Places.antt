@@ -47,10 +47,7 @@ position_push s i (y ∷ xs) x =
 
 noted_at : (t : Bool) (o : Option ℕ) (i : ℕ) → (t ≡ true → o ≡ None)
     → cond t (Some i) o ≡ option_or o (cond t (Some i) None)
-noted_at true None i h = refl
-noted_at true (Some p) i h = absurd (none-some p (sym (h refl)))
-noted_at false None i h = refl
-noted_at false (Some p) i h = refl
+noted_at t o i h = grind (arith, none-some)
 
 none_of : (o : Option ℕ) → is_some o ≡ false → o ≡ None
 none_of None h = refl

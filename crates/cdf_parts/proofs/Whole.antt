@@ -51,12 +51,7 @@ whole_item (item d ds) (suc i) e h is =
 
 pub whole_get : (d : Data) (n : List ℕ) (e : Data) → has_float d ≡ false → get n d ≡ Some e
     → has_float e ≡ false
-whole_get null n e h is = cc
-whole_get (boolean b) n e h is = cc
-whole_get (number m) n e h is = cc
-whole_get (string s) n e h is = cc
-whole_get (array ds) n e h is = cc
-whole_get (object ms) n e h is = whole_member ms n e h is
+whole_get d n e h is = grind (arith, whole_member)
 
 whole_list : (ds : Items) → items_have_float ds ≡ false → list_any has_float (list_of ds) ≡ false
 whole_list no_items e = refl
@@ -66,12 +61,7 @@ whole_list (item d ds) e = or_false (has_float d) (list_any has_float (list_of d
 
 whole_as_array : (e : Data) → has_float e ≡ false
     → list_any has_float (unwrap_or (option_map list_of (as_array e)) []) ≡ false
-whole_as_array null h = refl
-whole_as_array (boolean b) h = refl
-whole_as_array (number n) h = refl
-whole_as_array (string s) h = refl
-whole_as_array (array ds) h = whole_list ds h
-whole_as_array (object ms) h = refl
+whole_as_array e h = grind (arith, whole_list)
 
 whole_found : (o : Option Data) → ((e : Data) → o ≡ Some e → has_float e ≡ false)
     → list_any has_float (unwrap_or (option_map list_of (option_and_then as_array o)) []) ≡ false

@@ -27,9 +27,7 @@ Entry = Bor (List ℕ) × Node
 -- ---- a member taken out
 
 without_at : (o : Ordering) (a b : Members) → match_ordering o a b a ≡ cond (is_eq o) b a
-without_at Less a b = refl
-without_at Equal a b = refl
-without_at Greater a b = refl
+without_at o a b = grind arith
 
 removed_at : (b : Bool) (e : Entry) (es : List Entry) (k : ℕ) (rest : Members)
     → members_view (remove es k) ≡ rest
@@ -99,10 +97,4 @@ header_left d members all one two m is copied first second now =
     null) is)
 
 pub whole-header_of : (d : Data) → has_float d ≡ false → has_float (header_of d) ≡ false
-whole-header_of null h = refl
-whole-header_of (boolean b) h = refl
-whole-header_of (number n) h = refl
-whole-header_of (string s) h = refl
-whole-header_of (array ds) h = refl
-whole-header_of (object ms) h = whole-without (codes "CurrentSnapshotId")
-    (without (codes "CVRSnapshot") ms) (whole-without (codes "CVRSnapshot") ms h)
+whole-header_of d h = grind (arith, whole-without, codes, without)

@@ -1,6 +1,6 @@
 -- The value that a listed text names.
 use Rattle.std.proofs.Common.{◌≡◌, ℕ, List, [], ◌∷◌, Bool, true, false, ◌↔◌, Option, Some, None}
-use Rattle.std.proofs.Common.{bytes_eq, refl, sym, ap, ◌∙◌}
+use Rattle.std.proofs.Common.{bytes_eq, refl, sym, ap, ◌∙◌, arith}
 use Rattle.std.specs.Prelude.{find}
 use Rattle.std.proofs.lemmas.Slice.Eq.{bytes_eq-Decides}
 use Rattle.cdf_types.specs.declared.snapshot_kind.SnapshotKind.{SnapshotKind}
@@ -33,19 +33,13 @@ is_named text text_of ks None own h = sym
     (λ e. let same : None ≡ Some k = (h k).1 ((bytes_eq-Decides text (text_of k)).0 e) in cc)))
 
 own_kind : (k : SnapshotKind) → kind_named (snapshot_kind_text k) ≡ Some k
-own_kind kind.Original = refl
-own_kind kind.Interpreted = refl
-own_kind kind.Modified = refl
+own_kind k = grind arith
 
 own_indication : (i : Indication) → indication_named (indication_text i) ≡ Some i
-own_indication indication.No = refl
-own_indication indication.Unknown = refl
-own_indication indication.Yes = refl
+own_indication i = grind arith
 
 own_allocation : (a : Allocation) → allocation_named (allocation_text a) ≡ Some a
-own_allocation allocation.No = refl
-own_allocation allocation.Unknown = refl
-own_allocation allocation.Yes = refl
+own_allocation a = grind arith
 
 pub kind_is : (text : List ℕ) (o : Option SnapshotKind)
     → ((k : SnapshotKind) → (o ≡ Some k) ↔ (text ≡ snapshot_kind_text k)) → o ≡ kind_named text

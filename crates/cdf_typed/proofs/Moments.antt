@@ -1,7 +1,7 @@
 -- The latest of several instants.
 use Rattle.std.proofs.Common.{◌≡◌, ℕ, ◌+◌, ◌<◌, ℤ, List, ◌∷◌, length, get_or, drop, map, Bool, true}
 use Rattle.std.proofs.Common.{false, cond, Option, Some, None, Ordering, Less, Equal, Greater, refl}
-use Rattle.std.proofs.Common.{sym, ap, ◌∙◌}
+use Rattle.std.proofs.Common.{sym, ap, ◌∙◌, arith}
 use Rattle.std.specs.Ordering.{int_cmp, is_gt, ordering_reverse}
 use Rattle.std.specs.Option.{option_map_or}
 use Rattle.std.specs.List.{filter_map, cons_option}
@@ -37,12 +37,7 @@ joined a b c false true p q = rw (p, q) refl
 joined a b c false false p q = rw (upto int_cmp_total a b c p q, q) refl
 
 pub later_joined : (a b c : Option ℤ) → later a (later b c) ≡ later (later a b) c
-later_joined None b c = refl
-later_joined (Some a) None None = refl
-later_joined (Some a) None (Some c) = refl
-later_joined (Some a) (Some b) None = refl
-later_joined (Some a) (Some b) (Some c) =
-    ap Some (joined a b c (is_gt (int_cmp a b)) (is_gt (int_cmp b c)) refl refl)
+later_joined a b c = grind (arith, joined, is_gt, int_cmp)
 
 greatest_more : (o : Option ℤ) (xs : List ℤ)
     → max_by int_cmp (cons_option o xs) ≡ later o (max_by int_cmp xs)

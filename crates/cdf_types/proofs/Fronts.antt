@@ -1,6 +1,6 @@
 -- The bytes that a sink has taken, a piece at a time.
 use Rattle.std.proofs.Common.{◌≡◌, ℕ, zero, suc, List, ◌++◌, take, drop, false, Option, Some, None}
-use Rattle.std.proofs.Common.{Result, Ok, Err, refl, sym, ap, ◌∙◌, append_assoc}
+use Rattle.std.proofs.Common.{Result, Ok, Err, refl, sym, ap, ◌∙◌, append_assoc, arith}
 use Rattle.std.proofs.lemmas.List.{take-append-drop}
 use Rattle.cdf_types.specs.Device.{fails_write, taken_with}
 
@@ -17,6 +17,4 @@ one_more_piece bytes front rest n e =
 -- a count above 0 is no failure
 pub some_count : {E : Type 0} (r : Result ℕ E) (n : ℕ) → r ≡ Ok n → (n ≡ 0 → ⊥)
     → fails_write r ≡ false
-some_count (Ok zero) n e some = absurd (some (cc))
-some_count (Ok (suc m)) n e some = refl
-some_count (Err x) n e some = absurd (cc)
+some_count r n e some = grind arith

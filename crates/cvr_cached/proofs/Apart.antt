@@ -39,9 +39,7 @@ record_in (name.Snapshot key id) = Some key
 
 record_named : (f : Fact) → record_of f ≡ record_in (name_of f)
 unfolding record_in
-record_named (Device i b) = refl
-record_named (Header d u b) = refl
-record_named (Snapshot d u i b) = refl
+record_named f = grind arith
 
 same_record : (x y : AnyFact) → has_name (any_name x) y ≡ true
     → record_of (fact_of x) ≡ record_of (fact_of y)

@@ -35,9 +35,7 @@ first_none [] h = refl
 first_none (e ∷ es) h = absurd (h (omega arith))
 
 turned : (r : Ordering) → is_gt (ordering_reverse r) ≡ is_lt r
-turned Less = refl
-turned Equal = refl
-turned Greater = refl
+turned r = grind arith
 
 above : (k name : RecordName) → is_gt (name_cmp k name) ≡ (is_lt (name_cmp name k) && true)
 above k name = ap is_gt (name_total.antisymm k name)

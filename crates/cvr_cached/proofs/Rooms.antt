@@ -50,10 +50,7 @@ use Rattle.cvr_cached.proofs.RowLink.{sum_pairs, share_found}
 
 pub summed : (frame : Frame) (s : Facts) → Keeps frame s → (x : AnyFact)
     → contains s (fact_of x) ≡ true → IsSpelled frame.contests x → IsSummed frame.contests x
-summed frame s keeps (any.Device d) held spelled = tt
-summed frame s keeps (any.Header h) held spelled = tt
-summed frame s keeps (any.Snapshot n) held spelled = subst (AreSums frame.contests)
-    (sym spelled.votes) (facts_are_sums frame s keeps n.key.device n.key.unique n.id n.body held)
+summed frame s keeps x held spelled = grind (arith, facts_are_sums)
 
 -- ---- the most that a content adds to a column
 

@@ -1,6 +1,6 @@
 -- What offices hold after imports in place of exchanges.
 use Rattle.std.proofs.Common.{◌≡◌, ◌==◌, ℕ, List, [], ◌∷◌, ◌++◌, get_or, Contains, Bool, true}
-use Rattle.std.proofs.Common.{false, cond, ◌||◌, inl, inr, refl, sym, ap, ◌∙◌, subst}
+use Rattle.std.proofs.Common.{false, cond, ◌||◌, inl, inr, refl, sym, ap, ◌∙◌, subst, arith}
 use Rattle.std.specs.List.{list_any}
 use Rattle.std.specs.Cmp.{both_ways}
 use Rattle.std.specs.FinSet.{contains, union, empty, insert, items, same_set, contains-union}
@@ -72,11 +72,7 @@ abbrev pub IsTakenBy : ℕ → Event × Outcome → Type 0
 IsTakenBy o e = (f : ℕ) × (n : ℕ) × (e ≡ (Import o f, Accepted n))
 
 or_turn : (a b c : Bool) → ((a || c) || b) ≡ (a || (b || c))
-or_turn true b c = refl
-or_turn false true true = refl
-or_turn false true false = refl
-or_turn false false true = refl
-or_turn false false false = refl
+or_turn a b c = grind arith
 
 or_none : (a : Bool) → (a || false) ≡ a
 or_none true = refl

@@ -1,6 +1,6 @@
 -- The members of a volume.
 use Rattle.std.proofs.Common.{◌≡◌, ℕ, suc, List, [], ◌∷◌, Option, Some, None, IsUtf8, codes, refl}
-use Rattle.std.proofs.Common.{subst}
+use Rattle.std.proofs.Common.{subst, arith}
 use Rattle.serde_json.specs.Data.{Data, string, array, object, Items, no_items, item, Members}
 use Rattle.serde_json.specs.Data.{no_members, put}
 use Rattle.serde_json.specs.Find.{get}
@@ -35,87 +35,51 @@ put_unless k (item d ds) ms = put k (array (item d ds)) ms
 module _ (es us : Items) (date device : List ℕ) (ds : Items) where
   pub at_class : (ps rs : Items) → get (codes "@type") (made_of es us date device ds ps rs)
       ≡ Some (string (codes "CVR.CastVoteRecordReport"))
-  at_class no_items no_items = refl
-  at_class no_items (item r rs) = refl
-  at_class (item p ps) no_items = refl
-  at_class (item p ps) (item r rs) = refl
+  at_class ps rs = grind arith
 
   pub at_cvrs : (ps rs : Items) → get (codes "CVR") (made_of es us date device ds ps rs)
       ≡ unless_none rs
-  at_cvrs no_items no_items = refl
-  at_cvrs no_items (item r rs) = refl
-  at_cvrs (item p ps) no_items = refl
-  at_cvrs (item p ps) (item r rs) = refl
+  at_cvrs ps rs = grind arith
 
   pub at_elections : (ps rs : Items) → get (codes "Election") (made_of es us date device ds ps rs)
       ≡ Some (array es)
-  at_elections no_items no_items = refl
-  at_elections no_items (item r rs) = refl
-  at_elections (item p ps) no_items = refl
-  at_elections (item p ps) (item r rs) = refl
+  at_elections ps rs = grind arith
 
   pub at_date : (ps rs : Items) → get (codes "GeneratedDate") (made_of es us date device ds ps rs)
       ≡ Some (string date)
-  at_date no_items no_items = refl
-  at_date no_items (item r rs) = refl
-  at_date (item p ps) no_items = refl
-  at_date (item p ps) (item r rs) = refl
+  at_date ps rs = grind arith
 
   pub at_units : (ps rs : Items) → get (codes "GpUnit") (made_of es us date device ds ps rs)
       ≡ Some (array us)
-  at_units no_items no_items = refl
-  at_units no_items (item r rs) = refl
-  at_units (item p ps) no_items = refl
-  at_units (item p ps) (item r rs) = refl
+  at_units ps rs = grind arith
 
   pub at_notes : (ps rs : Items) → get (codes "Notes") (made_of es us date device ds ps rs) ≡ None
-  at_notes no_items no_items = refl
-  at_notes no_items (item r rs) = refl
-  at_notes (item p ps) no_items = refl
-  at_notes (item p ps) (item r rs) = refl
+  at_notes ps rs = grind arith
 
   pub at_other_type : (ps rs : Items) → get (codes "OtherReportType")
       (made_of es us date device ds ps rs) ≡ None
-  at_other_type no_items no_items = refl
-  at_other_type no_items (item r rs) = refl
-  at_other_type (item p ps) no_items = refl
-  at_other_type (item p ps) (item r rs) = refl
+  at_other_type ps rs = grind arith
 
   pub at_parties : (ps rs : Items) → get (codes "Party") (made_of es us date device ds ps rs)
       ≡ unless_none ps
-  at_parties no_items no_items = refl
-  at_parties no_items (item r rs) = refl
-  at_parties (item p ps) no_items = refl
-  at_parties (item p ps) (item r rs) = refl
+  at_parties ps rs = grind arith
 
   pub at_generating : (ps rs : Items) → get (codes "ReportGeneratingDeviceIds")
       (made_of es us date device ds ps rs) ≡ Some (array (item (string device) no_items))
-  at_generating no_items no_items = refl
-  at_generating no_items (item r rs) = refl
-  at_generating (item p ps) no_items = refl
-  at_generating (item p ps) (item r rs) = refl
+  at_generating ps rs = grind arith
 
   pub at_report_type : (ps rs : Items) → get (codes "ReportType")
       (made_of es us date device ds ps rs)
       ≡ Some (array (item (string (codes "aggregated")) no_items))
-  at_report_type no_items no_items = refl
-  at_report_type no_items (item r rs) = refl
-  at_report_type (item p ps) no_items = refl
-  at_report_type (item p ps) (item r rs) = refl
+  at_report_type ps rs = grind arith
 
   pub at_devices : (ps rs : Items) → get (codes "ReportingDevice")
       (made_of es us date device ds ps rs) ≡ Some (array ds)
-  at_devices no_items no_items = refl
-  at_devices no_items (item r rs) = refl
-  at_devices (item p ps) no_items = refl
-  at_devices (item p ps) (item r rs) = refl
+  at_devices ps rs = grind arith
 
   pub at_version : (ps rs : Items) → get (codes "Version") (made_of es us date device ds ps rs)
       ≡ Some (string (codes "1.0.0"))
-  at_version no_items no_items = refl
-  at_version no_items (item r rs) = refl
-  at_version (item p ps) no_items = refl
-  at_version (item p ps) (item r rs) = refl
+  at_version ps rs = grind arith
 
 -- ---- the members, put in one after the other
 
@@ -137,10 +101,7 @@ all_put es us date device ds ps rs =
 
 put_in_order : (es us : Items) (date device : List ℕ) (ds ps rs : Items)
     → object (all_put es us date device ds ps rs) ≡ made_of es us date device ds ps rs
-put_in_order es us date device ds no_items no_items = refl
-put_in_order es us date device ds no_items (item r rs) = refl
-put_in_order es us date device ds (item p ps) no_items = refl
-put_in_order es us date device ds (item p ps) (item r rs) = refl
+put_in_order es us date device ds ps rs = grind arith
 
 clean_unless : (n : ℕ) (k : List ℕ) (ds : Items) (ms : Members) → IsUtf8 k → IsClean n (array ds)
     → IsClean (suc n) (object ms) → IsClean (suc n) (object (put_unless k ds ms))

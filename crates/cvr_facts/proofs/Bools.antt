@@ -1,6 +1,6 @@
 -- Tests joined by `||`, and ties of an order in which only equal keys tie.
 use Rattle.std.proofs.Common.{◌≡◌, Bool, true, false, ◌||◌, ◌⊎◌, inl, inr, refl, sym, subst}
-use Rattle.std.proofs.Common.{true≢false}
+use Rattle.std.proofs.Common.{true≢false, arith}
 use Rattle.std.specs.Bool.{Decides}
 use Rattle.std.specs.declared.cmp.Ordering.{Ordering}
 use Rattle.std.specs.Ordering.{eq_by_cmp}
@@ -20,15 +20,11 @@ or_right true b h = refl
 or_right false b h = h
 
 pub or_swap : (a b c : Bool) → (a || (b || c)) ≡ (b || (a || c))
-or_swap true true c = refl
-or_swap true false c = refl
-or_swap false b c = refl
+or_swap a b c = grind arith
 
 -- a test that the first implies adds nothing to it
 pub or_absorb : (a b c : Bool) → (b ≡ true → a ≡ true) → (a || (b || c)) ≡ (a || c)
-or_absorb true b c h = refl
-or_absorb false true c h = absurd (true≢false (sym (h refl)))
-or_absorb false false c h = refl
+or_absorb a b c h = grind (arith, true≢false)
 
 module _ {K : Type 0} {R : K → K → Ordering} where
   pub tie_is : IsAntisymmetric R → (x y : K) → eq_by_cmp R x y ≡ true → x ≡ y

@@ -1,6 +1,6 @@
 -- Facts that lists in order keep, and the sets of them.
 use Rattle.std.proofs.Common.{◌≡◌, ℕ, List, ◌++◌, map, Bool, true, Ordering, Less, Equal, Greater}
-use Rattle.std.proofs.Common.{refl, sym, ap, ◌∙◌, subst, slice_index_or, inl, inr}
+use Rattle.std.proofs.Common.{refl, sym, ap, ◌∙◌, subst, slice_index_or, inl, inr, arith}
 use Rattle.std.specs.List.{Any, Contains, dedup, flat_map, list_any}
 use Rattle.std.specs.Ordering.{eq_by_cmp, ordering_then}
 use Rattle.std.specs.Cmp.{Equal-is, IsEquivalence}
@@ -29,9 +29,7 @@ use Rattle.cvr_facts.specs.Lists.{fact_of_header, fact_of_snapshot, facts_in, to
 -- ---- ties
 
 tied : (a b : Ordering) → ordering_then a b ≡ Equal → (a ≡ Equal) × (b ≡ Equal)
-tied Less b e = absurd (cc)
-tied Equal b e = (refl, e)
-tied Greater b e = absurd (cc)
+tied a b e = grind arith
 
 text_is : (a b : List ℕ) → text_cmp a b ≡ Equal → a ≡ b
 text_is = slice_cmp-IsAntisymmetric nat_cmp-IsAntisymmetric

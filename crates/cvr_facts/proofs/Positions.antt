@@ -1,6 +1,6 @@
 -- Which positions count, and which are pending.
 use Rattle.std.proofs.Common.{◌≡◌, Bool, true, false, ◌&&◌, Option, Some, None, refl, sym, ap, ◌∙◌}
-use Rattle.std.proofs.Common.{true≢false}
+use Rattle.std.proofs.Common.{true≢false, arith}
 use Rattle.std.specs.Option.{option_map_or}
 use Rattle.cdf_types.specs.declared.mark.Indication.{Indication}
 use Rattle.cdf_types.specs.declared.mark.Indication.TheVariants as indication
@@ -11,10 +11,7 @@ use Rattle.cvr_facts.specs.SumLaws.{EitherLaw, MarkedLaw, UnsetLaw}
 
 apart_at : (o : Option Allocation) (b : Bool) → option_map_or is_allowed o b ≡ true
     → (option_map_or is_unsettled o false && b) ≡ false
-apart_at None b h = refl
-apart_at (Some allocation.No) b h = refl
-apart_at (Some allocation.Unknown) b h = absurd (true≢false (sym h))
-apart_at (Some allocation.Yes) b h = refl
+apart_at o b h = grind (arith, true≢false)
 
 pub apart : EitherLaw
 apart p counted = apart_at p.allocation (is_marked p.indication) counted

@@ -35,14 +35,7 @@ use Rattle.cvr_facts.specs.Sources.{devices_in, cvrs_in, snapshots_in}
 -- what a header keeps is what the record has
 pub get-header_of : (name : List ℕ) (c : Data) → IsInHeader name
     → get name (header_of c) ≡ get name c
-get-header_of name null kept = refl
-get-header_of name (boolean b) kept = refl
-get-header_of name (number n) kept = refl
-get-header_of name (string s) kept = refl
-get-header_of name (array ds) kept = refl
-get-header_of name (object ms) kept =
-    others_stay name (codes "CurrentSnapshotId") (without (codes "CVRSnapshot") ms) kept.1
-    ∙ others_stay name (codes "CVRSnapshot") ms kept.0
+get-header_of name c kept = grind (arith, others_stay, codes, without)
 
 -- so is a text in it
 pub text_in-header_of : (name : List ℕ) (c : Data) → IsInHeader name

@@ -1,7 +1,7 @@
 -- The bodies of a device are those of its facts, which stand side by side in a plain office's list.
 use Rattle.std.proofs.Common.{◌≡◌, ℕ, Bool, true, false, List, map, take, drop, Contains, Option}
 use Rattle.std.proofs.Common.{Some, None, Ordering, Less, Equal, Greater, refl, sym, ap, ◌∙◌, subst}
-use Rattle.std.proofs.Common.{true≢false}
+use Rattle.std.proofs.Common.{true≢false, arith}
 use Rattle.std.specs.Prelude.{bytes_eq}
 use Rattle.std.specs.List.{filter}
 use Rattle.std.specs.List.Sorted.{IsStrictlySortedBy, IsPartitionedBy, IsPartitionPoint}
@@ -89,14 +89,10 @@ named_tie id i = both_ways (bytes_eq id i) (is_eq (text_cmp i id))
     (λ e. (bytes_eq-Decides id i).1 (sym (text_exact i id ((Equal-is (text_cmp i id)).0 e))))
 
 lt_not_eq : (r : Ordering) → is_lt r ≡ true → is_eq r ≡ false
-lt_not_eq Less e = refl
-lt_not_eq Equal e = sym e
-lt_not_eq Greater e = refl
+lt_not_eq r e = grind arith
 
 gt_not_eq : (r : Ordering) → is_le r ≡ false → is_eq r ≡ false
-gt_not_eq Less e = refl
-gt_not_eq Equal e = e
-gt_not_eq Greater e = refl
+gt_not_eq r e = grind arith
 
 only_eq : (r : Ordering) → is_lt r ≡ false → is_le r ≡ true → is_eq r ≡ true
 only_eq Less e h = sym e
@@ -119,14 +115,10 @@ module _ (id : List ℕ) where
   is_high o = option_map_or (λ i. is_le (text_cmp i id)) o false
 
   no_lower : (f : Fact) → is_low (device_in f) ≡ true → is_named (name.Device id) f ≡ false
-  no_lower (Device i b) e = named_tie id i ∙ lt_not_eq (text_cmp i id) e
-  no_lower (Header d u b) e = refl
-  no_lower (Snapshot d u i b) e = refl
+  no_lower f e = grind (arith, named_tie, lt_not_eq, text_cmp)
 
   no_higher : (f : Fact) → is_high (device_in f) ≡ false → is_named (name.Device id) f ≡ false
-  no_higher (Device i b) e = named_tie id i ∙ gt_not_eq (text_cmp i id) e
-  no_higher (Header d u b) e = refl
-  no_higher (Snapshot d u i b) e = refl
+  no_higher f e = grind (arith, named_tie, gt_not_eq, text_cmp)
 
   just_own : (f : Fact) → is_low (device_in f) ≡ false → is_high (device_in f) ≡ true
       → is_named (name.Device id) f ≡ true

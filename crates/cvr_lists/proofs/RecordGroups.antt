@@ -41,9 +41,7 @@ use Rattle.cvr_office.proofs.Lemmas.{sorted-map}
 -- ---- ids along a run
 
 first_not_past : (r s : Ordering) → ordering_then r s ≡ Less → is_gt r ≡ false
-first_not_past Less s e = refl
-first_not_past Equal s e = refl
-first_not_past Greater s e = Prim.cc e
+first_not_past r s e = grind arith
 
 abbrev pub snapshot_order : SnapshotFact → SnapshotFact → Ordering
 snapshot_order x y = any_cmp (any.Snapshot x) (any.Snapshot y)

@@ -1,7 +1,7 @@
 -- A loop over a run: what one more fact adds to its headers and snapshots.
 use Rattle.std.proofs.Common.{◌≡◌, ℕ, ◌+◌, ◌<◌, true, false, cond, List, [], ◌∷◌, ◌++◌, length}
 use Rattle.std.proofs.Common.{take, get_or, Contains, Ordering, Less, Equal, Greater, Some, None}
-use Rattle.std.proofs.Common.{inl, inr, refl, sym, ap, ◌∙◌, subst, append-nil}
+use Rattle.std.proofs.Common.{inl, inr, refl, sym, ap, ◌∙◌, subst, append-nil, arith}
 use Rattle.std.specs.Prelude.{Option}
 use Rattle.std.specs.List.{filter_map, cons_option, last_or}
 use Rattle.std.specs.Ordering.{is_gt, ordering_reverse}
@@ -31,14 +31,10 @@ filter_map_more h xs i x lt at =
     ∙ ap (λ y. filter_map h (take i xs) ++ cons_option (h y) []) (sym at))
 
 not_header : (x : AnyFact) → ((h : HeaderFact) → x ≡ any.Header h → ⊥) → as_header x ≡ None
-not_header (any.Device d) other = refl
-not_header (any.Header h) other = absurd (other h refl)
-not_header (any.Snapshot s) other = refl
+not_header x other = grind arith
 
 not_snapshot : (x : AnyFact) → ((s : SnapshotFact) → x ≡ any.Snapshot s → ⊥) → as_snapshot x ≡ None
-not_snapshot (any.Device d) other = refl
-not_snapshot (any.Header h) other = refl
-not_snapshot (any.Snapshot s) other = absurd (other s refl)
+not_snapshot x other = grind arith
 
 last_or-push : {X : Type 0} (o : Option X) (xs : List X) (x : X) → last_or o (xs ++ x ∷ []) ≡ Some x
 last_or-push o [] x = refl

@@ -1,6 +1,6 @@
 -- The order of facts is that of their names, ties by body.
 use Rattle.std.proofs.Common.{◌≡◌, ℕ, List, [], ◌∷◌, Ordering, Less, Equal, Greater, inl, inr, refl}
-use Rattle.std.proofs.Common.{sym, ap, ◌∙◌}
+use Rattle.std.proofs.Common.{sym, ap, ◌∙◌, arith}
 use Rattle.std.specs.Prelude.{◌⊎◌, Bool, true, false, ◌&&◌, bytes_eq}
 use Rattle.std.specs.Ordering.{ordering_then}
 use Rattle.std.specs.Cmp.{IsTotalOrder, tied_itself}
@@ -29,9 +29,7 @@ keyed (k ∷ d ∷ u ∷ i ∷ _) = name.Snapshot (record { device = d; unique =
 keyed _ = name.Device []
 
 keyed-name_key : (n : ConflictName) → keyed (name_key n) ≡ n
-keyed-name_key (name.Device i) = refl
-keyed-name_key (name.Header key) = refl
-keyed-name_key (name.Snapshot key i) = refl
+keyed-name_key n = grind arith
 
 pub conflict_exact : IsAntisymmetric conflict_cmp
 conflict_exact n m e =
@@ -92,40 +90,24 @@ name_is (name.Snapshot key id) (Snapshot d u i b) e =
 
 then_one : (i b : Ordering) → ordering_then i (ordering_then b Equal)
     ≡ ordering_then (ordering_then i Equal) b
-then_one Less b = refl
-then_one Equal Less = refl
-then_one Equal Equal = refl
-then_one Equal Greater = refl
-then_one Greater b = refl
+then_one i b = grind arith
 
 then_two : (d u b : Ordering) → ordering_then d (ordering_then u (ordering_then b Equal))
     ≡ ordering_then (ordering_then d (ordering_then u Equal)) b
-then_two Less u b = refl
-then_two Equal u b = then_one u b
-then_two Greater u b = refl
+then_two d u b = grind (arith, then_one)
 
 then_three : (d u i b : Ordering)
     → ordering_then d (ordering_then u (ordering_then i (ordering_then b Equal)))
     ≡ ordering_then (ordering_then d (ordering_then u (ordering_then i Equal))) b
-then_three Less u i b = refl
-then_three Equal u i b = then_two u i b
-then_three Greater u i b = refl
+then_three d u i b = grind (arith, then_two)
 
 then_less : (d u b : Ordering) → ordering_then d (ordering_then u Less)
     ≡ ordering_then (ordering_then d (ordering_then u Less)) b
-then_less Less u b = refl
-then_less Equal Less b = refl
-then_less Equal Equal b = refl
-then_less Equal Greater b = refl
-then_less Greater u b = refl
+then_less d u b = grind arith
 
 then_greater : (d u b : Ordering) → ordering_then d (ordering_then u Greater)
     ≡ ordering_then (ordering_then d (ordering_then u Greater)) b
-then_greater Less u b = refl
-then_greater Equal Less b = refl
-then_greater Equal Equal b = refl
-then_greater Equal Greater b = refl
-then_greater Greater u b = refl
+then_greater d u b = grind arith
 
 place_cmp-is : (f g : Fact) → place_cmp f g
     ≡ ordering_then (conflict_cmp (name_of f) (name_of g)) (text_cmp (body_of f) (body_of g))

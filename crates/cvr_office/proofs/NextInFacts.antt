@@ -1,7 +1,7 @@
 -- The next record and the next device of a plain office's list.
 use Rattle.std.proofs.Common.{◌≡◌, ℕ, ◌<◌, ◌≤◌, Bool, true, false, List, length, get_or, Option}
 use Rattle.std.proofs.Common.{Some, None, Ordering, Less, Equal, Greater, refl, sym, ◌∙◌, subst}
-use Rattle.std.proofs.Common.{true≢false}
+use Rattle.std.proofs.Common.{true≢false, arith}
 use Rattle.std.specs.Prelude.{slice_get}
 use Rattle.std.specs.List.Sorted.{IsStrictlySortedBy, IsPartitionedBy, IsPartitionPoint}
 use Rattle.std.specs.Option.{option_cmp, option_map_or}
@@ -43,14 +43,10 @@ name_exact a b e =
 -- ---- tests
 
 not_above : (o : Ordering) → is_le o ≡ true → is_gt o ≡ false
-not_above Less e = refl
-not_above Equal e = refl
-not_above Greater e = sym e
+not_above o e = grind arith
 
 up_to : (o : Ordering) → is_gt o ≡ false → is_le o ≡ true
-up_to Less e = refl
-up_to Equal e = refl
-up_to Greater e = sym e
+up_to o e = grind arith
 
 behind : (o : Ordering) → is_le o ≡ false → is_gt o ≡ true
 behind Less e = sym e

@@ -1,7 +1,7 @@
 -- The next name is the least above the given one.
 use Rattle.std.proofs.Common.{◌≡◌, ◌≢◌, Bool, true, false, cond, List, [], ◌∷◌, Option, Some, None}
 use Rattle.std.proofs.Common.{Ordering, Less, Equal, Greater, is_lt, is_gt, inl, inr, refl, sym, ap}
-use Rattle.std.proofs.Common.{◌∙◌, subst, true≢false}
+use Rattle.std.proofs.Common.{◌∙◌, subst, true≢false, arith}
 use Rattle.std.specs.List.{find, filter_map}
 use Rattle.std.specs.List.Sorted.{IsStrictlySortedBy}
 use Rattle.std.specs.Ordering.{ordering_reverse}
@@ -71,9 +71,7 @@ lt_is Equal h = absurd (false≢true h)
 lt_is Greater h = absurd (false≢true h)
 
 not_lt : (o : Ordering) → o ≢ Less → is_lt o ≡ false
-not_lt Less other = absurd (other refl)
-not_lt Equal other = refl
-not_lt Greater other = refl
+not_lt o other = grind arith
 
 module _ {K : Type 0} (R : K → K → Ordering) where
   above_is : (after : Option K) (k : K) → is_above R after k ≡ true → IsAbove R after k

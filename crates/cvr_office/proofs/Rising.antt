@@ -63,9 +63,7 @@ module _ {K : Type 0} {S : K → K → Ordering} (st : IsTotalOrder S) (se : IsA
       omega (arith, len-with_all s ks, len-insert st (with_all s ks) k, more)
 
   or_move : (a b c : Bool) → (a || (b || c)) ≡ (b || (a || c))
-  or_move true true c = refl
-  or_move true false c = refl
-  or_move false b c = refl
+  or_move a b c = grind arith
 
   or_none : (a : Bool) → (a || false) ≡ a
   or_none true = refl

@@ -94,9 +94,7 @@ module _ {K X : Type 0} {R : K → K → Ordering} (t : IsTotalOrder R) (e : IsA
 -- ---- the key of a record's sums
 
 then_is : (a b : Ordering) → is_eq (ordering_then a b) ≡ (is_eq a && is_eq b)
-then_is Less b = refl
-then_is Equal b = refl
-then_is Greater b = refl
+then_is a b = grind arith
 
 nat_tie : (m n : ℕ) → is_eq (nat_cmp m n) ≡ (n == m)
 nat_tie m n =
@@ -106,10 +104,7 @@ nat_tie m n =
     (ap (nat_cmp m) (sym same) ∙ tied_itself nat_cmp_total m))
 
 and_comm : (a b : Bool) → (a && b) ≡ (b && a)
-and_comm true true = refl
-and_comm true false = refl
-and_comm false true = refl
-and_comm false false = refl
+and_comm a b = grind arith
 
 find_and : {X : Type 0} (p : X → Bool) (b : Bool) (xs : List X)
     → find (λ x. b && p x) xs ≡ cond b (find p xs) None

@@ -34,9 +34,7 @@ not_past Equal Greater s e = Prim.cc e
 not_past Greater r s e = Prim.cc e
 
 pub not_before : (r : Ordering) → is_gt r ≡ false → is_lt (ordering_reverse r) ≡ false
-not_before Less h = refl
-not_before Equal h = refl
-not_before Greater h = Prim.cc h
+not_before r h = grind arith
 
 -- a fact's record isn't past that of a later one
 pub records_rise : (x y : AnyFact) → any_cmp x y ≡ Less

@@ -1,7 +1,7 @@
 -- In a plain office's list names rise with the facts: devices by id and then none, none and then
 -- records by name.
 use Rattle.std.proofs.Common.{◌≡◌, ℕ, ◌<◌, ◌≤◌, false, List, length, get_or, Option, Ordering, Less}
-use Rattle.std.proofs.Common.{Equal, Greater, inl, inr, refl, ap, subst}
+use Rattle.std.proofs.Common.{Equal, Greater, inl, inr, refl, ap, subst, arith}
 use Rattle.std.specs.List.Sorted.{IsStrictlySortedBy}
 use Rattle.std.specs.Option.{option_cmp}
 use Rattle.std.specs.Ordering.{is_gt, ordering_then, flip_args}
@@ -22,9 +22,7 @@ not_gt Equal Greater r e = Prim.cc e
 not_gt Greater q r e = Prim.cc e
 
 first_not_gt : (p q : Ordering) → ordering_then p q ≡ Less → is_gt p ≡ false
-first_not_gt Less q e = refl
-first_not_gt Equal q e = refl
-first_not_gt Greater q e = Prim.cc e
+first_not_gt p q e = grind arith
 
 -- ---- of two facts
 

@@ -76,9 +76,7 @@ kept_at Greater k d f b ms h = (refl, refl)
 passed_at : (o : Ordering) (k : List ℕ) (d : Data) (f : Members) (b ms : Members) → is_lt o ≡ true
     → (match_ordering (ordering_reverse o) no_members no_members (member k d f) ≡ member k d f)
     × (match_ordering (ordering_reverse o) (member k d ms) (member k d ms) b ≡ b)
-passed_at Less k d f b ms h = (refl, refl)
-passed_at Equal k d f b ms h = absurd (cc)
-passed_at Greater k d f b ms h = absurd (cc)
+passed_at o k d f b ms h = grind arith
 
 kept : (name k : List ℕ) (d : Data) (ms : Members) → is_lt (slice_cmp nat_cmp k name) ≡ false
     → (front name (member k d ms) ≡ no_members) × (back name (member k d ms) ≡ member k d ms)

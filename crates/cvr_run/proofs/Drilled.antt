@@ -2,7 +2,7 @@
 -- them, and where that is all that the other commands hold.
 use Rattle.std.proofs.Common.{◌≡◌, ◌≢◌, ℕ, zero, suc, ◌==◌, ◌<◌, List, [], ◌∷◌, length, get_or}
 use Rattle.std.proofs.Common.{Bool, true, false, cond, true≢false, ◌||◌, ◌⊎◌, inl, inr, Option}
-use Rattle.std.proofs.Common.{Some, None, Contains, refl, sym, ap, ◌∙◌, subst}
+use Rattle.std.proofs.Common.{Some, None, Contains, refl, sym, ap, ◌∙◌, subst, arith}
 use Rattle.std.specs.Prelude.{nat_le, replicate, is_some, if◌then◌else◌}
 use Rattle.std.specs.List.{list_any}
 use Rattle.std.specs.Ordering.{eq_by_cmp}
@@ -47,17 +47,12 @@ use Rattle.cvr_run.proofs.Members.{passes_by, placed, from_place, held_of}
 there_of : (a b : Bool) (first : Option ReadFault)
     → (if a then certain_due NoOffice else (if b then certain_due NoFile else file_due first)).cause
     ≡ None → b ≡ false
-there_of true b first is = absurd (cc)
-there_of false true first is = absurd (cc)
-there_of false false first is = refl
+there_of a b first is = grind arith
 
 pub accepted_of : (a b : Bool) (first : Option ReadFault)
     → (if a then certain_due NoOffice else (if b then certain_due NoFile else file_due first)).cause
     ≡ None → first ≡ None
-accepted_of true b first is = absurd (cc)
-accepted_of false true first is = absurd (cc)
-accepted_of false false None is = refl
-accepted_of false false (Some fault) is = absurd (cc)
+accepted_of a b first is = grind arith
 
 below_of : (m f : ℕ) → nat_le m f ≡ false → f < m
 below_of m f is = elim (cases_lt f m) [

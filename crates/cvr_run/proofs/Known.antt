@@ -1,6 +1,6 @@
 -- A run over an opener that says what stands at each path.
 use Rattle.std.proofs.Common.{◌≡◌, ℕ, List, [], ◌∷◌, ◌++◌, map, ◌⊎◌, inl, inr, refl, ◌∙◌, subst}
-use Rattle.std.proofs.Common.{sym}
+use Rattle.std.proofs.Common.{sym, arith}
 use Rattle.cvr_words.specs.declared.request.Request.{Request}
 use Rattle.cvr_run.specs.declared.status.Status.{Status}
 use Rattle.cvr_run.specs.declared.status.Status.TheVariants.{Device, Memory}
@@ -18,10 +18,7 @@ use Rattle.cvr_run.proofs.HeldBytes.{held_text, held_lines, held_fault, held_ref
 -- ---- a run that has printed its text has not failed
 
 pub not_whole : (answer : Status) → (answer ≡ Device) ⊎ (answer ≡ Memory) → IsWhole answer → ⊥
-not_whole answer (inl is) (inl done) = cc
-not_whole answer (inl is) (inr refused) = cc
-not_whole answer (inr is) (inl done) = cc
-not_whole answer (inr is) (inr refused) = cc
+not_whole answer h h' = grind arith
 
 -- ---- what was read is what is held of the files
 

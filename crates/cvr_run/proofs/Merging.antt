@@ -36,10 +36,7 @@ by_tests moment device above n = if not moment then Some NotMoment
 
 told_number : (moment device above : Bool) (n k : ℕ)
     → by_tests moment device above n ≡ Some (NoVolume k) → k ≡ n
-told_number false device above n k is = absurd (cc)
-told_number true false above n k is = absurd (cc)
-told_number true true true n k is = cc
-told_number true true false n k is = absurd (cc)
+told_number moment device above n k is = grind arith
 
 module _ (definition : Frame) (date device : List ℕ) (i : ℕ) (facts : Facts) where
   abbrev fault : Option MergeFault
@@ -63,9 +60,7 @@ module _ (definition : Frame) (date device : List ℕ) (i : ℕ) (facts : Facts)
   head_fault head.Memory is other = absurd (other refl)
 
   no_output : (e : HeadFault) → is_output (of_head e) ≡ false
-  no_output head.NotMoment = refl
-  no_output head.NoDevice = refl
-  no_output head.Memory = refl
+  no_output e = grind arith
 
   pub no_heading : {T : Type 0} (before : Taken) (r : Result T PrintFault) (e : HeadFault)
       → IsErrAnd r (λ x. x ≡ of_head e) → IsHeadFault definition date device e
@@ -123,10 +118,4 @@ module _ (definition : Frame) (date device : List ℕ) (i : ℕ) (facts : Facts)
 -- a task that has a fault prints nothing
 pub no_facts_text : (definition : Frame) (task : Task) (facts : Facts) (e : MergeFault)
     → facts_fault definition task facts ≡ Some e → facts_text definition task facts ≡ []
-no_facts_text definition Currents facts e is = absurd (cc)
-no_facts_text definition Conflicts facts e is = absurd (cc)
-no_facts_text definition Tally facts e is = absurd (cc)
-no_facts_text definition Check facts e is = absurd (cc)
-no_facts_text definition (task.Drill n steps) facts e is = absurd (cc)
-no_facts_text definition (task.Merge date device i) facts e is =
-    no_text definition date device (non_zero_u32_get i) facts e is
+no_facts_text definition task facts e is = grind (arith, no_text, non_zero_u32_get)

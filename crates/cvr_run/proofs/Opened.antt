@@ -2,7 +2,7 @@
 use Rattle.std.proofs.Common.{◌≡◌, ◌≢◌, ℕ, ◌<◌, ◌+◌, List, [], ◌∷◌, ◌++◌, length, get_or, take}
 use Rattle.std.proofs.Common.{drop, Bool, true, false, Option, Some, None, Result, Ok, Err, IfSome}
 use Rattle.std.proofs.Common.{IfOk, IfErr, IsErrAnd, refl, sym, ap, ◌∙◌, subst, append-nil}
-use Rattle.std.proofs.Common.{option_map, true≢false}
+use Rattle.std.proofs.Common.{option_map, true≢false, arith}
 use Rattle.std.specs.Global.{Vec}
 use Rattle.std.proofs.lemmas.List.{take_more, drop_more, take-append-drop, map-append, append_assoc}
 use Rattle.cvr_run.specs.declared.file.FileFault.{FileFault}
@@ -33,15 +33,10 @@ read_of at left (Ok v) opened given = is_read at left v.items opened given
 read_of at left (Err e) opened given = tt
 
 pub failed_to_open : (at : At) (may_fail : Bool) → has_file at ≡ false → FailedAt at may_fail
-failed_to_open Unknown may_fail none = tt
-failed_to_open Absent may_fail none = tt
-failed_to_open (Has bytes) may_fail none = absurd (true≢false none)
+failed_to_open at may_fail none = grind (arith, true≢false)
 
 may_have_failed : (at : At) (may_fail : Bool) → may_fail ≢ false → FailedAt at may_fail
-may_have_failed Unknown may_fail may = tt
-may_have_failed Absent may_fail may = tt
-may_have_failed (Has bytes) true may = refl
-may_have_failed (Has bytes) false may = absurd (may refl)
+may_have_failed at may_fail may = grind arith
 
 -- where the reading failed by a device, its source has failed, so that it could
 pub failed_of : (at : At) (may_fail can_fail has_failed : Bool) (answer : Result (Vec ℕ) FileFault)

@@ -1,6 +1,6 @@
 -- Openers of worked examples.
 use Rattle.std.proofs.Common.{◌≡◌, ◌∙◌, ℕ, List, [], ◌∷◌, ◌++◌, codes, true, Some, option_map, refl}
-use Rattle.std.proofs.Common.{ap, subst, sym, true≢false}
+use Rattle.std.proofs.Common.{ap, subst, sym, true≢false, arith}
 use Rattle.cvr_run.specs.declared.file.FileFault.TheVariants as fault
 use Rattle.cvr_run.specs.declared.status.Status.TheVariants as status
 use Rattle.cvr_run.specs.Opening.{Opener, AreRead, IsRead, FailedAt, Opens, FourAreShown}
@@ -45,10 +45,7 @@ module _ (old new : Opener) (line : List ℕ) (has : HasOnlyD old) where
 
   stops_so : (stop : Stop) → CanStop old new (codes "d" ∷ codes "a" ∷ codes "b" ∷ []) stop
       → status.Device ≡ stop_status stop → line ≡ stop_line stop → StopsAtA new line
-  stops_so (Unread path fault.Device) u is said =
-      stops_there u.before u.after u.files path u.split u.read (u.device refl) u.opened said
-  stops_so (Unread path fault.Memory) u is said = absurd (cc)
-  stops_so NoRoom u is said = absurd (cc)
+  stops_so stop u is said = grind (arith, stops_there)
 
 pub missing_reported : TheMissingIsReported
 missing_reported old new line has stops =

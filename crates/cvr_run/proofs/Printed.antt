@@ -1,7 +1,7 @@
 -- A run that ends after a text was printed, or not printed.
 use Rattle.std.proofs.Common.{◌≡◌, ◌≢◌, ℕ, List, [], ◌∷◌, ◌++◌, length, Bool, true, false, ◌||◌}
 use Rattle.std.proofs.Common.{Option, Some, None, Result, Ok, Err, IfErr, inl, inr, refl, sym, ap}
-use Rattle.std.proofs.Common.{◌∙◌, subst, append-nil}
+use Rattle.std.proofs.Common.{◌∙◌, subst, append-nil, arith}
 use Rattle.std.specs.Prelude.{is_some, if◌then◌else◌}
 use Rattle.std.specs.Result.{IsErrAnd}
 use Rattle.cdf_types.specs.Device.{Taken, Appends, taken_with, AppendsPrefix}
@@ -170,24 +170,16 @@ rest_is before after (Err Memory) fault text (front, works, part) other = absurd
 unspelled_of : (lacking unspelled any : Bool) → lacking ≡ false
     → (if lacking || unspelled then status.Memory
     else (if any then status.Refused else status.Done)) ≡ status.Memory → unspelled ≡ true
-unspelled_of true unspelled any working is = absurd (cc)
-unspelled_of false true any working is = refl
-unspelled_of false false true working is = absurd (cc)
-unspelled_of false false false working is = absurd (cc)
+unspelled_of lacking unspelled any working is = grind arith
 
 memory_of : (lacking unspelled any : Bool) → unspelled ≡ true
     → (if lacking || unspelled then status.Memory
     else (if any then status.Refused else status.Done)) ≡ status.Memory
-memory_of true unspelled any is = refl
-memory_of false true any is = refl
-memory_of false false any is = absurd (cc)
+memory_of lacking unspelled any is = grind arith
 
 faulty_unspelled : (unspelled : Bool) (e : PrintFault) → (e ≡ Memory → ⊥)
     → (if unspelled then status.Memory else print_status e) ≡ status.Memory → unspelled ≡ true
-faulty_unspelled true e other is = refl
-faulty_unspelled false (Merge m) other is = absurd (cc)
-faulty_unspelled false Device other is = absurd (cc)
-faulty_unspelled false Memory other is = absurd (other refl)
+faulty_unspelled unspelled e other is = grind arith
 
 -- memory was wanting exactly where a path was not spelled, unless it was for the text
 wanting_is : {T : Type 0} (result : Result T PrintFault) (r : Refusals) → r.file_lacking ≡ false

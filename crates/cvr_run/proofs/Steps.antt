@@ -41,13 +41,7 @@ use Rattle.cvr_run.specs.Refusals.{is_want, wants_memory}
 
 pub file_told : (first : Option ReadFault) (n : ℕ)
     → IsDue (file_due first) (cause_in (due_outcome first n))
-file_told None n = refl
-file_told (Some read.TooLong) n = refl
-file_told (Some read.NotJson) n = refl
-file_told (Some (read.Schema path rule)) n = refl
-file_told (Some (read.Reference path)) n = refl
-file_told (Some (read.Disagrees path)) n = refl
-file_told (Some read.Memory) n = refl
+file_told first n = grind arith
 
 pub due_by : (first : Option ReadFault) (n : ℕ)
     → due_outcome first n ≡ outcome_by (file_due first).cause n

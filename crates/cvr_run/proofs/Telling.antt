@@ -450,10 +450,7 @@ status_whole false false s whole = (refl, refl)
 
 status_wanting : (l u s : Bool) → (if l || u then status.Memory
     else (if s then status.Refused else status.Done)) ≡ status.Memory → (l || u) ≡ true
-status_wanting true u s want = refl
-status_wanting false true s want = refl
-status_wanting false false true want = absurd (cc)
-status_wanting false false false want = absurd (cc)
+status_wanting l u s want = grind arith
 
 module _ (task : Task) (what def : List ℕ) (paths files : List (List ℕ)) (fault : ReadFault)
     (none r : Refusals) (b a : Taken) (told rest : List ℕ)

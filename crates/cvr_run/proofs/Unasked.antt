@@ -1,6 +1,6 @@
 -- Words that ask for no request.
 use Rattle.std.proofs.Common.{◌≡◌, ◌≢◌, ◌∙◌, ℕ, List, [], Bool, true, false, None, Result, Ok, Err}
-use Rattle.std.proofs.Common.{IfErr, inr, refl, sym, ap, subst}
+use Rattle.std.proofs.Common.{IfErr, inr, refl, sym, ap, subst, arith}
 use Rattle.std.specs.Prelude.{if◌then◌else◌}
 use Rattle.cdf_types.specs.Device.{Taken, taken_with}
 use Rattle.cvr_words.specs.Fault.{IsLineFault}
@@ -49,16 +49,10 @@ none_refused r any lacking unspelled = rw (any, lacking, unspelled) refl
 
 help_status : (f : LineFault) (g : Bool) → is_help f ≡ true
     → words_status f g ≡ (if g then status.Device else status.Done)
-help_status (Refused text) g is = cc
-help_status (Help text) g is = refl
-help_status (BadStep place step) g is = cc
-help_status Memory g is = cc
+help_status f g is = grind arith
 
 help_line : (f : LineFault) (g : Bool) → is_help f ≡ true → words_line f g ≡ out_line g
-help_line (Refused text) g is = cc
-help_line (Help text) g is = refl
-help_line (BadStep place step) g is = cc
-help_line Memory g is = cc
+help_line f g is = grind arith
 
 -- a text of the program's own that was printed, or not whole
 pub own_told : {T : Type 0} (text : List ℕ) (printed : Result T PrintFault) (r : Refusals)

@@ -235,9 +235,7 @@ HasNoDefault a = a.defaults ≡ []
 
 default_kept : (b : Bool) (id : Text) (how : Reading) (defaults : List Text) (rows : List Row)
     → defaults ≡ [] → cond b rows (default_rows id how defaults rows) ≡ rows
-default_kept true id how defaults rows none = refl
-default_kept false id how [] rows none = refl
-default_kept false id how (v ∷ vs) rows none = cc
+default_kept b id how defaults rows none = grind arith
 
 pub none_added : (c : List Rule) (rows : List Row) → Each HasNoDefault c
     → fold with_default rows c ≡ rows

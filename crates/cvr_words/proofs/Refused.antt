@@ -1,5 +1,5 @@
 -- The faults of words that give no request.
-use Rattle.std.proofs.Common.{◌≡◌, ◌⊎◌, ◌∙◌, List, [], Some, inl, inr, ap, sym, subst}
+use Rattle.std.proofs.Common.{◌≡◌, ◌⊎◌, ◌∙◌, List, [], Some, inl, inr, ap, sym, subst, arith}
 use Rattle.clap.specs.Words.{IsAmong, Row, Text, fault_of, subcommand_of}
 use Rattle.clap.specs.declared.error.ErrorKind.{ErrorKind}
 use Rattle.clap.specs.declared.error.ErrorKind.TheVariants.{DisplayHelp, OutOfMemory}
@@ -22,11 +22,7 @@ fault_is words k line.Memory h p = tt
 pub drill_fault_is : (words : List Text) (name : Text) (rows : List Row) (f : LineFault)
     → fault_of cvr_line words ≡ [] → subcommand_of cvr_line words ≡ Some (name, rows)
     → IsDrillFault name rows f → IsLineFault words f
-drill_fault_is words name rows (line.Refused t) fine is h = absurd h
-drill_fault_is words name rows (line.Help t) fine is h = absurd h
-drill_fault_is words name rows (line.BadStep n s) fine is h =
-    (fine, rows, is ∙ ap (λ (t : Text). Some (t, rows)) h.0, h.1)
-drill_fault_is words name rows line.Memory fine is h = tt
+drill_fault_is words name rows f fine is h = grind arith
 
 -- and so without the text of a step
 pub word_fault_is : (words : List Text) (f : LineFault) → IsLineFault words f

@@ -10,9 +10,7 @@ use Rattle.cvr_words.specs.Steps.{steps_of}
 use Rattle.cvr_words.specs.declared.request.Step.{Step}
 
 pub none_later : (o : Option StepForm) (later : Option ℕ) → bad_from o later ≡ None → later ≡ None
-none_later None later h = cc
-none_later (Some f) None h = refl
-none_later (Some f) (Some n) h = cc
+none_later o later h = grind arith
 
 bad_later : (o : Option StepForm) (a b : Option ℕ) (n : ℕ) → bad_from o a ≡ None → b ≡ Some n
     → bad_from o b ≡ Some (suc n)

@@ -1,6 +1,6 @@
 -- A walk over the words that meets no fault stops at no command that asks for help.
 use Rattle.std.proofs.Common.{◌≡◌, ◌&&◌, ℕ, Bool, true, false, not, List, [], ◌∷◌, Option, Some}
-use Rattle.std.proofs.Common.{None, cond, codes, is_some, refl}
+use Rattle.std.proofs.Common.{None, cond, codes, is_some, refl, arith}
 use Rattle.std.specs.Prelude.{⊤}
 use Rattle.std.specs.List.{fold}
 use Rattle.std.specs.Str.{bytes_eq}
@@ -30,9 +30,7 @@ IsOtherStep value = ⊤
 
 plain_other : (c : List Rule) (waiting : Waiting) (word : Text) (h : Held)
     → IsOtherStep (plain_word c waiting word h).1
-plain_other c idle word h = tt
-plain_other c (option id) word h = tt
-plain_other c positional word h = tt
+plain_other c waiting word h = grind arith
 
 flag_other : (c : List Rule) (waiting : Waiting) (word : Text) (h : Held) (o : Outcome)
     → IsOtherStep (after_flag c waiting word h o).1
@@ -61,9 +59,7 @@ dash_other false c waiting position word h = long_other c waiting word (long_of 
 
 no_help : (b d : Bool) → d ≡ false → cond (b && not d) (DisplayHelp ∷ InvalidSubcommand ∷ []) []
     ≡ [] → b ≡ false
-no_help true true d h = cc
-no_help true false d h = cc
-no_help false d e h = refl
+no_help b d h h' = grind arith
 
 named_other : (s : Shape) (met : Option Text) (waiting : Waiting) (position : ℕ) (word : Text)
     (h : Held) → s.disable_help_subcommand ≡ false

@@ -1,6 +1,6 @@
 -- What has to stand stands, in a command whose words meet no fault.
 use Rattle.std.proofs.Common.{◌≡◌, ◌⊎◌, ◌&&◌, ℕ, Bool, true, false, not, List, [], ◌∷◌, inl, inr}
-use Rattle.std.proofs.Common.{refl, sym, subst}
+use Rattle.std.proofs.Common.{refl, sym, subst, arith}
 use Rattle.std.specs.Prelude.{pos}
 use Rattle.std.specs.List.{list_any}
 use Rattle.std.specs.Str.{bytes_eq}
@@ -75,11 +75,7 @@ IsStanding rows a = (a.required && not (is_given_in a.id rows)) ≡ false
 checked : (a b c other wanted : Bool) → a ≡ false → b ≡ false → c ≡ false
     → check_kinds (not false && (a && other)) (not false && b) (not (c && false) && wanted) ≡ []
     → wanted ≡ false
-checked true b c other wanted a_off b_off c_off h = cc
-checked false true c other wanted a_off b_off c_off h = cc
-checked false false true other wanted a_off b_off c_off h = cc
-checked false false false other wanted a_off b_off c_off h =
-    not_given wanted MissingRequiredArgument [] h
+checked a b c other wanted a_off b_off c_off h = grind (arith, not_given)
 
 pub standing : (s : Shape) → IsPlainLevel s → (words : List Text) → IsSound s words
     → Each (IsStanding (rows_after s.rules [] words)) s.rules

@@ -1,3 +1,4 @@
+use Rattle.std.proofs.Common.{arith}
 use Rattle.std.proofs.Common.{◌≢◌, List, [], ◌∷◌, Option, Some, None, option_map, codes, refl}
 use Rattle.std.specs.Option.{option_or}
 use Rattle.std.specs.Fmt.{digits}
@@ -18,9 +19,7 @@ use Rattle.cdf_check.proofs.examples.files.Goals as goal
 fault_not_long : (fs : List Fault) (ps : List Path)
     → option_or (option_map refusal_of (form.first fs))
     (option_map (λ p. Reference (path_text p)) (first ps)) ≢ Some TooLong
-fault_not_long [] [] e = cc
-fault_not_long [] (p ∷ ps) e = cc
-fault_not_long (f ∷ fs) ps e = cc
+fault_not_long fs ps e = grind arith
 
 value_not_long : (o : Option Data) → of_value own_refusal o ≢ Some TooLong
 value_not_long None e = cc
