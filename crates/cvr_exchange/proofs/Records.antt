@@ -1,6 +1,7 @@
 -- A header with snapshots and the id of one of them is a CVR of a report.
 use Rattle.std.proofs.Common.{◌≡◌, ◌≤◌, ℕ, List, [], ◌∷◌, map, Contains, Option, Some, None, IsSome}
-use Rattle.std.proofs.Common.{IsUtf8, inl, inr, ◌⊎◌, codes, refl, sym, ap, ◌∙◌, subst, true}
+use Rattle.std.proofs.Common.{IsUtf8, inl, inr, ◌⊎◌, codes, refl, sym, ap, ◌∙◌, subst, Bool}
+use Rattle.std.proofs.Common.{true, false, bytes_eq, arith}
 use Rattle.std.specs.Prelude.{⊤, unwrap_or, option_map, option_and_then}
 use Rattle.json.proofs.Printed.Utf8.{are_ascii, IsUtf8-are_ascii}
 use Rattle.serde_json.specs.Data.{Data, string, array, object, Members, put}
@@ -40,6 +41,11 @@ abbrev pub AllRows : (Entry → Type 0) → List Entry → Type 0
 AllRows P [] = ⊤
 AllRows P (r ∷ rs) = P r × AllRows P rs
 
+-- one after another
+infixr 5 ◌▸◌
+pub ◌▸◌ : {A B : Type 0} → A → B → A × B
+◌▸◌ a b = (a, b)
+
 pub all_rows : (P : Entry → Type 0) (rs : List Entry) (r : Entry) → AllRows P rs → IsRow rs r → P r
 all_rows P [] r h i = absurd i
 all_rows P (x ∷ rs) r h (inl e) = subst P e h.0
@@ -56,47 +62,25 @@ current_row = required_member current_name (One leaf.Text)
 abbrev Case : Entry → Type 0
 Case r = IsInHeader r.name ⊎ ((r ≡ snapshots_row) ⊎ (r ≡ current_row))
 
-cvr_cases : AllRows Case (table class_of.Cvr)
-cvr_cases = (
-  inl (is_kept (codes "BallotAuditId") refl refl),
-  (
-    inl (is_kept (codes "BallotPrePrintedId") refl refl),
-    (
-      inl (is_kept (codes "BallotSheetId") refl refl),
-      (
-        inl (is_kept (codes "BallotStyleId") refl refl),
-        (
-          inl (is_kept (codes "BallotStyleUnitId") refl refl),
-          (
-            inl (is_kept (codes "BatchId") refl refl),
-            (
-              inl (is_kept (codes "BatchSequenceId") refl refl),
-              (
-                inr (inl refl),
-                (
-                  inl (is_kept (codes "CreatingDeviceId") refl refl),
-                  (
-                    inr (inr refl),
-                    (
-                      inl (is_kept (codes "ElectionId") refl refl),
-                      (
-                        inl (is_kept (codes "PartyIds") refl refl),
-                        (
-                          inl (is_kept (codes "UniqueId") refl refl),
-                          tt,
-                        ),
-                      ),
-                    ),
-                  ),
-                ),
-              ),
-            ),
-          ),
-        ),
-      ),
-    ),
-  ),
-)
+-- a row of that name is that row
+abbrev OfName : List ℕ → Entry → Type 0
+OfName name row = (r : Entry) → IsRow (table class_of.Cvr) r → bytes_eq r.name name ≡ true
+    → r ≡ row
+
+of_snapshots : OfName snapshots_name snapshots_row
+of_snapshots r i h = grind arith
+
+of_current : OfName current_name current_row
+of_current r i h = grind arith
+
+cvr_case : (r : Entry) → IsRow (table class_of.Cvr) r → Case r
+cvr_case r i = go (bytes_eq r.name snapshots_name) (bytes_eq r.name current_name) refl refl
+  where
+    go : (a b : Bool) → bytes_eq r.name snapshots_name ≡ a → bytes_eq r.name current_name ≡ b
+        → Case r
+    go true b e f = inr (inl (of_snapshots r i e))
+    go false true e f = inr (inr (of_current r i f))
+    go false false e f = inl (is_kept r.name e f)
 
 pub name_utf8 : (name : List ℕ) → are_ascii name ≡ true → IsUtf8 name
 name_utf8 name h = IsUtf8-are_ascii name h
@@ -192,8 +176,8 @@ module _ (ms : Members) (ds : List Data) (current : List ℕ) where
 
       pub record_form : HasForm (One (leaf.Object group.Cvrs)) (object made)
       record_form = class class_is (λ r i q.
-          needed_at r i (all_rows Case (table class_of.Cvr) r cvr_cases i) q)
-          (λ r e i at. part_at r i (all_rows Case (table class_of.Cvr) r cvr_cases i) e at)
+          needed_at r i (cvr_case r i) q)
+          (λ r e i at. part_at r i (cvr_case r i) e at)
 
     kept_names : (ids : Texts) (name : List ℕ) → IsInHeader name → one ids name (object ms) ≡ []
         → Names ids name (object made)

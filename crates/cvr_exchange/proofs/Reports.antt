@@ -56,7 +56,7 @@ use Rattle.cvr_exchange.proofs.Arrays.{IsRising, objects_form, values_form, only
 use Rattle.cvr_exchange.proofs.Clean.{IsClean, clean_array, clean_value}
 use Rattle.cvr_exchange.proofs.Definitions.{values, AreValuesOf, IsDefined}
 use Rattle.cvr_exchange.proofs.Naming.{AreAmong, election_more}
-use Rattle.cvr_exchange.proofs.Records.{AllRows, all_rows, at_snapshots}
+use Rattle.cvr_exchange.proofs.Records.{AllRows, all_rows, ◌▸◌, at_snapshots}
 use Rattle.cvr_exchange.proofs.Shown.{of_device_id}
 use Rattle.cvr_exchange.proofs.Standing.{here, device_values, device_ids_are, devices_rise}
 use Rattle.cvr_exchange.proofs.Standing.{device_form, devices_clean, snapshot_values, record_value}
@@ -317,82 +317,61 @@ module _ (frame : Frame) (head : Head) (s : Facts) (i : ℕ) (keeps : Keeps fram
         (omega (arith, n), omega (arith, n))
 
     rows : AllRows Fits (table class_of.CastVoteRecordReport)
-    rows = (
-      may_have (optional_member (codes "CVR") (Array (leaf.Object group.Cvrs) 0 any key.Free)) R
-          refl (at_cvrs E U head.date head.device D P R)
-          (values_form (leaf.Object group.Cvrs) 0 any rs record_has_form (omega arith)
-          (few_unless (codes "CVR") R (at_cvrs E U head.date head.device D P R))),
-      (
+    rows =
+        may_have (optional_member (codes "CVR") (Array (leaf.Object group.Cvrs) 0 any key.Free)) R
+        refl (at_cvrs E U head.date head.device D P R)
+        (values_form (leaf.Object group.Cvrs) 0 any rs record_has_form (omega arith)
+        (few_unless (codes "CVR") R (at_cvrs E U head.date head.device D P R))) ▸
         has (required_member (codes "Election") (Array (leaf.Object group.Elections) 1 1 key.Free))
-            (array E) (at_elections E U head.date head.device D P R)
-            (values_form (leaf.Object group.Elections) 1 1 (values frame.elections) election_form
-            one_there.0 one_there.1),
-        (
-          has (required_member (codes "GeneratedDate") (One leaf.Moment)) (string head.date)
-              (at_date E U head.date head.device D P R)
-              (moment {s = head.date} refl can.heading.moment),
-          (
-            has (required_member (codes "GpUnit") (Array (leaf.Object group.GpUnits) 0 any key.Id))
-                (array U) (at_units E U head.date head.device D P R)
-                (objects_form group.GpUnits 0 (values frame.units) (refl, tt) unit_form
-                (subst IsRising (sym known.units.ids) known.units.rises) (omega arith)
-                (few (codes "GpUnit") U (at_units E U head.date head.device D P R))),
-            (
-              absent (optional_member (codes "Notes") (One leaf.Text)) refl
-                  (at_notes E U head.date head.device D P R),
-              (
-                absent (optional_member (codes "OtherReportType") (One leaf.Text)) refl
-                    (at_other_type E U head.date head.device D P R),
-                (
-                  may_have (optional_member (codes "Party")
-                      (Array (leaf.Object group.Parties) 0 any key.Id)) P refl
-                      (at_parties E U head.date head.device D P R)
-                      (objects_form group.Parties 0 (values frame.parties) (refl, tt) party_form
-                      (subst IsRising (sym known.parties.ids) known.parties.rises) (omega arith)
-                      (few_unless (codes "Party") P
-                      (at_parties E U head.date head.device D P R))),
-                  (
-                    has (required_member (codes "ReportGeneratingDeviceIds")
-                        (Array leaf.Text 0 any key.Free))
-                        (array (item (string head.device) no_items))
-                        (at_generating E U head.date head.device D P R)
-                        (one_value leaf.Text 0 any (string head.device) (omega arith) (omega arith)
-                        (text {s = head.device} refl)),
-                    (
-                      has (optional_member (codes "ReportType")
-                          (Array (leaf.Listed listing.ReportType) 0 any key.Free))
-                          (array (item (string (codes "aggregated")) no_items))
-                          (at_report_type E U head.date head.device D P R)
-                          (one_value (leaf.Listed listing.ReportType) 0 any
-                          (string (codes "aggregated")) (omega arith) (omega arith)
-                          (listed {s = codes "aggregated"} refl refl)),
-                      (
-                        has (required_member (codes "ReportingDevice")
-                            (Array (leaf.Object group.ReportingDevices) 0 any key.Id)) (array D)
-                            (at_devices E U head.date head.device D P R)
-                            (objects_form group.ReportingDevices 0
-                            (device_values frame s keeps i pos) (refl, tt)
-                            (device_form frame s keeps i pos) (devices_rise frame s keeps i pos)
-                            (omega arith)
-                            (few (codes "ReportingDevice") D
-                            (at_devices E U head.date head.device D P R))),
-                        (
-                          has (required_member (codes "Version")
-                              (One (leaf.Listed listing.Version))) (string (codes "1.0.0"))
-                              (at_version E U head.date head.device D P R)
-                              (listed {s = codes "1.0.0"} refl refl),
-                          tt,
-                        ),
-                      ),
-                    ),
-                  ),
-                ),
-              ),
-            ),
-          ),
-        ),
-      ),
-    )
+        (array E) (at_elections E U head.date head.device D P R)
+        (values_form (leaf.Object group.Elections) 1 1 (values frame.elections) election_form
+        one_there.0 one_there.1) ▸
+        has (required_member (codes "GeneratedDate") (One leaf.Moment)) (string head.date)
+        (at_date E U head.date head.device D P R)
+        (moment {s = head.date} refl can.heading.moment) ▸
+        has (required_member (codes "GpUnit") (Array (leaf.Object group.GpUnits) 0 any key.Id))
+        (array U) (at_units E U head.date head.device D P R)
+        (objects_form group.GpUnits 0 (values frame.units) (refl, tt) unit_form
+        (subst IsRising (sym known.units.ids) known.units.rises) (omega arith)
+        (few (codes "GpUnit") U (at_units E U head.date head.device D P R))) ▸
+        absent (optional_member (codes "Notes") (One leaf.Text)) refl
+        (at_notes E U head.date head.device D P R) ▸
+        absent (optional_member (codes "OtherReportType") (One leaf.Text)) refl
+        (at_other_type E U head.date head.device D P R) ▸
+        may_have (optional_member (codes "Party")
+        (Array (leaf.Object group.Parties) 0 any key.Id)) P refl
+        (at_parties E U head.date head.device D P R)
+        (objects_form group.Parties 0 (values frame.parties) (refl, tt) party_form
+        (subst IsRising (sym known.parties.ids) known.parties.rises) (omega arith)
+        (few_unless (codes "Party") P
+        (at_parties E U head.date head.device D P R))) ▸
+        has (required_member (codes "ReportGeneratingDeviceIds")
+        (Array leaf.Text 0 any key.Free))
+        (array (item (string head.device) no_items))
+        (at_generating E U head.date head.device D P R)
+        (one_value leaf.Text 0 any (string head.device) (omega arith) (omega arith)
+        (text {s = head.device} refl)) ▸
+        has (optional_member (codes "ReportType")
+        (Array (leaf.Listed listing.ReportType) 0 any key.Free))
+        (array (item (string (codes "aggregated")) no_items))
+        (at_report_type E U head.date head.device D P R)
+        (one_value (leaf.Listed listing.ReportType) 0 any
+        (string (codes "aggregated")) (omega arith) (omega arith)
+        (listed {s = codes "aggregated"} refl refl)) ▸
+        has (required_member (codes "ReportingDevice")
+        (Array (leaf.Object group.ReportingDevices) 0 any key.Id)) (array D)
+        (at_devices E U head.date head.device D P R)
+        (objects_form group.ReportingDevices 0
+        (device_values frame s keeps i pos) (refl, tt)
+        (device_form frame s keeps i pos) (devices_rise frame s keeps i pos)
+        (omega arith)
+        (few (codes "ReportingDevice") D
+        (at_devices E U head.date head.device D P R))) ▸
+        has (required_member (codes "Version")
+        (One (leaf.Listed listing.Version))) (string (codes "1.0.0"))
+        (at_version E U head.date head.device D P R)
+        (listed {s = codes "1.0.0"} refl refl) ▸
+        tt
 
     class_is : class_in group.Reports V ≡ Some class_of.CastVoteRecordReport
     class_is = ap (λ o. option_and_then (find_class (classes_of group.Reports))

@@ -3,14 +3,14 @@ use Rattle.std.proofs.lemmas.List.{drop_more, drop_all}
 use Rattle.std.proofs.Common.{◌≡◌, ℕ, ◌+◌, ◌<◌, ◌≤◌, ◌==◌, Bool, true, false, cond, List, [], ◌∷◌}
 use Rattle.std.proofs.Common.{◌++◌, length, drop, get_or, Ordering, Less, Equal, Greater, nat_cmp}
 use Rattle.std.proofs.Common.{nat_lt, inl, inr, ◌⊎◌, refl, sym, ap, ◌∙◌, subst, arith, append_assoc}
-use Rattle.std.proofs.Common.{lt-ltb, le-ltb}
+use Rattle.std.proofs.Common.{lt-ltb, le-ltb, not, ◌&&◌, rules}
 use Rattle.std.proofs.lemmas.Bool.{cases_eq, cases_lt, ne_eqb, eq-eqb}
 use Rattle.std.specs.Cmp.Lexicographic.{slice_cmp}
 use Rattle.std.specs.Ordering.{is_lt, ordering_then}
 use Rattle.json.specs.Print.{escape, escape_byte}
 use Rattle.json.proofs.Printed.Strings.{escape_byte_plain}
 use Rattle.cvr_report.specs.Scan.{is_before, before_escaped, HasNoEscape}
-use Rattle.cvr_report.proofs.Scanning.{Each, each_sound}
+use Rattle.cvr_report.proofs.Scanning.{all_below, below_all}
 
 abbrev decide : ℕ → ℕ → Bool → Bool
 decide x m b = cond (nat_lt x m) true (cond (x == m) b false)
@@ -27,109 +27,20 @@ below_is x m b h = rw (lt-ltb x m h)
 abbrev Escapes : ℕ → Type 0
 Escapes x = (m : ℕ) (r ms : List ℕ) → is_before (escape_byte x ++ r) (m ∷ ms) ≡ true
 
-controls : Each Escapes 32
-unfolding is_before escape_byte
-controls = (
-  λ m r ms. refl,
-  (
-    λ m r ms. refl,
-    (
-      λ m r ms. refl,
-      (
-        λ m r ms. refl,
-        (
-          λ m r ms. refl,
-          (
-            λ m r ms. refl,
-            (
-              λ m r ms. refl,
-              (
-                λ m r ms. refl,
-                (
-                  λ m r ms. refl,
-                  (
-                    λ m r ms. refl,
-                    (
-                      λ m r ms. refl,
-                      (
-                        λ m r ms. refl,
-                        (
-                          λ m r ms. refl,
-                          (
-                            λ m r ms. refl,
-                            (
-                              λ m r ms. refl,
-                              (
-                                λ m r ms. refl,
-                                (
-                                  λ m r ms. refl,
-                                  (
-                                    λ m r ms. refl,
-                                    (
-                                      λ m r ms. refl,
-                                      (
-                                        λ m r ms. refl,
-                                        (
-                                          λ m r ms. refl,
-                                          (
-                                            λ m r ms. refl,
-                                            (
-                                              λ m r ms. refl,
-                                              (
-                                                λ m r ms. refl,
-                                                (
-                                                  λ m r ms.
-                                                      refl,
-                                                  (
-                                                    λ m r ms.
-                                                        refl,
-                                                    (
-                                                      λ m r ms.
-                                                          refl,
-                                                      (
-                                                        λ m r ms.
-                                                            refl,
-                                                        (
-                                                          λ m r ms.
-                                                              refl,
-                                                          (
-                                                            λ m r ms.
-                                                                refl,
-                                                            (
-                                                              λ m r ms.
-                                                                  refl,
-                                                              (λ m r ms. refl, tt),
-                                                            ),
-                                                          ),
-                                                        ),
-                                                      ),
-                                                    ),
-                                                  ),
-                                                ),
-                                              ),
-                                            ),
-                                          ),
-                                        ),
-                                      ),
-                                    ),
-                                  ),
-                                ),
-                              ),
-                            ),
-                          ),
-                        ),
-                      ),
-                    ),
-                  ),
-                ),
-              ),
-            ),
-          ),
-        ),
-      ),
-    ),
-  ),
-)
+-- an escape of another byte than the backslash
+abbrev is_escape : List ℕ → Bool
+is_escape [] = false
+is_escape (x ∷ []) = false
+is_escape (x ∷ y ∷ ys) = (x == 92) && not (y == 92)
+
+is_below : (e : List ℕ) → is_escape e ≡ true → (m : ℕ) (r ms : List ℕ)
+    → is_before (e ++ r) (m ∷ ms) ≡ true
+unfolding is_before
+is_below e h m r ms = grind (arith, rules)
+
+controls : all_below (λ x. is_escape (escape_byte x)) 32 ≡ true
+unfolding escape_byte
+controls = refl
 
 quote_escapes : Escapes 34
 unfolding is_before escape_byte
@@ -168,7 +79,8 @@ compares x = go (cases_eq x 34) (cases_eq x 92) (cases_lt x 32)
     go (inl e) b c = λ m r ms h n. subst Escapes (sym e) quote_escapes m r ms
         ∙ below_is x m (is_before r ms) (omega arith)
     go (inr q) (inl e) c = subst Compares (sym e) backslash_compares
-    go (inr q) (inr b) (inl c) = λ m r ms h n. each_sound Escapes 32 controls x c m r ms
+    go (inr q) (inr b) (inl c) = λ m r ms h n.
+        is_below (escape_byte x) (below_all (λ y. is_escape (escape_byte y)) 32 controls x c) m r ms
         ∙ below_is x m (is_before r ms) (omega arith)
     go (inr q) (inr b) (inr l) = plain_compares x q b l
 

@@ -1,6 +1,6 @@
 -- The pass goes over a whole value.
 use Rattle.std.proofs.Common.{◌≡◌, ℕ, zero, suc, ◌<◌, ◌≤◌, ◌^◌, Bool, true, false, pos, negsuc}
-use Rattle.std.proofs.Common.{List, [], ◌∷◌, ◌++◌, length, get_or, decimal, inl, inr, ◌⊎◌, refl}
+use Rattle.std.proofs.Common.{◌&&◌, List, [], ◌∷◌, ◌++◌, length, get_or, decimal, inl, inr, ◌⊎◌, refl}
 use Rattle.std.proofs.Common.{sym, ap, ◌∙◌, subst, arith, append_assoc}
 use Rattle.std.proofs.lemmas.Bool.{cases_eq, cases_lt, ne_eqb}
 use Rattle.std.proofs.lemmas.Fmt.{decimal_is_IsNumeral}
@@ -12,7 +12,8 @@ use Rattle.serde_json.specs.Data.{string, array, object, Items, no_items, item, 
 use Rattle.serde_json.specs.Data.{member}
 use Rattle.serde_json.specs.Written.{number_text, compact_text, items_text, members_text, comma_if}
 use Rattle.cdf_parts.specs.Proper.{NumFits, IsWell, ItemsAreWell, MembersAreWell}
-use Rattle.cvr_report.specs.Scan.{Between, InString, left_after, stops, next_mode, next_depth}
+use Rattle.cvr_report.specs.Scan.{Between, InString, Mode, Escaped, left_after, stops}
+use Rattle.cvr_report.specs.Scan.{next_mode, next_depth}
 
 -- ---- strings
 
@@ -20,119 +21,46 @@ abbrev Passes : ℕ → Type 0
 Passes x = (n : ℕ) (r : List ℕ) → left_after InString n (escape_byte x ++ r)
     ≡ left_after InString n r
 
-abbrev pub Each : (ℕ → Type 0) → ℕ → Type 0
-Each P zero = Unit {0}
-Each P (suc n) = P n × Each P n
+both : (a b : Bool) → (a && b) ≡ true → (a ≡ true) × (b ≡ true)
+both true b h = (refl, h)
+both false b h = cc
 
-pub each_sound : (P : ℕ → Type 0) (n : ℕ) → Each P n → (x : ℕ) → x < n → P x
-each_sound P zero h x lt = absurd (omega arith)
-each_sound P (suc n) h x lt = go (each_sound P n h.1 x) (cases_eq x n)
+-- a test holds of each number below n
+abbrev pub all_below : (ℕ → Bool) → ℕ → Bool
+all_below test zero = true
+all_below test (suc n) = test n && all_below test n
+
+pub below_all : (test : ℕ → Bool) (n : ℕ) → all_below test n ≡ true → (x : ℕ) → x < n
+    → test x ≡ true
+below_all test zero h x lt = absurd (omega arith)
+below_all test (suc n) h x lt = go (below_all test n (both _ _ h).1 x) (cases_eq x n)
   where
-    go : (x < n → P x) → (x ≡ n) ⊎ (x ≡ n → ⊥) → P x
-    go below (inl e) = subst P (sym e) h.0
+    go : (x < n → test x ≡ true) → (x ≡ n) ⊎ (x ≡ n → ⊥) → test x ≡ true
+    go below (inl e) = subst (λ y. test y ≡ true) (sym e) (both _ _ h).0
     go below (inr ne) = below (omega arith)
 
-controls : Each Passes 32
-unfolding left_after escape_byte
-controls = (
-  λ n r. refl,
-  (
-    λ n r. refl,
-    (
-      λ n r. refl,
-      (
-        λ n r. refl,
-        (
-          λ n r. refl,
-          (
-            λ n r. refl,
-            (
-              λ n r. refl,
-              (
-                λ n r. refl,
-                (
-                  λ n r. refl,
-                  (
-                    λ n r. refl,
-                    (
-                      λ n r. refl,
-                      (
-                        λ n r. refl,
-                        (
-                          λ n r. refl,
-                          (
-                            λ n r. refl,
-                            (
-                              λ n r. refl,
-                              (
-                                λ n r. refl,
-                                (
-                                  λ n r. refl,
-                                  (
-                                    λ n r. refl,
-                                    (
-                                      λ n r. refl,
-                                      (
-                                        λ n r. refl,
-                                        (
-                                          λ n r. refl,
-                                          (
-                                            λ n r. refl,
-                                            (
-                                              λ n r. refl,
-                                              (
-                                                λ n r. refl,
-                                                (
-                                                  λ n r. refl,
-                                                  (
-                                                    λ n r. refl,
-                                                    (
-                                                      λ n r. refl,
-                                                      (
-                                                        λ n r. refl,
-                                                        (
-                                                          λ n r. refl,
-                                                          (
-                                                            λ n r. refl,
-                                                            (λ n r. refl, (λ n r. refl, tt)),
-                                                          ),
-                                                        ),
-                                                      ),
-                                                    ),
-                                                  ),
-                                                ),
-                                              ),
-                                            ),
-                                          ),
-                                        ),
-                                      ),
-                                    ),
-                                  ),
-                                ),
-                              ),
-                            ),
-                          ),
-                        ),
-                      ),
-                    ),
-                  ),
-                ),
-              ),
-            ),
-          ),
-        ),
-      ),
-    ),
-  ),
-)
+-- bytes that lead from within a string back into it
+abbrev leads_back : Mode → List ℕ → Bool
+leads_back InString [] = true
+leads_back Between [] = false
+leads_back Escaped [] = false
+leads_back Between (x ∷ xs) = false
+leads_back InString (x ∷ xs) = leads_back (next_mode InString x) xs
+leads_back Escaped (x ∷ xs) = leads_back InString xs
 
-quote_passes : Passes 34
-unfolding left_after escape_byte
-quote_passes n r = refl
+back_in : (m : Mode) (xs : List ℕ) → leads_back m xs ≡ true → (n : ℕ) (r : List ℕ)
+    → left_after m n (xs ++ r) ≡ left_after InString n r
+unfolding left_after
+back_in InString [] h n r = refl
+back_in Between [] h n r = cc
+back_in Escaped [] h n r = cc
+back_in Between (x ∷ xs) h n r = cc
+back_in InString (x ∷ xs) h n r = back_in (next_mode InString x) xs h n r
+back_in Escaped (x ∷ xs) h n r = back_in InString xs h n r
 
-backslash_passes : Passes 92
-unfolding left_after escape_byte
-backslash_passes n r = refl
+escapes_lead_back : all_below (λ x. leads_back InString (escape_byte x)) 93 ≡ true
+unfolding escape_byte
+escapes_lead_back = refl
 
 inside : (x n : ℕ) (r : List ℕ) → (x ≡ 34 → ⊥) → (x ≡ 92 → ⊥)
     → left_after InString n (x ∷ r) ≡ left_after InString n r
@@ -144,13 +72,12 @@ plain_passes x q b l n r =
     ap (λ s. left_after InString n (s ++ r)) (escape_byte_plain x q b l) ∙ inside x n r q b
 
 passes : (x : ℕ) → Passes x
-passes x = go (cases_eq x 34) (cases_eq x 92) (cases_lt x 32)
+passes x = go (cases_lt x 93)
   where
-    go : (x ≡ 34) ⊎ (x ≡ 34 → ⊥) → (x ≡ 92) ⊎ (x ≡ 92 → ⊥) → (x < 32) ⊎ (32 ≤ x) → Passes x
-    go (inl e) b c = subst Passes (sym e) quote_passes
-    go (inr q) (inl e) c = subst Passes (sym e) backslash_passes
-    go (inr q) (inr b) (inl c) = each_sound Passes 32 controls x c
-    go (inr q) (inr b) (inr l) = plain_passes x q b l
+    go : (x < 93) ⊎ (93 ≤ x) → Passes x
+    go (inl l) = back_in InString (escape_byte x)
+        (below_all (λ y. leads_back InString (escape_byte y)) 93 escapes_lead_back x l)
+    go (inr l) = plain_passes x (λ e. omega arith) (λ e. omega arith) (omega arith)
 
 pub after-escape : (s : List ℕ) (n : ℕ) (r : List ℕ)
     → left_after InString n (escape s ++ 34 ∷ r) ≡ left_after Between n r
