@@ -50,9 +50,9 @@ class Rules:
 
     @staticmethod
     def enumerations(text):
-        for names, texts in lines_of(text, r'([\w, ]+) \| ([\w, -]+)'):
-            for name in names.split(', ') if names != 'Name' else []:
-                yield name, texts.split(', ')
+        rows = lines_of(text.replace('| Enumeration | Text | Meaning |', ''), r'(\w+) \| ([\w-]+) \| .*')
+        for name, found in itertools.groupby(rows, key=lambda row: row[0]):
+            yield name, [row[1] for row in found]
 
     @staticmethod
     def tables(text):

@@ -14,7 +14,6 @@ use Rattle.serde_json.specs.Find.{get, get_member, get_item, as_str, as_array}
 use Rattle.serde_json.specs.Events.{items_len}
 use Rattle.cdf_types.specs.declared.rule.Rule.{Rule}
 use Rattle.cdf_form.specs.declared.table.Class.{Class}
-use Rattle.cdf_form.specs.declared.table.Class.TheVariants as class_of
 use Rattle.cdf_form.specs.declared.table.Group.{Group}
 use Rattle.cdf_form.specs.declared.table.Leaf.{Leaf}
 use Rattle.cdf_form.specs.declared.table.Leaf.TheVariants as leaf
@@ -81,7 +80,7 @@ type_nil g (Some d) e = type_text_nil g (as_str d) e
 
 pub object_nil : (g : Group) (d : Data) → leaf_faults (leaf.Object g) d ≡ []
     → (c : Class) × (class_in g d ≡ Some c)
-object_nil g d e = grind (arith, type_nil, get_member, codes)
+object_nil g d e = grind (arith, type_nil)
 
 -- ---- tables
 
@@ -345,7 +344,7 @@ type_ok g (Some d) c is = type_text_ok g (as_str d) c is
 
 pub object_ok : (g : Group) (d : Data) (c : Class) → class_in g d ≡ Some c
     → leaf_faults (leaf.Object g) d ≡ []
-object_ok g d c is = grind (arith, type_ok, get_member, codes)
+object_ok g d c is = grind (arith, type_ok)
 
 absent_ok : (b : Bool) (r : Rule) → (b ≡ true → ⊥) → unless (not b) r ≡ []
 absent_ok true r never = absurd (never refl)
@@ -399,4 +398,4 @@ no_faults (items {d = d} {ds = ds} {l = l} {least = least} {most = most} {k = k}
     (items_ok ds l k 0 [] (λ j e there. no_faults (each j e there)) (apart_from k ds apart))
 
 pub in_order : TablesInOrder
-in_order h = grind arith
+in_order c = grind arith

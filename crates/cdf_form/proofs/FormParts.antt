@@ -6,7 +6,7 @@ use Rattle.std.proofs.Common.{refl, sym, ap, ◌∙◌, subst, arith, inl, inr}
 use Rattle.std.specs.Prelude.{option_and_then, unwrap_or}
 use Rattle.std.specs.List.{list_any}
 use Rattle.std.proofs.lemmas.Bool.Decides.{nat_tests}
-use Rattle.serde_json.specs.Data.{Num, unsigned, negative, float}
+use Rattle.serde_json.specs.Data.{Num, unsigned}
 use Rattle.serde_json.specs.Data.{Data, null, boolean, number, string, array, object}
 use Rattle.serde_json.specs.Data.{Items, no_items, item, Members}
 use Rattle.serde_json.specs.Find.{get, get_item, as_str, as_number, as_array}
@@ -35,13 +35,13 @@ some_of None h = absurd (cc)
 some_of (Some a) h = (a, refl)
 
 pub is_string : (e : Data) (s : List ℕ) → as_str e ≡ Some s → e ≡ string s
-is_string e s is = grind (arith, string, inside)
+is_string e s is = grind arith
 
 pub is_number : (e : Data) (n : Num) → as_number e ≡ Some n → e ≡ number n
-is_number e n is = grind (arith, number, inside)
+is_number e n is = grind arith
 
 pub is_array : (e : Data) (ds : Items) → as_array e ≡ Some ds → e ≡ array ds
-is_array e ds is = grind (arith, array, inside)
+is_array e ds is = grind arith
 
 -- a text under a name is all of its member
 pub is_text_in : (n s : List ℕ) (d : Data) → text_in n d ≡ Some s → get n d ≡ Some (string s)

@@ -1,5 +1,9 @@
 -- The lists of texts in the class tables are those of the enumerations.
-use Rattle.std.proofs.Common.{◌≡◌, ℕ, zero, suc, List, [], ◌∷◌, map, Contains, refl, subst, arith}
+use Rattle.std.proofs.Common.{◌≡◌, ℕ, zero, suc, true, List, [], ◌∷◌, map, Contains, bytes_eq}
+use Rattle.std.proofs.Common.{refl, sym, subst, arith}
+use Rattle.std.specs.List.{list_any}
+use Rattle.std.proofs.lemmas.Map.Views.{Contains-from_any}
+use Rattle.std.proofs.lemmas.Slice.Eq.{bytes_eq-Decides}
 use Rattle.cdf_types.specs.declared.snapshot_kind.SnapshotKind.{SnapshotKind}
 use Rattle.cdf_types.specs.declared.snapshot_kind.SnapshotKind.TheVariants as snapshot_kind
 use Rattle.cdf_types.specs.declared.status.CvrStatus.{CvrStatus}
@@ -24,6 +28,7 @@ use Rattle.cdf_types.specs.Status.{position_status_text}
 use Rattle.cdf_types.specs.Mark.{indication_text, allocation_text}
 use Rattle.cdf_types.specs.ReportKind.{report_kind_text}
 use Rattle.cdf_types.specs.VoteVariation.{vote_variation_text}
+use Rattle.cdf_form.specs.declared.table.Listing.{Listing}
 use Rattle.cdf_form.specs.declared.table.Listing.TheVariants as listing
 use Rattle.cdf_form.specs.Tables.{listed_in}
 use Rattle.cdf_form.specs.Listings.{HasTextsOf}
@@ -35,153 +40,113 @@ of_value text_of [] text (i, h, e) = absurd (omega (arith, h))
 of_value text_of (v ∷ vs) text (zero, h, e) = (v, e)
 of_value text_of (v ∷ vs) text (suc i, h, e) = of_value text_of vs text (i, omega (arith, h), e)
 
--- the text of each value, at its place of the list
-stands : {K : Type 0} (text_of : K → List ℕ) (texts : List (List ℕ)) (text : List ℕ)
-    → ((value : K) → Contains texts (text_of value))
-    → ((value : K) × (text_of value ≡ text)) → Contains texts text
-stands text_of texts text at (v, e) = subst (Contains texts) e (at v)
+-- a list has the texts of these values, and each value's text is found there
+lists : {K : Type 0} (text_of : K → List ℕ) (l : Listing) (values : List K)
+    → map text_of values ≡ listed_in l
+    → ((v : K) → list_any (bytes_eq (text_of v)) (listed_in l) ≡ true) → HasTextsOf text_of l
+lists text_of l values same each text = (
+  λ h. of_value text_of values text (subst (λ ts. Contains ts text) (sym same) h),
+  λ p. subst (Contains (listed_in l)) p.1
+      (Contains-from_any (λ x y e. (bytes_eq-Decides x y).0 e) (text_of p.0) (listed_in l) (each p.0)),
+)
 
-snapshot_kind_at : (value : SnapshotKind)
-    → Contains (listed_in listing.CvrType) (snapshot_kind_text value)
-snapshot_kind_at snapshot_kind.Interpreted = (0, omega arith, refl)
-snapshot_kind_at snapshot_kind.Modified = (1, omega arith, refl)
-snapshot_kind_at snapshot_kind.Original = (2, omega arith, refl)
+abbrev snapshot_kind_values : List SnapshotKind
+snapshot_kind_values =
+    snapshot_kind.Interpreted ∷
+    snapshot_kind.Modified ∷
+    snapshot_kind.Original ∷
+    []
 
 pub snapshot_kind_list : HasTextsOf snapshot_kind_text listing.CvrType
-snapshot_kind_list text = (
-  of_value snapshot_kind_text
-      (snapshot_kind.Interpreted ∷ snapshot_kind.Modified ∷ snapshot_kind.Original ∷ []) text,
-  stands
-      snapshot_kind_text (listed_in listing.CvrType) text snapshot_kind_at,
-)
+snapshot_kind_list =
+    lists snapshot_kind_text listing.CvrType snapshot_kind_values refl (λ v. grind arith)
 
-cvr_status_at : (value : CvrStatus) → Contains (listed_in listing.CvrStatus) (cvr_status_text value)
-cvr_status_at cvr_status.NeedsAdjudication = (0, omega arith, refl)
-cvr_status_at cvr_status.Other = (1, omega arith, refl)
+abbrev cvr_status_values : List CvrStatus
+cvr_status_values = cvr_status.NeedsAdjudication ∷ cvr_status.Other ∷ []
 
 pub cvr_status_list : HasTextsOf cvr_status_text listing.CvrStatus
-cvr_status_list text = (
-  of_value cvr_status_text
-      (cvr_status.NeedsAdjudication ∷ cvr_status.Other ∷ []) text,
-  stands cvr_status_text
-      (listed_in listing.CvrStatus) text cvr_status_at,
-)
+cvr_status_list =
+    lists cvr_status_text listing.CvrStatus cvr_status_values refl (λ v. grind arith)
 
-contest_status_at : (value : ContestStatus)
-    → Contains (listed_in listing.ContestStatus) (contest_status_text value)
-contest_status_at contest_status.InvalidatedRules = (0, omega arith, refl)
-contest_status_at contest_status.NotIndicated = (1, omega arith, refl)
-contest_status_at contest_status.Other = (2, omega arith, refl)
-contest_status_at contest_status.Overvoted = (3, omega arith, refl)
-contest_status_at contest_status.Undervoted = (4, omega arith, refl)
+abbrev contest_status_values : List ContestStatus
+contest_status_values =
+    contest_status.InvalidatedRules ∷
+    contest_status.NotIndicated ∷
+    contest_status.Other ∷
+    contest_status.Overvoted ∷
+    contest_status.Undervoted ∷
+    []
 
 pub contest_status_list : HasTextsOf contest_status_text listing.ContestStatus
-contest_status_list text = (
-  of_value contest_status_text
-      (contest_status.InvalidatedRules ∷ contest_status.NotIndicated ∷ contest_status.Other
-      ∷ contest_status.Overvoted ∷ contest_status.Undervoted ∷ []) text,
-  stands contest_status_text
-      (listed_in listing.ContestStatus) text contest_status_at,
-)
+contest_status_list =
+    lists contest_status_text listing.ContestStatus contest_status_values refl (λ v. grind arith)
 
-selection_status_at : (value : SelectionStatus)
-    → Contains (listed_in listing.ContestSelectionStatus) (selection_status_text value)
-selection_status_at selection_status.GeneratedRules = (0, omega arith, refl)
-selection_status_at selection_status.InvalidatedRules = (1, omega arith, refl)
-selection_status_at selection_status.NeedsAdjudication = (2, omega arith, refl)
-selection_status_at selection_status.Other = (3, omega arith, refl)
+abbrev selection_status_values : List SelectionStatus
+selection_status_values =
+    selection_status.GeneratedRules ∷
+    selection_status.InvalidatedRules ∷
+    selection_status.NeedsAdjudication ∷
+    selection_status.Other ∷
+    []
 
 pub selection_status_list : HasTextsOf selection_status_text listing.ContestSelectionStatus
-selection_status_list text = (
-  of_value selection_status_text
-      (selection_status.GeneratedRules ∷ selection_status.InvalidatedRules
-      ∷ selection_status.NeedsAdjudication ∷ selection_status.Other ∷ []) text,
-  stands
-      selection_status_text (listed_in listing.ContestSelectionStatus) text selection_status_at,
-)
+selection_status_list =
+    lists selection_status_text listing.ContestSelectionStatus selection_status_values refl (λ v. grind arith)
 
-position_status_at : (value : PositionStatus)
-    → Contains (listed_in listing.PositionStatus) (position_status_text value)
-position_status_at position_status.Adjudicated = (0, omega arith, refl)
-position_status_at position_status.GeneratedRules = (1, omega arith, refl)
-position_status_at position_status.InvalidatedRules = (2, omega arith, refl)
-position_status_at position_status.Other = (3, omega arith, refl)
+abbrev position_status_values : List PositionStatus
+position_status_values =
+    position_status.Adjudicated ∷
+    position_status.GeneratedRules ∷
+    position_status.InvalidatedRules ∷
+    position_status.Other ∷
+    []
 
 pub position_status_list : HasTextsOf position_status_text listing.PositionStatus
-position_status_list text = (
-  of_value position_status_text
-      (position_status.Adjudicated ∷ position_status.GeneratedRules ∷ position_status.InvalidatedRules
-      ∷ position_status.Other ∷ []) text,
-  stands position_status_text
-      (listed_in listing.PositionStatus) text position_status_at,
-)
+position_status_list =
+    lists position_status_text listing.PositionStatus position_status_values refl (λ v. grind arith)
 
-indication_at : (value : Indication) → Contains (listed_in listing.IndicationStatus)
-    (indication_text value)
-indication_at indication.No = (0, omega arith, refl)
-indication_at indication.Unknown = (1, omega arith, refl)
-indication_at indication.Yes = (2, omega arith, refl)
+abbrev indication_values : List Indication
+indication_values = indication.No ∷ indication.Unknown ∷ indication.Yes ∷ []
 
 pub indication_list : HasTextsOf indication_text listing.IndicationStatus
-indication_list text = (
-  of_value indication_text
-      (indication.No ∷ indication.Unknown ∷ indication.Yes ∷ []) text,
-  stands indication_text
-      (listed_in listing.IndicationStatus) text indication_at,
-)
+indication_list =
+    lists indication_text listing.IndicationStatus indication_values refl (λ v. grind arith)
 
-allocation_at : (value : Allocation) → Contains (listed_in listing.AllocationStatus)
-    (allocation_text value)
-allocation_at allocation.No = (0, omega arith, refl)
-allocation_at allocation.Unknown = (1, omega arith, refl)
-allocation_at allocation.Yes = (2, omega arith, refl)
+abbrev allocation_values : List Allocation
+allocation_values = allocation.No ∷ allocation.Unknown ∷ allocation.Yes ∷ []
 
 pub allocation_list : HasTextsOf allocation_text listing.AllocationStatus
-allocation_list text = (
-  of_value allocation_text
-      (allocation.No ∷ allocation.Unknown ∷ allocation.Yes ∷ []) text,
-  stands allocation_text
-      (listed_in listing.AllocationStatus) text allocation_at,
-)
+allocation_list =
+    lists allocation_text listing.AllocationStatus allocation_values refl (λ v. grind arith)
 
-report_kind_at : (value : ReportKind) → Contains (listed_in listing.ReportType)
-    (report_kind_text value)
-report_kind_at report_kind.Adjudicated = (0, omega arith, refl)
-report_kind_at report_kind.Aggregated = (1, omega arith, refl)
-report_kind_at report_kind.OriginatingDeviceExport = (2, omega arith, refl)
-report_kind_at report_kind.Other = (3, omega arith, refl)
-report_kind_at report_kind.RcvRound = (4, omega arith, refl)
+abbrev report_kind_values : List ReportKind
+report_kind_values =
+    report_kind.Adjudicated ∷
+    report_kind.Aggregated ∷
+    report_kind.OriginatingDeviceExport ∷
+    report_kind.Other ∷
+    report_kind.RcvRound ∷
+    []
 
 pub report_kind_list : HasTextsOf report_kind_text listing.ReportType
-report_kind_list text = (
-  of_value report_kind_text
-      (report_kind.Adjudicated ∷ report_kind.Aggregated ∷ report_kind.OriginatingDeviceExport
-      ∷ report_kind.Other ∷ report_kind.RcvRound ∷ []) text,
-  stands report_kind_text
-      (listed_in listing.ReportType) text report_kind_at,
-)
+report_kind_list =
+    lists report_kind_text listing.ReportType report_kind_values refl (λ v. grind arith)
 
-vote_variation_at : (value : VoteVariation)
-    → Contains (listed_in listing.VoteVariation) (vote_variation_text value)
-vote_variation_at vote_variation.Approval = (0, omega arith, refl)
-vote_variation_at vote_variation.Borda = (1, omega arith, refl)
-vote_variation_at vote_variation.Cumulative = (2, omega arith, refl)
-vote_variation_at vote_variation.Majority = (3, omega arith, refl)
-vote_variation_at vote_variation.NOfM = (4, omega arith, refl)
-vote_variation_at vote_variation.Other = (5, omega arith, refl)
-vote_variation_at vote_variation.Plurality = (6, omega arith, refl)
-vote_variation_at vote_variation.Proportional = (7, omega arith, refl)
-vote_variation_at vote_variation.Range = (8, omega arith, refl)
-vote_variation_at vote_variation.Rcv = (9, omega arith, refl)
-vote_variation_at vote_variation.SuperMajority = (10, omega arith, refl)
+abbrev vote_variation_values : List VoteVariation
+vote_variation_values =
+    vote_variation.Approval ∷
+    vote_variation.Borda ∷
+    vote_variation.Cumulative ∷
+    vote_variation.Majority ∷
+    vote_variation.NOfM ∷
+    vote_variation.Other ∷
+    vote_variation.Plurality ∷
+    vote_variation.Proportional ∷
+    vote_variation.Range ∷
+    vote_variation.Rcv ∷
+    vote_variation.SuperMajority ∷
+    []
 
 pub vote_variation_list : HasTextsOf vote_variation_text listing.VoteVariation
-vote_variation_list text = (
-  of_value vote_variation_text
-      (vote_variation.Approval ∷ vote_variation.Borda ∷ vote_variation.Cumulative
-      ∷ vote_variation.Majority ∷ vote_variation.NOfM ∷ vote_variation.Other
-      ∷ vote_variation.Plurality ∷ vote_variation.Proportional ∷ vote_variation.Range
-      ∷ vote_variation.Rcv ∷ vote_variation.SuperMajority ∷ []) text,
-  stands vote_variation_text
-      (listed_in listing.VoteVariation) text vote_variation_at,
-)
+vote_variation_list =
+    lists vote_variation_text listing.VoteVariation vote_variation_values refl (λ v. grind arith)

@@ -13,7 +13,6 @@ use Rattle.cdf_node.specs.View.{view, items_view}
 use Rattle.cdf_node.specs.declared.node.Node.{Node}
 use Rattle.cdf_types.specs.declared.rule.Rule.TheVariants as rule
 use Rattle.cdf_form.specs.declared.table.Leaf.{Leaf}
-use Rattle.cdf_form.specs.declared.table.Leaf.TheVariants as leaf
 use Rattle.cdf_form.specs.declared.table.Key.{Key}
 use Rattle.cdf_form.specs.declared.table.Key.TheVariants as key
 use Rattle.cdf_form.specs.declared.table.Kind.{Kind}
@@ -99,7 +98,7 @@ faults-no_array d l least most k mark e = grind arith
 pub faults-array : (d : Data) (ds : Items) (l : Leaf) (least most : ℕ) (k mark : Key)
     → as_array d ≡ Some ds → faults d (Array l least most k) mark
     ≡ length_faults least most (items_len ds) ++ items_faults ds l k 0 []
-faults-array d ds l least most k mark e = grind (arith, length_faults, items_len, items_faults)
+faults-array d ds l least most k mark e = grind arith
 
 -- ---- the first fault, from those of the parts
 

@@ -49,60 +49,88 @@ type_text class.Contest = codes "CVR.Contest"
 type_text class.PartyContest = codes "CVR.PartyContest"
 type_text class.RetentionContest = codes "CVR.RetentionContest"
 type_text class.BallotMeasureSelection = codes "CVR.BallotMeasureSelection"
-type_text class.CandidateSelection = codes "CVR.CandidateSelection"
 type_text class.ContestSelection = codes "CVR.ContestSelection"
-type_text class.PartySelection = codes "CVR.PartySelection"
-type_text class.Candidate = codes "CVR.Candidate"
 type_text class.GpUnit = codes "CVR.GpUnit"
 type_text class.Party = codes "CVR.Party"
 type_text class.ReportingDevice = codes "CVR.ReportingDevice"
+type_text class.CandidateSelection = codes "CVR.CandidateSelection"
+type_text class.PartySelection = codes "CVR.PartySelection"
+type_text class.Candidate = codes "CVR.Candidate"
 
 -- the classes that an object may have at a place
 abbrev pub classes_of : Group → List Class
 classes_of group.Reports = class.CastVoteRecordReport ∷ []
 classes_of group.Cvrs = class.Cvr ∷ []
+classes_of group.Elections = class.Election ∷ []
+classes_of group.GpUnits = class.GpUnit ∷ []
+classes_of group.Parties = class.Party ∷ []
+classes_of group.ReportingDevices = class.ReportingDevice ∷ []
 classes_of group.Snapshots = class.CvrSnapshot ∷ []
 classes_of group.Annotations = class.Annotation ∷ []
 classes_of group.CvrContests = class.CvrContest ∷ []
 classes_of group.CvrContestSelections = class.CvrContestSelection ∷ []
 classes_of group.SelectionPositions = class.SelectionPosition ∷ []
 classes_of group.WriteIns = class.CvrWriteIn ∷ []
-classes_of group.Elections = class.Election ∷ []
+classes_of group.Candidates = class.Candidate ∷ []
 classes_of group.Contests =
-    class.BallotMeasureContest ∷ class.CandidateContest ∷ class.Contest ∷ class.PartyContest
-    ∷ class.RetentionContest ∷
+    class.BallotMeasureContest ∷
+    class.CandidateContest ∷
+    class.Contest ∷
+    class.PartyContest ∷
+    class.RetentionContest ∷
     []
 classes_of group.ContestSelections =
-    class.BallotMeasureSelection ∷ class.CandidateSelection ∷ class.ContestSelection
-    ∷ class.PartySelection ∷ []
-classes_of group.Candidates = class.Candidate ∷ []
-classes_of group.GpUnits = class.GpUnit ∷ []
-classes_of group.Parties = class.Party ∷ []
-classes_of group.ReportingDevices = class.ReportingDevice ∷ []
+    class.BallotMeasureSelection ∷
+    class.CandidateSelection ∷
+    class.ContestSelection ∷
+    class.PartySelection ∷
+    []
 
 -- the texts of an enumeration
 abbrev pub listed_in : Listing → List (List ℕ)
 listed_in listing.CvrType = codes "interpreted" ∷ codes "modified" ∷ codes "original" ∷ []
 listed_in listing.CvrStatus = codes "needs-adjudication" ∷ codes "other" ∷ []
 listed_in listing.ContestStatus =
-    codes "invalidated-rules" ∷ codes "not-indicated" ∷ codes "other" ∷ codes "overvoted"
-    ∷ codes "undervoted" ∷ []
+    codes "invalidated-rules" ∷
+    codes "not-indicated" ∷
+    codes "other" ∷
+    codes "overvoted" ∷
+    codes "undervoted" ∷
+    []
 listed_in listing.ContestSelectionStatus =
-    codes "generated-rules" ∷ codes "invalidated-rules" ∷ codes "needs-adjudication" ∷ codes "other"
-    ∷ []
+    codes "generated-rules" ∷
+    codes "invalidated-rules" ∷
+    codes "needs-adjudication" ∷
+    codes "other" ∷
+    []
 listed_in listing.PositionStatus =
-    codes "adjudicated" ∷ codes "generated-rules" ∷ codes "invalidated-rules" ∷ codes "other" ∷ []
+    codes "adjudicated" ∷
+    codes "generated-rules" ∷
+    codes "invalidated-rules" ∷
+    codes "other" ∷
+    []
 listed_in listing.IndicationStatus = codes "no" ∷ codes "unknown" ∷ codes "yes" ∷ []
 listed_in listing.AllocationStatus = codes "no" ∷ codes "unknown" ∷ codes "yes" ∷ []
 listed_in listing.ReportType =
-    codes "adjudicated" ∷ codes "aggregated" ∷ codes "originating-device-export" ∷ codes "other"
-    ∷ codes "rcv-round" ∷
+    codes "adjudicated" ∷
+    codes "aggregated" ∷
+    codes "originating-device-export" ∷
+    codes "other" ∷
+    codes "rcv-round" ∷
     []
 listed_in listing.VoteVariation =
-    codes "approval" ∷ codes "borda" ∷ codes "cumulative" ∷ codes "majority" ∷ codes "n-of-m"
-    ∷ codes "other" ∷
-    codes "plurality" ∷ codes "proportional" ∷ codes "range" ∷ codes "rcv" ∷ codes "super-majority"
-    ∷ []
+    codes "approval" ∷
+    codes "borda" ∷
+    codes "cumulative" ∷
+    codes "majority" ∷
+    codes "n-of-m" ∷
+    codes "other" ∷
+    codes "plurality" ∷
+    codes "proportional" ∷
+    codes "range" ∷
+    codes "rcv" ∷
+    codes "super-majority" ∷
+    []
 listed_in listing.Version = codes "1.0.0" ∷ []
 
 -- the members of a class, in byte order of their names
@@ -167,8 +195,8 @@ table class.CvrContestSelection =
     optional_member (codes "Rank") (One leaf.Whole) ∷
     required_member (codes "SelectionPosition")
     (Array (leaf.Object group.SelectionPositions) 1 64 key.Free) ∷
-    optional_member (codes "Status") (Array (leaf.Listed listing.ContestSelectionStatus) 0 any
-    key.Free) ∷
+    optional_member (codes "Status")
+    (Array (leaf.Listed listing.ContestSelectionStatus) 0 any key.Free) ∷
     optional_member (codes "TotalFractionalVotes") (One leaf.Fractional) ∷
     optional_member (codes "TotalNumberVotes") (One leaf.Count) ∷
     []
@@ -226,21 +254,8 @@ table class.RetentionContest =
 table class.BallotMeasureSelection =
     required_member (codes "@id") (One leaf.Name) ∷
     []
-table class.CandidateSelection =
-    required_member (codes "@id") (One leaf.Name) ∷
-    optional_member (codes "CandidateIds") (Array leaf.Text 0 any key.Free) ∷
-    optional_member (codes "IsWriteIn") (One leaf.Truth) ∷
-    []
 table class.ContestSelection =
     required_member (codes "@id") (One leaf.Name) ∷
-    []
-table class.PartySelection =
-    required_member (codes "@id") (One leaf.Name) ∷
-    optional_member (codes "PartyIds") (Array leaf.Text 0 any key.Free) ∷
-    []
-table class.Candidate =
-    required_member (codes "@id") (One leaf.Name) ∷
-    optional_member (codes "PartyId") (One leaf.Text) ∷
     []
 table class.GpUnit =
     required_member (codes "@id") (One leaf.Name) ∷
@@ -250,6 +265,19 @@ table class.Party =
     []
 table class.ReportingDevice =
     required_member (codes "@id") (One leaf.Name) ∷
+    []
+table class.CandidateSelection =
+    required_member (codes "@id") (One leaf.Name) ∷
+    optional_member (codes "CandidateIds") (Array leaf.Text 0 any key.Free) ∷
+    optional_member (codes "IsWriteIn") (One leaf.Truth) ∷
+    []
+table class.PartySelection =
+    required_member (codes "@id") (One leaf.Name) ∷
+    optional_member (codes "PartyIds") (Array leaf.Text 0 any key.Free) ∷
+    []
+table class.Candidate =
+    required_member (codes "@id") (One leaf.Name) ∷
+    optional_member (codes "PartyId") (One leaf.Text) ∷
     []
 
 -- a member of the code's tables

@@ -20,13 +20,13 @@ pub enum Class {
     PartyContest,
     RetentionContest,
     BallotMeasureSelection,
-    CandidateSelection,
     ContestSelection,
-    PartySelection,
-    Candidate,
     GpUnit,
     Party,
     ReportingDevice,
+    CandidateSelection,
+    PartySelection,
+    Candidate,
 }
 
 /// The classes that an object may have at some place, named for what stands there.
@@ -34,19 +34,19 @@ pub enum Class {
 pub enum Group {
     Reports,
     Cvrs,
+    Elections,
+    GpUnits,
+    Parties,
+    ReportingDevices,
     Snapshots,
     Annotations,
     CvrContests,
     CvrContestSelections,
     SelectionPositions,
     WriteIns,
-    Elections,
+    Candidates,
     Contests,
     ContestSelections,
-    Candidates,
-    GpUnits,
-    Parties,
-    ReportingDevices,
 }
 
 /// An enumeration of the standard, or the one version that is read.
@@ -141,13 +141,13 @@ pub fn class_text(class: Class) -> &'static str
         Class::PartyContest => "CVR.PartyContest",
         Class::RetentionContest => "CVR.RetentionContest",
         Class::BallotMeasureSelection => "CVR.BallotMeasureSelection",
-        Class::CandidateSelection => "CVR.CandidateSelection",
         Class::ContestSelection => "CVR.ContestSelection",
-        Class::PartySelection => "CVR.PartySelection",
-        Class::Candidate => "CVR.Candidate",
         Class::GpUnit => "CVR.GpUnit",
         Class::Party => "CVR.Party",
         Class::ReportingDevice => "CVR.ReportingDevice",
+        Class::CandidateSelection => "CVR.CandidateSelection",
+        Class::PartySelection => "CVR.PartySelection",
+        Class::Candidate => "CVR.Candidate",
     }
 }
 
@@ -158,13 +158,17 @@ pub fn classes(group: Group) -> &'static [Class]
     match group {
         Group::Reports => &[Class::CastVoteRecordReport],
         Group::Cvrs => &[Class::Cvr],
+        Group::Elections => &[Class::Election],
+        Group::GpUnits => &[Class::GpUnit],
+        Group::Parties => &[Class::Party],
+        Group::ReportingDevices => &[Class::ReportingDevice],
         Group::Snapshots => &[Class::CvrSnapshot],
         Group::Annotations => &[Class::Annotation],
         Group::CvrContests => &[Class::CvrContest],
         Group::CvrContestSelections => &[Class::CvrContestSelection],
         Group::SelectionPositions => &[Class::SelectionPosition],
         Group::WriteIns => &[Class::CvrWriteIn],
-        Group::Elections => &[Class::Election],
+        Group::Candidates => &[Class::Candidate],
         Group::Contests => &[
             Class::BallotMeasureContest,
             Class::CandidateContest,
@@ -178,10 +182,6 @@ pub fn classes(group: Group) -> &'static [Class]
             Class::ContestSelection,
             Class::PartySelection,
         ],
-        Group::Candidates => &[Class::Candidate],
-        Group::GpUnits => &[Class::GpUnit],
-        Group::Parties => &[Class::Party],
-        Group::ReportingDevices => &[Class::ReportingDevice],
     }
 }
 
@@ -211,7 +211,8 @@ pub fn texts(listing: Listing) -> &'static [&'static str]
             "invalidated-rules",
             "other",
         ],
-        Listing::IndicationStatus | Listing::AllocationStatus => &["no", "unknown", "yes"],
+        Listing::IndicationStatus => &["no", "unknown", "yes"],
+        Listing::AllocationStatus => &["no", "unknown", "yes"],
         Listing::ReportType => &[
             "adjudicated",
             "aggregated",
@@ -236,509 +237,165 @@ pub fn texts(listing: Listing) -> &'static [&'static str]
     }
 }
 
+// Members of a class, one a line.
+macro_rules! members {
+    (@is required) => { true };
+    (@is optional) => { false };
+    (@leaf Object $group:ident) => { Leaf::Object(Group::$group) };
+    (@leaf Listed $listing:ident) => { Leaf::Listed(Listing::$listing) };
+    (@leaf $leaf:ident) => { Leaf::$leaf };
+    (@kind One $leaf:expr,) => { Kind::One($leaf) };
+    (@kind Array $leaf:expr, $least:expr, $most:expr, $key:ident) => {
+        Kind::Array($leaf, $least, $most, Key::$key)
+    };
+    ($($need:ident $name:literal: $kind:ident($leaf:ident $(($of:ident))? $(, $bound:tt)*);)*) => {
+        &[$(Member {
+            name: $name,
+            required: members!(@is $need),
+            kind: members!(@kind $kind members!(@leaf $leaf $($of)?), $($bound),*),
+        }),*]
+    };
+}
+
 /// The members of a class, in byte order of their names. Which are required is this project's own
 /// profile. Takes no memory.
 pub fn class_members(class: Class) -> &'static [Member]
     ensures { entries_of result.now ≡ table class }
 {
     match class {
-        Class::CastVoteRecordReport => &[
-            Member {
-                name: "CVR",
-                required: false,
-                kind: Kind::Array(Leaf::Object(Group::Cvrs), 0, ANY, Key::Free),
-            },
-            Member {
-                name: "Election",
-                required: true,
-                kind: Kind::Array(Leaf::Object(Group::Elections), 1, 1, Key::Free),
-            },
-            Member {
-                name: "GeneratedDate",
-                required: true,
-                kind: Kind::One(Leaf::Moment),
-            },
-            Member {
-                name: "GpUnit",
-                required: true,
-                kind: Kind::Array(Leaf::Object(Group::GpUnits), 0, ANY, Key::Id),
-            },
-            Member {
-                name: "Notes",
-                required: false,
-                kind: Kind::One(Leaf::Text),
-            },
-            Member {
-                name: "OtherReportType",
-                required: false,
-                kind: Kind::One(Leaf::Text),
-            },
-            Member {
-                name: "Party",
-                required: false,
-                kind: Kind::Array(Leaf::Object(Group::Parties), 0, ANY, Key::Id),
-            },
-            Member {
-                name: "ReportGeneratingDeviceIds",
-                required: true,
-                kind: Kind::Array(Leaf::Text, 0, ANY, Key::Free),
-            },
-            Member {
-                name: "ReportType",
-                required: false,
-                kind: Kind::Array(Leaf::Listed(Listing::ReportType), 0, ANY, Key::Free),
-            },
-            Member {
-                name: "ReportingDevice",
-                required: true,
-                kind: Kind::Array(Leaf::Object(Group::ReportingDevices), 0, ANY, Key::Id),
-            },
-            Member {
-                name: "Version",
-                required: true,
-                kind: Kind::One(Leaf::Listed(Listing::Version)),
-            },
-        ],
-        Class::Cvr => &[
-            Member {
-                name: "BallotAuditId",
-                required: false,
-                kind: Kind::One(Leaf::Text),
-            },
-            Member {
-                name: "BallotPrePrintedId",
-                required: false,
-                kind: Kind::One(Leaf::Text),
-            },
-            Member {
-                name: "BallotSheetId",
-                required: false,
-                kind: Kind::One(Leaf::Text),
-            },
-            Member {
-                name: "BallotStyleId",
-                required: false,
-                kind: Kind::One(Leaf::Text),
-            },
-            Member {
-                name: "BallotStyleUnitId",
-                required: false,
-                kind: Kind::One(Leaf::Text),
-            },
-            Member {
-                name: "BatchId",
-                required: false,
-                kind: Kind::One(Leaf::Text),
-            },
-            Member {
-                name: "BatchSequenceId",
-                required: false,
-                kind: Kind::One(Leaf::Whole),
-            },
-            Member {
-                name: "CVRSnapshot",
-                required: true,
-                kind: Kind::Array(Leaf::Object(Group::Snapshots), 1, ANY, Key::Id),
-            },
-            Member {
-                name: "CreatingDeviceId",
-                required: true,
-                kind: Kind::One(Leaf::Name),
-            },
-            Member {
-                name: "CurrentSnapshotId",
-                required: true,
-                kind: Kind::One(Leaf::Text),
-            },
-            Member {
-                name: "ElectionId",
-                required: true,
-                kind: Kind::One(Leaf::Text),
-            },
-            Member {
-                name: "PartyIds",
-                required: false,
-                kind: Kind::Array(Leaf::Text, 0, ANY, Key::Free),
-            },
-            Member {
-                name: "UniqueId",
-                required: true,
-                kind: Kind::One(Leaf::Name),
-            },
-        ],
-        Class::CvrSnapshot => &[
-            Member {
-                name: "@id",
-                required: true,
-                kind: Kind::One(Leaf::Name),
-            },
-            Member {
-                name: "Annotation",
-                required: false,
-                kind: Kind::Array(Leaf::Object(Group::Annotations), 0, ANY, Key::Free),
-            },
-            Member {
-                name: "CVRContest",
-                required: false,
-                kind: Kind::Array(Leaf::Object(Group::CvrContests), 0, ANY, Key::Contest),
-            },
-            Member {
-                name: "OtherStatus",
-                required: false,
-                kind: Kind::One(Leaf::Text),
-            },
-            Member {
-                name: "Status",
-                required: false,
-                kind: Kind::Array(Leaf::Listed(Listing::CvrStatus), 0, ANY, Key::Free),
-            },
-            Member {
-                name: "Type",
-                required: true,
-                kind: Kind::One(Leaf::Listed(Listing::CvrType)),
-            },
-        ],
-        Class::Annotation => &[
-            Member {
-                name: "AdjudicatorName",
-                required: false,
-                kind: Kind::Array(Leaf::Text, 0, ANY, Key::Free),
-            },
-            Member {
-                name: "Message",
-                required: false,
-                kind: Kind::Array(Leaf::Text, 0, ANY, Key::Free),
-            },
-            Member {
-                name: "TimeStamp",
-                required: false,
-                kind: Kind::One(Leaf::Moment),
-            },
-        ],
-        Class::CvrContest => &[
-            Member {
-                name: "CVRContestSelection",
-                required: false,
-                kind: Kind::Array(
-                    Leaf::Object(Group::CvrContestSelections),
-                    0,
-                    65536,
-                    Key::Free,
-                ),
-            },
-            Member {
-                name: "ContestId",
-                required: true,
-                kind: Kind::One(Leaf::Text),
-            },
-            Member {
-                name: "OtherStatus",
-                required: false,
-                kind: Kind::One(Leaf::Text),
-            },
-            Member {
-                name: "Overvotes",
-                required: false,
-                kind: Kind::One(Leaf::Count),
-            },
-            Member {
-                name: "Selections",
-                required: false,
-                kind: Kind::One(Leaf::Count),
-            },
-            Member {
-                name: "Status",
-                required: false,
-                kind: Kind::Array(Leaf::Listed(Listing::ContestStatus), 0, ANY, Key::Free),
-            },
-            Member {
-                name: "Undervotes",
-                required: false,
-                kind: Kind::One(Leaf::Count),
-            },
-            Member {
-                name: "WriteIns",
-                required: false,
-                kind: Kind::One(Leaf::Count),
-            },
-        ],
-        Class::CvrContestSelection => &[
-            Member {
-                name: "ContestSelectionId",
-                required: false,
-                kind: Kind::One(Leaf::Text),
-            },
-            Member {
-                name: "OptionPosition",
-                required: false,
-                kind: Kind::One(Leaf::Whole),
-            },
-            Member {
-                name: "OtherStatus",
-                required: false,
-                kind: Kind::One(Leaf::Text),
-            },
-            Member {
-                name: "Rank",
-                required: false,
-                kind: Kind::One(Leaf::Whole),
-            },
-            Member {
-                name: "SelectionPosition",
-                required: true,
-                kind: Kind::Array(Leaf::Object(Group::SelectionPositions), 1, 64, Key::Free),
-            },
-            Member {
-                name: "Status",
-                required: false,
-                kind: Kind::Array(
-                    Leaf::Listed(Listing::ContestSelectionStatus),
-                    0,
-                    ANY,
-                    Key::Free,
-                ),
-            },
-            Member {
-                name: "TotalFractionalVotes",
-                required: false,
-                kind: Kind::One(Leaf::Fractional),
-            },
-            Member {
-                name: "TotalNumberVotes",
-                required: false,
-                kind: Kind::One(Leaf::Count),
-            },
-        ],
-        Class::SelectionPosition => &[
-            Member {
-                name: "CVRWriteIn",
-                required: false,
-                kind: Kind::One(Leaf::Object(Group::WriteIns)),
-            },
-            Member {
-                name: "FractionalVotes",
-                required: false,
-                kind: Kind::One(Leaf::Fractional),
-            },
-            Member {
-                name: "HasIndication",
-                required: true,
-                kind: Kind::One(Leaf::Listed(Listing::IndicationStatus)),
-            },
-            Member {
-                name: "IsAllocable",
-                required: false,
-                kind: Kind::One(Leaf::Listed(Listing::AllocationStatus)),
-            },
-            Member {
-                name: "MarkMetricValue",
-                required: false,
-                kind: Kind::Array(Leaf::Text, 0, ANY, Key::Free),
-            },
-            Member {
-                name: "NumberVotes",
-                required: true,
-                kind: Kind::One(Leaf::Count),
-            },
-            Member {
-                name: "OtherStatus",
-                required: false,
-                kind: Kind::One(Leaf::Text),
-            },
-            Member {
-                name: "Position",
-                required: false,
-                kind: Kind::One(Leaf::Whole),
-            },
-            Member {
-                name: "Rank",
-                required: false,
-                kind: Kind::One(Leaf::Whole),
-            },
-            Member {
-                name: "Status",
-                required: false,
-                kind: Kind::Array(Leaf::Listed(Listing::PositionStatus), 0, ANY, Key::Free),
-            },
-        ],
-        Class::CvrWriteIn => &[],
-        Class::Election => &[
-            Member {
-                name: "@id",
-                required: true,
-                kind: Kind::One(Leaf::Name),
-            },
-            Member {
-                name: "Candidate",
-                required: false,
-                kind: Kind::Array(Leaf::Object(Group::Candidates), 0, ANY, Key::Id),
-            },
-            Member {
-                name: "Contest",
-                required: true,
-                kind: Kind::Array(Leaf::Object(Group::Contests), 0, ANY, Key::Id),
-            },
-            Member {
-                name: "ElectionScopeId",
-                required: true,
-                kind: Kind::One(Leaf::Text),
-            },
-            Member {
-                name: "Name",
-                required: false,
-                kind: Kind::One(Leaf::Text),
-            },
-        ],
-        Class::BallotMeasureContest => &[
-            Member {
-                name: "@id",
-                required: true,
-                kind: Kind::One(Leaf::Name),
-            },
-            Member {
-                name: "ContestSelection",
-                required: false,
-                kind: Kind::Array(Leaf::Object(Group::ContestSelections), 0, ANY, Key::Id),
-            },
-            Member {
-                name: "VoteVariation",
-                required: false,
-                kind: Kind::One(Leaf::Listed(Listing::VoteVariation)),
-            },
-        ],
-        Class::CandidateContest => &[
-            Member {
-                name: "@id",
-                required: true,
-                kind: Kind::One(Leaf::Name),
-            },
-            Member {
-                name: "ContestSelection",
-                required: false,
-                kind: Kind::Array(Leaf::Object(Group::ContestSelections), 0, ANY, Key::Id),
-            },
-            Member {
-                name: "VoteVariation",
-                required: false,
-                kind: Kind::One(Leaf::Listed(Listing::VoteVariation)),
-            },
-        ],
-        Class::Contest => &[
-            Member {
-                name: "@id",
-                required: true,
-                kind: Kind::One(Leaf::Name),
-            },
-            Member {
-                name: "ContestSelection",
-                required: false,
-                kind: Kind::Array(Leaf::Object(Group::ContestSelections), 0, ANY, Key::Id),
-            },
-            Member {
-                name: "VoteVariation",
-                required: false,
-                kind: Kind::One(Leaf::Listed(Listing::VoteVariation)),
-            },
-        ],
-        Class::PartyContest => &[
-            Member {
-                name: "@id",
-                required: true,
-                kind: Kind::One(Leaf::Name),
-            },
-            Member {
-                name: "ContestSelection",
-                required: false,
-                kind: Kind::Array(Leaf::Object(Group::ContestSelections), 0, ANY, Key::Id),
-            },
-            Member {
-                name: "VoteVariation",
-                required: false,
-                kind: Kind::One(Leaf::Listed(Listing::VoteVariation)),
-            },
-        ],
-        Class::RetentionContest => &[
-            Member {
-                name: "@id",
-                required: true,
-                kind: Kind::One(Leaf::Name),
-            },
-            Member {
-                name: "ContestSelection",
-                required: false,
-                kind: Kind::Array(Leaf::Object(Group::ContestSelections), 0, ANY, Key::Id),
-            },
-            Member {
-                name: "VoteVariation",
-                required: false,
-                kind: Kind::One(Leaf::Listed(Listing::VoteVariation)),
-            },
-        ],
-        Class::BallotMeasureSelection => &[Member {
-            name: "@id",
-            required: true,
-            kind: Kind::One(Leaf::Name),
-        }],
-        Class::CandidateSelection => &[
-            Member {
-                name: "@id",
-                required: true,
-                kind: Kind::One(Leaf::Name),
-            },
-            Member {
-                name: "CandidateIds",
-                required: false,
-                kind: Kind::Array(Leaf::Text, 0, ANY, Key::Free),
-            },
-            Member {
-                name: "IsWriteIn",
-                required: false,
-                kind: Kind::One(Leaf::Truth),
-            },
-        ],
-        Class::ContestSelection => &[Member {
-            name: "@id",
-            required: true,
-            kind: Kind::One(Leaf::Name),
-        }],
-        Class::PartySelection => &[
-            Member {
-                name: "@id",
-                required: true,
-                kind: Kind::One(Leaf::Name),
-            },
-            Member {
-                name: "PartyIds",
-                required: false,
-                kind: Kind::Array(Leaf::Text, 0, ANY, Key::Free),
-            },
-        ],
-        Class::Candidate => &[
-            Member {
-                name: "@id",
-                required: true,
-                kind: Kind::One(Leaf::Name),
-            },
-            Member {
-                name: "PartyId",
-                required: false,
-                kind: Kind::One(Leaf::Text),
-            },
-        ],
-        Class::GpUnit => &[Member {
-            name: "@id",
-            required: true,
-            kind: Kind::One(Leaf::Name),
-        }],
-        Class::Party => &[Member {
-            name: "@id",
-            required: true,
-            kind: Kind::One(Leaf::Name),
-        }],
-        Class::ReportingDevice => &[Member {
-            name: "@id",
-            required: true,
-            kind: Kind::One(Leaf::Name),
-        }],
+        Class::CastVoteRecordReport => members! {
+            optional "CVR": Array(Object(Cvrs), 0, ANY, Free);
+            required "Election": Array(Object(Elections), 1, 1, Free);
+            required "GeneratedDate": One(Moment);
+            required "GpUnit": Array(Object(GpUnits), 0, ANY, Id);
+            optional "Notes": One(Text);
+            optional "OtherReportType": One(Text);
+            optional "Party": Array(Object(Parties), 0, ANY, Id);
+            required "ReportGeneratingDeviceIds": Array(Text, 0, ANY, Free);
+            optional "ReportType": Array(Listed(ReportType), 0, ANY, Free);
+            required "ReportingDevice": Array(Object(ReportingDevices), 0, ANY, Id);
+            required "Version": One(Listed(Version));
+        },
+        Class::Cvr => members! {
+            optional "BallotAuditId": One(Text);
+            optional "BallotPrePrintedId": One(Text);
+            optional "BallotSheetId": One(Text);
+            optional "BallotStyleId": One(Text);
+            optional "BallotStyleUnitId": One(Text);
+            optional "BatchId": One(Text);
+            optional "BatchSequenceId": One(Whole);
+            required "CVRSnapshot": Array(Object(Snapshots), 1, ANY, Id);
+            required "CreatingDeviceId": One(Name);
+            required "CurrentSnapshotId": One(Text);
+            required "ElectionId": One(Text);
+            optional "PartyIds": Array(Text, 0, ANY, Free);
+            required "UniqueId": One(Name);
+        },
+        Class::CvrSnapshot => members! {
+            required "@id": One(Name);
+            optional "Annotation": Array(Object(Annotations), 0, ANY, Free);
+            optional "CVRContest": Array(Object(CvrContests), 0, ANY, Contest);
+            optional "OtherStatus": One(Text);
+            optional "Status": Array(Listed(CvrStatus), 0, ANY, Free);
+            required "Type": One(Listed(CvrType));
+        },
+        Class::Annotation => members! {
+            optional "AdjudicatorName": Array(Text, 0, ANY, Free);
+            optional "Message": Array(Text, 0, ANY, Free);
+            optional "TimeStamp": One(Moment);
+        },
+        Class::CvrContest => members! {
+            optional "CVRContestSelection": Array(Object(CvrContestSelections), 0, 65536, Free);
+            required "ContestId": One(Text);
+            optional "OtherStatus": One(Text);
+            optional "Overvotes": One(Count);
+            optional "Selections": One(Count);
+            optional "Status": Array(Listed(ContestStatus), 0, ANY, Free);
+            optional "Undervotes": One(Count);
+            optional "WriteIns": One(Count);
+        },
+        Class::CvrContestSelection => members! {
+            optional "ContestSelectionId": One(Text);
+            optional "OptionPosition": One(Whole);
+            optional "OtherStatus": One(Text);
+            optional "Rank": One(Whole);
+            required "SelectionPosition": Array(Object(SelectionPositions), 1, 64, Free);
+            optional "Status": Array(Listed(ContestSelectionStatus), 0, ANY, Free);
+            optional "TotalFractionalVotes": One(Fractional);
+            optional "TotalNumberVotes": One(Count);
+        },
+        Class::SelectionPosition => members! {
+            optional "CVRWriteIn": One(Object(WriteIns));
+            optional "FractionalVotes": One(Fractional);
+            required "HasIndication": One(Listed(IndicationStatus));
+            optional "IsAllocable": One(Listed(AllocationStatus));
+            optional "MarkMetricValue": Array(Text, 0, ANY, Free);
+            required "NumberVotes": One(Count);
+            optional "OtherStatus": One(Text);
+            optional "Position": One(Whole);
+            optional "Rank": One(Whole);
+            optional "Status": Array(Listed(PositionStatus), 0, ANY, Free);
+        },
+        Class::CvrWriteIn => members! {},
+        Class::Election => members! {
+            required "@id": One(Name);
+            optional "Candidate": Array(Object(Candidates), 0, ANY, Id);
+            required "Contest": Array(Object(Contests), 0, ANY, Id);
+            required "ElectionScopeId": One(Text);
+            optional "Name": One(Text);
+        },
+        Class::BallotMeasureContest => members! {
+            required "@id": One(Name);
+            optional "ContestSelection": Array(Object(ContestSelections), 0, ANY, Id);
+            optional "VoteVariation": One(Listed(VoteVariation));
+        },
+        Class::CandidateContest => members! {
+            required "@id": One(Name);
+            optional "ContestSelection": Array(Object(ContestSelections), 0, ANY, Id);
+            optional "VoteVariation": One(Listed(VoteVariation));
+        },
+        Class::Contest => members! {
+            required "@id": One(Name);
+            optional "ContestSelection": Array(Object(ContestSelections), 0, ANY, Id);
+            optional "VoteVariation": One(Listed(VoteVariation));
+        },
+        Class::PartyContest => members! {
+            required "@id": One(Name);
+            optional "ContestSelection": Array(Object(ContestSelections), 0, ANY, Id);
+            optional "VoteVariation": One(Listed(VoteVariation));
+        },
+        Class::RetentionContest => members! {
+            required "@id": One(Name);
+            optional "ContestSelection": Array(Object(ContestSelections), 0, ANY, Id);
+            optional "VoteVariation": One(Listed(VoteVariation));
+        },
+        Class::BallotMeasureSelection => members! {
+            required "@id": One(Name);
+        },
+        Class::ContestSelection => members! {
+            required "@id": One(Name);
+        },
+        Class::GpUnit => members! {
+            required "@id": One(Name);
+        },
+        Class::Party => members! {
+            required "@id": One(Name);
+        },
+        Class::ReportingDevice => members! {
+            required "@id": One(Name);
+        },
+        Class::CandidateSelection => members! {
+            required "@id": One(Name);
+            optional "CandidateIds": Array(Text, 0, ANY, Free);
+            optional "IsWriteIn": One(Truth);
+        },
+        Class::PartySelection => members! {
+            required "@id": One(Name);
+            optional "PartyIds": Array(Text, 0, ANY, Free);
+        },
+        Class::Candidate => members! {
+            required "@id": One(Name);
+            optional "PartyId": One(Text);
+        },
     }
 }

@@ -42,11 +42,11 @@ impl Indication {
 /// AllocationStatus).
 #[derive(Clone, Copy, Debug, PartialEq, Eq)]
 pub enum Allocation {
-    /// They are not.
+    /// The votes aren't to be counted.
     No,
     /// It isn't decided.
     Unknown,
-    /// They are.
+    /// The votes are to be counted.
     Yes,
 }
 

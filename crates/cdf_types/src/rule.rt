@@ -4,9 +4,9 @@ ghost use Rattle.cdf_types.specs.Rule.{number_of};
 /// A rule of form that a place in a file breaks (this project's own numbering).
 #[derive(Clone, Copy, Debug, PartialEq, Eq)]
 pub enum Rule {
-    /// The value has to be an object, and isn't.
+    /// The value isn't an object.
     NotObject,
-    /// A required member is absent.
+    /// A member that the profile demands is absent.
     Missing,
     /// The value is of another JSON kind than the member has.
     WrongKind,
@@ -14,23 +14,24 @@ pub enum Rule {
     NotListed,
     /// `@type` names a class that can't stand here.
     WrongClass,
-    /// The text is empty.
+    /// A name is empty.
     EmptyText,
-    /// The count is below 0 or above 4,294,967,295.
+    /// A count is below 0 or above 4,294,967,295.
     OutOfRange,
-    /// The array has too few items.
+    /// An array has too few items.
     TooFew,
-    /// The array has too many items.
+    /// An array has too many items.
     TooMany,
-    /// Fractional votes aren't counted.
+    /// `FractionalVotes` or `TotalFractionalVotes` is there.
     Fractional,
-    /// No instant is read from the text, or it has a `[`: it isn't a date-time with an offset.
+    /// `jiff` reads no instant from the text, or it has a `[`: it has to be a date-time with an
+    /// offset, with at most nine digits of fraction and of an instant that `jiff` has.
     NotMoment,
     /// An earlier item of the array has the same `@id`.
     RepeatedId,
     /// An earlier contest of the snapshot has the same `ContestId`.
     RepeatedContest,
-    /// The number isn't a whole number.
+    /// A number, anywhere in the file, isn't whole.
     NotWhole,
 }
 
