@@ -3,7 +3,7 @@ use Rattle.std.specs.Prelude.{ℕ}
 use Rattle.cdf_types.specs.declared.rule.Rule.{Rule}
 use Rattle.cdf_types.specs.declared.rule.Rule.TheVariants as rule
 
--- the number of a rule, 1 to 14, as docs/FAULTS.md lists them
+-- the number of a rule, as docs/FAULTS.md lists them
 abbrev pub number_of : Rule → ℕ
 number_of rule.NotObject = 1
 number_of rule.Missing = 2

@@ -36,7 +36,7 @@ pub enum Rule {
 }
 
 impl Rule {
-    /// The rule's number, 1 to 14. Takes no memory.
+    /// The rule's number in docs/FAULTS.md. Takes no memory.
     pub fn number(&self) -> u8
         ensures { result ≡ number_of self.now }
     {
