@@ -23,6 +23,7 @@ MEMBER = re.compile(r'(required|optional)_member \(codes "(.+?)"\)\s*\((One|Arra
 REPEATS = {None: 0, 'Free': 0, 'Id': 12, 'Contest': 13}
 MISTAKES = [('required_member (codes "UniqueId")', 'optional_member (codes "UniqueId")'), ('0 65536 key', '0 any key'), (' 1 any key.Id', ' 0 any key.Id'),
             ('group.Candidates) 0 any key.Id', 'group.Candidates) 0 any key.Free'), ('    class.RetentionContest ∷\n', ''),
+            ('\n    optional_member (codes "Notes") (One leaf.Text) ∷', 2 * '\n    optional_member (codes "Notes") (One leaf.Text) ∷'),
             ('listing.CvrStatus)', 'listing.ContestStatus)'), ('    codes "rcv-round" ∷\n', ''), ('"Rank") (One leaf.Whole)', '"Rank") (One leaf.Count)')]
 
 # What stands in FORMAT, and the rows below it at which tools/tables has to stop.
@@ -54,16 +55,16 @@ def read(text):
             else ['classes', [plain(it) for it in found['classes_of'][plain(of)]]]
         return inner if form == 'One' else ['array', inner, int(least), None if most == 'any' else int(most)]
 
-    classes = {found['type_text'][name][0][len('CVR.'):]: {it[1]: [it[0] == 'required', kind(*it[2:8]), REPEATS[it[8] or None]] for it in MEMBER.findall(body)}
+    classes = {found['type_text'][name][0][len('CVR.'):]: [(it[1], [it[0] == 'required', kind(*it[2:8]), REPEATS[it[8] or None]]) for it in MEMBER.findall(body)]
                for name, body in found['table'].items()}
     return classes, {'1.0.0' if name == 'Version' else name: sorted(texts) for name, texts in found['listed_in'].items()}
 
 
 def wrong(text, rules):
     classes, lists = read(text)
-    wanted = {name: sorted(texts) for name, texts in rules.lists.items()}
-    return [name for name in sorted(set(classes) | set(rules.classes)) if classes.get(name) != rules.classes.get(name)] + \
-        [name for name in sorted(set(lists) | set(wanted)) if lists.get(name) != wanted.get(name)]
+    wanted = {**{name: list(table.items()) for name, table in rules.classes.items()}, **{name: sorted(texts) for name, texts in rules.lists.items()}}
+    found = {**classes, **lists}
+    return [name for name in sorted(set(found) | set(wanted)) if found.get(name) != wanted.get(name)]
 
 
 def stops(text, row):
