@@ -26,3 +26,16 @@ worth WriteIns sums = sums.write_ins
 worth Pending sums = sums.pending
 worth Unassigned sums = sums.unassigned
 worth (VotesFor place) sums = slice_index sums.votes place
+
+-- the sums of a contest with these numbers in its columns, in their order but for ballots, 0 where
+-- the list ends before, and these votes of its selections
+abbrev pub sums_from : ℕ → List ℕ → List ℕ → VoteSums
+sums_from contest numbers votes = record {
+  contest = contest;
+  votes = votes;
+  overvotes = slice_index numbers 0;
+  undervotes = slice_index numbers 1;
+  write_ins = slice_index numbers 2;
+  pending = slice_index numbers 3;
+  unassigned = slice_index numbers 4;
+}

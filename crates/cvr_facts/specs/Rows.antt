@@ -11,6 +11,7 @@ use Rattle.cdf_definition.specs.Acceptance.{frame_in, report_in}
 use Rattle.cdf_definition.specs.Sample.{report, definition_file}
 use Rattle.cvr_fact_types.specs.declared.name.RecordName.{RecordName}
 use Rattle.cvr_fact_types.specs.declared.sums.VoteSums.{VoteSums}
+use Rattle.cvr_fact_types.specs.Columns.{sums_from}
 use Rattle.cvr_fact_types.specs.Facts.{Fact, Device, Header, Snapshot, Facts}
 use Rattle.cvr_facts.specs.Reports.{facts}
 use Rattle.cvr_facts.specs.Choosing.{choice_cmp, current, header}
@@ -244,53 +245,21 @@ abbrev pub every_kind_report : Report
 every_kind_report = report_in contests every_kind_file
 
 abbrev pub mayor_sums : VoteSums
-mayor_sums = record {
-  contest = 0;
-  votes = 1 ∷ 0 ∷ 0 ∷ [];
-  overvotes = 0;
-  undervotes = 0;
-  write_ins = 1;
-  pending = 1;
-  unassigned = 1;
-}
+mayor_sums = sums_from 0 (0 ∷ 0 ∷ 1 ∷ 1 ∷ 1 ∷ []) (1 ∷ 0 ∷ 0 ∷ [])
 
 abbrev pub measure_sums : VoteSums
-measure_sums = record {
-  contest = 1;
-  votes = 2 ∷ 0 ∷ [];
-  overvotes = 0;
-  undervotes = 0;
-  write_ins = 0;
-  pending = 0;
-  unassigned = 0;
-}
+measure_sums = sums_from 1 [] (2 ∷ 0 ∷ [])
 
 abbrev pub numbered_report : Report
 numbered_report = report_in contests numbered_file
 
 -- Ann has 7 and 9
 abbrev pub numbered_mayor_sums : VoteSums
-numbered_mayor_sums = record {
-  contest = 0;
-  votes = 16 ∷ 10 ∷ 11 ∷ [];
-  overvotes = 1;
-  undervotes = 2;
-  write_ins = 3;
-  pending = 68;
-  unassigned = 5;
-}
+numbered_mayor_sums = sums_from 0 (1 ∷ 2 ∷ 3 ∷ 68 ∷ 5 ∷ []) (16 ∷ 10 ∷ 11 ∷ [])
 
 -- 4, 512, 1024 and 2048 count; 256 is pending
 abbrev pub numbered_measure_sums : VoteSums
-numbered_measure_sums = record {
-  contest = 1;
-  votes = 3588 ∷ 6 ∷ [];
-  overvotes = 0;
-  undervotes = 0;
-  write_ins = 0;
-  pending = 256;
-  unassigned = 0;
-}
+numbered_measure_sums = sums_from 1 (0 ∷ 0 ∷ 0 ∷ 256 ∷ 0 ∷ []) (3588 ∷ 6 ∷ [])
 
 -- ---- the answers
 

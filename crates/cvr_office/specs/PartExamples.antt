@@ -6,6 +6,7 @@ use Rattle.cvr_fact_types.specs.Facts.{Fact, Device, Header, Snapshot, Facts}
 use Rattle.cvr_tally.specs.Examples.{ballot_box, dot}
 use Rattle.cvr_tally.specs.declared.key.RowKey.{RowKey}
 use Rattle.cvr_tally.specs.declared.row.Row.{Row}
+use Rattle.cvr_tally.specs.Rows.{row_from}
 use Rattle.cvr_office.specs.Tallied.{row}
 use Rattle.cvr_office.specs.Examples.{contests, position, selection, choice, contest, snapshot}
 use Rattle.cvr_office.specs.Examples.{header, adjudicated, other_adjudicated, scan_for_ann}
@@ -64,49 +65,17 @@ keys =
     record { contest = 0; unit = Some (codes "p2"); batch = Some (codes "b1") } ∷ []
 
 abbrev pub in_first : Row
-in_first = record {
-  ballots = 1;
-  overvotes = 1;
-  undervotes = 2;
-  write_ins = 3;
-  pending = 5;
-  unassigned = 4;
-  votes = 7 ∷ 9 ∷ [];
-}
+in_first = row_from (1 ∷ 1 ∷ 2 ∷ 3 ∷ 5 ∷ 4 ∷ []) (7 ∷ 9 ∷ [])
 
 abbrev pub in_second : Row
-in_second = record {
-  ballots = 1;
-  overvotes = 20;
-  undervotes = 30;
-  write_ins = 45;
-  pending = 60;
-  unassigned = 50;
-  votes = 80 ∷ 100 ∷ [];
-}
+in_second = row_from (1 ∷ 20 ∷ 30 ∷ 45 ∷ 60 ∷ 50 ∷ []) (80 ∷ 100 ∷ [])
 
 abbrev pub in_both : Row
-in_both = record {
-  ballots = 2;
-  overvotes = 21;
-  undervotes = 32;
-  write_ins = 48;
-  pending = 65;
-  unassigned = 54;
-  votes = 87 ∷ 109 ∷ [];
-}
+in_both = row_from (2 ∷ 21 ∷ 32 ∷ 48 ∷ 65 ∷ 54 ∷ []) (87 ∷ 109 ∷ [])
 
 -- a ballot with these votes for Ann, and nothing else
 abbrev pub for_ann : ℕ → Row
-for_ann n = record {
-  ballots = 1;
-  overvotes = 0;
-  undervotes = 0;
-  write_ins = 0;
-  pending = 0;
-  unassigned = 0;
-  votes = n ∷ 0 ∷ [];
-}
+for_ann n = row_from (1 ∷ []) (n ∷ 0 ∷ [])
 
 -- ---- the answers
 

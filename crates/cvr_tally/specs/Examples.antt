@@ -1,12 +1,13 @@
 -- Worked examples: rows of three contests, and the text of their tally; a row with one more ballot.
 -- (This project's own.)
-use Rattle.std.specs.Prelude.{◌≡◌, ℕ, List, [], ◌∷◌, ◌++◌, slice_index, Option, Some, None, codes}
+use Rattle.std.specs.Prelude.{◌≡◌, ℕ, List, [], ◌∷◌, ◌++◌, Option, Some, None, codes}
 use Rattle.std.specs.FinMap.{from_entries}
 use Rattle.cdf_parts.specs.Places.{Contest}
 use Rattle.cvr_fact_types.specs.declared.sums.VoteSums.{VoteSums}
+use Rattle.cvr_fact_types.specs.Columns.{sums_from}
 use Rattle.cvr_tally.specs.declared.key.RowKey.{RowKey}
 use Rattle.cvr_tally.specs.declared.row.Row.{Row}
-use Rattle.cvr_tally.specs.Rows.{row_plus, row_minus, HasRoom, HasSums}
+use Rattle.cvr_tally.specs.Rows.{row_from, row_plus, row_minus, HasRoom, HasSums}
 use Rattle.cvr_tally.specs.Text.{tally_text}
 
 -- a ballot box, U+1F5F3, and a halfwidth dot, U+FF65, in UTF-8: by bytes the dot comes first, by
@@ -28,15 +29,7 @@ contests = (codes "mayor", codes "ann" ∷ codes "b\"o" ∷ []) ∷ (ballot_box,
 abbrev pub row_at : ℕ → Option (List ℕ) → Option (List ℕ) → List ℕ → List ℕ → RowKey × Row
 row_at contest unit batch numbers votes = (
   record { contest = contest; unit = unit; batch = batch },
-  record {
-    ballots = slice_index numbers 0;
-    overvotes = slice_index numbers 1;
-    undervotes = slice_index numbers 2;
-    write_ins = slice_index numbers 3;
-    pending = slice_index numbers 4;
-    unassigned = slice_index numbers 5;
-    votes = votes;
-  },
+  row_from numbers votes,
 )
 
 -- in no order, all numbers different
@@ -75,37 +68,13 @@ TextOfTally = tally_text contests (from_entries some_rows) ≡ expected
 -- ---- one ballot more, and taken out again
 
 abbrev pub sums_of_a_ballot : VoteSums
-sums_of_a_ballot = record {
-  contest = 0;
-  votes = 7 ∷ 80 ∷ [];
-  overvotes = 1;
-  undervotes = 20;
-  write_ins = 3;
-  pending = 40;
-  unassigned = 5;
-}
+sums_of_a_ballot = sums_from 0 (1 ∷ 20 ∷ 3 ∷ 40 ∷ 5 ∷ []) (7 ∷ 80 ∷ [])
 
 abbrev pub row_before : Row
-row_before = record {
-  ballots = 9;
-  overvotes = 100;
-  undervotes = 200;
-  write_ins = 300;
-  pending = 400;
-  unassigned = 500;
-  votes = 600 ∷ 700 ∷ [];
-}
+row_before = row_from (9 ∷ 100 ∷ 200 ∷ 300 ∷ 400 ∷ 500 ∷ []) (600 ∷ 700 ∷ [])
 
 abbrev pub row_after : Row
-row_after = record {
-  ballots = 10;
-  overvotes = 101;
-  undervotes = 220;
-  write_ins = 303;
-  pending = 440;
-  unassigned = 505;
-  votes = 607 ∷ 780 ∷ [];
-}
+row_after = row_from (10 ∷ 101 ∷ 220 ∷ 303 ∷ 440 ∷ 505 ∷ []) (607 ∷ 780 ∷ [])
 
 abbrev pub RowsOfABallot : Type 0
 RowsOfABallot = (row_plus row_before sums_of_a_ballot ≡ row_after)
@@ -138,19 +107,13 @@ pub record RoomOfARow : Type 0 where
       HasRoom (with_votes (600 ∷ 340_282_366_920_938_463_463_374_607_431_768_211_376 ∷ []))
       sums_of_a_ballot
 
+-- of just these sums
+abbrev pub row_of_a_ballot : Row
+row_of_a_ballot = row_from (1 ∷ 1 ∷ 20 ∷ 3 ∷ 40 ∷ 5 ∷ []) (7 ∷ 80 ∷ [])
+
 -- A row has the sums of a ballot where each of its numbers is at least theirs, and has a ballot.
 pub record SumsOfARow : Type 0 where
-  pub just : HasSums
-      (record {
-        ballots = 1;
-        overvotes = 1;
-        undervotes = 20;
-        write_ins = 3;
-        pending = 40;
-        unassigned = 5;
-        votes = 7 ∷ 80 ∷ [];
-      })
-      sums_of_a_ballot
+  pub just : HasSums row_of_a_ballot sums_of_a_ballot
   pub no_ballot : ¬ HasSums (with_ballots 0) sums_of_a_ballot
   pub few_undervotes : ¬ HasSums (with_undervotes 19) sums_of_a_ballot
   pub few_votes : ¬ HasSums (with_votes (600 ∷ 79 ∷ [])) sums_of_a_ballot

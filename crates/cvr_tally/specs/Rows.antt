@@ -9,7 +9,7 @@ use Rattle.std.specs.FinMap as rows
 use Rattle.cdf_parts.specs.Places.{Contest, selections_at}
 use Rattle.cvr_fact_types.specs.declared.sums.VoteSums.{VoteSums}
 use Rattle.cvr_fact_types.specs.Columns.{Column, Ballots, Overvotes, Undervotes, WriteIns, Pending}
-use Rattle.cvr_fact_types.specs.Columns.{Unassigned, VotesFor, worth}
+use Rattle.cvr_fact_types.specs.Columns.{Unassigned, VotesFor, columns, worth}
 use Rattle.cvr_tally.specs.declared.key.RowKey.{RowKey}
 use Rattle.cvr_tally.specs.declared.row.Row.{Row}
 use Rattle.cvr_tally.specs.Keys.{key_cmp, coded_key}
@@ -26,17 +26,23 @@ number_in Pending row = row.pending
 number_in Unassigned row = row.unassigned
 number_in (VotesFor place) row = slice_index row.votes place
 
+-- the row with these numbers in its columns, in their order, 0 where the list ends before, and with
+-- these votes of selections
+abbrev pub row_from : List ℕ → List ℕ → Row
+row_from numbers votes = record {
+  ballots = slice_index numbers 0;
+  overvotes = slice_index numbers 1;
+  undervotes = slice_index numbers 2;
+  write_ins = slice_index numbers 3;
+  pending = slice_index numbers 4;
+  unassigned = slice_index numbers 5;
+  votes = votes;
+}
+
 -- the row with these numbers in its columns, of a contest with n selections
 abbrev pub row_by : ℕ → (Column → ℕ) → Row
-row_by n number = record {
-  ballots = number Ballots;
-  overvotes = number Overvotes;
-  undervotes = number Undervotes;
-  write_ins = number WriteIns;
-  pending = number Pending;
-  unassigned = number Unassigned;
-  votes = map (λ place. number (VotesFor place)) (range_with_len 0 n);
-}
+row_by n number = row_from (map number columns)
+    (map (λ place. number (VotesFor place)) (range_with_len 0 n))
 
 -- zero in each
 abbrev pub zero_row : ℕ → Row
@@ -110,29 +116,8 @@ pub record IsTotals (t : TotalsValue) : Type 0 where
       → length r.votes ≡ length (selections_at t.contests k.contest)
 
 abbrev pub coded_row : Coded Row
-coded_row = code_by (ℕ × (ℕ × (ℕ × (ℕ × (ℕ × (ℕ × List ℕ))))))
-    (coded× coded_ℕ (coded× coded_ℕ (coded× coded_ℕ
-    (coded× coded_ℕ (coded× coded_ℕ (coded× coded_ℕ (coded_list coded_ℕ)))))))
-    (λ r. (
-      r.ballots,
-      (
-        r.overvotes,
-        (
-          r.undervotes,
-          (r.write_ins, (r.pending, (r.unassigned, r.votes))),
-        ),
-      ),
-    ))
-    (λ p. record {
-      ballots = p.0;
-      overvotes = p.1.0;
-      undervotes = p.1.1.0;
-      write_ins = p.1.1.1.0;
-      pending = p.1.1.1.1.0;
-      unassigned = p.1.1.1.1.1.0;
-      votes = p.1.1.1.1.1.1;
-    })
-    (λ _. refl)
+coded_row = code_by (List ℕ × List ℕ) (coded× (coded_list coded_ℕ) (coded_list coded_ℕ))
+    (λ r. (map (λ column. number_in column r) columns, r.votes)) (λ p. row_from p.0 p.1) (λ _. refl)
 
 abbrev pub coded_contests : Coded (List Contest)
 coded_contests = coded_list (coded× (coded_list coded_ℕ) (coded_list (coded_list coded_ℕ)))
