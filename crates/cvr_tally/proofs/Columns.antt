@@ -1,33 +1,26 @@
 -- Rows by their columns.
 use Rattle.std.proofs.Common.{◌≡◌, ℕ, zero, suc, ◌+◌, ◌-◌, ◌≤◌, ◌<◌, ◌^◌, ◌∷◌, length, map}
 use Rattle.std.proofs.Common.{replicate, inl, inr, refl, sym, ap, ◌∙◌, subst, arith, ext_get_or}
+use Rattle.std.proofs.Common.{Fits}
+use Rattle.std.proofs.Math.Facts.{Fits-of_lt}
+use Rattle.std.specs.Int.{w128}
 use Rattle.std.specs.Bool.{⊤}
 use Rattle.std.specs.List.{range_with_len}
 use Rattle.std.proofs.lemmas.Bool.{cases_lt}
 use Rattle.std.proofs.lemmas.List.{get_or_past}
 use Rattle.std.proofs.lemmas.List.FromFn.{length-map-range_with_len, get_or-map-range_with_len}
-use Rattle.std.proofs.lemmas.List.FromFn.{fill_by_all}
 use Rattle.cvr_fact_types.specs.declared.sums.VoteSums.{VoteSums}
-use Rattle.cvr_fact_types.specs.Columns.{Column, Ballots, Overvotes, Undervotes, WriteIns, Pending}
-use Rattle.cvr_fact_types.specs.Columns.{Unassigned, VotesFor, worth}
+use Rattle.cvr_fact_types.specs.Columns.{Column, Ballots, VotesFor, columns, worth}
 use Rattle.cvr_tally.specs.declared.row.Row.{Row}
-use Rattle.cvr_tally.specs.Rows.{number_in, row_by, zero_row, row_plus, row_minus, ballot_limit}
-use Rattle.cvr_tally.specs.Rows.{limit_of}
+use Rattle.cvr_tally.specs.Rows.{number_in, row_from, row_by, zero_row, row_plus, row_minus}
+use Rattle.cvr_tally.specs.Rows.{ballot_limit, limit_of, HasRoom, HasSums}
 
 -- rows of equally many votes are equal where each column is
 pub same_row : (a b : Row) → length a.votes ≡ length b.votes
     → ((column : Column) → number_in column a ≡ number_in column b) → a ≡ b
 same_row a b long same =
     let votes = ext_get_or 0 a.votes b.votes long (λ place less. same (VotesFor place)) in
-    λ i. record {
-      ballots = same Ballots i;
-      overvotes = same Overvotes i;
-      undervotes = same Undervotes i;
-      write_ins = same WriteIns i;
-      pending = same Pending i;
-      unassigned = same Unassigned i;
-      votes = votes i;
-    }
+    λ i. row_from (map (λ column. same column i) columns) (votes i)
 
 -- ---- a row with these numbers
 
@@ -67,20 +60,18 @@ module _ (n : ℕ) (number : Column → ℕ) where
   number_in-row_by-le _ = omega arith
 
 -- the same numbers make the same row
-pub row_by-same : (n : ℕ) (f g : Column → ℕ)
-    → ((column : Column) → IsColumnOf n column → f column ≡ g column) → row_by n f ≡ row_by n g
-row_by-same n f g same =
-    let votes = fill_by_all (λ place. g (VotesFor place)) (row_by n f).votes n 0 (length-row_by n f)
-    (λ place less. number_in-row_by n f (VotesFor place) less ∙ same (VotesFor place) less) in
-    λ i. record {
-      ballots = same Ballots tt i;
-      overvotes = same Overvotes tt i;
-      undervotes = same Undervotes tt i;
-      write_ins = same WriteIns tt i;
-      pending = same Pending tt i;
-      unassigned = same Unassigned tt i;
-      votes = votes i;
-    }
+module _ (n : ℕ) (f g : Column → ℕ)
+    (same : (column : Column) → IsColumnOf n column → f column ≡ g column) where
+  same_in : (column : Column) → number_in column (row_by n f) ≡ number_in column (row_by n g)
+  same_in (VotesFor place) = elim (cases_lt place n) [
+    | inl less ↦ number_in-row_by n f (VotesFor place) less
+        ∙ (same (VotesFor place) less ∙ sym (number_in-row_by n g (VotesFor place) less))
+    | inr past ↦ past_row_by n f place past ∙ sym (past_row_by n g place past)
+  ]
+  same_in column = same column tt
+
+  pub row_by-same : row_by n f ≡ row_by n g
+  row_by-same = same_row _ _ (length-row_by n f ∙ sym (length-row_by n g)) same_in
 
 -- ---- zero, more and less
 
@@ -134,6 +125,18 @@ pub below_limits : (number : Column → ℕ) → number Ballots ≤ ballot_limit
     → number column < limit_of column
 below_limits number few below Ballots = omega (arith, few)
 below_limits number few below column = below column
+
+-- a column has room for the sums where the row has
+pub sum_fits : (column : Column) (a b : Row) (sums : VoteSums) (n : ℕ) → HasRoom b sums → a ≡ b
+    → n ≡ worth column sums → Fits w128 (number_in column a + n)
+sum_fits Ballots a b sums n room same is =
+    omega (arith, room Ballots, ap (number_in Ballots) same, is)
+sum_fits column a b sums n room same is = Fits-of_lt (rw (same, is) (room column))
+
+-- and has them where the row has
+pub sum_le : (column : Column) (a b : Row) (sums : VoteSums) (n : ℕ) → HasSums b sums → a ≡ b
+    → n ≡ worth column sums → n ≤ number_in column a
+sum_le column a b sums n has same is = rw (same, is) (has column)
 
 -- zeros in a list
 pub all_zero : (a n : ℕ) → replicate n zero ≡ map (λ (i : ℕ). zero) (range_with_len a n)

@@ -3,7 +3,7 @@ use Rattle.std.proofs.Common.{zero, suc, [], ◌∷◌, arith}
 use Rattle.cvr_fact_types.specs.Columns.{Ballots, Undervotes, VotesFor}
 use Rattle.cvr_tally.specs.Rows.{HasRoom, HasSums}
 use Rattle.cvr_tally.specs.Examples.{RoomOfARow, SumsOfARow, sums_of_a_ballot, with_ballots}
-use Rattle.cvr_tally.specs.Examples.{with_undervotes, with_votes}
+use Rattle.cvr_tally.specs.Examples.{with_undervotes, with_votes, row_of_a_ballot}
 
 room_for_a_ballot : HasRoom (with_ballots 18_446_744_073_709_551_614) sums_of_a_ballot
 room_for_a_ballot (VotesFor zero) = omega arith
@@ -25,15 +25,7 @@ room_for_votes (VotesFor (suc zero)) = omega arith
 room_for_votes (VotesFor (suc (suc place))) = omega arith
 room_for_votes _ = omega arith
 
-has_just : HasSums (record {
-  ballots = 1;
-  overvotes = 1;
-  undervotes = 20;
-  write_ins = 3;
-  pending = 40;
-  unassigned = 5;
-  votes = 7 ∷ 80 ∷ [];
-}) sums_of_a_ballot
+has_just : HasSums row_of_a_ballot sums_of_a_ballot
 has_just (VotesFor zero) = omega arith
 has_just (VotesFor (suc zero)) = omega arith
 has_just (VotesFor (suc (suc place))) = omega arith
