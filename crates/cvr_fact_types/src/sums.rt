@@ -31,14 +31,7 @@ impl VoteSums {
     pub fn copy(&self, alloc: Global) -> Result<VoteSums, Memory>
         ensures { IfOk result (λ v. v ≡ self.now) }
     {
-        Ok(VoteSums {
-            contest: self.contest,
-            votes: Seq::new(Vec::from_slice(alloc, self.votes.as_slice())?),
-            overvotes: self.overvotes,
-            undervotes: self.undervotes,
-            write_ins: self.write_ins,
-            pending: self.pending,
-            unassigned: self.unassigned,
-        })
+        let votes = Seq::new(Vec::from_slice(alloc, self.votes.as_slice())?);
+        Ok(VoteSums { votes, ..*self })
     }
 }
