@@ -100,7 +100,7 @@ def changes_of(name, one, other, selections, changes):
     differs."""
     added = [added_by(it, selections) for it in (one, other)]
     for row in {*added[0], *added[1]}:
-        nothing = [0] * (len(counting.COLUMNS) + len(selections[row[0]]))
+        nothing = [0] * len(counting.columns_of(row[0], selections))
         numbers = [it.get(row, nothing) for it in added]
         if numbers[0] != numbers[1]:
             changes.setdefault(row, []).append((name, numbers))

@@ -5,7 +5,8 @@ from . import reading
 from .reading import spelled
 
 COLUMNS = 'ballots', 'overvotes', 'undervotes', 'write-ins', 'pending', 'unassigned'
-STATED = 'Overvotes', 'Undervotes', 'WriteIns'
+STATED = {'overvotes': 'Overvotes', 'undervotes': 'Undervotes', 'write-ins': 'WriteIns'}
+WANTED = 'overvotes', 'undervotes'      # where no file states these, their zeros mean nothing
 
 
 def selections_of(definition):
@@ -39,15 +40,28 @@ def places_of(contest, selection):
 
 
 def sums(contest, selections):
-    """The numbers that a contest of a snapshot adds to its row: the six columns, then the votes of
-    the selections."""
+    """What a contest of a snapshot adds to its row: to the columns, then to each selection."""
     counted, pending = dict.fromkeys([None] + selections, 0), 0
     for _, _, selection, position in positions_of(contest):
         if counts(position):
             counted[selection] += position['NumberVotes']
         elif is_pending(position):
             pending += position['NumberVotes']
-    return [1, *(contest.get(name, 0) for name in STATED), pending, *counted.values()]
+    added = {'ballots': 1, 'pending': pending, 'unassigned': counted.pop(None)}
+    added.update((column, contest.get(member, 0)) for column, member in STATED.items())
+    return [added[column] for column in COLUMNS] + list(counted.values())
+
+
+def parts(numbers):
+    """The numbers of a row by column, and the votes of its selections."""
+    return dict(zip(COLUMNS, numbers)), numbers[len(COLUMNS):]
+
+
+def come_to(numbers):
+    """The votes of a row that count; with them, what makes up ballots of one vote each."""
+    held, votes = parts(numbers)
+    counted = sum(votes) + held['unassigned']
+    return counted, counted + held['overvotes'] + held['undervotes'] + held['pending']
 
 
 def row_of(contest, header):
@@ -91,16 +105,16 @@ def text_of(rows, selections):
     """The text of a tally of these rows."""
     lines = []
     for row in in_order(rows, selections):
-        numbers, names = rows[row], map(spelled, selections[row[0]])
-        votes = [part for pair in zip(names, numbers[6:]) for part in pair]
-        lines.append(' '.join(map(str, [named(row), *numbers[:6], *votes])) + '\n')
+        held, votes = parts(rows[row])
+        votes = [part for pair in zip(map(spelled, selections[row[0]]), votes) for part in pair]
+        lines.append(' '.join(map(str, [named(row), *held.values(), *votes])) + '\n')
     return ''.join(lines)
 
 
 def rows_in(text):
     """The rows of a printed tally."""
-    rows = {}
+    rows, end = {}, 3 + len(COLUMNS)
     for line in text.split('\n')[:-1]:
         words = reading.words_of(line)
-        rows[tuple(map(json.loads, words[:3]))] = list(map(int, words[3:9] + words[10::2]))
+        rows[tuple(map(json.loads, words[:3]))] = list(map(int, words[3:end] + words[end + 1::2]))
     return rows

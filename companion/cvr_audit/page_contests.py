@@ -4,7 +4,6 @@ from .page_tree import element, folded, listed, section, table
 
 MANY = 12           # a table with more rows is folded; with more contests every table is
 COLUMNS = 6         # columns of numbers in one table, as a sheet of paper has room for
-STATED = {'overvotes': 'Overvotes', 'undervotes': 'Undervotes'}
 WITHHELD = '*'
 UNKNOWN = ('The definition does not say how many votes a ballot has (VotesAllowed), so nothing is '
            'said of whether they come to the ballots.')
@@ -34,8 +33,11 @@ class Contest:
     def __init__(self, facts, key, rows):
         self.key, self.rows, self.selections = key, rows, facts.selections[key]
         self.numbers = added(rows.values()) or [0] * (len(HEADS) + len(self.selections))
-        self.ballots, self.votes = self.numbers[0], self.numbers[len(HEADS):]
+        held, self.votes = counting.parts(self.numbers)
+        self.ballots = held['ballots']
         self.allowed, self.is_whole = facts.allowed.get(key), not facts.is_public
+        self.stated = [it not in counting.WANTED or (key, counting.STATED[it]) in facts.seen.stated
+                       for it in counting.COLUMNS]
         self.hidden = set()
         if facts.is_public:
             self.hidden = page_masking.totals_withheld(self.ballots, self.votes, self.allowed or 1)
@@ -80,28 +82,20 @@ def selection_rows(facts, contest):
 
 def sums_of(contest):
     """A sentence that says whether the sums add up to the ballots."""
-    _, overvotes, undervotes, _, pending, unassigned = contest.numbers[:len(HEADS)]
-    counted = sum(contest.votes) + unassigned
+    counted, total = counting.come_to(contest.numbers)
     if contest.allowed is None:
         return UNKNOWN
     if contest.allowed > 1:
         most = contest.ballots * contest.allowed
         return ALLOWED.format(counted, most, 'too many' if counted > most else 'not too many')
-    total = counted + overvotes + undervotes + pending
     return SUMS.format(total, contest.ballots, 'the same' if total == contest.ballots else
                        'not the same')
 
 
-def is_stated(facts, contest, place):
-    """Whether a file states the number of a column; where none does, its zeros mean nothing."""
-    member = STATED.get(counting.COLUMNS[place])
-    return member is None or (contest.key, member) in facts.seen.stated
-
-
-def others_of(facts, contest):
-    """The numbers besides the votes."""
-    for place, head in enumerate(HEADS[1:], 1):
-        yield head, contest.numbers[place] if is_stated(facts, contest, place) else 'not stated'
+def others_of(contest):
+    """The numbers besides ballots and votes."""
+    for head, number, is_stated in list(zip(HEADS, contest.numbers, contest.stated))[1:]:
+        yield head, number if is_stated else 'not stated'
 
 
 def contest_parts(facts, contest):
@@ -115,7 +109,7 @@ def contest_parts(facts, contest):
     foot = None if contest.hidden else ['Votes counted', '', sum(contest.votes), '']
     yield table('Selections', heads, selection_rows(facts, contest), foot)
     if contest.is_whole:
-        yield listed(others_of(facts, contest))
+        yield listed(others_of(contest))
         yield element('p', sums_of(contest))
 
 
@@ -136,8 +130,7 @@ def columns_of(facts, contest):
     """The heads of the columns with their indices in a row, in parts that a sheet has room for."""
     votes = [(facts.names.short_selection(contest.key, key), len(HEADS) + place)
              for place, key in enumerate(contest.selections) if place not in contest.hidden]
-    numbers = [(head, place) for place, head in enumerate(HEADS)
-               if is_stated(facts, contest, place)]
+    numbers = [(head, place) for place, head in enumerate(HEADS) if contest.stated[place]]
     return chunks(numbers) * contest.is_whole + chunks(votes)
 
 

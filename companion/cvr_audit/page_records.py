@@ -4,6 +4,8 @@ from .page_tree import code, codes, element, folded, section, table
 
 MANY = 40           # a table with more rows is folded
 ADJUDICATED = 'modified'
+SAID = {'overvotes': 'overvoted', 'undervotes': 'undervoted', 'pending': 'pending',
+        'unassigned': 'unassigned'}     # of a contest with a number in the column
 TAKEN = {
     'device': 'Both are kept, and no number depends on them.',
     'header': 'Text 1 counts: of the texts of a header it is the greater one by its bytes.',
@@ -104,11 +106,11 @@ def marks_of(facts, contest):
     """What a contest of a snapshot adds to the tally, in words."""
     key = contest['ContestId']
     chosen = facts.selections[key]
-    _, *numbers = counting.sums(contest, chosen)
-    names = ['overvoted', 'undervoted', None, 'pending', 'unassigned']
-    names += [facts.names.plain_selection(key, it) for it in chosen]
-    said = [name if number == 1 or place < 5 else '%s ×%d' % (name, number)
-            for place, (name, number) in enumerate(zip(names, numbers)) if name and number]
+    held, votes = counting.parts(counting.sums(contest, chosen))
+    said = [word for column, word in SAID.items() if held[column]]
+    names = [facts.names.plain_selection(key, it) for it in chosen]
+    said += [name if number == 1 else '%s ×%d' % (name, number)
+             for name, number in zip(names, votes) if number]
     return ', '.join(said) or 'nothing'
 
 

@@ -72,8 +72,7 @@ def manifest(lines, selections):
 def batches(lines, selections):
     """Each batch of a device, with the number of its records and the sums of each contest."""
     rows = added(lines, selections, device_and_batch)
-    absent = {contest: [None] * (len(counting.COLUMNS) + len(chosen))
-              for contest, chosen in selections.items()}
+    absent = {it: [None] * len(counting.columns_of(it, selections)) for it in selections}
     yield ['CreatingDeviceId', 'BatchId', 'ballots'] + heads_of(selections, counting.COLUMNS)
     for name, size in sizes_of(lines):
         sums = [rows.get((contest, *name), absent[contest]) for contest in selections]

@@ -71,22 +71,14 @@ def find(path, report, records, words):
                     record.places.append(['votes', spelled(path), spelled(place), str(votes)])
 
 
-def row_lines(row, records, number, words):
-    """The lines for a row, whose number this is, and for its records."""
+def row_lines(row, records, column, number):
+    """The lines for a row, whose number in a column this is, and for its records."""
     if sum(it.votes for it in records.values()) != number:
         raise mismatch('the records don\'t come to the number of the row ' + counting.named(row))
-    column = 'ballots' if words.selection is None else spelled(words.selection)
     yield ['row', counting.named(row), column, str(number)]
     for name, record in records.items():
         yield ['record', *map(spelled, name), spelled(record.current), str(record.votes)]
         yield from record.places
-
-
-def column_of(words, selections):
-    """The index of the traced number among those of a row."""
-    if words.selection is None:
-        return 0
-    return len(counting.COLUMNS) + selections[words.contest].index(words.selection)
 
 
 def see_words(words, selections):
@@ -104,8 +96,9 @@ def run(files, words):
     rows, tally = traced(files.volume(1), words), counting.rows_in(files.tally())
     records = {name: record for held in rows.values() for name, record in held.items()}
     files.each_report(lambda path, report: find(path, report, records, words))
-    column, lines = column_of(words, selections), []
+    column = 'ballots' if words.selection is None else spelled(words.selection)
+    place, lines = counting.columns_of(words.contest, selections).index(column), []
     for row, numbers in tally.items():
         if is_asked(row, words):
-            lines += row_lines(row, rows.get(row, {}), numbers[column], words)
+            lines += row_lines(row, rows.get(row, {}), column, numbers[place])
     return ''.join(' '.join(it) + '\n' for it in lines), False

@@ -52,7 +52,7 @@ class Seen:
 
     def take_stated(self, snapshot):
         for contest in snapshot.get('CVRContest', []):
-            for name in ('Overvotes', 'Undervotes'):
+            for name in counting.STATED.values():
                 if name in contest:
                     self.stated.add((contest['ContestId'], name))
 
@@ -100,14 +100,11 @@ def allowed_of(definition):
 
 
 def row_lines(row, numbers, allowed):
-    ballots, overvotes, undervotes, _, pending, unassigned, *votes = numbers
-    name, most = counting.named(row), allowed.get(row[0])
-    counted = sum(votes) + unassigned
-    total = counted + overvotes + undervotes + pending
-    if pending:
-        yield 'pending', [name, str(pending)]
-    if unassigned:
-        yield 'unassigned', [name, str(unassigned)]
+    held, (counted, total) = counting.parts(numbers)[0], counting.come_to(numbers)
+    name, most, ballots = counting.named(row), allowed.get(row[0]), held['ballots']
+    for column in ('pending', 'unassigned'):
+        if held[column]:
+            yield column, [name, str(held[column])]
     if most and counted > ballots * most:
         yield 'votes', [name, str(counted), str(ballots * most)]
     elif most == 1 and total != ballots:
@@ -121,7 +118,8 @@ def contest_lines(selections, rows, stated):
         if contest not in shown:
             yield 'contest', [spelled(contest)]
             continue
-        for name in ('Overvotes', 'Undervotes'):
+        for column in counting.WANTED:
+            name = counting.STATED[column]
             if (contest, name) not in stated:
                 yield 'unstated', [spelled(contest), name]
 

@@ -37,10 +37,10 @@ from concurrent.futures import ThreadPoolExecutor
 sys.dont_write_bytecode = True
 HERE = os.path.dirname(os.path.abspath(__file__))
 TOP = os.path.dirname(os.path.dirname(HERE))
-sys.path.insert(0, HERE)
+sys.path[:0] = [HERE, os.path.join(TOP, 'tests', 'rows')]
 import page_form     # noqa: E402
 import page_masks    # noqa: E402
-import page_numbers  # noqa: E402
+import page_numbers  # noqa: E402 (it needs printed of rows/)
 import page_sets     # noqa: E402
 import page_text     # noqa: E402
 import page_views    # noqa: E402

@@ -5,11 +5,13 @@ import json
 import re
 
 import page_text
+import printed
 
 WORD = re.compile(r'"(?:[^"\\]|\\.)*"|[^ ]+')
-COLUMNS = 'Ballots', 'Overvotes', 'Undervotes', 'Write-ins', 'Pending', 'Unassigned'
+COLUMNS = [it.capitalize() for it in printed.Texts.columns]
+END = len(COLUMNS)
 HIDDEN = '*'
-MEMBERS = {'Overvotes': 1, 'Undervotes': 2}
+MAY_LACK = [COLUMNS.index(it) for it in ('Overvotes', 'Undervotes')]    # where no file states them
 WARNINGS = ['File refused', 'Records in DEF', 'Two texts of a device', 'Two headers of a record',
             'Two texts of a snapshot', 'Pending', 'Unassigned', 'Too many votes', 'Sum', 'Not stated',
             'Contest without a record', 'Record without a contest', 'Batch', 'One ballot twice']
@@ -27,7 +29,7 @@ class Tally:
         for line in text.split('\n')[:-1]:
             words = WORD.findall(line)
             contest, unit, batch = map(json.loads, words[:3])
-            self.rows[contest].append(((unit, batch), list(map(int, words[3:9] + words[10::2]))))
+            self.rows[contest].append(((unit, batch), list(printed.row_of(words).values())))
 
     def sums(self, contest, place=None):
         """The sums of the numbers of a contest, by unit (0), by batch (1) or all of them, in the
@@ -39,7 +41,7 @@ class Tally:
         return {key: list(map(sum, zip(*held[key]))) for key in order}
 
     def total(self, contest):
-        return self.sums(contest).get(None, [0] * (6 + len(self.contests[contest])))
+        return self.sums(contest).get(None, [0] * (END + len(self.contests[contest])))
 
 
 class Held:
@@ -80,9 +82,9 @@ class Held:
         terms = dict(zip((it.text() for it in part.all('dt')), part.all('dd')))
         for place, column in enumerate(COLUMNS if not self.is_public else COLUMNS[:1]):
             is_stated = terms[column].text() != 'not stated'
-            if is_stated or column not in MEMBERS or numbers[place]:
+            if is_stated or place not in MAY_LACK or numbers[place]:
                 self.see('%s %s' % (key, column), terms[column], numbers[place])
-        self.see_votes(tables[0], key, numbers[0], numbers[6:])
+        self.see_votes(tables[0], key, numbers[0], numbers[END:])
         if not self.is_public:
             self.see_sums(list(part.all('p'))[-1].text(), key, numbers)
 
@@ -105,8 +107,8 @@ class Held:
 
     def see_sums(self, text, key, numbers):
         """The sentence on whether the numbers add up to the ballots."""
-        ballots, overvotes, undervotes, _, pending, unassigned, *votes = numbers
-        allowed, counted = self.tally.allowed[key], sum(votes) + unassigned
+        held, ballots = dict(zip(COLUMNS, numbers)), numbers[0]
+        allowed, counted = self.tally.allowed[key], sum(numbers[END:]) + held['Unassigned']
         found = [int(it.replace(',', '')) for it in re.findall(r'[0-9][0-9,]*', text)]
         if not allowed:
             wanted, is_well = [], 'does not say' in text
@@ -114,7 +116,8 @@ class Held:
             wanted, is_well = [counted, ballots * allowed], counted <= ballots * allowed
             is_well = is_well == text.endswith(': not too many.')
         else:
-            wanted = [counted + overvotes + undervotes + pending, ballots]
+            others = held['Overvotes'] + held['Undervotes'] + held['Pending']
+            wanted = [counted + others, ballots]
             is_well = (wanted[0] == ballots) == text.endswith(': the same.')
         if found != wanted or not is_well:
             self.wrong.append('%s: %s' % (key, text))
@@ -171,7 +174,7 @@ class Held:
                for it in self.tally.contests[key]]
         for head in page_text.rows(table)[0][1:]:
             code = next(head.all('code'), None)
-            yield 6 + ids.index(code.text()) if code else COLUMNS.index(head.text())
+            yield END + ids.index(code.text()) if code else COLUMNS.index(head.text())
 
     def see_columns(self, key, columns, place):
         """Every column has to be there once; on a page for the public, those of the votes that are shown."""
@@ -179,10 +182,10 @@ class Held:
         if self.is_public:
             hidden = {name[1] for name in self.votes if name[0] == key}
             wanted = [] if numbers[0] < 10 or place else \
-                [6 + it for it in range(len(numbers) - 6) if it not in hidden]
+                [it for it in range(END, len(numbers)) if it - END not in hidden]
         else:
             wanted = [it for it in range(len(numbers) if self.tally.rows[key] else 0)
-                      if it not in MEMBERS.values() or it in columns or numbers[it]]
+                      if it not in MAY_LACK or it in columns or numbers[it]]
         if columns != wanted:
             self.wrong.append('%s: columns %s, not %s' % (key, columns, wanted))
 

@@ -2,19 +2,25 @@
 examples/county and its own files; its output, log and status are compared.
 
 A log of argparse isn't compared, as it differs between versions of Python. A line that ends with
-`@KIND` is one of `warnings`, with its advice for that kind. A row that `needs` a path of the system
+`@KIND` is one of `warnings`, with its advice for that kind. In a line of CSV `{of CONTEST}` stands
+for the heads of the columns of the tally, `{undervotes 1, pending 2}` for their numbers, which are 0
+where they aren't named, and `{absent}` for empty cells. A row that `needs` a path of the system
 is left out where that isn't there, and a line `skipped` says so."""
 import json
 import os
+import re
 import shutil
 import subprocess
 import sys
 import tempfile
 
+import printed
+
 HERE = os.path.dirname(os.path.abspath(__file__))
 TOP = os.path.dirname(os.path.dirname(HERE))
 COUNTY = os.path.join(TOP, 'examples', 'county')
 ALLOWED = ['"VoteVariation": "plurality"', '"VoteVariation": "plurality", "VotesAllowed": 1']
+COLUMNS = printed.Texts.columns[1:]     # of a contest in a line of CSV
 SECONDS = 300
 
 
@@ -120,13 +126,22 @@ def run(companion, cvr, row, folder):
         return out.read(), done.stderr.decode('utf-8', 'replace'), done.returncode
 
 
+def cells_of(found):
+    """The cells of a contest's columns, for what stands between `{` and `}`."""
+    said = found.group(1)
+    if said.startswith('of '):
+        return ','.join('%s %s' % (said[3:], it) for it in COLUMNS)
+    others = dict.fromkeys(COLUMNS, '' if said == 'absent' else '0')
+    return ','.join(dict(others, **dict(re.findall('([a-z-]+) ([0-9]+)', said))).values())
+
+
 def spelled(lines, advice):
-    """The text of a row's lines, in which `@KIND` stands for a kind's advice."""
+    """The text of a row's lines, in which `@KIND` stands for a kind's advice, `{..}` for cells."""
     text = ''
     for line in lines:
         head, mark, kind = line.rpartition(': @')
         text += ('%s: %s' % (head, advice[kind]) if mark else line) + '\n'
-    return text
+    return re.sub(r'\{(.*?)\}', cells_of, text)
 
 
 def differences(companion, cvr, row, advice):

@@ -16,12 +16,11 @@ sys.dont_write_bytecode = True
 HERE = os.path.dirname(os.path.abspath(__file__))
 TOP = os.path.dirname(os.path.dirname(HERE))
 COMPANION = os.path.join(TOP, 'companion')
-sys.path.insert(0, HERE)
-sys.path.insert(0, os.path.dirname(HERE))
+sys.path[:0] = [HERE, os.path.dirname(HERE), os.path.join(TOP, 'tests', 'rows')]
 import rows        # noqa: E402
 import sets        # noqa: E402
 import terminal    # noqa: E402
-import wrong_ways  # noqa: E402 (these stand beside this file, and terminal in tests/)
+import wrong_ways  # noqa: E402 (these stand beside this file and in tests/)
 
 SIDE_BY_SIDE = 4
 FEW = 12            # the sets with which a slip is tried

@@ -19,12 +19,12 @@ TOP = os.path.dirname(os.path.dirname(os.path.dirname(os.path.abspath(__file__))
 sys.path.insert(0, os.path.join(TOP, 'tests', 'rows'))
 sys.dont_write_bytecode = True
 import members                # noqa: E402
+import printed                # noqa: E402
 import random_files           # noqa: E402
 import rules as format_rules  # noqa: E402 (they stand in rows/)
 
 CELL = re.compile(r'("(?:[^"]|"")*"|[^,"\r\n]*)([,\n])')
 WORD = re.compile(r'"(?:[^"\\]|\\.)*"|[^ ]+')
-COLUMNS = ['ballots', 'overvotes', 'undervotes', 'write-ins', 'pending', 'unassigned']
 FIXED = 11          # columns of a record before those of the contests
 KINDS = 'device', 'header', 'snapshot'
 HEADING = '2024-11-06T18:00:00-05:00'
@@ -61,11 +61,7 @@ def spelled(value):
 
 def tally_rows(text):
     """The numbers of a printed tally, by contest, unit and batch, then by column."""
-    rows = {}
-    for words in lines_in(text):
-        numbers = map(int, words[3:9] + words[10::2])
-        rows[tuple(map(json.loads, words[:3]))] = dict(zip(COLUMNS + words[9::2], numbers))
-    return rows
+    return {tuple(map(json.loads, words[:3])): printed.row_of(words) for words in lines_in(text)}
 
 
 def lines_in(text):
@@ -121,7 +117,7 @@ class Set:
         for cells in lines[1:]:
             place = FIXED
             for contest, chosen in self.contests.items():
-                columns = COLUMNS + list(map(spelled, chosen))
+                columns = printed.Texts.columns + list(map(spelled, chosen))
                 numbers = cells[place:place + len(columns) - 1]
                 place += len(numbers)
                 if any(it is not None for it in numbers):

@@ -3,11 +3,10 @@ come again with another body. Of `random` only `random()` is used: its numbers a
 of Python for one seed."""
 import random
 
-from model import RANKS, Exchange, History, Import, Pool, Step
+from model import RANKS, TEXTS, Exchange, History, Import, Pool, Step
 
 STAMPS = ['2024-11-05T23:30:00-05:00', '2024-11-06T04:30:00Z', '2024-11-06T01:00:00Z',
           '2024-11-06T04:30:00.001Z', None]
-STATED = ['Overvotes', 'Undervotes', 'WriteIns']
 CONTESTS = [('mayor', ['ann', 'bob']), ('q1', ['yes', 'no'])]
 
 
@@ -75,7 +74,7 @@ def vote(chance, contest, selections):
         held = typed('CVRContestSelection',
                      SelectionPosition=[position(chance) for _ in range(1 + chance.below(2))])
         chosen.append(dict(held, ContestSelectionId=name) if name else held)
-    stated = {name: chance.below(3) for name in chance.some(STATED, 0, 2)}
+    stated = {name: chance.below(3) for name in chance.some(TEXTS.stated.values(), 0, 2)}
     return typed('CVRContest', ContestId=contest, CVRContestSelection=chosen, **stated)
 
 

@@ -1,5 +1,6 @@
 """model.py: what offices answer after a history, worked out anew each time from what has reached
-them: by the definitions in docs/reference, and not by the code of the libraries.
+them: by the definitions in docs/reference, and not by the code of the libraries. What a contest adds
+to its row is as tests/rows/printed.py reads docs/FORMAT.md.
 
 A fact is a tuple of its name's parts and its body: ('device', id, body), ('header', record, body)
 or ('snapshot', record, id, body), where a record is (device, unique) and a body a compact text."""
@@ -7,6 +8,9 @@ import json
 from collections import Counter, namedtuple
 from datetime import datetime
 
+import printed
+
+TEXTS = printed.Texts()
 RANKS = {'original': 0, 'interpreted': 1, 'modified': 2}
 LEFT_OUT = 'CVRSnapshot', 'CurrentSnapshotId'           # of a header
 
@@ -142,25 +146,9 @@ class Rules:
 
     # ---- the tally
 
-    def counts(self, position):
-        allocable = position.get('IsAllocable')
-        return allocable == 'yes' or allocable is None and position['HasIndication'] == 'yes'
-
-    def is_pending(self, position):
-        return position.get('IsAllocable') == 'unknown' and position['HasIndication'] == 'yes'
-
-    def added_up(self, positions, has_part):
-        return sum(it['NumberVotes'] for it in positions if has_part(it))
-
     def sums(self, vote, selections):
-        """Overvotes, undervotes, write-ins, pending and unassigned votes, then the votes of each selection."""
-        counted, pending = Counter(), 0
-        for it in vote['CVRContestSelection']:
-            positions = it['SelectionPosition']
-            counted[it.get('ContestSelectionId')] += self.added_up(positions, self.counts)
-            pending += self.added_up(positions, self.is_pending)
-        stated = [vote.get(name, 0) for name in ('Overvotes', 'Undervotes', 'WriteIns')]
-        return stated + [pending, counted[None]] + [counted[it] for it in selections]
+        """The columns of a contest, then the votes of each selection."""
+        return TEXTS.sums(vote, selections)
 
     def row_of(self, header):
         """The unit and batch of the rows to which a record belongs."""
@@ -175,7 +163,7 @@ class Rules:
             for place, (contest, selections) in enumerate(contests):
                 if contest in votes:
                     key = (place, *self.row_of(self.header(facts, record)))
-                    added = [1] + self.sums(votes[contest], selections)
+                    added = self.sums(votes[contest], selections)
                     rows[key] = [sum(it) for it in zip(rows.get(key, [0] * len(added)), added)]
         return rows
 
@@ -213,11 +201,11 @@ def row_order(key):
 def tally_text(rules, definition, facts):
     contests = [(contest['@id'], [it['@id'] for it in contest['ContestSelection']])
                 for contest in definition['Election'][0]['Contest']]
-    rows, text = rules.rows(contests, facts), ''
+    rows, text, end = rules.rows(contests, facts), '', len(TEXTS.columns)
     for key in sorted(rows, key=row_order):
         contest, selections = contests[key[0]]
-        votes = [words(spelled(it), number) for it, number in zip(selections, rows[key][6:])]
-        text += words(*map(spelled, (contest, *key[1:])), *rows[key][:6], *votes) + '\n'
+        votes = [words(spelled(it), number) for it, number in zip(selections, rows[key][end:])]
+        text += words(*map(spelled, (contest, *key[1:])), *rows[key][:end], *votes) + '\n'
     return text
 
 

@@ -20,12 +20,12 @@ import tempfile
 
 sys.dont_write_bytecode = True
 HERE = os.path.dirname(os.path.abspath(__file__))
-sys.path.insert(0, HERE)
+TOP = os.path.dirname(os.path.dirname(HERE))
+sys.path[:0] = [HERE, os.path.join(TOP, 'tests', 'rows')]
 import chance        # noqa: E402
 import model         # noqa: E402
-import wrong_rules   # noqa: E402 (they stand beside this file)
+import wrong_rules   # noqa: E402 (they stand beside this file; model needs printed of rows/)
 
-TOP = os.path.dirname(os.path.dirname(HERE))
 CRATE = os.path.join(TOP, 'crates', 'cvr_calls')
 DATA, STDOUT, PROGRAM = (os.path.join(CRATE, *it) for it in (['data'], ['stdout'], ['out', 'cvr_calls']))
 BEGIN = 'histories\n'        # the line before their answers

@@ -3,6 +3,7 @@ answer for some history."""
 import contextlib
 import json
 
+import printed
 from model import RANKS, Import, Play, Rules, in_bytes, spelled
 
 WRONG = []          # the description of a slip, whose rule it is, the rule's name, and what replaces it
@@ -26,11 +27,15 @@ def wrong_key(said, place, change):
     WRONG.append((said, Rules, 'key', key))
 
 
-def wrong_sums(said, change):
-    """A slip in a contest's sums."""
-    def sums(rules, vote, selections):
-        return change(RIGHT['sums'](rules, vote, selections))
-    WRONG.append((said, Rules, 'sums', sums))
+def wrong_states(said, name, *states):
+    """A slip in which states of a position, its IsAllocable and HasIndication, are taken otherwise."""
+    WRONG.append((said, printed.Texts, name, getattr(printed.Texts, name) ^ {*states}))
+
+
+def wrong_columns(said, one, other):
+    """A slip that exchanges two columns."""
+    names = {one: other, other: one}
+    WRONG.append((said, printed.Texts, 'columns', [names.get(it, it) for it in printed.Texts.columns]))
 
 
 def wrong_votes(said, change):
@@ -256,49 +261,34 @@ def shown(rules, facts, i):
 
 # ---- the tally
 
-@wrong('what is not allocable counts where it is marked')
-def counts(rules, position):
-    return position.get('IsAllocable') == 'yes' or position['HasIndication'] == 'yes'
+wrong_states('what is not allocable counts where it is marked', 'counting', ('no', 'yes'), ('unknown', 'yes'))
+wrong_states('what is allocable counts where it is marked', 'counting', ('yes', 'no'), ('yes', 'unknown'))
+wrong_states('what may be marked counts', 'counting', (None, 'unknown'))
+wrong_states('what is not marked is pending', 'pending', ('unknown', 'no'), ('unknown', 'unknown'))
+wrong_states('what may be marked is pending', 'pending', ('unknown', 'unknown'))
 
 
-@wrong('what is allocable counts where it is marked')
-def counts(rules, position):
-    return RIGHT['counts'](rules, position) and position['HasIndication'] == 'yes'
+@wrong('a position counts one vote', printed.Texts)
+def votes(texts, position):
+    return 1
 
 
-@wrong('what may be marked counts')
-def counts(rules, position):
-    allocable, indication = position.get('IsAllocable'), position['HasIndication']
-    return allocable == 'yes' or allocable is None and indication != 'no'
-
-
-@wrong('what is not marked is pending')
-def is_pending(rules, position):
-    return position.get('IsAllocable') == 'unknown'
-
-
-@wrong('what may be marked is pending')
-def is_pending(rules, position):
-    return position.get('IsAllocable') == 'unknown' and position['HasIndication'] != 'no'
-
-
-@wrong('a position counts one vote')
-def added_up(rules, positions, has_part):
-    return sum(1 for it in positions if has_part(it))
-
-
-@wrong('the first position counts alone')
-def added_up(rules, positions, has_part):
-    return RIGHT['added_up'](rules, positions[:1], has_part)
+@wrong('the first position counts alone', printed.Texts)
+def positions(texts, selections):
+    return [it['SelectionPosition'][0] for it in selections]
 
 
 wrong_votes('the last of one selection counts', lambda chosen: list(
     {it.get('ContestSelectionId'): it for it in chosen}.values()))
 wrong_votes('what names no selection is left out', lambda chosen: [
     it for it in chosen if 'ContestSelectionId' in it])
-wrong_sums('overvotes and undervotes are exchanged', lambda it: [it[1], it[0], *it[2:]])
-wrong_sums('write-ins and pending votes are exchanged', lambda it: [*it[:2], it[3], it[2], *it[4:]])
-wrong_sums('the selections are exchanged', lambda it: it[:5] + it[:4:-1])
+wrong_columns('overvotes and undervotes are exchanged', 'overvotes', 'undervotes')
+wrong_columns('write-ins and pending votes are exchanged', 'write-ins', 'pending')
+
+
+@wrong('the selections are exchanged')
+def sums(rules, vote, selections):
+    return RIGHT['sums'](rules, vote, selections[::-1])
 
 
 @wrong('unit and batch are exchanged')

@@ -51,6 +51,12 @@ def offices_of(words):
     return int(arguments(words)[1])
 
 
+def row_of(words):
+    """The numbers of a row, by column, and by selection as it is spelled, in the words of its line."""
+    end = 3 + len(Texts.columns)
+    return dict(zip(Texts.columns + words[end::2], map(int, words[3:end] + words[end + 1::2])))
+
+
 def put(held, name, body):
     """Keeps a body under its name; equal bodies once."""
     bodies = held.setdefault(name, [])
@@ -77,7 +83,8 @@ class Texts:
     lacking = ['CVRSnapshot', 'CurrentSnapshotId']          # not in a header
     counting = {(None, 'yes'), ('yes', 'yes'), ('yes', 'no'), ('yes', 'unknown')}       # IsAllocable and HasIndication
     pending = {('unknown', 'yes')}
-    columns = ['ballots', 'Overvotes', 'Undervotes', 'WriteIns', 'pending', 'unassigned']
+    columns = ['ballots', 'overvotes', 'undervotes', 'write-ins', 'pending', 'unassigned']
+    stated = {'overvotes': 'Overvotes', 'undervotes': 'Undervotes', 'write-ins': 'WriteIns'}
     row_order = ['contest', 'unit', 'batch']
     current_line = ['device', 'unique', 'snapshot', 'type']
     conflict_kinds = ['device', 'header', 'snapshot']
@@ -205,12 +212,12 @@ class Texts:
         return [position for it in selections for position in it['SelectionPosition']]
 
     def sums(self, contest, known):
-        """The six numbers of a snapshot's contest, and the votes of the selections that are known."""
+        """The columns of a snapshot's contest, and the votes of the selections that are known."""
         every = contest.get('CVRContestSelection', [])
         named = {one: [it for it in every if it.get('ContestSelectionId') == one] for one in [None] + known}
         columns = {'ballots': 1, 'pending': self.sum_of(self.positions(every), self.pending),
                    'unassigned': self.sum_of(self.positions(named[None]), self.counting)}
-        columns.update((name, contest.get(name, 0)) for name in ('Overvotes', 'Undervotes', 'WriteIns'))
+        columns.update((name, contest.get(member, 0)) for name, member in self.stated.items())
         return [columns[name] for name in self.columns] + [self.sum_of(self.positions(named[one]), self.counting) for one in known]
 
     def unit_and_batch(self, record):

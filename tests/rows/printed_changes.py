@@ -267,7 +267,7 @@ def changes_of_tally():
     yield 'selections are in order of id', method('selections', lambda texts, held, known: {name: sorted(every) for name, every in held(known).items()})
     yield 'selections are in turned order', method('selections', lambda texts, held, known: {name: every[::-1] for name, every in held(known).items()})
     yield 'each contest has a row for each record', method('counted', lambda texts, held, record: held(record) or [{'ContestId': 'mayor'}])
-    for name in ('Overvotes', 'Undervotes', 'WriteIns'):
+    for name in printed.Texts.stated.values():
         yield '%s absent is 1' % name, method('sums', lambda texts, held, contest, known, name=name: held(dict({name: 1}, **contest), known))
     yield 'TotalNumberVotes is added up', method('sums', lambda texts, held, contest, known: held(with_totals(contest), known))
     yield 'a row of zeros stays for each header', method('rows', rows_of_every_header)
