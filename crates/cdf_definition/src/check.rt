@@ -14,6 +14,7 @@ ghost use Rattle.cdf_definition.specs.Acceptance.{own_refusal, value_refusal};
 
 use crate::agreement::first_differing;
 use crate::definition::Definition;
+use crate::look::first_of;
 use crate::references::first_missing;
 use cdf_form::found::{Found, Path, Stop};
 use cdf_form::path::pointer;
@@ -88,15 +89,11 @@ fn disagreement(
     ensures { IfOk result (λ o. option_map path_of o
         ≡ first (disagreements definition.now (view value.now))) }
 {
-    match first_differing(alloc, definition.elections(), "Election", value)? {
-        None => {}
-        Some(path) => return Ok(Some(path)),
-    }
-    match first_differing(alloc, definition.named_units(), "GpUnit", value)? {
-        None => {}
-        Some(path) => return Ok(Some(path)),
-    }
-    first_differing(alloc, definition.named_parties(), "Party", value)
+    first_of!(
+        first_differing(alloc, definition.elections(), "Election", value),
+        first_differing(alloc, definition.named_units(), "GpUnit", value),
+        first_differing(alloc, definition.named_parties(), "Party", value),
+    )
 }
 
 // Whether every object of a report that has to be the definition's is.

@@ -6,12 +6,12 @@ ghost use Rattle.cdf_form.specs.Form.{first};
 ghost use Rattle.cdf_definition.specs.Paths as paths;
 ghost use Rattle.cdf_form.specs.Found.{path_of};
 ghost use Rattle.cdf_definition.specs.Paths.{each};
-ghost use Rattle.cdf_definition.specs.References.{unknown, one, many};
+ghost use Rattle.cdf_definition.specs.References.{unknown, one};
 
 use cdf_form::found::{Path, Step};
 use cdf_node::Node;
 use cdf_parts::ids::Ids;
-use cdf_parts::items_at;
+use cdf_parts::{items_at, text_in};
 use cdf_types::Memory;
 use std::alloc::Global;
 
@@ -28,86 +28,69 @@ pub trait Look {
             (λ o. option_map path_of o ≡ first (missing self.now (view value.now))) };
 }
 
-/// The first such path among the items of the array under a name.
-///
-/// # Errors
-/// `Memory` where a growth was refused.
-pub fn look_in_each<L: Look>(
-    alloc: Global,
-    look: &L,
-    name: &'static str,
-    value: &Node<'_>,
-) -> Result<Option<Path<'static>>, Memory>
-    ensures { IfOk result (λ o. option_map path_of o
-        ≡ first (each (L.missing look.now) name.now (view value.now))) }
-{
-    for (place, item) in items_at(name, value).iter().enumerate() {
-        match look.look(alloc, item)? {
-            None => {}
-            Some(found) => {
-                return Ok(Some(found.under(Step::Item(place))?.under(Step::Member(name))?));
-            }
+// The first of these answers that has a path, or none.
+macro_rules! first_of {
+    ($last:expr $(,)?) => { $last };
+    ($look:expr, $($rest:tt)+) => {
+        match $look? {
+            None => first_of!($($rest)+),
+            found => Ok(found),
         }
-    }
-    Ok(None)
+    };
 }
 
-// A text that has to be one of the ids.
-#[derive(Drop)]
-struct Reference<'a>(&'a Ids);
+pub(crate) use first_of;
 
-impl Look for Reference<'_> {
+/// A text that has to be one of the ids.
+#[derive(Clone, Copy)]
+pub struct Text<'a>(pub &'a Ids);
+
+impl Look for Text<'_> {
     ghost missing = { λ s d. unknown s.0.now (as_str d) };
 
     fn look(&self, alloc: Global, value: &Node<'_>) -> Result<Option<Path<'static>>, Memory> {
+        let ids = self.0;
         match value.as_str() {
-            None => Ok(None),
-            Some(id) => {
-                let ids = self.0;
-                if ids.contains(id) {
-                    Ok(None)
-                } else {
-                    Ok(Some(Path::here(alloc)))
-                }
-            }
+            Some(id) if !ids.contains(id) => Ok(Some(Path::here(alloc))),
+            _ => Ok(None),
         }
     }
 }
 
-/// The text under a name, where it is none of the ids.
-///
-/// # Errors
-/// `Memory` where a growth was refused.
-pub fn look_at_one(
-    alloc: Global,
-    ids: &Ids,
-    name: &'static str,
-    value: &Node<'_>,
-) -> Result<Option<Path<'static>>, Memory>
-    ensures { IfOk result
-        (λ o. option_map path_of o ≡ first (one ids.now name.now (view value.now))) }
-{
-    match value.get(name) {
-        None => Ok(None),
-        Some(member) => match Reference(ids).look(alloc, member)? {
-            None => Ok(None),
-            Some(found) => Ok(Some(found.under(Step::Member(name))?)),
-        },
+/// The text under a name, which has to be one of the ids.
+#[derive(Clone, Copy)]
+pub struct One<'a>(pub &'a Ids, pub &'static str);
+
+impl Look for One<'_> {
+    ghost missing = { λ s d. one s.0.now s.1.now d };
+
+    fn look(&self, alloc: Global, value: &Node<'_>) -> Result<Option<Path<'static>>, Memory> {
+        let One(ids, name) = *self;
+        match text_in(name, value) {
+            Some(id) if !ids.contains(id) => {
+                Ok(Some(Path::here(alloc).under(Step::Member(name))?))
+            }
+            _ => Ok(None),
+        }
     }
 }
 
-/// The first text in the array under a name that is none of the ids.
-///
-/// # Errors
-/// `Memory` where a growth was refused.
-pub fn look_at_many(
-    alloc: Global,
-    ids: &Ids,
-    name: &'static str,
-    value: &Node<'_>,
-) -> Result<Option<Path<'static>>, Memory>
-    ensures { IfOk result
-        (λ o. option_map path_of o ≡ first (many ids.now name.now (view value.now))) }
-{
-    look_in_each(alloc, &Reference(ids), name, value)
+/// Each item of the array under a name.
+#[derive(Drop)]
+pub struct Each<L: Drop>(pub L, pub &'static str);
+
+impl<L: Look + Drop> Look for Each<L> {
+    ghost missing = { λ s d. each (L.missing s.0) s.1.now d };
+
+    fn look(&self, alloc: Global, value: &Node<'_>) -> Result<Option<Path<'static>>, Memory> {
+        for (place, item) in items_at(self.1, value).iter().enumerate() {
+            match self.0.look(alloc, item)? {
+                None => {}
+                Some(found) => {
+                    return Ok(Some(found.under(Step::Item(place))?.under(Step::Member(self.1))?));
+                }
+            }
+        }
+        Ok(None)
+    }
 }

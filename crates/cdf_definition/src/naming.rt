@@ -3,8 +3,8 @@ ghost use Rattle.cdf_node.specs.View.{view};
 ghost use Rattle.cdf_definition.specs.Naming.{NamesOwn};
 
 use crate::definition::Definition;
-use crate::look::look_at_one;
-use crate::references::{look_at_current, look_in_snapshots};
+use crate::look::{Look, One};
+use crate::references::{Current, InSnapshots};
 use cdf_node::Node;
 use cdf_types::Memory;
 use std::alloc::Global;
@@ -17,11 +17,13 @@ use std::alloc::Global;
 pub fn names_own(alloc: Global, definition: &Definition, cvr: &Node<'_>) -> Result<bool, Memory>
     ensures { IfOk result (λ is. IsTrue is ↔ NamesOwn definition.now (view cvr.now)) }
 {
-    if look_in_snapshots(alloc, definition.contests(), cvr)?.is_some() {
+    let snapshots = InSnapshots(definition.contests());
+    if snapshots.look(alloc, cvr)?.is_some() {
         return Ok(false);
     }
-    if look_at_current(alloc, cvr)?.is_some() {
+    if Current.look(alloc, cvr)?.is_some() {
         return Ok(false);
     }
-    Ok(look_at_one(alloc, definition.elections().ids(), "ElectionId", cvr)?.is_none())
+    let election = One(definition.elections().ids(), "ElectionId");
+    Ok(election.look(alloc, cvr)?.is_none())
 }

@@ -6,12 +6,11 @@ ghost use Rattle.cdf_parts.specs.Parts.{ids_at, id_of};
 ghost use Rattle.cdf_form.specs.Found.{path_of};
 ghost use Rattle.cdf_definition.specs.Paths.{each};
 ghost use Rattle.cdf_definition.specs.Scoped.{scope_view, contests_alone};
-ghost use Rattle.cdf_definition.specs.References.{in_selection_vote, in_votes, in_contest_vote};
-ghost use Rattle.cdf_definition.specs.References.{in_snapshot, in_cvr, in_selection, in_contest};
-ghost use Rattle.cdf_definition.specs.References.{in_candidate, in_election, in_report, one};
-ghost use Rattle.cdf_definition.specs.References.{missing_paths};
+ghost use Rattle.cdf_definition.specs.References.{in_selection_vote, in_contest_vote, in_snapshot};
+ghost use Rattle.cdf_definition.specs.References.{in_cvr, in_selection, in_contest, in_election};
+ghost use Rattle.cdf_definition.specs.References.{in_report, one, missing_paths};
 
-use crate::look::{Look, look_at_many, look_at_one, look_in_each};
+use crate::look::{Each, Look, One, Text, first_of};
 use crate::scope::Scope;
 use cdf_form::found::{Path, Step};
 use cdf_form::leaf::find_class;
@@ -19,12 +18,12 @@ use cdf_form::table::{Class, Group, classes};
 use cdf_node::Node;
 use cdf_parts::contests::Contests;
 use cdf_parts::ids::Ids;
-use cdf_parts::{items_at, text_at};
+use cdf_parts::{items_at, text_at, text_in};
 use cdf_types::Memory;
 use std::alloc::Global;
 
-// Each struct looks at a value of one class, in the order of the names of its members, and holds
-// the ids that the value's texts can name.
+// Each struct looks at a value of one class, in the order of the names of its members, or at one of
+// these members alone, and holds the ids that the value's texts can name.
 
 #[derive(Drop)]
 struct InSelectionVote<'a>(Option<&'a Ids>);
@@ -35,7 +34,7 @@ impl Look for InSelectionVote<'_> {
     fn look(&self, alloc: Global, value: &Node<'_>) -> Result<Option<Path<'static>>, Memory> {
         match self.0 {
             None => Ok(None),
-            Some(ids) => look_at_one(alloc, ids, "ContestSelectionId", value),
+            Some(ids) => One(ids, "ContestSelectionId").look(alloc, value),
         }
     }
 }
@@ -46,110 +45,45 @@ struct InContestVote<'a>(&'a Contests);
 impl Look for InContestVote<'_> {
     ghost missing = { λ s d. in_contest_vote (contests_alone s.0.now) d };
 
+    // The selections, where their contest is one of the report's; then the contest.
     #[tactic(auto, using(crate::proofs::Items::first_or))]
     fn look(&self, alloc: Global, value: &Node<'_>) -> Result<Option<Path<'static>>, Memory> {
         let contests = self.0;
-        match look_in_votes(alloc, contests, value)? {
-            None => {}
-            Some(found) => return Ok(Some(found)),
-        }
-        look_at_one(alloc, contests.ids(), "ContestId", value)
-    }
-}
-
-// The selections, where the contest that they stand in is one of the report's.
-fn look_in_votes(
-    alloc: Global,
-    contests: &Contests,
-    value: &Node<'_>,
-) -> Result<Option<Path<'static>>, Memory>
-    ensures { IfOk result (λ o. option_map path_of o
-        ≡ first (in_votes (contests_alone contests.now) (view value.now))) }
-{
-    let ids = contests.selections_of(text_at("ContestId", value));
-    look_in_each(alloc, &InSelectionVote(ids), "CVRContestSelection", value)
-}
-
-#[derive(Drop)]
-struct InSnapshot<'a>(&'a Contests);
-
-impl Look for InSnapshot<'_> {
-    ghost missing = { λ s d. in_snapshot (contests_alone s.0.now) d };
-
-    fn look(&self, alloc: Global, value: &Node<'_>) -> Result<Option<Path<'static>>, Memory> {
-        look_in_each(alloc, &InContestVote(self.0), "CVRContest", value)
-    }
-}
-
-#[derive(Drop)]
-pub struct InCvr<'a>(pub &'a Scope);
-
-impl Look for InCvr<'_> {
-    ghost missing = { λ s d. in_cvr (scope_view s.0.now) d };
-
-    #[tactic(auto, using(crate::proofs::Items::first_or))]
-    fn look(&self, alloc: Global, value: &Node<'_>) -> Result<Option<Path<'static>>, Memory> {
-        let scope = self.0;
-        match look_at_one(alloc, &scope.units, "BallotStyleUnitId", value)? {
-            None => {}
-            Some(found) => return Ok(Some(found)),
-        }
-        match look_in_snapshots(alloc, &scope.contests, value)? {
-            None => {}
-            Some(found) => return Ok(Some(found)),
-        }
-        match look_at_one(alloc, &scope.devices, "CreatingDeviceId", value)? {
-            None => {}
-            Some(found) => return Ok(Some(found)),
-        }
-        match look_at_current(alloc, value)? {
-            None => {}
-            Some(found) => return Ok(Some(found)),
-        }
-        match look_at_one(alloc, &scope.elections, "ElectionId", value)? {
-            None => {}
-            Some(found) => return Ok(Some(found)),
-        }
-        look_at_many(alloc, &scope.parties, "PartyIds", value)
+        let ids = contests.selections_of(text_at("ContestId", value));
+        first_of!(
+            Each(InSelectionVote(ids), "CVRContestSelection").look(alloc, value),
+            One(contests.ids(), "ContestId").look(alloc, value),
+        )
     }
 }
 
 /// The contests and selections that the snapshots of a record name.
-///
-/// # Errors
-/// `Memory` where a growth was refused.
-pub fn look_in_snapshots(
-    alloc: Global,
-    contests: &Contests,
-    cvr: &Node<'_>,
-) -> Result<Option<Path<'static>>, Memory>
-    ensures { IfOk result (λ o. option_map path_of o
-        ≡ first (each (in_snapshot (contests_alone contests.now)) (codes "CVRSnapshot")
-        (view cvr.now))) }
-{
-    look_in_each(alloc, &InSnapshot(contests), "CVRSnapshot", cvr)
+#[derive(Drop)]
+pub struct InSnapshots<'a>(pub &'a Contests);
+
+impl Look for InSnapshots<'_> {
+    ghost missing = { λ s d.
+        each (in_snapshot (contests_alone s.0.now)) (codes "CVRSnapshot") d };
+
+    fn look(&self, alloc: Global, value: &Node<'_>) -> Result<Option<Path<'static>>, Memory> {
+        Each(Each(InContestVote(self.0), "CVRContest"), "CVRSnapshot").look(alloc, value)
+    }
 }
 
 /// The id of the current snapshot, where the record has none of that id.
-///
-/// # Errors
-/// `Memory` where a growth was refused.
-pub fn look_at_current(alloc: Global, cvr: &Node<'_>) -> Result<Option<Path<'static>>, Memory>
-    ensures { IfOk result (λ o. option_map path_of o
-        ≡ first (one (ids_at (codes "CVRSnapshot") (view cvr.now)) (codes "CurrentSnapshotId")
-        (view cvr.now))) }
-{
-    match cvr.get("CurrentSnapshotId") {
-        None => Ok(None),
-        Some(member) => match member.as_str() {
-            None => Ok(None),
-            Some(id) => if has_id(items_at("CVRSnapshot", cvr), id) {
-                Ok(None)
-            } else {
-                let found = Path::here(alloc).under(Step::Member("CurrentSnapshotId"))?;
-                Ok(Some(found))
-            },
-        },
+#[derive(Drop)]
+pub struct Current;
+
+impl Look for Current {
+    ghost missing = { λ _ d. one (ids_at (codes "CVRSnapshot") d) (codes "CurrentSnapshotId") d };
+
+    fn look(&self, alloc: Global, value: &Node<'_>) -> Result<Option<Path<'static>>, Memory> {
+        match text_in("CurrentSnapshotId", value) {
+            Some(id) if !has_id(items_at("CVRSnapshot", value), id) => {
+                Ok(Some(Path::here(alloc).under(Step::Member("CurrentSnapshotId"))?))
+            }
+            _ => Ok(None),
+        }
     }
 }
 
@@ -166,14 +100,22 @@ fn has_id(items: &[Node<'_>], id: &str) -> bool
 }
 
 #[derive(Drop)]
-struct InCandidate<'a>(&'a Scope);
+pub struct InCvr<'a>(pub &'a Scope);
 
-impl Look for InCandidate<'_> {
-    ghost missing = { λ s d. in_candidate (scope_view s.0.now) d };
+impl Look for InCvr<'_> {
+    ghost missing = { λ s d. in_cvr (scope_view s.0.now) d };
 
+    #[tactic(auto, using(crate::proofs::Items::first_or))]
     fn look(&self, alloc: Global, value: &Node<'_>) -> Result<Option<Path<'static>>, Memory> {
         let scope = self.0;
-        look_at_one(alloc, &scope.parties, "PartyId", value)
+        first_of!(
+            One(&scope.units, "BallotStyleUnitId").look(alloc, value),
+            InSnapshots(&scope.contests).look(alloc, value),
+            One(&scope.devices, "CreatingDeviceId").look(alloc, value),
+            Current.look(alloc, value),
+            One(&scope.elections, "ElectionId").look(alloc, value),
+            Each(Text(&scope.parties), "PartyIds").look(alloc, value),
+        )
     }
 }
 
@@ -185,41 +127,37 @@ fn class_in(group: Group, value: &Node<'_>) -> Option<Class>
 }
 
 #[derive(Drop)]
-struct InSelection<'a> {
-    scope: &'a Scope,
-    candidates: &'a Ids,
-}
+struct InSelection<'a>(&'a Scope, &'a Ids);
 
 impl Look for InSelection<'_> {
-    ghost missing = { λ s d. in_selection (scope_view s.scope.now) s.candidates.now d };
+    ghost missing = { λ s d. in_selection (scope_view s.0.now) s.1.now d };
 
     fn look(&self, alloc: Global, value: &Node<'_>) -> Result<Option<Path<'static>>, Memory> {
-        let scope = self.scope;
+        let scope = self.0;
         match class_in(Group::ContestSelections, value) {
             Some(Class::CandidateSelection) => {
-                look_at_many(alloc, self.candidates, "CandidateIds", value)
+                Each(Text(self.1), "CandidateIds").look(alloc, value)
             }
-            Some(Class::PartySelection) => look_at_many(alloc, &scope.parties, "PartyIds", value),
+            Some(Class::PartySelection) => {
+                Each(Text(&scope.parties), "PartyIds").look(alloc, value)
+            }
             _ => Ok(None),
         }
     }
 }
 
+// The contests of an election, whose candidates are its own.
 #[derive(Drop)]
-struct InContest<'a> {
-    scope: &'a Scope,
-    candidates: &'a Ids,
-}
+struct InContests<'a>(&'a Scope);
 
-impl Look for InContest<'_> {
-    ghost missing = { λ s d. in_contest (scope_view s.scope.now) s.candidates.now d };
+impl Look for InContests<'_> {
+    ghost missing = { λ s d. each (in_contest (scope_view s.0.now)
+        (ids_at (codes "Candidate") d)) (codes "Contest") d };
 
     fn look(&self, alloc: Global, value: &Node<'_>) -> Result<Option<Path<'static>>, Memory> {
-        let in_selection = InSelection {
-            scope: self.scope,
-            candidates: self.candidates,
-        };
-        look_in_each(alloc, &in_selection, "ContestSelection", value)
+        let candidates = Ids::of_items(alloc, items_at("Candidate", value))?;
+        let in_contest = Each(InSelection(self.0, &candidates), "ContestSelection");
+        Each(in_contest, "Contest").look(alloc, value)
     }
 }
 
@@ -232,34 +170,12 @@ impl Look for InElection<'_> {
     #[tactic(auto, using(crate::proofs::Items::first_or))]
     fn look(&self, alloc: Global, value: &Node<'_>) -> Result<Option<Path<'static>>, Memory> {
         let scope = self.0;
-        match look_in_each(alloc, &InCandidate(scope), "Candidate", value)? {
-            None => {}
-            Some(found) => return Ok(Some(found)),
-        }
-        match look_in_contests(alloc, scope, value)? {
-            None => {}
-            Some(found) => return Ok(Some(found)),
-        }
-        look_at_one(alloc, &scope.units, "ElectionScopeId", value)
+        first_of!(
+            Each(One(&scope.parties, "PartyId"), "Candidate").look(alloc, value),
+            InContests(scope).look(alloc, value),
+            One(&scope.units, "ElectionScopeId").look(alloc, value),
+        )
     }
-}
-
-// The contests of an election, whose candidates are its own.
-fn look_in_contests(
-    alloc: Global,
-    scope: &Scope,
-    election: &Node<'_>,
-) -> Result<Option<Path<'static>>, Memory>
-    ensures { IfOk result (λ o. option_map path_of o ≡ first (each
-        (in_contest (scope_view scope.now) (ids_at (codes "Candidate") (view election.now)))
-        (codes "Contest") (view election.now))) }
-{
-    let candidates = Ids::of_items(alloc, items_at("Candidate", election))?;
-    let in_contest = InContest {
-        scope,
-        candidates: &candidates,
-    };
-    look_in_each(alloc, &in_contest, "Contest", election)
 }
 
 // The first text of a report that is none of the ids.
@@ -272,15 +188,11 @@ fn look_in_report(
     ensures { IfOk result (λ o. option_map path_of o
         ≡ first (in_report (scope_view scope.now) (view report.now))) }
 {
-    match look_in_each(alloc, &InCvr(scope), "CVR", report)? {
-        None => {}
-        Some(found) => return Ok(Some(found)),
-    }
-    match look_in_each(alloc, &InElection(scope), "Election", report)? {
-        None => {}
-        Some(found) => return Ok(Some(found)),
-    }
-    look_at_many(alloc, &scope.devices, "ReportGeneratingDeviceIds", report)
+    first_of!(
+        Each(InCvr(scope), "CVR").look(alloc, report),
+        Each(InElection(scope), "Election").look(alloc, report),
+        Each(Text(&scope.devices), "ReportGeneratingDeviceIds").look(alloc, report),
+    )
 }
 
 /// The path of the first text of a report that names nothing in it, if there is one.
