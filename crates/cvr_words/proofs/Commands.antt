@@ -1,7 +1,6 @@
--- The six commands: what has to stand among their words.
-use Rattle.std.proofs.Common.{◌≡◌, ◌∙◌, true, false, List, [], ◌∷◌, codes, inl, inr, refl, sym}
-use Rattle.std.proofs.Common.{arith}
-use Rattle.std.specs.List.{Any}
+-- The commands: what has to stand among their words.
+use Rattle.std.proofs.Common.{◌≡◌, ◌∙◌, true, false, List, [], codes, inl, inr, map, refl, sym}
+use Rattle.std.specs.List.{list_any}
 use Rattle.std.specs.Str.{bytes_eq}
 use Rattle.std.proofs.lemmas.Slice.Eq.{bytes_eq-Decides}
 use Rattle.clap.specs.Simple.{Shape, built_leaf, inherited, marked_built, on_top, with_leaf_noted}
@@ -17,7 +16,7 @@ leaf s = built_leaf (inherited (on_top with_leaf_noted (on_top marked_built cvr_
 
 -- a command is named, and where its words meet no fault what has to stand stands
 pub record IsKnown (s : Shape) : Type 0 where
-  pub named : Any (λ x. x ≡ s.name) command_names
+  pub named : list_any (bytes_eq s.name) command_names ≡ true
   pub whole : (words : List Text) → IsSound s words → AreRowsOf s.name (rows_after s.rules [] words)
 
 apart : (a b : Text) → bytes_eq a b ≡ false → a ≡ b → ⊥
@@ -39,7 +38,7 @@ files_def name words sound =
     (inl refl, (inr refl, (inr refl, tt))) words sound
     (stands _ (standing (leaf (files_line name).top) (files_plain name) words sound).0)
 
-files_known : (name : Text) → Any (λ x. x ≡ name) command_names
+files_known : (name : Text) → list_any (bytes_eq name) command_names ≡ true
     → bytes_eq name (codes "merge") ≡ false → bytes_eq name (codes "drill") ≡ false
     → IsKnown (leaf (files_line name).top)
 files_known name listed merge drill = record {
@@ -90,7 +89,7 @@ merge_volume words sound =
 
 merge_known : IsKnown (leaf merge_line.top)
 merge_known = record {
-  named = (4, codes "merge", omega arith, refl, refl);
+  named = refl;
   whole = λ words sound. record {
     def = merge_def words sound;
     merge = λ e. (merge_date words sound, merge_device words sound, merge_volume words sound);
@@ -123,7 +122,7 @@ drill_offices words sound =
 
 drill_known : IsKnown (leaf drill_line.top)
 drill_known = record {
-  named = (5, codes "drill", omega arith, refl, refl);
+  named = refl;
   whole = λ words sound. record {
     def = drill_def words sound;
     merge = λ e. absurd (apart (codes "drill") (codes "merge") refl e);
@@ -133,21 +132,7 @@ drill_known = record {
 
 -- the commands, in their order
 abbrev pub own : List Shape
-own = leaf (files_line (codes "currents")).top ∷ leaf (files_line (codes "conflicts")).top
-    ∷ leaf (files_line (codes "tally")).top
-    ∷ leaf (files_line (codes "check")).top ∷ leaf merge_line.top ∷ leaf drill_line.top ∷ []
+own = map leaf cvr_line.subs
 
 pub own_known : Each IsKnown own
-own_known = (
-  files_known (codes "currents") (0, codes "currents", omega arith, refl, refl) refl refl,
-  (
-    files_known (codes "conflicts") (1, codes "conflicts", omega arith, refl, refl) refl refl,
-    (
-      files_known (codes "tally") (2, codes "tally", omega arith, refl, refl) refl refl,
-      (
-        files_known (codes "check") (3, codes "check", omega arith, refl, refl) refl refl,
-        (merge_known, (drill_known, tt)),
-      ),
-    ),
-  ),
-)
+own_known = search (files_known, merge_known, drill_known)

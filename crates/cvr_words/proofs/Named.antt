@@ -2,7 +2,7 @@
 use Rattle.std.proofs.Common.{◌≡◌, ◌∙◌, ◌++◌, ◌||◌, Bool, true, false, List, [], ◌∷◌, Option, Some}
 use Rattle.std.proofs.Common.{None, Result, Ok, Err, codes, option_map, refl, ap, sym, subst}
 use Rattle.std.specs.Prelude.{find}
-use Rattle.std.specs.List.{Any}
+use Rattle.std.specs.List.{list_any}
 use Rattle.std.specs.Option.{option_map_or}
 use Rattle.std.specs.Str.{bytes_eq}
 use Rattle.std.proofs.lemmas.Slice.Eq.{bytes_eq-Decides}
@@ -33,7 +33,7 @@ simple_and_free = refl
 
 -- a command of the program, with what has to stand
 abbrev pub IsCommand : Text × List Row → Type 0
-IsCommand p = Any (λ x. x ≡ p.0) command_names × AreRowsOf p.0 p.1
+IsCommand p = (list_any (bytes_eq p.0) command_names ≡ true) × AreRowsOf p.0 p.1
 
 subs_are : (built cvr_line).subs ≡ own ++ built_leaf help_shape ∷ []
 unfolding clap_on_literals

@@ -1,11 +1,9 @@
 -- Words ask for one request at most, and those that do have no fault but that memory ran out.
-use Rattle.std.proofs.Common.{◌≡◌, ◌∙◌, ◌<◌, ℕ, true, false, List, [], ◌∷◌, None, Some, codes, refl}
-use Rattle.std.proofs.Common.{ap, sym, subst}
+use Rattle.std.proofs.Common.{◌≡◌, ◌∙◌, ◌<◌, ℕ, List, [], ◌∷◌, None, Some, codes, refl}
+use Rattle.std.proofs.Common.{ap, sym, subst, arith}
 use Rattle.std.specs.Int.NonZero.{non_zero_u32_get}
 use Rattle.std.specs.Coded.{le_prop}
-use Rattle.std.specs.Str.{bytes_eq}
 use Rattle.std.specs.Str.Parse.{digits_value, without_leading_plus}
-use Rattle.std.proofs.lemmas.Slice.Eq.{bytes_eq-Decides}
 use Rattle.clap.specs.Words.{IsAmong, Row, Text, fault_of, subcommand_of}
 use Rattle.clap.specs.Kinds.{Kinds}
 use Rattle.clap.specs.declared.error.ErrorKind.{ErrorKind}
@@ -20,14 +18,10 @@ use Rattle.cvr_words.specs.declared.fault.WordFault.{WordFault}
 use Rattle.cvr_words.specs.declared.fault.WordFault.TheVariants as fault
 use Rattle.cvr_words.specs.declared.request.Request.{Request}
 use Rattle.cvr_words.specs.declared.request.Task.{Task}
-use Rattle.cvr_words.specs.declared.request.Task.TheVariants.{Currents, Conflicts, Tally, Check}
 use Rattle.cvr_words.specs.declared.request.Task.TheVariants.{Merge, Drill}
 
 some_inj : {X : Type 0} (a b : X) → Some a ≡ Some b → a ≡ b
 some_inj a b h = cc
-
-apart : (a b : Text) → bytes_eq a b ≡ false → a ≡ b → ⊥
-apart a b differ e = let bad : true ≡ false = sym ((bytes_eq-Decides a b).1 e) ∙ differ in cc
 
 -- ---- values
 
@@ -44,56 +38,6 @@ one_number id low high rows n m a b =
 
 one_task : (name : Text) (rows : List Row) (t u : Task) → IsTask name rows t → IsTask name rows u
     → t ≡ u
-one_task name rows Currents Currents a b = refl
-one_task name rows Currents Conflicts a b =
-    absurd (apart (codes "currents") (codes "conflicts") refl (sym a ∙ b))
-one_task name rows Currents Tally a b =
-    absurd (apart (codes "currents") (codes "tally") refl (sym a ∙ b))
-one_task name rows Currents Check a b =
-    absurd (apart (codes "currents") (codes "check") refl (sym a ∙ b))
-one_task name rows Currents (Merge d2 v2 n2) a b =
-    absurd (apart (codes "currents") (codes "merge") refl (sym a ∙ b.0))
-one_task name rows Currents (Drill n2 s2) a b =
-    absurd (apart (codes "currents") (codes "drill") refl (sym a ∙ b.0))
-one_task name rows Conflicts Currents a b =
-    absurd (apart (codes "conflicts") (codes "currents") refl (sym a ∙ b))
-one_task name rows Conflicts Conflicts a b = refl
-one_task name rows Conflicts Tally a b =
-    absurd (apart (codes "conflicts") (codes "tally") refl (sym a ∙ b))
-one_task name rows Conflicts Check a b =
-    absurd (apart (codes "conflicts") (codes "check") refl (sym a ∙ b))
-one_task name rows Conflicts (Merge d2 v2 n2) a b =
-    absurd (apart (codes "conflicts") (codes "merge") refl (sym a ∙ b.0))
-one_task name rows Conflicts (Drill n2 s2) a b =
-    absurd (apart (codes "conflicts") (codes "drill") refl (sym a ∙ b.0))
-one_task name rows Tally Currents a b =
-    absurd (apart (codes "tally") (codes "currents") refl (sym a ∙ b))
-one_task name rows Tally Conflicts a b =
-    absurd (apart (codes "tally") (codes "conflicts") refl (sym a ∙ b))
-one_task name rows Tally Tally a b = refl
-one_task name rows Tally Check a b = absurd (apart (codes "tally") (codes "check") refl (sym a ∙ b))
-one_task name rows Tally (Merge d2 v2 n2) a b =
-    absurd (apart (codes "tally") (codes "merge") refl (sym a ∙ b.0))
-one_task name rows Tally (Drill n2 s2) a b =
-    absurd (apart (codes "tally") (codes "drill") refl (sym a ∙ b.0))
-one_task name rows Check Currents a b =
-    absurd (apart (codes "check") (codes "currents") refl (sym a ∙ b))
-one_task name rows Check Conflicts a b =
-    absurd (apart (codes "check") (codes "conflicts") refl (sym a ∙ b))
-one_task name rows Check Tally a b = absurd (apart (codes "check") (codes "tally") refl (sym a ∙ b))
-one_task name rows Check Check a b = refl
-one_task name rows Check (Merge d2 v2 n2) a b =
-    absurd (apart (codes "check") (codes "merge") refl (sym a ∙ b.0))
-one_task name rows Check (Drill n2 s2) a b =
-    absurd (apart (codes "check") (codes "drill") refl (sym a ∙ b.0))
-one_task name rows (Merge d v n) Currents a b =
-    absurd (apart (codes "merge") (codes "currents") refl (sym a.0 ∙ b))
-one_task name rows (Merge d v n) Conflicts a b =
-    absurd (apart (codes "merge") (codes "conflicts") refl (sym a.0 ∙ b))
-one_task name rows (Merge d v n) Tally a b =
-    absurd (apart (codes "merge") (codes "tally") refl (sym a.0 ∙ b))
-one_task name rows (Merge d v n) Check a b =
-    absurd (apart (codes "merge") (codes "check") refl (sym a.0 ∙ b))
 one_task name rows (Merge d v n) (Merge d2 v2 n2) a b =
     let date = one_word (codes "DATE") rows d d2 a.1 b.1 in
     let device = one_word (codes "DEVICE") rows v v2 a.2 b.2 in
@@ -102,22 +46,11 @@ one_task name rows (Merge d v n) (Merge d2 v2 n2) a b =
     let volume : n ≡ n2 = subst (λ (j : ℕ). (h : 0 < j) → n ≡ record { value = j; ok = h }) same
     (λ h. λ i. record { value = n.value; ok = le_prop n.ok h i }) n2.ok in
     λ i. Merge (date i) (device i) (volume i)
-one_task name rows (Merge d v n) (Drill n2 s2) a b =
-    absurd (apart (codes "merge") (codes "drill") refl (sym a.0 ∙ b.0))
-one_task name rows (Drill n s) Currents a b =
-    absurd (apart (codes "drill") (codes "currents") refl (sym a.0 ∙ b))
-one_task name rows (Drill n s) Conflicts a b =
-    absurd (apart (codes "drill") (codes "conflicts") refl (sym a.0 ∙ b))
-one_task name rows (Drill n s) Tally a b =
-    absurd (apart (codes "drill") (codes "tally") refl (sym a.0 ∙ b))
-one_task name rows (Drill n s) Check a b =
-    absurd (apart (codes "drill") (codes "check") refl (sym a.0 ∙ b))
-one_task name rows (Drill n s) (Merge d2 v2 n2) a b =
-    absurd (apart (codes "drill") (codes "merge") refl (sym a.0 ∙ b.0))
 one_task name rows (Drill n s) (Drill n2 s2) a b =
     let offices = one_number (codes "OFFICES") 1 64 rows n n2 a.1 b.1 in
     let steps = a.3 ∙ sym b.3 in
     λ i. Drill (offices i) (steps i)
+one_task name rows t u a b = grind arith
 
 asked_once : (name : Text) (rows : List Row) (r s : Request) → Asks name rows r → Asks name rows s
     → r ≡ s
@@ -145,15 +78,7 @@ no_kind (x ∷ xs) k e h = cc
 
 fine_steps : (name : Text) (rows : List Row) (t : Task) → IsTask name rows t → name ≡ codes "drill"
     → bad_place (words_in (codes "STEP") rows) ≡ None
-fine_steps name rows Currents a e =
-    absurd (apart (codes "currents") (codes "drill") refl (sym a ∙ e))
-fine_steps name rows Conflicts a e =
-    absurd (apart (codes "conflicts") (codes "drill") refl (sym a ∙ e))
-fine_steps name rows Tally a e = absurd (apart (codes "tally") (codes "drill") refl (sym a ∙ e))
-fine_steps name rows Check a e = absurd (apart (codes "check") (codes "drill") refl (sym a ∙ e))
-fine_steps name rows (Merge d v n) a e =
-    absurd (apart (codes "merge") (codes "drill") refl (sym a.0 ∙ e))
-fine_steps name rows (Drill n s) a e = a.2
+fine_steps name rows t a e = grind arith
 
 no_bad_step : (words : List Text) (r : Request) (rows : List Row) (place : ℕ) → IsRequest words r
     → subcommand_of cvr_line words ≡ Some (codes "drill", rows)

@@ -1,5 +1,5 @@
 -- The command line, as clap sees it. (This project's own.)
-use Rattle.std.specs.Prelude.{ℕ, pos, true, List, [], ◌∷◌, Some, codes}
+use Rattle.std.specs.Prelude.{ℕ, pos, true, List, ◌∷◌, Some, codes, map}
 use Rattle.clap.specs.Words.{App, Rule, Text, new_app, new_rule, with_rule, with_subcommand}
 use Rattle.clap.specs.declared.builder.action.ArgAction.TheVariants.{Set, Append}
 use Rattle.clap.specs.declared.builder.value_parser.ValueParser.TheVariants as parser
@@ -44,8 +44,8 @@ bare_line = record (new_app (codes "cvr")) {
   top = record (new_app (codes "cvr")).top { subcommand_required = true };
 }
 
--- The command line as clap sees it: the six commands, the words that have to stand after each,
--- those that may, and the ranges of VOLUME and OFFICES. clap adds the command `help` and the flag
+-- The command line as clap sees it: the commands, the words that have to stand after each, those
+-- that may, and the ranges of VOLUME and OFFICES. clap adds the command `help` and the flag
 -- `--help`.
 abbrev pub cvr_line : App
 cvr_line =
@@ -59,8 +59,6 @@ cvr_line =
 abbrev pub with_program : List Text → List Text
 with_program words = codes "cvr" ∷ words
 
--- the names of the six commands
+-- the names of the commands
 abbrev pub command_names : List Text
-command_names =
-    codes "currents" ∷ codes "conflicts" ∷ codes "tally" ∷ codes "check" ∷ codes "merge"
-    ∷ codes "drill" ∷ []
+command_names = map (λ command. command.name) cvr_line.subs

@@ -1,6 +1,7 @@
-ghost use Rattle.std.specs.Prelude.{◌≡◌, IfErr, IfOk, None, codes, map};
+ghost use Rattle.std.specs.Prelude.{◌≡◌, IfErr, IfOk, None, codes, map, true};
 ghost use Rattle.std.specs.Int.NonZero.{non_zero_u32_get};
-ghost use Rattle.std.specs.List.{Any};
+ghost use Rattle.std.specs.List.{list_any};
+ghost use Rattle.std.specs.Str.{bytes_eq};
 ghost use Rattle.clap.specs.Words.{found_of, rows_of};
 ghost use Rattle.cvr_words.specs.Fault.{IsDrillFault};
 ghost use Rattle.cvr_words.specs.Line.{command_names};
@@ -148,7 +149,7 @@ pub(crate) fn request_of(
     name: &str,
     matches: &ArgMatches<'_>,
 ) -> Result<Request, LineFault>
-    requires named { Any (λ x. x ≡ name.now) command_names }
+    requires named { list_any (bytes_eq name.now) command_names ≡ true }
     requires whole { AreRowsOf name.now (rows_of (found_of matches.now)) }
     ensures ok { IfOk result (λ r. Asks name.now (rows_of (found_of matches.now)) r) }
     ensures err { IfErr result (λ f. IsDrillFault name.now (rows_of (found_of matches.now)) f) }
