@@ -4,11 +4,10 @@ use Rattle.std.specs.Prelude.{◌≡◌, ◌<◌, ◌⊎◌, ℕ, List, [], ◌�
 use Rattle.std.specs.Prelude.{false, if◌then◌else◌, IsUtf8}
 use Rattle.std.specs.Str.{bytes_eq}
 use Rattle.cvr_words.specs.Line.{with_program}
-use Rattle.cvr_words.specs.Request.{IsRequest}
+use Rattle.cvr_words.specs.Request.{IsRequest, takes_files}
 use Rattle.cvr_words.specs.declared.fault.LineFault.TheVariants as fault
 use Rattle.cvr_words.specs.declared.request.Request.{Request}
-use Rattle.cvr_words.specs.declared.request.Task.{Task}
-use Rattle.cvr_words.specs.declared.request.Task.TheVariants.{Tally, Drill}
+use Rattle.cvr_words.specs.declared.request.Task.TheVariants.{Tally}
 use Rattle.cvr_run.specs.declared.status.Status.{Status}
 use Rattle.cvr_run.specs.declared.status.Status.TheVariants.{CommandLine}
 use Rattle.cvr_run.specs.Answered.{Does, IsGiven, TellsWords}
@@ -33,11 +32,6 @@ list_words before list by_null = before ++ list_tail list by_null
 -- as many words as a command and DEF; or as `merge`, DEF, DATE, DEVICE and VOLUME
 abbrev pub IsBefore : List (List ℕ) → Type 0
 IsBefore before = (length before ≡ 2) ⊎ (length before ≡ 5)
-
--- `drill` has steps in the place of files
-abbrev pub takes_files : Task → Bool
-takes_files (Drill offices steps) = false
-takes_files task = true
 
 -- a request whose files stand in a list: the request without files, the word that names the list,
 -- and whether each path of the list ends with a NUL byte

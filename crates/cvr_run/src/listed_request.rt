@@ -3,9 +3,8 @@ ghost use Rattle.std.specs.Prelude.{IfNone, IsTrue, ◌↔◌};
 ghost use Rattle.cvr_words.specs.declared.fault.LineFault.TheVariants.{Memory as NoMemory};
 ghost use Rattle.cvr_words.specs.declared.request.Request.{Request};
 ghost use Rattle.cvr_words.specs.Line.{with_program};
-ghost use Rattle.cvr_words.specs.Request.{IsRequest};
+ghost use Rattle.cvr_words.specs.Request.{IsRequest, takes_files};
 ghost use Rattle.cvr_run.specs.Listed.{AsksListed, IsBefore, ListedRequest, list_words};
-ghost use Rattle.cvr_run.specs.Listed.{takes_files};
 
 use crate::listing::Listing;
 use cdf_types::Memory;

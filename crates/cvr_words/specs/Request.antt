@@ -1,5 +1,6 @@
 -- What the words ask for. (This project's own.)
-use Rattle.std.specs.Prelude.{◌≡◌, List, [], None, Some, codes}
+use Rattle.std.specs.Prelude.{◌≡◌, List, [], None, Some, Bool, true, false, codes}
+use Rattle.std.specs.Prelude.{if◌then◌else◌}
 use Rattle.std.specs.Int.NonZero.{non_zero_u32_get}
 use Rattle.clap.specs.Words.{Row, Text, fault_of, subcommand_of}
 use Rattle.cvr_words.specs.Line.{cvr_line}
@@ -24,10 +25,15 @@ IsTask name rows (Drill offices steps) =
     × (bad_place (words_in (codes "STEP") rows) ≡ None)
     × (steps ≡ steps_of 0 (words_in (codes "STEP") rows))
 
+-- `drill` has steps in the place of files
+abbrev pub takes_files : Task → Bool
+takes_files (Drill offices steps) = false
+takes_files task = true
+
 -- the files of a drill are those of its imports
 abbrev pub paths_in : Task → List Row → List Text
-paths_in (Drill offices steps) rows = paths_of (words_in (codes "STEP") rows)
-paths_in _ rows = words_in (codes "FILE") rows
+paths_in task rows = if takes_files task then words_in (codes "FILE") rows
+    else paths_of (words_in (codes "STEP") rows)
 
 -- the request is what the matches of the named command say
 pub record Asks (name : Text) (rows : List Row) (request : Request) : Type 0 where

@@ -2,7 +2,7 @@ use Rattle.std.proofs.Common.{true≢false, ap, map, string_bytes, sym, ◌∙�
 use Rattle.std.proofs.lemmas.Option.{IfSome_then}
 use Rattle.cvr_words.specs.Line.{with_program}
 use Rattle.cvr_words.proofs.Laws.{one_request}
-use Rattle.cvr_run.specs.Listed.{takes_files}
+use Rattle.cvr_words.specs.Request.{takes_files}
 use Rattle.cvr_run.proofs.ListWords.{asked_before, none_has}
 use Rattle.cvr_run.proofs.listed_request.listed_request.Goals as goal
 
