@@ -37,7 +37,7 @@ import run as rows            # noqa: E402 (all of them stand in tests/rows)
 SECONDS = 300
 BYTES = b'"0 \xff'          # what each byte is replaced by
 HEADING = ['2024-11-06T08:00:00Z', 'desk', '1']
-TASKS = ('currents', 'conflicts', 'tally', 'merge')
+TASKS = printed.LINES + ('merge',)
 DRILL = ['drill', 'def.json', '3', '1=f2.json', '1=f6.json', '2=f2.json', '2=bad', '3=f6.json', '1>4', '3=f2.json']    # two steps are refused
 BAD = rows.replaced(rows.VECTORS['f2.json'].decode('utf-8'), ',"UniqueId":"u1"', '').encode('utf-8')
 WORDS = {row['name']: (row, short) for where, row, short in rows.all_rows() if where == 'words.json'}
@@ -195,7 +195,7 @@ def cut_off(whole, names):
 def failing():
     """The runs whose devices fail."""
     files = held('f2.json', 'f6.json', 'f8.json')
-    for task in TASKS[:3] + ('check',):
+    for task in printed.LINES + ('check',):
         yield from cut_short(case(task, files), 1, 'fails', b'out: X1\n', 3)
         yield from cut_short(case(task, files), 1, 'nothing', b'out: X1\n', 3)
     yield from cut_short(case('merge', files), 1, 'fails', b'out: X1\n', 3)

@@ -172,7 +172,7 @@ def notes(program, asked):
     if asked.status == 3:
         code = errno.EISDIR if '.: K1' in log else errno.ENOENT
         return 'note: K1: %s (os error %d)\n' % (os.strerror(code), code)
-    if asked.words[0] not in damage.TASKS + ('check', 'drill') or asked.status > 1:
+    if asked.words[0] not in damage.printed.TASKS or asked.status > 1:
         return ''
     path, *given = damage.printed.paths(asked.words)
     found = ''.join('note: %s: no JSON at line %d, byte %d%s\n' % ((one,) + NO_JSON[one][1:])
@@ -183,7 +183,7 @@ def notes(program, asked):
         records = len(json.load(file)['CVR'])
     if records and path not in given:
         found += 'note: %s: records of its own, which are not counted: %d\n' % (path, records)
-    if asked.words[0] in ('currents', 'tally', 'merge'):
+    if asked.words[0] in damage.TASKS and asked.words[0] != 'conflicts':
         read = [(one, damage.reading(damage.rows.VECTORS[one])) for one in given if one in damage.rows.VECTORS]
         several = damage.case('conflicts', read).out.count(b'\n') - 1
         found += 'note: names with several texts, which cvr conflicts lists: %d\n' % several if several else ''

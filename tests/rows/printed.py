@@ -10,7 +10,8 @@ import re
 
 import rules as format_rules
 
-TASKS = ('currents', 'tally', 'conflicts', 'check', 'merge', 'drill')
+LINES = ('currents', 'conflicts', 'tally')   # the commands that print lines of what all files hold
+TASKS = LINES + ('merge', 'check', 'drill')
 BEFORE_FILES = {'merge': 4, 'drill': 2}     # the words of a command before its files or steps, where it has more than DEF
 NEVER = float('-inf')       # the moment of a snapshot that has none
 # A step: an office imports a file, or takes in all that another office holds.

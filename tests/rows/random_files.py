@@ -168,7 +168,7 @@ def printed_of(cvr, rules, chance, names):
     known = read(rules, definition)
     values = {name: read(rules, data, known) for name, data in files.items()}
     heading = [chance.choice(DATES), chance.choice(DEVICES), chance.choice('111223')]
-    asked = [[task, 'definition'] + (heading if task == 'merge' else []) + list(files) for task in ('currents', 'tally', 'conflicts', 'merge')]
+    asked = [[task, 'definition'] + (heading if task == 'merge' else []) + list(files) for task in printed.LINES + ('merge',)]
     asked += [drill(chance, list(files)) for _ in range(DRILLS)]
     told = laid(dict(files, definition=definition), lambda folder: [run(cvr, words, folder) for words in asked])
     for words, got in zip(asked, told):
