@@ -9,7 +9,7 @@ use Rattle.cvr_words.specs.declared.request.Task.{Task}
 use Rattle.cvr_run.specs.Accepted.{is_unsound}
 use Rattle.cvr_run.specs.Outcome.{task_text, run_text, task_fault, run_fault, task_refused}
 use Rattle.cvr_run.specs.Outcome.{any_refused}
-use Rattle.cvr_run.specs.Told.{refusal_lines, argument_texts, dues_of, run_lines, last_lines}
+use Rattle.cvr_run.specs.Told.{refusal_lines, task_dues, run_lines, last_lines}
 
 pub none_refuses : (definition : Frame) (bytes : List ℕ) → Valid definition bytes
     → first_refusal definition bytes ≡ None
@@ -28,11 +28,12 @@ text_beside task def definition paths files s is =
 
 pub lines_beside : (task : Task) (what def : List ℕ) (definition : Frame)
     (paths files : List (List ℕ)) (out_failed : Bool) → Sound def → definition ≡ frame_in def
-    → refusal_lines (argument_texts task paths) (dues_of definition task files)
+    → refusal_lines (task_dues definition task paths files).texts
+    (task_dues definition task paths files).dues
     ++ last_lines (task_fault definition task files) out_failed
     ≡ run_lines task what def paths files ++ last_lines (run_fault task def files) out_failed
 lines_beside task what def definition paths files out_failed s is =
-    ap (λ d. refusal_lines (argument_texts task paths) (dues_of d task files)
+    ap (λ d. refusal_lines (task_dues d task paths files).texts (task_dues d task paths files).dues
     ++ last_lines (task_fault d task files) out_failed) is ∙ rw (is_sound def s) refl
 
 pub fault_beside : (task : Task) (def : List ℕ) (files : List (List ℕ)) → Sound def

@@ -14,8 +14,7 @@ use Rattle.cvr_facts.specs.Reports.{facts}
 use Rattle.cvr_office.specs.Keeps.{starting_content}
 use Rattle.cvr_office.specs.Reach.{union_over}
 use Rattle.cvr_words.specs.declared.request.Task.{Task}
-use Rattle.cvr_words.specs.declared.request.Task.TheVariants.{Currents, Conflicts, Tally, Check}
-use Rattle.cvr_words.specs.declared.request.Task.TheVariants.{Merge, Drill}
+use Rattle.cvr_words.specs.declared.request.Task.TheVariants.{Check, Drill}
 use Rattle.cvr_run.specs.Accepted.{is_unsound, is_refused}
 use Rattle.cvr_run.specs.Drill.{office_lines}
 use Rattle.cvr_run.specs.HeldBytes.{held_part, HeldTextLaw, HeldLinesLaw, HeldFaultLaw}
@@ -24,7 +23,7 @@ use Rattle.cvr_run.specs.Outcome.{accepted_facts, content_of_files, count_line, 
 use Rattle.cvr_run.specs.Outcome.{check_lines, facts_text, facts_fault, task_text, task_fault}
 use Rattle.cvr_run.specs.Outcome.{files_refused, task_refused, run_text, run_fault, any_refused}
 use Rattle.cvr_run.specs.Refusals.{file_due}
-use Rattle.cvr_run.specs.Told.{refusal_line, refusal_lines, file_dues, argument_texts, dues_of}
+use Rattle.cvr_run.specs.Told.{Dues, refusal_line, refusal_lines, file_dues, drill_dues, task_dues}
 use Rattle.cvr_run.specs.Told.{run_lines}
 use Rattle.cvr_run.proofs.HeldFiles.{same_for, too_long, unsound_long, refused_long, same_refusal}
 use Rattle.cvr_run.proofs.HeldSteps.{same_step_dues, same_drilled}
@@ -79,17 +78,10 @@ same_lines definition (path ∷ paths) (file ∷ files) =
 
 same_text : (definition : Frame) (task : Task) (paths files : List (List ℕ))
     → task_text definition task paths (map held_part files) ≡ task_text definition task paths files
-same_text definition Currents paths files =
-    ap (facts_text definition Currents) (same_held definition files)
-same_text definition Conflicts paths files =
-    ap (facts_text definition Conflicts) (same_held definition files)
-same_text definition Tally paths files =
-    ap (facts_text definition Tally) (same_held definition files)
 same_text definition Check paths files = same_lines definition paths files
-same_text definition (Merge date device i) paths files =
-    ap (facts_text definition (Merge date device i)) (same_held definition files)
 same_text definition (Drill n steps) paths files =
     ap office_lines (same_drilled definition n files steps)
+same_text definition task paths files = ap (facts_text definition task) (same_held definition files)
 
 same_fault : (definition : Frame) (task : Task) (files : List (List ℕ))
     → task_fault definition task (map held_part files) ≡ task_fault definition task files
@@ -102,23 +94,18 @@ same_files definition task files =
 
 same_refused : (definition : Frame) (task : Task) (files : List (List ℕ))
     → task_refused definition task (map held_part files) ≡ task_refused definition task files
-same_refused definition Currents files = same_files definition Currents files
-same_refused definition Conflicts files = same_files definition Conflicts files
-same_refused definition Tally files = same_files definition Tally files
-same_refused definition Check files = same_files definition Check files
-same_refused definition (Merge date device i) files =
-    same_files definition (Merge date device i) files
 same_refused definition (Drill n steps) files =
     ap (list_any (λ due. is_some due.cause)) (same_step_dues definition n files steps)
+same_refused definition task files = same_files definition task files
 
-same_told : (definition : Frame) (task : Task) (files : List (List ℕ))
-    → dues_of definition task (map held_part files) ≡ dues_of definition task files
-same_told definition Currents files = same_dues definition files
-same_told definition Conflicts files = same_dues definition files
-same_told definition Tally files = same_dues definition files
-same_told definition Check files = same_dues definition files
-same_told definition (Merge date device i) files = same_dues definition files
-same_told definition (Drill n steps) files = same_step_dues definition n files steps
+same_told : (definition : Frame) (task : Task) (paths files : List (List ℕ))
+    → task_dues definition task paths (map held_part files) ≡ task_dues definition task paths files
+same_told definition (Drill n steps) paths files =
+    λ i. record (drill_dues definition n files steps) {
+      dues = same_step_dues definition n files steps i;
+    }
+same_told definition task paths files =
+    λ i. record (task_dues definition task paths files) { dues = same_dues definition files i }
 
 -- ---- runs
 
@@ -131,13 +118,14 @@ held_text task def paths files =
 
 pub held_lines : HeldLinesLaw
 held_lines task what def paths files =
+    let lines : Dues → List ℕ = λ of. refusal_lines of.texts of.dues in
     same_for (λ d. run_lines task what d paths (map held_part files))
     (refusal_line what (file_due (Some TooLong)).cause)
     (λ d long. ap (λ o. if is_some o then refusal_line what (file_due o).cause
-    else refusal_lines (argument_texts task paths)
-    (dues_of (frame_in d) task (map held_part files))) (too_long own_refusal d long)) def
+    else lines (task_dues (frame_in d) task paths (map held_part files)))
+    (too_long own_refusal d long)) def
     ∙ ap (λ dues. if is_unsound def then refusal_line what (file_due (first_unsound def)).cause
-    else refusal_lines (argument_texts task paths) dues) (same_told (frame_in def) task files)
+    else lines dues) (same_told (frame_in def) task paths files)
 
 pub held_fault : HeldFaultLaw
 held_fault task def files =

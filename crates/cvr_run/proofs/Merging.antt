@@ -21,8 +21,6 @@ use Rattle.cvr_run.specs.declared.merge.MergeFault.TheVariants.{NotMoment, NoDev
 use Rattle.cvr_run.specs.declared.printing.PrintFault.{PrintFault}
 use Rattle.cvr_run.specs.declared.printing.PrintFault.TheVariants.{Memory}
 use Rattle.cvr_words.specs.declared.request.Task.{Task}
-use Rattle.cvr_words.specs.declared.request.Task.TheVariants.{Currents, Conflicts, Tally, Check}
-use Rattle.cvr_words.specs.declared.request.Task.TheVariants as task
 use Rattle.cvr_run.specs.Merge.{merge_fault, merge_text}
 use Rattle.cvr_run.specs.Outcome.{facts_fault, facts_text}
 use Rattle.cvr_run.specs.Printing.{Prints, is_output, merge_part, of_head}

@@ -30,7 +30,7 @@ use Rattle.cvr_run.specs.Log.{cause_line, memory_line, has_path_in, Logs}
 use Rattle.cvr_run.specs.Laws.{AloneOrEachLaw}
 use Rattle.cvr_run.specs.Told.{Telling, AsDue, Lacking, Unspelled, refusal_line, refusal_lines}
 use Rattle.cvr_run.specs.Told.{told_line, told_lines, can_be, can_all, is_lacking, is_unspelled}
-use Rattle.cvr_run.specs.Told.{is_short, file_dues, argument_texts, dues_of, run_lines, last_lines}
+use Rattle.cvr_run.specs.Told.{is_short, file_dues, task_dues, run_lines, last_lines}
 use Rattle.cvr_run.specs.Told.{Dues, LogsFirst, TellsRun, CanEndAfter, IsCutShort, IsRunCutShort}
 use Rattle.cvr_run.specs.Told.{LogsSome}
 
@@ -438,8 +438,9 @@ unsound_lines : (task : Task) (what def : List ℕ) (paths files : List (List �
     → first_unsound def ≡ Some fault → run_lines task what def paths files
     ≡ refusal_line what (option_map Read (first_unsound def))
 unsound_lines task what def paths files fault due =
+    let of = task_dues (frame_in def) task paths files in
     ap (λ o. if is_some o then refusal_line what (option_map Read (first_unsound def))
-    else refusal_lines (argument_texts task paths) (dues_of (frame_in def) task files)) due
+    else refusal_lines of.texts of.dues) due
 
 status_whole : (l u s : Bool) → ((if l || u then status.Memory
     else (if s then status.Refused else status.Done)) ≡ status.Memory → ⊥)

@@ -41,27 +41,36 @@ refusal_lines texts dues = flat_map (λ one. refusal_line one.0 one.1.cause) (zi
 abbrev pub file_dues : Frame → List (List ℕ) → List Due
 file_dues definition files = map (λ file. file_due (first_refusal definition file)) files
 
--- the texts that stand in the lines of what a run refuses: of a drill its steps, else the paths of
--- files
-abbrev pub argument_texts : Task → List (List ℕ) → List (List ℕ)
-argument_texts (Drill n steps) paths = step_texts steps
-argument_texts task paths = paths
+-- the files or steps of a run by the texts of their lines, and what is due to each; and whether it
+-- goes file by file, as `check` does
+pub record Dues : Type 0 where
+  pub by_file : Bool
+  pub texts : List (List ℕ)
+  pub dues : List Due
 
--- whether it is `check`, which goes file by file
-abbrev pub is_check : Task → Bool
-is_check Check = true
-is_check task = false
+-- the files of an import, in order
+abbrev pub import_dues : Frame → List (List ℕ) → List (List ℕ) → Dues
+import_dues definition paths files =
+    record { by_file = false; texts = paths; dues = file_dues definition files }
 
--- what is due to each of them
-abbrev pub dues_of : Frame → Task → List (List ℕ) → List Due
-dues_of definition (Drill n steps) files = step_dues definition n files steps
-dues_of definition task files = file_dues definition files
+-- the steps of a drill among so many offices
+abbrev pub drill_dues : Frame → ℕ → List (List ℕ) → List Step → Dues
+drill_dues definition n files steps =
+    record { by_file = false; texts = step_texts steps; dues = step_dues definition n files steps }
+
+-- the files or steps of a task
+abbrev pub task_dues : Frame → Task → List (List ℕ) → List (List ℕ) → Dues
+task_dues definition Check paths files =
+    record { by_file = true; texts = paths; dues = file_dues definition files }
+task_dues definition (Drill n steps) paths files = drill_dues definition n files steps
+task_dues definition task paths files = import_dues definition paths files
 
 -- what a run logs: of the definition alone where it is refused, else of each refused file or step
 abbrev pub run_lines : Task → List ℕ → List ℕ → List (List ℕ) → List (List ℕ) → List ℕ
 run_lines task what def paths files =
+    let of = task_dues (frame_in def) task paths files in
     if is_unsound def then refusal_line what (file_due (first_unsound def)).cause
-    else refusal_lines (argument_texts task paths) (dues_of (frame_in def) task files)
+    else refusal_lines of.texts of.dues
 
 -- where the output has failed
 abbrev pub out_line : Bool → List ℕ
@@ -114,32 +123,6 @@ abbrev pub can_all : List Telling → List Due → Bool
 can_all [] dues = true
 can_all (telling ∷ tellings) [] = false
 can_all (telling ∷ tellings) (due ∷ dues) = can_be telling due && can_all tellings dues
-
--- the files or steps of a run by the texts of their lines, and what is due to each; and whether it
--- goes file by file, as `check` does
-pub record Dues : Type 0 where
-  pub by_file : Bool
-  pub texts : List (List ℕ)
-  pub dues : List Due
-
--- the files of an import, in order
-abbrev pub import_dues : Frame → List (List ℕ) → List (List ℕ) → Dues
-import_dues definition paths files =
-    record { by_file = false; texts = paths; dues = file_dues definition files }
-
--- the steps of a drill among so many offices
-abbrev pub drill_dues : Frame → ℕ → List (List ℕ) → List Step → Dues
-drill_dues definition n files steps =
-    record { by_file = false; texts = step_texts steps; dues = step_dues definition n files steps }
-
--- the files or steps of a task
-abbrev pub task_dues : Frame → Task → List (List ℕ) → List (List ℕ) → Dues
-task_dues definition task paths files =
-    record {
-      by_file = is_check task;
-      texts = argument_texts task paths;
-      dues = dues_of definition task files;
-    }
 
 -- a log that took the lines of the first n of them, and what a run then keeps of its refusals
 pub record LogsFirst (of : Dues) (n : ℕ) (refusals : Refusals) (old new : Taken) : Type 0 where
