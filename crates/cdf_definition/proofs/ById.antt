@@ -1,7 +1,7 @@
 -- Entries by their ids: they rise, beside each id stands the text of the last entry that has it,
 -- and how they are computed.
 use Rattle.std.proofs.Common.{◌≡◌, ℕ, ◌&&◌, T, Bool, true, false, cond, List, [], ◌∷◌, ◌++◌, map}
-use Rattle.std.proofs.Common.{reverse, length, codes, Some, Ordering, Less, Equal, Greater, nat_cmp}
+use Rattle.std.proofs.Common.{reverse, length, codes, Some, Ordering, Less, nat_cmp}
 use Rattle.std.proofs.Common.{refl, sym, ap, ◌∙◌, arith}
 use mathlib.Core.List.{reverse_aux}
 use Rattle.std.specs.List.{AllByRecursion}

@@ -1,7 +1,7 @@
 -- Entries in order, lists of pairs, and the text that stands beside an id.
 use Rattle.std.proofs.Common.{◌≡◌, ℕ, suc, ◌+◌, ◌-◌, ◌<◌, ◌≤◌, List, [], ◌∷◌, ◌++◌, length, get_or}
-use Rattle.std.proofs.Common.{map, take, Bool, true, false, cond, Some, None, Ordering, Less, Equal}
-use Rattle.std.proofs.Common.{Greater, bytes_eq, refl, sym, ap, ◌∙◌, arith, String, Global}
+use Rattle.std.proofs.Common.{map, take, Bool, true, false, cond, Some, None, Ordering}
+use Rattle.std.proofs.Common.{bytes_eq, refl, sym, ap, ◌∙◌, arith, String, Global}
 use Rattle.std.proofs.Common.{string_bytes, nat_cmp}
 use Rattle.std.specs.String.{string_cmp}
 use Rattle.std.specs.List.{position_from, zip}

@@ -47,7 +47,8 @@ lists : {K : Type 0} (text_of : K → List ℕ) (l : Listing) (values : List K)
 lists text_of l values same each text = (
   λ h. of_value text_of values text (subst (λ ts. Contains ts text) (sym same) h),
   λ p. subst (Contains (listed_in l)) p.1
-      (Contains-from_any (λ x y e. (bytes_eq-Decides x y).0 e) (text_of p.0) (listed_in l) (each p.0)),
+      (Contains-from_any (λ x y e. (bytes_eq-Decides x y).0 e) (text_of p.0) (listed_in l)
+      (each p.0)),
 )
 
 abbrev snapshot_kind_values : List SnapshotKind
@@ -91,7 +92,8 @@ selection_status_values =
 
 pub selection_status_list : HasTextsOf selection_status_text listing.ContestSelectionStatus
 selection_status_list =
-    lists selection_status_text listing.ContestSelectionStatus selection_status_values refl (λ v. grind arith)
+    lists selection_status_text listing.ContestSelectionStatus selection_status_values refl
+    (λ v. grind arith)
 
 abbrev position_status_values : List PositionStatus
 position_status_values =

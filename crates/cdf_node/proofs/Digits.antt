@@ -1,5 +1,5 @@
 -- What a number is, by what its readers give, and that the text of one below 0 reads as it.
-use Rattle.std.proofs.Common.{◌≡◌, ℤ, pos, negsuc, Bool, true, Some, int_lt, SFits, w64, refl}
+use Rattle.std.proofs.Common.{◌≡◌, ℤ, pos, negsuc, Bool, true, Some, int_lt, SFits, w64}
 use Rattle.std.proofs.Common.{arith}
 use Rattle.std.specs.Fmt.{signed_decimal}
 use Rattle.std.specs.Float.{float_is_finite}
@@ -9,7 +9,6 @@ use Rattle.serde_json.specs.Find.{as_u64, as_i64, to_float}
 use Rattle.serde_json.specs.Number.{num_of, is_valid}
 use Rattle.serde_json.specs.Read.{number_of}
 use Rattle.serde_json.specs.declared.number.N.{N}
-use Rattle.serde_json.specs.declared.number.N.TheVariants as made
 use Rattle.serde_json.proofs.Numbers.{number_of-negative}
 
 pub kind_of : (n : Num) → MatchOption (as_u64 n)

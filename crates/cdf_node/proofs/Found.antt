@@ -1,6 +1,6 @@
 -- What stands at a name among members.
 use Rattle.std.proofs.Common.{◌≡◌, ℕ, List, [], ◌∷◌, Bool, true, false, bytes_eq, Option, Some}
-use Rattle.std.proofs.Common.{option_map, Ordering, Less, Equal, Greater, is_eq, nat_cmp, refl, ap₂}
+use Rattle.std.proofs.Common.{option_map, Ordering, is_eq, nat_cmp, refl, ap₂}
 use Rattle.std.proofs.Common.{◌∙◌, arith}
 use Rattle.std.specs.Prelude.{if◌then◌else◌}
 use Rattle.std.specs.List.{find}

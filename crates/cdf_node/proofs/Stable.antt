@@ -1,6 +1,6 @@
 -- A stable sort by names leaves what members are put in order.
 use Rattle.std.proofs.Common.{◌≡◌, ℕ, List, [], ◌∷◌, Bool, true, false, cond, not, ◌&&◌, Option}
-use Rattle.std.proofs.Common.{None, Some, Ordering, Less, Equal, Greater, is_eq, nat_cmp, refl, sym}
+use Rattle.std.proofs.Common.{None, Some, Ordering, is_eq, nat_cmp, refl, sym}
 use Rattle.std.proofs.Common.{ap, ◌∙◌, arith}
 use Rattle.std.specs.Cmp.Lexicographic.{slice_cmp}
 use Rattle.std.specs.FinMap.{slice_cmp-IsAntisymmetric, nat_cmp-IsAntisymmetric}

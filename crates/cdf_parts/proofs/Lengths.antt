@@ -1,11 +1,10 @@
 -- A part's text is no longer than the whole's.
 use Rattle.std.proofs.Common.{◌≡◌, ◌≤◌, ◌<◌, ◌+◌, ◌++◌, ℕ, zero, suc, List, ◌∷◌, length, Bool, true}
-use Rattle.std.proofs.Common.{false}
 use Rattle.std.proofs.Common.{Some, nat_cmp}
 use Rattle.std.proofs.Common.{subst, arith, length-append}
 use Rattle.std.specs.Cmp.Lexicographic.{slice_cmp}
 use Rattle.json.specs.Print.{quoted}
-use Rattle.serde_json.specs.Data.{Data, null, boolean, number, string, array, object}
+use Rattle.serde_json.specs.Data.{Data, array}
 use Rattle.serde_json.specs.Data.{Items, no_items, item, Members, no_members, member}
 use Rattle.serde_json.specs.Find.{get, at, get_member, get_item}
 use Rattle.serde_json.specs.Written.{compact_text, items_text, members_text, comma_if}

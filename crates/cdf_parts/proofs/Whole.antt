@@ -4,7 +4,7 @@ use Rattle.std.proofs.Common.{true, false, ◌||◌, Option, Some, None, option_
 use Rattle.std.proofs.Common.{Equal, Greater, refl, ap, ◌∙◌, subst, arith}
 use Rattle.std.specs.Ordering.{nat_cmp, match_ordering}
 use Rattle.std.specs.Cmp.Lexicographic.{slice_cmp}
-use Rattle.serde_json.specs.Data.{Data, null, boolean, number, string, array, object, Items}
+use Rattle.serde_json.specs.Data.{Data, Items}
 use Rattle.serde_json.specs.Data.{no_items, item, Members, no_members, member}
 use Rattle.serde_json.specs.Find.{get, get_member, get_item, as_array}
 use Rattle.cdf_node.specs.View.{view}

@@ -1,7 +1,7 @@
 -- A record without its snapshots and the name of the current one.
 use Rattle.std.proofs.Common.{◌≡◌, ℕ, suc, ◌+◌, ◌≤◌, List, [], ◌∷◌, ◌++◌, length, Bool, true, false}
 use Rattle.std.proofs.Common.{not, cond, Some, None, option_map, bytes_eq, codes, nat_cmp, Ordering}
-use Rattle.std.proofs.Common.{Less, Equal, Greater, is_eq, Bor, refl, sym, ap, ap₂, ◌∙◌, rules}
+use Rattle.std.proofs.Common.{is_eq, Bor, refl, sym, ap, ap₂, ◌∙◌, rules}
 use Rattle.std.proofs.Common.{arith}
 use Rattle.std.specs.Prelude.{unwrap_or}
 use Rattle.std.specs.List.{prefix_len, position, remove}
@@ -10,7 +10,7 @@ use Rattle.std.specs.Cmp.Lexicographic.{slice_cmp}
 use Rattle.std.proofs.lemmas.Bool.{ltb-false}
 use Rattle.std.proofs.lemmas.List.{take_all, drop_all}
 use Rattle.std.proofs.lemmas.Map.Text.{is_eq-slice_cmp}
-use Rattle.serde_json.specs.Data.{Data, null, boolean, number, string, array, object, Members}
+use Rattle.serde_json.specs.Data.{Data, null, object, Members}
 use Rattle.serde_json.specs.Data.{member}
 use Rattle.serde_json.specs.Find.{as_object}
 use Rattle.serde_json.specs.Written.{has_float}

@@ -1,6 +1,6 @@
 -- Facts that lists in order keep, and the sets of them.
-use Rattle.std.proofs.Common.{◌≡◌, ℕ, List, ◌++◌, map, Bool, true, Ordering, Less, Equal, Greater}
-use Rattle.std.proofs.Common.{refl, sym, ap, ◌∙◌, subst, slice_index_or, inl, inr, arith}
+use Rattle.std.proofs.Common.{◌≡◌, ℕ, List, ◌++◌, map, Bool, true, Ordering, Equal}
+use Rattle.std.proofs.Common.{sym, ap, ◌∙◌, subst, slice_index_or, inl, inr, arith}
 use Rattle.std.specs.List.{Any, Contains, dedup, flat_map, list_any}
 use Rattle.std.specs.Ordering.{eq_by_cmp, ordering_then}
 use Rattle.std.specs.Cmp.{Equal-is, IsEquivalence}

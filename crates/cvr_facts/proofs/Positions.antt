@@ -1,11 +1,10 @@
 -- Which positions count, and which are pending.
-use Rattle.std.proofs.Common.{◌≡◌, Bool, true, false, ◌&&◌, Option, Some, None, refl, sym, ap, ◌∙◌}
+use Rattle.std.proofs.Common.{◌≡◌, Bool, true, false, ◌&&◌, Option, refl, sym, ap, ◌∙◌}
 use Rattle.std.proofs.Common.{true≢false, arith}
 use Rattle.std.specs.Option.{option_map_or}
 use Rattle.cdf_types.specs.declared.mark.Indication.{Indication}
 use Rattle.cdf_types.specs.declared.mark.Indication.TheVariants as indication
 use Rattle.cdf_types.specs.declared.mark.Allocation.{Allocation}
-use Rattle.cdf_types.specs.declared.mark.Allocation.TheVariants as allocation
 use Rattle.cvr_facts.specs.Sums.{is_marked, is_allowed, is_unsettled}
 use Rattle.cvr_facts.specs.SumLaws.{EitherLaw, MarkedLaw, UnsetLaw}
 

@@ -1,5 +1,5 @@
 -- Orders in turn.
-use Rattle.std.proofs.Common.{◌≡◌, Ordering, Less, Equal, Greater, refl, arith}
+use Rattle.std.proofs.Common.{◌≡◌, Ordering, Equal, arith}
 use Rattle.std.specs.Ordering.{ordering_then}
 
 pub then-Equal : (r : Ordering) → ordering_then r Equal ≡ r

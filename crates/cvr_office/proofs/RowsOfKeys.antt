@@ -1,6 +1,6 @@
 -- The map of all rows has each row under its key, and nothing else.
 use Rattle.std.proofs.Common.{◌≡◌, ◌==◌, ℕ, Bool, true, false, cond, ◌&&◌, ◌||◌, List, [], ◌∷◌, map}
-use Rattle.std.proofs.Common.{Contains, Option, Some, None, is_some, Ordering, Less, Equal, Greater}
+use Rattle.std.proofs.Common.{Contains, Option, Some, None, is_some, Ordering}
 use Rattle.std.proofs.Common.{refl, sym, ap, ◌∙◌, subst, arith, eq-eqb, true≢false}
 use Rattle.std.specs.Prelude.{option_map}
 use Rattle.std.specs.List.{filter, filter_map, cons_option, flat_map, find, list_any}

@@ -1,5 +1,5 @@
 -- A run over an opener that says what stands at each path.
-use Rattle.std.proofs.Common.{◌≡◌, ℕ, List, [], ◌∷◌, ◌++◌, map, ◌⊎◌, inl, inr, refl, ◌∙◌, subst}
+use Rattle.std.proofs.Common.{◌≡◌, ℕ, List, [], ◌∷◌, ◌++◌, map, ◌⊎◌, inr, refl, ◌∙◌, subst}
 use Rattle.std.proofs.Common.{sym, arith}
 use Rattle.cvr_words.specs.declared.request.Request.{Request}
 use Rattle.cvr_run.specs.declared.status.Status.{Status}

@@ -1,10 +1,10 @@
 -- Openers of worked examples.
-use Rattle.std.proofs.Common.{◌≡◌, ◌∙◌, ℕ, List, [], ◌∷◌, ◌++◌, codes, true, Some, option_map, refl}
+use Rattle.std.proofs.Common.{◌≡◌, ◌∙◌, ℕ, List, [], ◌∷◌, ◌++◌, codes, true, Some, option_map}
 use Rattle.std.proofs.Common.{ap, subst, sym, true≢false, arith}
 use Rattle.cvr_run.specs.declared.file.FileFault.TheVariants as fault
 use Rattle.cvr_run.specs.declared.status.Status.TheVariants as status
 use Rattle.cvr_run.specs.Opening.{Opener, AreRead, IsRead, FailedAt, Opens, FourAreShown}
-use Rattle.cvr_run.specs.Worked.{Stop, Unread, NoRoom, CanStop, stop_line, stop_status, unread_line}
+use Rattle.cvr_run.specs.Worked.{Stop, CanStop, stop_line, stop_status, unread_line}
 use Rattle.cvr_run.specs.Worked.{HasOnlyD, StopsAtA, TheMissingIsReported}
 
 pub four_shown : FourAreShown

@@ -1,13 +1,13 @@
 -- A walk over the words that meets no fault stops at no command that asks for help.
 use Rattle.std.proofs.Common.{◌≡◌, ◌&&◌, ℕ, Bool, true, false, not, List, [], ◌∷◌, Option, Some}
-use Rattle.std.proofs.Common.{None, cond, codes, is_some, refl, arith}
+use Rattle.std.proofs.Common.{None, cond, codes, is_some, arith}
 use Rattle.std.specs.Prelude.{⊤}
 use Rattle.std.specs.List.{fold}
 use Rattle.std.specs.Str.{bytes_eq}
 use Rattle.clap.specs.Lexer.{long_of, short_of}
 use Rattle.clap.specs.Walk.{Held, Names, Outcome, Rule, Step, Text, Waiting, Walk, after_flag}
-use Rattle.clap.specs.Walk.{after_step, arg_by_index, arg_by_long, bundle, done, idle, long_met}
-use Rattle.clap.specs.Walk.{long_or_other, next, option, plain, plain_word, positional, refused}
+use Rattle.clap.specs.Walk.{after_step, arg_by_index, arg_by_long, bundle, done, long_met}
+use Rattle.clap.specs.Walk.{long_or_other, next, plain, plain_word, refused}
 use Rattle.clap.specs.Walk.{short_or_plain, subcommand, subcommand_met, subcommand_or_other}
 use Rattle.clap.specs.Walk.{to_positional, trailing, value, waits, walked, walked_from, word_met}
 use Rattle.clap.specs.Simple.{Shape}

@@ -51,7 +51,8 @@ loop-place-preserved g c =
     let here : IsDue (due n) (cause_in r) =
     subst (λ d. IsDue d (cause_in r))
     ((λ i. file_due (first_refusal (frame_is i) (file_is i)))
-    ∙ sym (get_or-map (λ f. file_due (first_refusal definition f)) files n [] no_due lt)) told.due in
+    ∙ sym (get_or-map (λ f. file_due (first_refusal definition f)) files n [] no_due lt)) told.due
+    in
     let more = due_more due rs r (subst (λ k. IsDue (due k) (cause_in r)) (sym was.listed) here)
     (λ k l. was.due k (omega (arith, l, was.listed))) in
     record {
@@ -63,7 +64,8 @@ loop-place-preserved g c =
       len = c.push_reserved.ensures.len ∙ ap (λ k. k + 1) was.len;
       room = c.push_reserved.ensures.capacity ∙ was.room;
       content = λ working.
-          let none = none_more rs r (ap (list_any is_want) (sym {A = List Outcome} grown) ∙ working) in
+          let working' = ap (list_any is_want) (sym {A = List Outcome} grown) ∙ working in
+          let none = none_more rs r working' in
           next_taken definition _ before after file (drop (n + 1) files)
           (told.content none.1
           ∙ (λ i. union before (accepted_facts (frame_is i) (file_is i))))

@@ -16,7 +16,8 @@ returns-clause-content g c = λ working.
     out.content 0 (omega (arith, c.requires.one))
     ∙ held_played held defined (files_of c.args.files.now) c.args.place
     c.in_ok-outcomes.outcomes.items c.swap_remove.result out.count c.swap_remove.ensures.value one
-    (omega (arith, c.requires.there, length-map c.args.files.now (λ f. f.items))) out.outcomes working
+    (omega (arith, c.requires.there, length-map c.args.files.now (λ f. f.items)))
+    out.outcomes working
 
 pub returns-clause-due : goal.returns-clause-due
 returns-clause-due g c =

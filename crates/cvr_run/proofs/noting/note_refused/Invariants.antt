@@ -10,6 +10,7 @@ invariant-loop-place g l = record {
   any_refusal : l.refusals.any_refusal ≡ list_any is_refusal (take l.place l.outcomes);
   file_lacking : l.refusals.file_lacking ≡ list_any is_want (take l.place l.outcomes);
   log : (dues : List Due) → AreDue dues l.outcomes
-      → LogsFirst (record { by_file = false; texts = map g.A.Argument.spelled l.arguments; dues = dues }) l.place
+      → let texts = map g.A.Argument.spelled l.arguments in
+      LogsFirst (record { by_file = false; texts = texts; dues = dues }) l.place
       l.refusals (g.L.Sink.taken l.initial.log) (g.L.Sink.taken l.log);
 }
