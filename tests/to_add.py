@@ -4,7 +4,8 @@
 Holds rows of the table "To add" in CONTRIBUTING.md against the tools. Each row of PLAYS is played on a copy of the
 repository: what it asks for by hand is put in, and the tools run that have files in brackets behind them, in that
 order. Its second column then has to name just the files that were changed by hand, a bracket just those that the tool
-wrote, and no check may find anything wrong. Each row is also tried with a file too many or too few, which has to show.
+wrote, and no check may find anything wrong. Each row is also tried with a file too many or too few, which has to show,
+and those of MISTAKES with these, at each of which the tool has to stop.
 
 The last line is `to add: N right, M wrong`; the status is 0 only where M is 0 and N is not."""
 import re
@@ -17,7 +18,8 @@ from pathlib import Path
 
 TOP = Path(__file__).resolve().parent.parent
 NOT_COPIED = shutil.ignore_patterns('.git', 'out', 'dist', '__pycache__')
-# By the first words of a row, what is put in by hand: (file, a line of it, a line to stand below that).
+# By the first words of a row, what is put in by hand: (file, a line of it, a line to stand below that, or nothing where
+# that line is left out).
 PLAYS = {
     'a member of the format': [
         ('docs/FORMAT.md', '| `BatchId` | O | text | |', '| `BatchNote` | O | text | |'),
@@ -28,11 +30,25 @@ PLAYS = {
         ('docs/FAULTS.md', '| 14 | NotWhole |', '| 15 | BlankText | A name has only spaces. | `scan.json: E3 /CVR/0/UniqueId 15` | Give it a name. |')],
     'a code': [
         ('docs/FAULTS.md', '| N1 | There is no office', '| N3 | An office has no number. | `>4: N3` | Name an office. |')],
+    'a column of the tally': [
+        ('docs/FORMAT.md', '| unassigned |', '| blanks | 1 for each record that has no mark for the contest |'),
+        ('tests/rows/printed.py', '    columns = [', "    columns += ['blanks']"),
+        ('tests/rows/printed.py', '        columns.update(', "        columns['blanks'] = int('yes' not in [it['HasIndication'] for it in self.positions(every)])"),
+        # rows whose files are too long to be read here
+        *(('tests/rows/tally.json', '{"name": "tally-%s"' % it, '') for it in ('1024-of-64-positions', '65536-unnamed-selections')),
+        ('tests/rows/edges.json', '{"name": "70000-records-in-a-file"', '')],
 }
-IN_PART = 'a rule', 'a code'        # rows that ask for more by hand than is played
+ROW = r'{"name": "%s", "words": ["tally", "def.json", "f2.json"], "out": "\"mayor\" \"p1\" null %s \"ann\" 1 \"bob\" 0 \"wi\" 0\n", "err": "", "status": 0},'
+MISTAKES = {
+    'a column of the tally': [
+        ('README.md', '"council" "precinct-1" ', '"council" "precinct-1" "batch-1" 1 0 0 0 0 1 "council-iris" 1 "council-omar" 0 "council-other" 0'),
+        *(('tests/rows/tally.json', '{"name": "tally-one-file"', ROW % (it, it)) for it in ('1 0 0 0 1 0', '1 0 0 0 0 0 1'))],
+}
+IN_PART = 'a rule', 'a code', 'a column of the tally'       # rows that ask for more by hand than is played
 CHECKS = [['tools/edits', '--fit'], ['tools/tables', '--check'], ['tests/tables.py'], ['tools/codes', '--check'], ['tools/reference', '--check']]
 TOOL = re.compile(r'`(tools/\w+)` \(([^)]*)\)')
-NAMED = re.compile(r'\b(FORMAT|FAULTS)\b|`(\w+)`:|`([\w./]+\.\w+)`')
+PATH = r'[\w./]+(?:\.\w+|/stdout)'
+NAMED = re.compile(r'\b(FORMAT|FAULTS)\b|`(\w+)`:|`(%s)`' % PATH)
 
 
 def row(text, name):
@@ -72,31 +88,31 @@ def run(top, words):
     return done.stdout if done.returncode else ''
 
 
-def played(name, cells):
+def played(name, cells, mistakes=()):
     """The files that a play changes by hand, those that each tool writes, and what is then wrong."""
     with tempfile.TemporaryDirectory() as folder:
         top = Path(shutil.copytree(TOP, Path(folder, 'cvr'), ignore=NOT_COPIED))
-        for path, line, more in PLAYS[name]:
-            text, found = re.subn(r'^%s.*\n' % re.escape(line), lambda it: it.group() + more + '\n', (top / path).read_text('utf-8'), flags=re.M)
+        for path, line, more in [*PLAYS[name], *mistakes]:
+            text, found = re.subn(r'^%s.*\n' % re.escape(line), lambda it: more and it.group() + more + '\n', (top / path).read_text('utf-8'), flags=re.M)
             if found != 1:
                 raise ValueError('%s: %s has %d lines %r' % (name, path, found, line))
             (top / path).write_text(text, 'utf-8')
         by_tool, wrong = {}, []
         for tool, _ in TOOL.findall(cells[1]):
             before = held(top)
-            wrong.append(run(top, [tool]))
+            wrong += {run(top, [tool]), run(top, [tool])}       # again, since some read what they wrote
             by_tool[tool] = {path for path, data in held(top).items() if before.get(path) != data}
         wrong += [run(top, words) for words in CHECKS]
-    return {path for path, _, _ in PLAYS[name]}, by_tool, ['%s: %s' % (name, it.strip()) for it in wrong if it]
+    return {path for path, _, more in PLAYS[name] if more}, by_tool, ['%s: %s' % (name, it.strip()) for it in wrong if it]
 
 
 def slips(name, cells, by_hand, by_tool):
     """The cells with a file too few or too many that the comparison doesn't see."""
     where, also = cells
-    named = [it for it in re.findall(r'FORMAT|FAULTS|`[\w./]+\.\w+`', where) if name not in IN_PART or files(it) <= by_hand]
+    named = [it for it in re.findall('FORMAT|FAULTS|`%s`' % PATH, where) if name not in IN_PART or files(it) <= by_hand]
     changed = [(where.replace(it, 'it', 1), also) for it in named] + [(where + '; `x/y.py`', also)] * (name not in IN_PART)
     for tool, inner in TOOL.findall(also):
-        for less in [inner.replace(it, 'it', 1) for it in re.findall(r'`[\w./]+\.\w+`', inner)] + [inner + ', `x/y.py`']:
+        for less in [inner.replace(it, 'it', 1) for it in re.findall('`%s`' % PATH, inner)] + [inner + ', `x/y.py`']:
             changed.append((where, also.replace('(%s)' % inner, '(%s)' % less, 1)))
     return ['this test, on the row | %s | %s | %s |' % (name, *it) for it in changed if not list(differences(name, it, by_hand, by_tool))]
 
@@ -105,7 +121,12 @@ def tried(name):
     """What is wrong with a row."""
     cells = row((TOP / 'CONTRIBUTING.md').read_text('utf-8'), name)
     by_hand, by_tool, wrong = played(name, cells)
-    return wrong + list(differences(name, cells, by_hand, by_tool)) or slips(name, cells, by_hand, by_tool)
+    wrong = wrong + list(differences(name, cells, by_hand, by_tool)) or slips(name, cells, by_hand, by_tool)
+    if name in MISTAKES:
+        _, written, told = played(name, cells, MISTAKES[name])
+        if any(written.values()) or ''.join(told).count('WRONG') != len(MISTAKES[name]):
+            wrong.append('%s: mistakes are not told: %s %s' % (name, written, told))
+    return wrong
 
 
 def main():
