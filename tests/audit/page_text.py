@@ -3,7 +3,7 @@ import re
 from html.parser import HTMLParser
 
 VOID = 'meta', 'br', 'link', 'img'
-LINES = 'h1', 'h2', 'h3', 'p', 'li', 'caption', 'summary'
+LINES = 'h1', 'h2', 'h3', 'p', 'li', 'summary'
 MARKS = {'h1': '# ', 'h2': '## ', 'h3': '### ', 'li': '- ', 'caption': 'table: ', 'summary': '+ '}
 
 
@@ -66,20 +66,27 @@ def read(text):
     return reader.open[0]
 
 
-def lines(node):
-    """The lines of text of a page, without its style: rows of tables with ` | ` between cells."""
+def lines(node, hidden=()):
+    """The lines of text of a page, without its style: rows of tables with ` | ` between cells. What has
+    a head of `hidden` is left out."""
     for part in node.parts:
         if not isinstance(part, Node) or part.tag in ('style', 'title'):
             continue
-        if part.tag == 'tr':
-            yield ' | '.join(it.text() for it in part.all('th', 'td')).rstrip()
+        if part.tag == 'table':
+            heads = [it.text() for it in rows(part)[0]]
+            left = [place for place, head in enumerate(heads) if head in hidden]
+            if not left or len(left) + 1 < len(heads):
+                yield MARKS['caption'] + next(part.all('caption')).text()
+                for row in rows(part):
+                    yield ' | '.join(it.text() for place, it in enumerate(row) if place not in left).rstrip()
         elif part.tag == 'dl':
             for term, said in zip(part.all('dt'), part.all('dd')):
-                yield '%s: %s' % (term.text(), said.text())
+                if term.text() not in hidden:
+                    yield '%s: %s' % (term.text(), said.text())
         elif part.tag in LINES:
             yield MARKS.get(part.tag, '') + part.text()
         else:
-            yield from lines(part)
+            yield from lines(part, hidden)
 
 
 def sections(page):

@@ -4,8 +4,9 @@ examples/county and its own files; its output, log and status are compared.
 A log of argparse isn't compared, as it differs between versions of Python. A line that ends with
 `@KIND` is one of `warnings`, with its advice for that kind. In a line of CSV `{of CONTEST}` stands
 for the heads of the columns of the tally, `{undervotes 1, pending 2}` for their numbers, which are 0
-where they aren't named, and `{absent}` for empty cells. A row that `needs` a path of the system
-is left out where that isn't there, and a line `skipped` says so."""
+where they aren't named, and `{absent}` for empty cells. A column that no row names may have any number
+here: sets.py compares it with the tally. A row that `needs` a path of the system is left out where that
+isn't there, and a line `skipped` says so."""
 import json
 import os
 import re
@@ -21,12 +22,14 @@ TOP = os.path.dirname(os.path.dirname(HERE))
 COUNTY = os.path.join(TOP, 'examples', 'county')
 ALLOWED = ['"VoteVariation": "plurality"', '"VoteVariation": "plurality", "VotesAllowed": 1']
 COLUMNS = printed.Texts.columns[1:]     # of a contest in a line of CSV
+ANY = '\0'          # stands for any number
 SECONDS = 300
+with open(os.path.join(HERE, 'rows.json'), encoding='utf-8') as rows_file:
+    TEXT = rows_file.read()
 
 
 def held():
-    with open(os.path.join(HERE, 'rows.json'), encoding='utf-8') as file:
-        rows = json.load(file)['rows']
+    rows = json.loads(TEXT)['rows']
     lacking = [row for row in rows if not os.path.exists(row.get('needs', HERE))]
     for row in lacking:
         print('skipped row %s: %s is not there' % (row['name'], row['needs']))
@@ -131,7 +134,7 @@ def cells_of(found):
     said = found.group(1)
     if said.startswith('of '):
         return ','.join('%s %s' % (said[3:], it) for it in COLUMNS)
-    others = dict.fromkeys(COLUMNS, '' if said == 'absent' else '0')
+    others = {it: '' if said == 'absent' else '0' if re.search('[{ ]%s [0-9]' % it, TEXT) else ANY for it in COLUMNS}
     return ','.join(dict(others, **dict(re.findall('([a-z-]+) ([0-9]+)', said))).values())
 
 
@@ -152,4 +155,5 @@ def differences(companion, cvr, row, advice):
     log = got[1] if row['err'] is None else spelled(row['err'], advice)
     expected = spelled(row['out'], advice), log, row['status']
     return ['row %s: %s\n    got      %r\n    expected %r' % (row['name'], what, a, b)
-            for what, a, b in zip(('output', 'log', 'status'), got, expected) if a != b]
+            for what, a, b in zip(('output', 'log', 'status'), got, expected)
+            if not re.fullmatch(re.escape(str(b)).replace(ANY, '[0-9]+'), str(a))]
