@@ -21,8 +21,8 @@ fn facts_in(alloc: Global, definition: &Definition, bytes: &[u8]) -> Result<Fact
     Ok(facts_of(alloc, definition, &report)?)
 }
 
-// Writes a snapshot: its record, its id, its Type, and of each contest its place, overvotes,
-// undervotes, write-ins, and the votes that are pending, unassigned and of each selection.
+// Writes a snapshot: its record, its id, its Type, and of each contest its place and the votes of
+// each selection.
 fn tell_snapshot(text: &mut String, snapshot: &SnapshotFact) -> Result<(), Memory> {
     let key = &snapshot.key;
     write!(
@@ -34,15 +34,7 @@ fn tell_snapshot(text: &mut String, snapshot: &SnapshotFact) -> Result<(), Memor
         snapshot.kind.text()
     )?;
     for sums in snapshot.votes.as_slice() {
-        let (over, under, write_ins) = (sums.overvotes, sums.undervotes, sums.write_ins);
-        write!(text, ", {}: {over} {under} {write_ins}", sums.contest)?;
-        write!(
-            text,
-            " {} {} {:?}",
-            sums.pending,
-            sums.unassigned,
-            sums.votes.as_slice()
-        )?;
+        write!(text, ", {}: {:?}", sums.contest, sums.votes.as_slice())?;
     }
     text.push_str("\n")?;
     Ok(())
