@@ -5,8 +5,8 @@ A log of argparse isn't compared, as it differs between versions of Python. A li
 `@KIND` is one of `warnings`, with its advice for that kind. In a line of CSV `{of CONTEST}` stands
 for the heads of the columns of the tally, `{undervotes 1, pending 2}` for their numbers, which are 0
 where they aren't named, and `{absent}` for empty cells. A column that no row names may have any number
-here: sets.py compares it with the tally. A row that `needs` a path of the system is left out where that
-isn't there, and a line `skipped` says so."""
+here, and any line of `compare`: sets.py holds it against the tally. A row that `needs` a path of the
+system is left out where that isn't there, and a line `skipped` says so."""
 import json
 import os
 import re
@@ -26,6 +26,7 @@ ANY = '\0'          # stands for any number
 SECONDS = 300
 with open(os.path.join(HERE, 'rows.json'), encoding='utf-8') as rows_file:
     TEXT = rows_file.read()
+UNNAMED = [it for it in COLUMNS if not re.search('[{ ]%s [0-9]' % it, TEXT)]
 
 
 def held():
@@ -134,7 +135,7 @@ def cells_of(found):
     said = found.group(1)
     if said.startswith('of '):
         return ','.join('%s %s' % (said[3:], it) for it in COLUMNS)
-    others = {it: '' if said == 'absent' else '0' if re.search('[{ ]%s [0-9]' % it, TEXT) else ANY for it in COLUMNS}
+    others = {it: '' if said == 'absent' else ANY if it in UNNAMED else '0' for it in COLUMNS}
     return ','.join(dict(others, **dict(re.findall('([a-z-]+) ([0-9]+)', said))).values())
 
 
@@ -151,9 +152,11 @@ def differences(companion, cvr, row, advice):
     """What differs between a row and its run, as lines."""
     with tempfile.TemporaryDirectory() as folder:
         lay(folder, row.get('files', {}))
-        got = run(companion, cvr, row, folder)
-    log = got[1] if row['err'] is None else spelled(row['err'], advice)
+        out, *got = run(companion, cvr, row, folder)
+    for column in UNNAMED:
+        out = re.sub('(?m)^(?:row|part) .* %s .*\n' % column, '', out)
+    log = got[0] if row['err'] is None else spelled(row['err'], advice)
     expected = spelled(row['out'], advice), log, row['status']
     return ['row %s: %s\n    got      %r\n    expected %r' % (row['name'], what, a, b)
-            for what, a, b in zip(('output', 'log', 'status'), got, expected)
+            for what, a, b in zip(('output', 'log', 'status'), [out, *got], expected)
             if not re.fullmatch(re.escape(str(b)).replace(ANY, '[0-9]+'), str(a))]
