@@ -1,11 +1,8 @@
 -- Rows by their columns.
-use Rattle.std.proofs.Common.{◌≡◌, ℕ, zero, suc, ◌+◌, ◌-◌, ◌≤◌, ◌<◌, ◌^◌, ◌∷◌, length, map}
+use Rattle.std.proofs.Common.{◌≡◌, ℕ, zero, suc, ◌+◌, ◌-◌, ◌≤◌, ◌<◌, ◌^◌, List, [], ◌∷◌, length, map}
 use Rattle.std.proofs.Common.{replicate, inl, inr, refl, sym, ap, ◌∙◌, subst, arith, ext_get_or}
-use Rattle.std.proofs.Common.{Fits}
-use Rattle.std.proofs.Math.Facts.{Fits-of_lt}
-use Rattle.std.specs.Int.{w128}
 use Rattle.std.specs.Bool.{⊤}
-use Rattle.std.specs.List.{range_with_len}
+use Rattle.std.specs.List.{AllByRecursion, range_with_len}
 use Rattle.std.proofs.lemmas.Bool.{cases_lt}
 use Rattle.std.proofs.lemmas.List.{get_or_past}
 use Rattle.std.proofs.lemmas.List.FromFn.{length-map-range_with_len, get_or-map-range_with_len}
@@ -126,17 +123,19 @@ pub below_limits : (number : Column → ℕ) → number Ballots ≤ ballot_limit
 below_limits number few below Ballots = omega (arith, few)
 below_limits number few below column = below column
 
--- a column has room for the sums where the row has
-pub sum_fits : (column : Column) (a b : Row) (sums : VoteSums) (n : ℕ) → HasRoom b sums → a ≡ b
-    → n ≡ worth column sums → Fits w128 (number_in column a + n)
-sum_fits Ballots a b sums n room same is =
-    omega (arith, room Ballots, ap (number_in Ballots) same, is)
-sum_fits column a b sums n room same is = Fits-of_lt (rw (same, is) (room column))
+-- what holds of any column holds of each
+in_each : (P : Column → Type 0) → ((column : Column) → P column) → (cs : List Column)
+    → AllByRecursion P cs
+in_each P any [] = tt
+in_each P any (column ∷ cs) = (any column, in_each P any cs)
 
--- and has them where the row has
-pub sum_le : (column : Column) (a b : Row) (sums : VoteSums) (n : ℕ) → HasSums b sums → a ≡ b
-    → n ≡ worth column sums → n ≤ number_in column a
-sum_le column a b sums n has same is = rw (same, is) (has column)
+pub room_in_each : (row : Row) (sums : VoteSums) → HasRoom row sums
+    → AllByRecursion (λ column. number_in column row + worth column sums < limit_of column) columns
+room_in_each row sums room = in_each _ room columns
+
+pub sums_in_each : (row : Row) (sums : VoteSums) → HasSums row sums
+    → AllByRecursion (λ column. worth column sums ≤ number_in column row) columns
+sums_in_each row sums has = in_each _ has columns
 
 -- zeros in a list
 pub all_zero : (a n : ℕ) → replicate n zero ≡ map (λ (i : ℕ). zero) (range_with_len a n)

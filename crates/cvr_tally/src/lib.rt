@@ -1,7 +1,6 @@
 //! Rows of totals, which go up and down ballot by ballot, and their text.
 #![tactic(auto)]
 
-mod changes;
 mod contest_ids;
 mod counts;
 pub mod examples;

@@ -2,16 +2,14 @@ ghost use Rattle.std.specs.Prelude.{◌≡◌, ◌<◌, ◌++◌, ◌∷◌, OnO
 ghost use Rattle.std.specs.List.{flat_map, zip};
 ghost use Rattle.json.specs.Print as print;
 ghost use Rattle.cvr_tally.specs.Contests.{contests_of};
-ghost use Rattle.cvr_tally.specs.Text.{key_words, number, numbers, part_text, row_line, selection};
-ghost use Rattle.cvr_tally.specs.Text.{tally_text};
+ghost use Rattle.cvr_tally.specs.Text.{key_words, part_text, row_line, selection, tally_text};
 
 use crate::contest_ids::ContestIds;
 use crate::key::RowKey;
-use crate::row::Row;
+use crate::row::{Row, push_number, push_numbers};
 use crate::totals::Totals;
 use cdf_types::{Body, Memory};
 use cvr_fact_types::text::quoted;
-use itoa::Buffer;
 use std::alloc::Global;
 
 // Adds a space and a text as a JSON string.
@@ -50,29 +48,6 @@ fn push_key(
     text.push_str(quoted(alloc, contests[key.contest].id.as_str())?.as_str())?;
     push_part(alloc, text, &key.unit)?;
     push_part(alloc, text, &key.batch)?;
-    Ok(())
-}
-
-// Adds a space and a number.
-fn push_number(text: &mut String, count: u128) -> Result<(), Memory>
-    ensures { OnOk result (string_bytes text.new ≡ string_bytes text.old ++ number count) }
-{
-    let mut buffer = Buffer::new();
-    text.push_str(" ")?;
-    text.push_str(buffer.format(count))?;
-    Ok(())
-}
-
-// Adds the numbers of a row, all but the votes of selections.
-fn push_numbers(text: &mut String, row: &Row) -> Result<(), Memory>
-    ensures { OnOk result (string_bytes text.new ≡ string_bytes text.old ++ numbers row.now) }
-{
-    push_number(text, row.ballots)?;
-    push_number(text, row.overvotes)?;
-    push_number(text, row.undervotes)?;
-    push_number(text, row.write_ins)?;
-    push_number(text, row.pending)?;
-    push_number(text, row.unassigned)?;
     Ok(())
 }
 

@@ -12,11 +12,10 @@ ghost use Rattle.cvr_tally.specs.Contests.{contests_of};
 ghost use Rattle.cvr_tally.specs.Rows.{IsTotals, HasRoom, HasSums, zero_row, row_plus, row_minus};
 ghost use Rattle.cvr_tally.specs.Rows.{row_closed, rows_plus, rows_minus, rows_opened, rows_closed};
 
-use crate::changes::{add_to, take_from};
 use crate::contest_ids::{ContestIds, contest_ids, copy_ids};
 use crate::key::RowKey;
 use crate::moves::Moves;
-use crate::row::Row;
+use crate::row::{Row, add_to, take_from};
 use cdf_definition::Definition;
 use cdf_types::Memory;
 use cvr_fact_types::VoteSums;

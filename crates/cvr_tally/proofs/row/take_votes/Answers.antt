@@ -1,6 +1,6 @@
 use Rattle.std.proofs.Common.{◌<◌, ◌≤◌, ◌-◌, get_or, length, arith}
 use Rattle.std.proofs.lemmas.List.FromFn.{fill_by_all}
-use Rattle.cvr_tally.proofs.changes.take_votes.Goals as goal
+use Rattle.cvr_tally.proofs.row.take_votes.Goals as goal
 
 pub returns : goal.returns
 returns c =
