@@ -1,11 +1,8 @@
 -- How large the sums of a contest can be.
 use Rattle.std.proofs.Common.{◌≡◌, ◌<◌, ◌≤◌, ◌+◌, ℕ, get_or, take, ap, List, Bool, not, refl}
-use Rattle.std.proofs.Common.{length, map, sym, subst, inl, inr, arith}
-use Rattle.std.specs.List.{All, filter, range_with_len, sum_by}
-use Rattle.std.proofs.lemmas.Bool.{cases_lt}
-use Rattle.std.proofs.lemmas.List.{get_or_past}
+use Rattle.std.proofs.Common.{length, arith}
+use Rattle.std.specs.List.{All, filter, sum_by}
 use Rattle.std.proofs.lemmas.List.Elements.{All-filter, Contains-get_or}
-use Rattle.std.proofs.lemmas.List.FromFn.{length-map-range_with_len, get_or-map-range_with_len}
 use Rattle.std.proofs.lemmas.List.Filters.{sum_by-filter_both}
 use Rattle.std.proofs.lemmas.List.Sums.{sum_by-le, sum_by_more_le, length-filter}
 use Rattle.std.proofs.lemmas.List.Sums.{count_by-le-length}
@@ -13,12 +10,9 @@ use Rattle.cdf_types.specs.declared.report.Position.{Position}
 use Rattle.cdf_types.specs.declared.report.SelectionVote.{SelectionVote}
 use Rattle.cdf_types.specs.declared.report.ContestVote.{ContestVote}
 use Rattle.cdf_types.specs.declared.report.Snapshot.{Snapshot}
-use Rattle.cdf_parts.specs.Places.{Contest, selections_at}
+use Rattle.cdf_parts.specs.Places.{Contest}
 use Rattle.cdf_typed.specs.Range.{IsCount, SelectionInRange, ContestInRange, SnapshotInRange}
-use Rattle.cvr_fact_types.specs.Columns.{Ballots, Overvotes, Undervotes, WriteIns, Pending}
-use Rattle.cvr_fact_types.specs.Columns.{Unassigned, VotesFor}
-use Rattle.cvr_facts.specs.Sums.{counts, votes_of, names_place, names_none, votes_for, sums_of}
-use Rattle.cvr_facts.specs.Sums.{sum_limit, AreBelow, AreInRange}
+use Rattle.cvr_facts.specs.Sums.{counts, votes_of, sum_limit, AreInRange}
 
 -- the most that a selection can have
 abbrev pub selection_limit : ℕ
@@ -60,7 +54,7 @@ pub sum_by-filter_next-lt : {X : Type 0} (f : X → ℕ) (p : X → Bool) (xs : 
 sum_by-filter_next-lt f p xs i x limit less is whole =
     omega (arith, sum_by-filter-le f p (take i xs), sum_by_more_le f xs i x less, ap f is)
 
-part-lt : (p : SelectionVote → Bool) (contests : List Contest) (vote : ContestVote)
+pub part-lt : (p : SelectionVote → Bool) (contests : List Contest) (vote : ContestVote)
     → ContestInRange contests vote
     → sum_by (votes_of counts) (filter p vote.selections) < sum_limit
 part-lt p contests vote h =
@@ -70,25 +64,6 @@ part-lt p contests vote h =
       votes_are_below counts
           contests vote h,
     )
-
-pub sums_of_are_below : (contests : List Contest) (vote : ContestVote)
-    → ContestInRange contests vote → AreBelow sum_limit (sums_of contests vote)
-sums_of_are_below contests vote h Ballots = omega arith
-sums_of_are_below contests vote h Overvotes = omega (arith, h.overvotes)
-sums_of_are_below contests vote h Undervotes = omega (arith, h.undervotes)
-sums_of_are_below contests vote h WriteIns = omega (arith, h.write_ins)
-sums_of_are_below contests vote h Pending = votes_are_below _ contests vote h
-sums_of_are_below contests vote h Unassigned = part-lt names_none contests vote h
-sums_of_are_below contests vote h (VotesFor place) =
-    let votes : ℕ → ℕ = λ place. votes_for place vote in
-    let n = length (selections_at contests vote.contest) in
-    elim (cases_lt place n) [
-      | inl less ↦ subst (λ k. k < sum_limit)
-          (sym (get_or-map-range_with_len votes 0 n place place 0 less (omega arith)))
-          (part-lt (names_place place) contests vote h)
-      | inr past ↦ let none = get_or_past (map votes (range_with_len 0 n)) place 0
-          (omega (arith, length-map-range_with_len votes 0 n, past)) in omega (arith, none)
-    ]
 
 pub AreInRange-from_snapshot : (contests : List Contest) (s : Snapshot) → SnapshotInRange contests s
     → AreInRange contests s.contests

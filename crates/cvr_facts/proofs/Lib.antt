@@ -13,6 +13,7 @@ pub mod Records
 pub mod Moments
 pub mod Bounds
 pub mod Counting
+pub mod Columns
 pub mod Positions
 pub mod AddingUp
 pub mod ByPlace

@@ -1,8 +1,10 @@
-ghost use Rattle.std.specs.Prelude.{◌≡◌, ◌<◌, IfOk, if◌then◌else◌, map};
+ghost use Rattle.std.specs.Prelude.{◌≡◌, ◌<◌, ◌+◌, [], IfOk, if◌then◌else◌, map, length, is_none};
+ghost use Rattle.std.specs.Prelude.{slice_index, slice_set};
 ghost use Rattle.std.specs.List.{sum_by};
+ghost use Rattle.std.specs.Option.{IfSome, option_map_or};
 ghost use Rattle.cdf_typed.specs.Range.{ContestInRange};
 ghost use Rattle.cvr_facts.specs.Sums.{counts, is_pending, votes_among, sums_of, sums_in};
-ghost use Rattle.cvr_facts.specs.Sums.{sum_limit, AreInRange};
+ghost use Rattle.cvr_facts.specs.Sums.{sum_limit, AreBelow, AreInRange};
 
 use cdf_parts::contests::Contests;
 use cdf_typed::{AsContestVote, AsPosition, AsSelectionVote};
@@ -59,6 +61,45 @@ fn votes_of<P: AsPosition>(positions: &[P]) -> Votes
     Votes { counted, pending }
 }
 
+// Adds the votes of one more contest selection, which names this place or none.
+#[tactic(auto, using(crate::proofs::Columns::below_in_each))]
+fn add_selection(sums: &mut VoteSums, votes: &mut [u64], place: Option<usize>, added: Votes)
+    requires place { IfSome place (λ p. p < length votes.old) }
+    requires room { AreBelow sum_limit (record sums.old { votes = votes.old }) }
+    requires few { (added.counted < sum_limit) × (added.pending < sum_limit) }
+    ensures votes { votes.new ≡ option_map_or
+        (λ p. slice_set votes.old p (slice_index votes.old p + added.counted)) place votes.old }
+    ensures sums { sums.new ≡ record sums.old {
+      pending = sums.old.pending + added.pending;
+      unassigned = sums.old.unassigned + (if is_none place then added.counted else 0);
+    } }
+{
+    sums.pending += added.pending;
+    match place {
+        Some(place) => votes[place] += added.counted,
+        None => sums.unassigned += added.counted,
+    }
+}
+
+// The sums of a contest before any of its selections is seen, without their votes.
+fn first_sums<V: AsContestVote>(alloc: Global, contests: &Contests, vote: &V) -> VoteSums
+    ensures { result ≡ record (sums_of contests.now (V.contest_vote contests.now vote.now)) {
+      votes = [];
+      pending = 0;
+      unassigned = 0;
+    } }
+{
+    VoteSums {
+        contest: vote.contest(contests),
+        votes: Seq::empty(alloc),
+        overvotes: vote.overvotes(),
+        undervotes: vote.undervotes(),
+        write_ins: vote.write_ins(),
+        pending: 0,
+        unassigned: 0,
+    }
+}
+
 // The sums of a contest.
 fn sums_of<V: AsContestVote>(
     alloc: Global,
@@ -68,27 +109,21 @@ fn sums_of<V: AsContestVote>(
     requires { ContestInRange contests.now (V.contest_vote contests.now vote.now) }
     ensures { IfOk result (λ v. v ≡ sums_of contests.now (V.contest_vote contests.now vote.now)) }
 {
-    let contest = vote.contest(contests);
+    let mut sums = first_sums(alloc, contests, vote);
+    let mut votes = vec![in alloc; 0; contests.selections(sums.contest).len()]?;
     let ids = vote.selection_ids(contests);
-    let mut votes = vec![in alloc; 0; contests.selections(contest).len()]?;
-    let mut pending = 0;
-    let mut unassigned = 0;
     for selection in vote.selections() {
         let added = votes_of(selection.positions());
-        pending += added.pending;
-        match selection.selection(ids) {
-            Some(place) => votes[place] += added.counted,
-            None => unassigned += added.counted,
-        }
+        add_selection(
+            &mut sums,
+            votes.as_mut_slice(),
+            selection.selection(ids),
+            added,
+        );
     }
     Ok(VoteSums {
-        contest,
         votes: Seq::new(votes),
-        overvotes: vote.overvotes(),
-        undervotes: vote.undervotes(),
-        write_ins: vote.write_ins(),
-        pending,
-        unassigned,
+        ..sums
     })
 }
 

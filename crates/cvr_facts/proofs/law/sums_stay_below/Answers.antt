@@ -1,4 +1,4 @@
-use Rattle.cvr_facts.proofs.Bounds.{sums_of_are_below}
+use Rattle.cvr_facts.proofs.Columns.{sums_of_are_below}
 use Rattle.cvr_facts.proofs.law.sums_stay_below.Goals as goal
 
 pub returns : goal.returns

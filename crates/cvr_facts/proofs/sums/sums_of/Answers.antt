@@ -1,224 +1,90 @@
-use Rattle.std.proofs.Common.{◌≡◌, ◌<◌, ◌+◌, map, length, take, get_or, set, length-set, refl, sym}
-use Rattle.std.proofs.Common.{ap, subst, ◌∙◌, arith, rules}
-use Rattle.std.specs.List.{sum_by, filter}
-use Rattle.std.proofs.lemmas.List.{take_all, length-map, get_or_default}
+use Rattle.std.proofs.Common.{◌≡◌, ◌<◌, ◌++◌, List, [], ℕ, length, take, drop, sym, ap, subst, ◌∙◌}
+use Rattle.std.proofs.Common.{arith, rules}
+use Rattle.std.specs.Option.{IfSome}
+use Rattle.std.proofs.lemmas.List.{take_all, take-append-le, length-map}
 use Rattle.cdf_parts.specs.Places.{selections_at}
-use Rattle.cvr_facts.specs.Sums.{counts, is_pending, votes_among, votes_of, names_none, sum_limit}
-use Rattle.cvr_facts.proofs.Counting.{AreCounted, told_less, told_is, positions_of_next-lt}
-use Rattle.cvr_facts.proofs.Counting.{place_of_next-lt, counted_next-lt, pending_next-lt}
-use Rattle.cvr_facts.proofs.Counting.{unassigned_next-lt, pending_more, unassigned_none}
-use Rattle.cvr_facts.proofs.Counting.{unassigned_some, counted_none, counted_some, counted_all}
-use Rattle.cvr_facts.proofs.Counting.{zeros}
+use Rattle.cvr_fact_types.specs.declared.sums.VoteSums.{VoteSums}
+use Rattle.cvr_facts.proofs.Counting.{told_at, no_votes, votes_by_place}
+use Rattle.cvr_facts.proofs.Columns.{all_seen, seen_below, place-lt, positions-lt, added-lt}
+use Rattle.cvr_facts.proofs.Columns.{one_more}
 use Rattle.cvr_facts.proofs.sums.sums_of.Goals as goal
-use Rattle.cvr_facts.proofs.sums.sums_of.Goals.{in-Some, in-None}
+
+pub loop-selection-init : goal.loop-selection-init
+loop-selection-init g c =
+    let contests = c.args.contests.now in
+    let long : length c.in_ok-votes.votes.items
+    ≡ length (selections_at contests c.first_sums-sums.result.contest) = search rules in
+    let votes = no_votes (λ x y. y ≡ x) (λ y e. e) c.in_ok-votes.votes.items
+    c.in_ok-votes.ensures.items
+    ∙ ap (λ n. votes_by_place n [])
+    (long ∙ ap (λ (s : VoteSums). length (selections_at contests s.contest))
+    c.first_sums-sums.ensures) in
+    λ i. record (c.first_sums-sums.ensures i) { votes = votes i }
 
 pub votes_of-added-requires : goal.votes_of-added-requires
 votes_of-added-requires g c =
-    let contests = c.args.contests.now in
-    let ids = g.V.AsContestVote.selection_ids contests c.args.vote.now in
-    let told = g.V.Selection.AsSelectionVote.selection_vote ids in
-    let less = told_less told _ _ _ c.loop-selection-test.true c.selection-item.is in
-    let is = told_is told _ _ _ c.loop-selection-test.true c.selection-item.is in
-    subst (λ ps. sum_by (λ p. p.votes) ps < sum_limit) (sym (c.positions.ensures ids))
-    (positions_of_next-lt contests _ c.requires _
-    (c.selections-selection-items.ensures contests) _ _ less is)
+    let at = told_at _ _ _ _ c.loop-selection-test.true c.selection-item.is _
+    (c.selections-selection-items.ensures c.args.contests.now) in
+    positions-lt _ _ c.requires _ _ at _ (c.positions.ensures _)
 
-pub overflow_add-pending : goal.overflow_add-pending
-overflow_add-pending g c =
-    let contests = c.args.contests.now in
-    let ids = g.V.AsContestVote.selection_ids contests c.args.vote.now in
-    let told = g.V.Selection.AsSelectionVote.selection_vote ids in
-    let less = told_less told _ _ _ c.loop-selection-test.true c.selection-item.is in
-    let is = told_is told _ _ _ c.loop-selection-test.true c.selection-item.is in
-    let added : c.votes_of-added.result.pending
-    ≡ votes_of is_pending (told c.selection-item.result) = c.votes_of-added.ensures.pending
-    ∙ ap (votes_among is_pending) (c.positions.ensures ids) in
-    omega (
-      arith,
-      pending_next-lt contests _ c.requires _
-          (c.selections-selection-items.ensures contests) _ _ less is,
-      added,
-      c.loop-selection.invariant.pending,
-    )
-
-pub overflow_add-unassigned : goal.overflow_add-unassigned
-overflow_add-unassigned g c =
-    let contests = c.args.contests.now in
-    let ids = g.V.AsContestVote.selection_ids contests c.args.vote.now in
-    let told = g.V.Selection.AsSelectionVote.selection_vote ids in
-    let less = told_less told _ _ _ c.loop-selection-test.true c.selection-item.is in
-    let is = told_is told _ _ _ c.loop-selection-test.true c.selection-item.is in
-    let added : c.votes_of-added.result.counted ≡ votes_of counts (told c.selection-item.result) =
-    c.votes_of-added.ensures.counted ∙ ap (votes_among counts) (c.positions.ensures ids) in
-    omega (
-      arith,
-      unassigned_next-lt contests _ c.requires _
-          (c.selections-selection-items.ensures contests) _ _ less is,
-      added,
-      c.loop-selection.invariant.unassigned,
-    )
-
-pub index_mut-requires : goal.index_mut-requires
-index_mut-requires g c =
-    let contests = c.args.contests.now in
-    let item = c.selection-item.result in
-    let ids = g.V.AsContestVote.selection_ids contests c.args.vote.now in
-    let told = g.V.Selection.AsSelectionVote.selection_vote ids in
-    let all = c.selections-selection-items.ensures contests in
-    let less = told_less told _ _ _ c.loop-selection-test.true c.selection-item.is in
-    let is = told_is told _ _ _ c.loop-selection-test.true c.selection-item.is in
-    let long : length c.loop-selection.votes.items
-    ≡ length (selections_at contests
-    (g.V.AsContestVote.contest_vote contests c.args.vote.now).contest) =
-    c.loop-selection.invariant.long ∙ ap (λ p. length (selections_at contests p))
-    c.contest-contest.ensures in
-    let counted : c.votes_of-added.result.counted ≡ votes_of counts (told item) =
-    c.votes_of-added.ensures.counted ∙ ap (votes_among counts) (c.positions.ensures ids) in
-    let pending : c.votes_of-added.result.pending ≡ votes_of is_pending (told item) =
-    c.votes_of-added.ensures.pending ∙ ap (votes_among is_pending) (c.positions.ensures ids) in
-    let selected : c.selection.result ≡ (told item).selection = c.selection.ensures
-    ∙ ap (λ o. (g.V.Selection.AsSelectionVote.selection_vote o item).selection)
+pub add_selection-requires-clause-place : goal.add_selection-requires-clause-place
+add_selection-requires-clause-place g c =
+    let at = told_at _ _ _ _ c.loop-selection-test.true c.selection-item.is _
+    (c.selections-selection-items.ensures c.args.contests.now) in
+    let names = c.selection.ensures
+    ∙ ap (λ o. (g.V.Selection.AsSelectionVote.selection_vote o c.selection-item.result).selection)
     c.selection_ids-ids.ensures in
-    let named = sym selected ∙ c.in-Some.is in
-    let here = place_of_next-lt contests _ c.requires _ all _ _ less is _ _ long named in
-    omega (arith, here)
+    subst (λ xs. IfSome c.selection.result (λ p. p < length xs)) (sym c.as_mut_slice.ensures.value)
+    (place-lt _ _ c.requires _ _ at _ c.loop-selection.invariant _ names)
 
-pub overflow_add-index_mut : goal.overflow_add-index_mut
-overflow_add-index_mut g c =
-    let contests = c.args.contests.now in
-    let item = c.selection-item.result in
-    let ids = g.V.AsContestVote.selection_ids contests c.args.vote.now in
-    let told = g.V.Selection.AsSelectionVote.selection_vote ids in
-    let all = c.selections-selection-items.ensures contests in
-    let less = told_less told _ _ _ c.loop-selection-test.true c.selection-item.is in
-    let is = told_is told _ _ _ c.loop-selection-test.true c.selection-item.is in
-    let long : length c.loop-selection.votes.items
-    ≡ length (selections_at contests
-    (g.V.AsContestVote.contest_vote contests c.args.vote.now).contest) =
-    c.loop-selection.invariant.long ∙ ap (λ p. length (selections_at contests p))
-    c.contest-contest.ensures in
-    let counted : c.votes_of-added.result.counted ≡ votes_of counts (told item) =
-    c.votes_of-added.ensures.counted ∙ ap (votes_among counts) (c.positions.ensures ids) in
-    let pending : c.votes_of-added.result.pending ≡ votes_of is_pending (told item) =
-    c.votes_of-added.ensures.pending ∙ ap (votes_among is_pending) (c.positions.ensures ids) in
-    let selected : c.selection.result ≡ (told item).selection = c.selection.ensures
-    ∙ ap (λ o. (g.V.Selection.AsSelectionVote.selection_vote o item).selection)
-    c.selection_ids-ids.ensures in
-    let named = sym selected ∙ c.in-Some.is in
-    let here : c.in-Some.place < length c.loop-selection.votes.items =
-    place_of_next-lt contests _ c.requires _ all _ _ less is _ _ long named in
-    let next = counted_next-lt contests _ c.requires _ all _ _ less is _ _ _
-    c.loop-selection.invariant.counted here c.index_mut.ensures.value in
-    omega (arith, next, counted)
+pub add_selection-requires-clause-room : goal.add_selection-requires-clause-room
+add_selection-requires-clause-room g c =
+    seen_below _ _ c.requires c.loop-selection.selection-index _
+    ((λ i. record c.loop-selection.sums { votes = c.as_mut_slice.ensures.value i })
+    ∙ c.loop-selection.invariant)
 
-pub loop-selection-init : goal.loop-selection-init
-loop-selection-init g c = record {
-  long = search rules;
-  counted = zeros (λ x y. y ≡ x) (λ y e. e) c.in_ok-votes.votes.items c.in_ok-votes.ensures.items;
-  pending = refl;
-  unassigned = refl;
-}
+pub add_selection-requires-clause-few : goal.add_selection-requires-clause-few
+add_selection-requires-clause-few g c =
+    let at = told_at _ _ _ _ c.loop-selection-test.true c.selection-item.is _
+    (c.selections-selection-items.ensures c.args.contests.now) in
+    added-lt _ _ c.requires _ _ at _ (c.positions.ensures _) _ c.votes_of-added.ensures.counted
+    c.votes_of-added.ensures.pending
+
+-- what was written through a slice
+written : (n : ℕ) (xs rest : List ℕ) → n ≡ length xs → take n (xs ++ rest) ≡ xs
+written n xs rest long = take-append-le n xs rest (omega (arith, long))
+    ∙ take_all n xs (omega (arith, long))
 
 pub loop-selection-preserved : goal.loop-selection-preserved
 loop-selection-preserved g c =
-    let contests = c.args.contests.now in
-    let item = c.selection-item.result in
-    let ids = g.V.AsContestVote.selection_ids contests c.args.vote.now in
-    let told = g.V.Selection.AsSelectionVote.selection_vote ids in
-    let all = c.selections-selection-items.ensures contests in
-    let less = told_less told _ _ _ c.loop-selection-test.true c.selection-item.is in
-    let is = told_is told _ _ _ c.loop-selection-test.true c.selection-item.is in
-    let long : length c.loop-selection.votes.items
-    ≡ length (selections_at contests
-    (g.V.AsContestVote.contest_vote contests c.args.vote.now).contest) =
-    c.loop-selection.invariant.long ∙ ap (λ p. length (selections_at contests p))
-    c.contest-contest.ensures in
-    let counted : c.votes_of-added.result.counted ≡ votes_of counts (told item) =
-    c.votes_of-added.ensures.counted ∙ ap (votes_among counts) (c.positions.ensures ids) in
-    let pending : c.votes_of-added.result.pending ≡ votes_of is_pending (told item) =
-    c.votes_of-added.ensures.pending ∙ ap (votes_among is_pending) (c.positions.ensures ids) in
-    let selected : c.selection.result ≡ (told item).selection = c.selection.ensures
-    ∙ ap (λ o. (g.V.Selection.AsSelectionVote.selection_vote o item).selection)
+    let at = told_at _ _ _ _ c.loop-selection-test.true c.selection-item.is _
+    (c.selections-selection-items.ensures c.args.contests.now) in
+    let names = c.selection.ensures
+    ∙ ap (λ o. (g.V.Selection.AsSelectionVote.selection_vote o c.selection-item.result).selection)
     c.selection_ids-ids.ensures in
-    let more : c.loop-selection.pending + c.votes_of-added.result.pending
-    ≡ sum_by (votes_of is_pending) (take (c.loop-selection.selection-index + 1)
-    (map told c.selections-selection-items.result.now)) =
-    ap (λ n. n + c.votes_of-added.result.pending) c.loop-selection.invariant.pending
-    ∙ ap (λ n. sum_by (votes_of is_pending)
-    (take c.loop-selection.selection-index (map told c.selections-selection-items.result.now))
-    + n) pending ∙ sym (pending_more _ _ _ less is) in
-    let seen = take (c.loop-selection.selection-index + 1)
-    (map told c.selections-selection-items.result.now) in
-    elim c.match-selection.branch [
-      | in-Some w ↦
-          let items = c.loop-selection.votes.items in
-          let place = w.in-Some.place in
-          let named = sym selected ∙ w.in-Some.is in
-          let here : place < length items =
-          place_of_next-lt contests _ c.requires _ all _ _ less is _ _ long named in
-          let value : w.index_mut.result.now + c.votes_of-added.result.counted
-          ≡ get_or items place 0 + votes_of counts (told item) =
-          omega (
-            arith,
-            w.index_mut.ensures.value,
-            get_or_default items place w.index_mut.result.now
-                0 here,
-            counted,
-          ) in
-          let now : c.match-selection.votes.items
-          ≡ set items place (get_or items place 0 + votes_of counts (told item)) = ap
-          (λ v. v.items) w.votes-is ∙ ap (set items place) value in
-          record {
-            long = rw (now, length-set) c.loop-selection.invariant.long;
-            counted = subst (AreCounted seen) (sym now)
-                (counted_some _ _ _ less is items place c.loop-selection.invariant.counted named
-                here);
-            pending = more;
-            unassigned = w.unassigned-is ∙ c.loop-selection.invariant.unassigned
-                ∙ sym (unassigned_some _ _ _ less is place named);
-          }
-      | in-None w ↦
-          let none = sym selected ∙ w.in-None.is in
-          record {
-            long = ap (λ v. length v.items) w.votes-is ∙ c.loop-selection.invariant.long;
-            counted = subst (λ v. AreCounted seen v.items) (sym w.votes-is)
-                (counted_none _ _ _ less is _ c.loop-selection.invariant.counted none);
-            pending = more;
-            unassigned = w.unassigned-is
-                ∙ ap (λ n. n + c.votes_of-added.result.counted)
-                c.loop-selection.invariant.unassigned
-                ∙ ap (λ n. sum_by (votes_of counts)
-                (filter names_none (take c.loop-selection.selection-index
-                (map told c.selections-selection-items.result.now))) + n) counted
-                ∙ sym (unassigned_none _ _ _ less is none);
-          }
-    ]
+    let same = (λ i. record c.loop-selection.sums { votes = c.as_mut_slice.ensures.value i })
+    ∙ c.loop-selection.invariant in
+    let long : c.loop-selection.votes.len ≡ length c.add_selection.new.votes = omega arith in
+    (λ i. record (c.add_selection.ensures.sums i) {
+      votes = (written c.loop-selection.votes.len c.add_selection.new.votes
+          (drop (length c.add_selection.new.votes) c.loop-selection.votes.items) long
+          ∙ c.add_selection.ensures.votes) i;
+    })
+    ∙ one_more _ _ c.requires _ _ at _ (c.positions.ensures _) _ c.votes_of-added.ensures.counted
+    c.votes_of-added.ensures.pending _ same _ names
 
 pub returns : goal.returns
 returns g c =
     let contests = c.args.contests.now in
     let ids = g.V.AsContestVote.selection_ids contests c.args.vote.now in
     let told = g.V.Selection.AsSelectionVote.selection_vote ids in
-    let vote = g.V.AsContestVote.contest_vote contests c.args.vote.now in
-    let items = c.selections-selection-items.result.now in
-    let all : take c.loop-selection.selection-index (map told items)
-    ≡ vote.selections = take_all _ _ (rw (length-map items told) c.loop-selection-test.false)
-    ∙ c.selections-selection-items.ensures contests in
-    let long = c.loop-selection.invariant.long
-    ∙ ap (λ p. length (selections_at contests p)) c.contest-contest.ensures in
-    let votes = c.new.ensures ∙ counted_all (selections_at contests vote.contest) vote
-    c.loop-selection.votes.items long
-    (subst (λ seen. AreCounted seen c.loop-selection.votes.items) all
-    c.loop-selection.invariant.counted) in
-    let pending = c.loop-selection.invariant.pending ∙ ap (sum_by (votes_of is_pending)) all in
-    let unassigned = c.loop-selection.invariant.unassigned
-    ∙ ap (λ xs. sum_by (votes_of counts) (filter names_none xs)) all in
-    λ i. record {
-      contest = c.contest-contest.ensures i;
-      votes = votes i;
-      overvotes = c.overvotes.ensures contests i;
-      undervotes = c.undervotes.ensures contests i;
-      write_ins = c.write_ins.ensures contests i;
-      pending = pending i;
-      unassigned = unassigned i;
-    }
+    let all = c.selections-selection-items.ensures contests in
+    (λ i. record c.loop-selection.sums { votes = c.new.ensures i })
+    ∙ (c.loop-selection.invariant
+    ∙ all_seen _ _ c.requires c.loop-selection.selection-index
+    (omega (
+      arith,
+      c.loop-selection-test.false,
+      length-map c.selections-selection-items.result.now told,
+      ap length all,
+    )))
