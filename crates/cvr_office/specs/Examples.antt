@@ -1,10 +1,12 @@
 -- Worked examples: facts of a few records, their conflicts and their tally. (This project's own.)
-use Rattle.std.specs.Prelude.{◌≡◌, ◌≢◌, ℕ, List, [], ◌∷◌, ◌++◌, codes}
+use Rattle.std.specs.Prelude.{◌≡◌, ◌≢◌, ℕ, List, [], ◌∷◌, ◌++◌, codes, Some, None}
 use Rattle.std.specs.FinSet.{from_list}
 use Rattle.cdf_parts.specs.Places.{Contest}
 use Rattle.cvr_fact_types.specs.declared.name.RecordName.{RecordName}
 use Rattle.cvr_fact_types.specs.Facts.{Fact, Device, Header, Snapshot}
-use Rattle.cvr_tally.specs.Examples.{ballot_box, dot}
+use Rattle.cvr_tally.specs.declared.key.RowKey.{RowKey}
+use Rattle.cvr_tally.specs.declared.row.Row.{Row}
+use Rattle.cvr_tally.specs.Examples.{ballot_box, dot, row_at, text_of}
 use Rattle.cvr_office.specs.declared.conflict.ConflictName.TheVariants as name
 use Rattle.cvr_office.specs.declared.conflict.Conflict.{Conflict}
 use Rattle.cvr_office.specs.Names.{conflicts}
@@ -148,16 +150,16 @@ of_four =
     Device (codes "s1") (codes "{\"@id\":\"s1\",\"@type\":\"CVR.ReportingDevice\"}") ∷ []
 
 -- outside of batches Ann has 8 and 20 in p2, and overvotes are 1 and 30
-abbrev pub expected_tally : List ℕ
-expected_tally =
-    codes "\"mayor\" \"p1\" null 1 0 0 0 0 0 \"ann\" 40 \"bob\" 0\n" ++
-    codes "\"mayor\" \"p2\" null 2 31 2 3 5 4 \"ann\" 28 \"bob\" 9\n" ++
-    codes "\"mayor\" \"p2\" \"b1\" 1 0 0 0 0 0 \"ann\" 11 \"bob\" 0\n" ++
-    codes "\"" ++ ballot_box ++ codes "\" \"p2\" null 1 0 0 0 0 0 \"" ++ dot ++ codes "\" 10\n" ++
-    codes "\"q\" \"p2\" \"b1\" 1 0 12 0 0 0\n"
+abbrev pub rows_of_four : List (RowKey × Row)
+rows_of_four =
+    row_at 0 (Some (codes "p1")) None (1 ∷ []) (40 ∷ 0 ∷ [])
+    ∷ row_at 0 (Some (codes "p2")) None (2 ∷ 31 ∷ 2 ∷ 3 ∷ 5 ∷ 4 ∷ []) (28 ∷ 9 ∷ []) ∷
+    row_at 0 (Some (codes "p2")) (Some (codes "b1")) (1 ∷ []) (11 ∷ 0 ∷ [])
+    ∷ row_at 1 (Some (codes "p2")) None (1 ∷ []) (10 ∷ []) ∷
+    row_at 2 (Some (codes "p2")) (Some (codes "b1")) (1 ∷ 0 ∷ 12 ∷ []) [] ∷ []
 
 abbrev pub TallyOfFour : Type 0
-TallyOfFour = tally contests (from_list of_four) ≡ expected_tally
+TallyOfFour = tally contests (from_list of_four) ≡ text_of contests rows_of_four
 
 -- ---- the same files
 

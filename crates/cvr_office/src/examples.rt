@@ -3,8 +3,8 @@ ghost use Rattle.cvr_office.specs.Examples.{ConflictsOfMixed, TallyOfFour, Spell
 ghost use Rattle.cvr_office.specs.Examples.{OtherFiles};
 ghost use Rattle.cvr_office.specs.PartExamples.{RowsOfFirst, RowsOfSecond, RowsOfBoth, SumsOfRows};
 
-/// The conflicts among facts of two records and three devices, and the whole text of the tally of
-/// four records in three contests.
+/// The conflicts among facts of two records and three devices, and the rows of the tally of four
+/// records in three contests.
 pub fn worked_examples()
     ensures conflicts { ConflictsOfMixed }
     ensures tally { TallyOfFour }

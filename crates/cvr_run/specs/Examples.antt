@@ -1,10 +1,12 @@
--- Worked examples: the whole text of each task over the facts of a few records. (This project's
--- own.)
+-- Worked examples: the text of each task over the facts of a few records, that of a tally by rows.
+-- (This project's own.)
 use Rattle.std.specs.Prelude.{◌≡◌, ℕ, List, [], ◌∷◌, ◌++◌, map, codes, Option, Some, None}
 use Rattle.std.specs.FinSet.{from_list}
 use Rattle.cdf_definition.specs.Frame.{Frame}
 use Rattle.cvr_fact_types.specs.Facts.{Fact, Device, Header, Snapshot}
-use Rattle.cvr_tally.specs.Examples.{ballot_box, dot}
+use Rattle.cvr_tally.specs.declared.key.RowKey.{RowKey}
+use Rattle.cvr_tally.specs.declared.row.Row.{Row}
+use Rattle.cvr_tally.specs.Examples.{ballot_box, dot, row_at, text_of}
 use Rattle.cvr_office.specs.Examples.{contests, position, selection, choice, contest, snapshot}
 use Rattle.cvr_words.specs.declared.request.Task.TheVariants.{Currents, Conflicts, Tally}
 use Rattle.cvr_run.specs.declared.merge.MergeFault.{MergeFault}
@@ -149,18 +151,17 @@ abbrev pub CurrentsOfFive : Type 0
 CurrentsOfFive = facts_text election Currents (from_list of_five) ≡ expected_currents
 
 -- in p2 outside of batches Ann has 50 and 20, and overvotes are 1 and 30
-abbrev pub expected_tally : List ℕ
-expected_tally =
-    codes "\"mayor\" null \"b1\" 1 41 42 43 39 38 \"ann\" 37 \"bob\" 36\n" ++
-    codes "\"mayor\" \"p1\" null 1 32 33 34 29 28 \"ann\" 26 \"bob\" 27\n" ++
-    codes "\"mayor\" \"p2\" null 2 31 35 3 5 4 \"ann\" 70 \"bob\" 9\n" ++
-    codes "\"mayor\" \"p2\" \"b1\" 1 17 18 19 16 8 \"ann\" 6 \"bob\" 7\n" ++
-    codes "\"" ++ ballot_box ++ codes "\" \"p2\" null 1 13 14 15 12 11 \"" ++ dot ++ codes "\" 10\n"
-    ++
-    codes "\"q\" \"p2\" \"b1\" 1 21 22 23 25 24\n"
+abbrev pub rows_of_five : List (RowKey × Row)
+rows_of_five =
+    row_at 0 None (Some (codes "b1")) (1 ∷ 41 ∷ 42 ∷ 43 ∷ 39 ∷ 38 ∷ []) (37 ∷ 36 ∷ [])
+    ∷ row_at 0 (Some (codes "p1")) None (1 ∷ 32 ∷ 33 ∷ 34 ∷ 29 ∷ 28 ∷ []) (26 ∷ 27 ∷ [])
+    ∷ row_at 0 (Some (codes "p2")) None (2 ∷ 31 ∷ 35 ∷ 3 ∷ 5 ∷ 4 ∷ []) (70 ∷ 9 ∷ [])
+    ∷ row_at 0 (Some (codes "p2")) (Some (codes "b1")) (1 ∷ 17 ∷ 18 ∷ 19 ∷ 16 ∷ 8 ∷ []) (6 ∷ 7 ∷ [])
+    ∷ row_at 1 (Some (codes "p2")) None (1 ∷ 13 ∷ 14 ∷ 15 ∷ 12 ∷ 11 ∷ []) (10 ∷ [])
+    ∷ row_at 2 (Some (codes "p2")) (Some (codes "b1")) (1 ∷ 21 ∷ 22 ∷ 23 ∷ 25 ∷ 24 ∷ []) [] ∷ []
 
 abbrev pub TallyOfFive : Type 0
-TallyOfFive = facts_text election Tally (from_list of_five) ≡ expected_tally
+TallyOfFive = facts_text election Tally (from_list of_five) ≡ text_of contests rows_of_five
 
 -- ---- conflicts
 

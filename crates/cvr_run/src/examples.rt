@@ -1,4 +1,4 @@
-//! Worked examples: the whole text of each task over the facts of a few records.
+//! Worked examples: the text of each task over the facts of a few records, that of a tally by rows.
 ghost use Rattle.std.specs.Prelude.{codes};
 ghost use Rattle.cvr_run.specs.declared.memory_files.MemoryFile.{MemoryFile};
 ghost use Rattle.cvr_run.specs.MemoryFiles.{IsFileAt, FailAsTold};

@@ -62,8 +62,12 @@ expected =
     ++ dot ++ codes "\" 6\n" ++
     codes "\"q\" null null 29 30 31 32 33 34\n"
 
+-- the text of the tally of these rows
+abbrev pub text_of : List Contest → List (RowKey × Row) → List ℕ
+text_of contests rows = tally_text contests (from_entries rows)
+
 abbrev pub TextOfTally : Type 0
-TextOfTally = tally_text contests (from_entries some_rows) ≡ expected
+TextOfTally = text_of contests some_rows ≡ expected
 
 -- ---- one ballot more, and taken out again
 
