@@ -27,7 +27,7 @@ use Rattle.cvr_facts.proofs.Lemmas.{Contains-filter_map, from-filter_map}
 use Rattle.cvr_tally.specs.declared.key.RowKey.{RowKey}
 use Rattle.cvr_tally.specs.declared.row.Row.{Row}
 use Rattle.cvr_tally.specs.Keys.{key_cmp, keys_total}
-use Rattle.cvr_tally.specs.Rows.{row_by}
+use Rattle.cvr_tally.specs.Rows.{number_in, row_by}
 use Rattle.cvr_tally.specs.Text.{row_line, tally_text}
 use Rattle.cvr_tally.specs.Examples.{text_of}
 use Rattle.cvr_tally.proofs.Lemmas.{placed, entries-given}
@@ -35,7 +35,8 @@ use Rattle.cvr_office.specs.declared.conflict.ConflictName.{ConflictName}
 use Rattle.cvr_office.specs.declared.conflict.Conflict.{Conflict}
 use Rattle.cvr_office.specs.Names.{name_of, body_of, conflict_cmp, is_named, record_of, names}
 use Rattle.cvr_office.specs.Names.{records, conflicts}
-use Rattle.cvr_office.specs.Tallied.{unit_of, batch_of, sums_of_body, is_headed, row, tally}
+use Rattle.cvr_office.specs.Tallied.{unit_of, batch_of, sums_of_body, is_headed, row, rows, tally}
+use Rattle.cvr_office.specs.Counting.{total_of}
 use Rattle.cvr_office.proofs.InOrder.{in_ordered, from_ordered, keys_in_order-members}
 use Rattle.cvr_office.proofs.NameOrder.{conflict_total, conflict_exact}
 use Rattle.cvr_office.proofs.NextInFacts.{name_total, name_exact}
@@ -211,15 +212,31 @@ rows_in contests fs = found_rows contests (sorted name_cmp (filter_map record_of
     (λ r. max_by text_cmp (filter_map (header_body r) fs))
     (λ r. max_by choice_cmp (filter_map (snapshot_body r) fs))
 
+rows-given : (contests : List Contest) (fs : List Fact)
+    → rows contests (given fs) ≡ from_entries (rows_in contests fs)
+rows-given contests fs =
+    λ i. from_entries {R = key_cmp} (found_rows contests (records-given fs i)
+    (λ r. max_by-same text_total text_exact _ _ (picked fs (header_body r)) i)
+    (λ r. current-given fs r i))
+
 pub tally-given : (contests : List Contest) (fs : List Fact) (es : List (RowKey × Row))
     → placed key_cmp (rows_in contests fs) ≡ placed key_cmp es
     → tally contests (given fs) ≡ text_of contests es
 tally-given contests fs es same =
-    (λ i. tally_text contests (from_entries (found_rows contests (records-given fs i)
-    (λ r. max_by-same text_total text_exact _ _ (picked fs (header_body r)) i)
-    (λ r. current-given fs r i))))
+    ap (tally_text contests) (rows-given contests fs)
     ∙ ap (flat_map (row_line contests)) (entries-given keys_total (rows_in contests fs)
     ∙ (same ∙ sym (entries-given keys_total es)))
+
+-- what columns of a contest come to
+pub totals-given : (contests : List Contest) (fs : List Fact) (c : ℕ) (columns : List Column)
+    → map (total_of (rows contests (given fs)) c) columns
+    ≡ map (λ column. sum_by (λ e. number_in column e.1)
+    (filter (λ e. e.0.contest == c) (placed key_cmp (rows_in contests fs)))) columns
+totals-given contests fs c columns =
+    ap (λ m. map (total_of m c) columns) (rows-given contests fs)
+    ∙ ap (λ (es : List (RowKey × Row)). map (λ column. sum_by (λ e. number_in column e.1)
+    (filter (λ e. e.0.contest == c) es)) columns)
+    (entries-given keys_total (rows_in contests fs))
 
 -- ---- one row
 

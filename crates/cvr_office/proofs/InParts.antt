@@ -12,7 +12,7 @@ use Rattle.std.proofs.lemmas.List.Kept.{IsStrictlySortedBy-filter}
 use Rattle.std.proofs.lemmas.List.Sorted.{IsPermutation-refl, IsPermutation-sym}
 use Rattle.std.proofs.lemmas.List.Sorted.{IsPermutation-trans, IsPermutation-append_right}
 use Rattle.std.proofs.lemmas.List.Sorted.{IsPermutation-filter_both, sum_by-IsPermutation}
-use Rattle.std.proofs.lemmas.List.Sums.{sum_by-append, sum_by-cons, length-filter}
+use Rattle.std.proofs.lemmas.List.Sums.{sum_by-append, length-filter}
 use Rattle.std.proofs.lemmas.Map.Made.{is_member-Decides}
 use Rattle.cdf_parts.specs.Places.{Contest, selections_at}
 use Rattle.cvr_fact_types.specs.declared.name.RecordName.{RecordName}
@@ -37,7 +37,7 @@ use Rattle.cvr_office.specs.Parts.{ShareNoRecord, AreAllApart, whole, row_sum, o
 use Rattle.cvr_office.specs.Parts.{RowsOfPartsLaw, CurrentsOfPartsLaw, HeadersOfPartsLaw}
 use Rattle.cvr_office.specs.Parts.{RecordsRiseLaw, RowsOfManyLaw, CurrentsOfManyLaw}
 use Rattle.cvr_office.specs.Parts.{HeadersOfManyLaw, RecordsOfManyLaw}
-use Rattle.cvr_office.proofs.BallotCounts.{sum_by-same}
+use Rattle.cvr_office.proofs.ColumnTotals.{sum_by-kept, sum_by-same}
 use Rattle.cvr_office.proofs.GivenFacts.{HaveSame, max_by-same}
 use Rattle.cvr_office.proofs.NextInFacts.{name_total, name_exact}
 use Rattle.cvr_office.proofs.NextLaws.{listed}
@@ -182,17 +182,6 @@ module _ (s t : Facts) (apart : ShareNoRecord s t) where
 -- ---- sums over those that pass
 
 module _ {X : Type 0} where
-  sum_by-kept : (p : X → Bool) (f : X → ℕ) (xs : List X)
-      → sum_by f (filter p xs) ≡ sum_by (λ x. cond (p x) (f x) 0) xs
-  sum_by-kept p f [] = refl
-  sum_by-kept p f (x ∷ xs) =
-      let rest = sum_by-kept p f xs in
-      elim (p x) as (λ b. sum_by f (cond b (x ∷ filter p xs) (filter p xs))
-      ≡ cond b (f x) 0 + sum_by (λ x. cond (p x) (f x) 0) xs) [
-        | true ↦ omega (arith, sum_by-cons f x (filter p xs), rest)
-        | false ↦ omega (arith, rest)
-      ] ∙ sym (sum_by-cons (λ x. cond (p x) (f x) 0) x xs)
-
   -- over one list, and over two that make it up
   sum_by-parts : (h g k : X → ℕ) (zs xs ys : List X) → IsPermutation (xs ++ ys) zs
       → ((x : X) → Contains xs x → h x ≡ g x) → ((y : X) → Contains ys y → h y ≡ k y)

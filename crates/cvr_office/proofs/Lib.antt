@@ -33,7 +33,8 @@ pub mod RowsOfKeys
 pub mod Walks
 pub mod MoreFacts
 pub mod SeveralBodies
-pub mod BallotCounts
+pub mod StandsOnce
+pub mod ColumnTotals
 pub mod GivenFacts
 pub mod InParts
 pub mod Standing

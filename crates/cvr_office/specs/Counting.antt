@@ -1,13 +1,15 @@
--- Laws of numbers: of new facts, of bodies under a name, of ballots. (This project's own.)
+-- Laws of numbers: of new facts, of bodies under a name, of columns. (This project's own.)
 use Rattle.std.specs.Prelude.{◌≡◌, ◌↔◌, ◌+◌, ◌==◌, ◌≤◌, ℕ, List, length, is_some}
 use Rattle.std.specs.List.{Contains, filter, sum_by}
+use Rattle.std.specs.Option.{option_map_or}
 use Rattle.std.specs.FinMap.{entries}
 use Rattle.std.specs.FinSet.{len, union}
 use Rattle.cdf_parts.specs.Places.{Contest}
 use Rattle.cdf_definition.specs.Frame.{Frame}
 use Rattle.cvr_fact_types.specs.declared.name.RecordName.{RecordName}
+use Rattle.cvr_fact_types.specs.Columns.{Column, Ballots, worth}
 use Rattle.cvr_fact_types.specs.Facts.{Facts}
-use Rattle.cvr_tally.specs.Rows.{Rows}
+use Rattle.cvr_tally.specs.Rows.{Rows, number_in}
 use Rattle.cvr_office.specs.declared.conflict.ConflictName.{ConflictName}
 use Rattle.cvr_office.specs.Names.{records, count_under, conflicts}
 use Rattle.cvr_office.specs.Readers.{growth}
@@ -24,17 +26,28 @@ abbrev pub ConflictsLaw : Type 0
 ConflictsLaw = (s : Facts) (n : ConflictName) (k : ℕ)
     → Contains (conflicts s) (record { name = n; bodies = k }) ↔ ((count_under s n ≡ k) × (2 ≤ k))
 
--- ---- ballots
+-- ---- columns
 
--- the ballots of all rows of a contest
-abbrev pub ballots_of : Rows → ℕ → ℕ
-ballots_of rows c = sum_by (λ e. e.1.ballots) (filter (λ e. e.0.contest == c) (entries rows))
+-- what a column comes to over all rows of a contest
+abbrev pub total_of : Rows → ℕ → Column → ℕ
+total_of rows c column =
+    sum_by (λ e. number_in column e.1) (filter (λ e. e.0.contest == c) (entries rows))
+
+-- what the current snapshots of all records come to in it
+abbrev pub total_of_records : List Contest → Facts → ℕ → Column → ℕ
+total_of_records contests s c column =
+    sum_by (λ r. option_map_or (worth column) (sums_at contests s c r) 0) (records s)
+
+-- these are the same
+abbrev pub ColumnsLaw : Type 0
+ColumnsLaw = (frame : Frame) (s : Facts) (c : ℕ) (column : Column) → Keeps frame s
+    → total_of (rows frame.contests s) c column ≡ total_of_records frame.contests s c column
 
 -- the records whose current snapshot has a contest
 abbrev pub records_with : List Contest → Facts → ℕ → List RecordName
 records_with contests s c = filter (λ r. is_some (sums_at contests s c r)) (records s)
 
--- these ballots are as many as these records
+-- the ballots of a contest are as many as these records
 abbrev pub AddUpLaw : Type 0
 AddUpLaw = (frame : Frame) (s : Facts) (c : ℕ) → Keeps frame s
-    → ballots_of (rows frame.contests s) c ≡ length (records_with frame.contests s c)
+    → total_of (rows frame.contests s) c Ballots ≡ length (records_with frame.contests s c)

@@ -1,13 +1,15 @@
--- A worked example: facts in two parts without a record in common, their rows, and the rows of
--- both. (This project's own.)
+-- A worked example: facts in two parts without a record in common, their rows, the rows of both,
+-- and what their columns come to. (This project's own.)
 use Rattle.std.specs.Prelude.{◌≡◌, ℕ, List, [], ◌∷◌, ◌++◌, map, codes, Some, None}
 use Rattle.std.specs.FinSet.{from_list, union}
+use Rattle.cvr_fact_types.specs.Columns.{VotesFor, columns}
 use Rattle.cvr_fact_types.specs.Facts.{Fact, Device, Header, Snapshot, Facts}
 use Rattle.cvr_tally.specs.Examples.{ballot_box, dot}
 use Rattle.cvr_tally.specs.declared.key.RowKey.{RowKey}
 use Rattle.cvr_tally.specs.declared.row.Row.{Row}
 use Rattle.cvr_tally.specs.Rows.{row_from}
-use Rattle.cvr_office.specs.Tallied.{row}
+use Rattle.cvr_office.specs.Tallied.{row, rows}
+use Rattle.cvr_office.specs.Counting.{total_of}
 use Rattle.cvr_office.specs.Examples.{contests, position, selection, choice, contest, snapshot}
 use Rattle.cvr_office.specs.Examples.{header, adjudicated, other_adjudicated, scan_for_ann}
 use Rattle.cvr_office.specs.Parts.{option_sum}
@@ -95,3 +97,11 @@ SumsOfRows =
     (option_sum (Some in_first) (Some in_second) ≡ Some in_both)
     × (option_sum (Some (for_ann 40)) None ≡ Some (for_ann 40))
     × (option_sum None (Some (for_ann 11)) ≡ Some (for_ann 11))
+
+-- ---- columns
+
+-- what each column of mayor comes to in both
+abbrev pub TotalsOfBoth : Type 0
+TotalsOfBoth =
+    map (total_of (rows contests (union first second)) 0) (columns ++ VotesFor 0 ∷ VotesFor 1 ∷ [])
+    ≡ 4 ∷ 21 ∷ 32 ∷ 48 ∷ 65 ∷ 54 ∷ 138 ∷ 109 ∷ []

@@ -2,6 +2,7 @@
 ghost use Rattle.cvr_office.specs.Examples.{ConflictsOfMixed, TallyOfFour, SpelledTwice};
 ghost use Rattle.cvr_office.specs.Examples.{OtherFiles};
 ghost use Rattle.cvr_office.specs.PartExamples.{RowsOfFirst, RowsOfSecond, RowsOfBoth, SumsOfRows};
+ghost use Rattle.cvr_office.specs.PartExamples.{TotalsOfBoth};
 
 /// The conflicts among facts of two records and three devices, and the rows of the tally of four
 /// records in three contests.
@@ -11,12 +12,14 @@ pub fn worked_examples()
 {}
 
 /// Facts in two parts without a record in common: the rows of each part, and those of both, which
-/// are their sums. One row has a ballot of each part, two have a ballot of one alone.
+/// are their sums. One row has a ballot of each part, two have a ballot of one alone. Shown is also
+/// what each column of the three rows comes to.
 pub fn rows_of_parts()
     ensures first { RowsOfFirst }
     ensures second { RowsOfSecond }
     ensures both { RowsOfBoth }
     ensures sums { SumsOfRows }
+    ensures totals { TotalsOfBoth }
 {}
 
 /// Two offices import a file each, from two places of the list. The same files have reached both

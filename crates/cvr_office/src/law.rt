@@ -14,7 +14,7 @@ ghost use Rattle.cvr_office.specs.Alike.{SamePlacesLaw, SameStartLaw, NoEventLaw
 ghost use Rattle.cvr_office.specs.Alike.{SameOfficesLaw, NewOfficeLaw};
 ghost use Rattle.cvr_office.specs.Lasting.{HeldLastsLaw, ImportLastsLaw, ExchangeLastsLaw};
 ghost use Rattle.cvr_office.specs.Lasting.{PlayedLastsLaw};
-ghost use Rattle.cvr_office.specs.Counting.{GrowthLaw, ConflictsLaw, AddUpLaw};
+ghost use Rattle.cvr_office.specs.Counting.{GrowthLaw, ConflictsLaw, ColumnsLaw, AddUpLaw};
 ghost use Rattle.cvr_office.specs.Parts.{RowsOfPartsLaw, CurrentsOfPartsLaw, HeadersOfPartsLaw};
 ghost use Rattle.cvr_office.specs.Parts.{RecordsOfPartsLaw, RecordsRiseLaw};
 ghost use Rattle.cvr_office.specs.Parts.{RowsOfManyLaw, CurrentsOfManyLaw, HeadersOfManyLaw};
@@ -132,9 +132,11 @@ pub fn conflicting()
     ensures conflicts { ConflictsLaw }
 {}
 
-/// The ballots of all rows of a contest add up to the number of records whose current snapshot has
-/// it.
-pub fn ballots()
+/// Each column of a contest, added up over all rows, is what the current snapshots of all records
+/// come to: no vote is lost, and none counts twice. Its ballots are as many as the records whose
+/// current snapshot has it.
+pub fn columns()
+    ensures columns { ColumnsLaw }
     ensures records { AddUpLaw }
 {}
 

@@ -1,22 +1,22 @@
--- The ballots of all rows of a contest are the records whose current snapshot has it.
-use Rattle.std.proofs.Common.{◌≡◌, ◌+◌, ◌==◌, ℕ, Bool, true, false, cond, ◌&&◌, List, [], ◌∷◌}
+-- Each record whose current snapshot has a contest stands in exactly one of its rows.
+use Rattle.std.proofs.Common.{◌≡◌, ◌==◌, ℕ, Bool, true, false, cond, ◌&&◌, List, [], ◌∷◌}
 use Rattle.std.proofs.Common.{length, map, Contains, Option, Some, None, is_some, Ordering, Less}
 use Rattle.std.proofs.Common.{Equal, inl, inr, refl, sym, ap, ◌∙◌, subst, arith, ne_eqb, eq-eqb}
 use Rattle.std.proofs.Common.{true≢false}
-use Rattle.std.specs.List.{filter, find, sum_by, count_by}
+use Rattle.std.specs.List.{filter, find, count_by}
 use Rattle.std.specs.List.Sorted.{IsStrictlySortedBy}
 use Rattle.std.specs.Cmp.{IsTotalOrder, Equal-is, tied_itself}
 use Rattle.std.specs.Cmp.Lexicographic.{nat_list_cmp_total, options_total}
 use Rattle.std.specs.FinMap as map_of
-use Rattle.std.specs.FinMap.{IsAntisymmetric, entries, entries_sorted, get-entries}
+use Rattle.std.specs.FinMap.{IsAntisymmetric, entries, entries_sorted}
 use Rattle.std.specs.FinMap.{contains_key-keys}
 use Rattle.std.specs.Option.{option_map_or}
 use Rattle.std.specs.Ordering.{is_eq, nat_cmp, eq_by_cmp, ordering_then}
-use Rattle.std.proofs.lemmas.Bool.{eqb-true}
+use Rattle.std.proofs.lemmas.Bool.{eqb-true, and_parts, false_from_ne_true}
 use Rattle.std.proofs.lemmas.Cmp.{nat_cmp_total}
 use Rattle.std.proofs.lemmas.List.Elements.{All-contains, All-from_recursion}
 use Rattle.std.proofs.lemmas.List.Kept.{IsStrictlySortedBy-filter}
-use Rattle.std.proofs.lemmas.List.Sums.{sum_by-cons, length-filter}
+use Rattle.std.proofs.lemmas.List.Sums.{sum_by-cons}
 use Rattle.std.proofs.lemmas.Map.Keys.{sorted_head, sorted_tail}
 use Rattle.std.proofs.lemmas.Map.Views.{Contains-from_any}
 use Rattle.cdf_definition.specs.Frame.{Frame}
@@ -29,74 +29,20 @@ use Rattle.cdf_definition.proofs.Lemmas.{keys_rise}
 use Rattle.cvr_facts.proofs.Lemmas.{greatest_is, is_greatest, has_greatest, none_listed, at_head}
 use Rattle.cvr_facts.proofs.Lemmas.{at_tail, head_or_tail, in_map}
 use Rattle.cvr_tally.specs.declared.key.RowKey.{RowKey}
-use Rattle.cvr_tally.specs.declared.row.Row.{Row}
 use Rattle.cvr_tally.specs.Keys.{part_cmp, key_cmp, keys_total, keys_exact}
 use Rattle.cvr_tally.specs.Rows.{Rows}
 use Rattle.cvr_office.specs.Names.{records}
 use Rattle.cvr_office.specs.Keeps.{Keeps}
 use Rattle.cvr_office.specs.Tallied.{unit_of, batch_of, is_headed, sums_of_body, sums_at, stands_in}
 use Rattle.cvr_office.specs.Tallied.{row, row_of, rows}
-use Rattle.cvr_office.specs.Counting.{AddUpLaw}
 use Rattle.cvr_office.proofs.RecordMembers.{from_filter, in_filter}
-use Rattle.cvr_office.proofs.RowSteps.{row_stands}
 use Rattle.cvr_office.proofs.RowsOfKeys.{rows_law}
 
--- ---- sums
-
-module _ {X : Type 0} where
-  sum_by-both : (f g h : X → ℕ) → ((x : X) → h x ≡ f x + g x) → (xs : List X)
-      → sum_by f xs + sum_by g xs ≡ sum_by h xs
-  sum_by-both f g h is [] = omega arith
-  sum_by-both f g h is (x ∷ xs) = omega (
-    arith,
-    is x,
-    sum_by-cons f x xs,
-    sum_by-cons g x xs,
-    sum_by-cons h x xs,
-    sum_by-both f g h is
-        xs,
-  )
-
-  pub sum_by-same : (f g : X → ℕ) (xs : List X) → ((x : X) → Contains xs x → f x ≡ g x)
-      → sum_by f xs ≡ sum_by g xs
-  sum_by-same f g [] is = refl
-  sum_by-same f g (x ∷ xs) is =
-      omega (
-        arith,
-        is x (at_head x xs),
-        sum_by-cons f x xs,
-        sum_by-cons g x xs,
-        sum_by-same f g xs
-            (λ y at. is y (at_tail x y xs at)),
-      )
-
-  sum_by-none : (xs : List X) → sum_by (λ x. 0) xs ≡ 0
-  sum_by-none [] = refl
-  sum_by-none (x ∷ xs) = omega (arith, sum_by-cons (λ (x : X). 0) x xs, sum_by-none xs)
-
 -- what an item counts for
-abbrev weight : Bool → ℕ
+abbrev pub weight : Bool → ℕ
 weight b = cond b 1 0
 
--- the pairs that pass, counted by one side or by the other
-exchanged : {K Y : Type 0} (p : K → Y → Bool) (ks : List K) (ys : List Y)
-    → sum_by (λ k. length (filter (p k) ys)) ks ≡ sum_by (λ y. count_by (λ k. p k y) ks) ys
-exchanged p [] ys = sym (sum_by-none ys)
-exchanged p (k ∷ ks) ys =
-    sum_by-cons (λ k. length (filter (p k) ys)) k ks
-    ∙ ((λ i. length-filter (p k) ys i + exchanged p ks ys i)
-    ∙ sum_by-both (λ y. weight (p k y)) (λ y. count_by (λ k. p k y) ks)
-    (λ y. count_by (λ k. p k y) (k ∷ ks)) (λ y. sum_by-cons (λ k. weight (p k y)) k ks) ys)
-
 -- ---- lists in order
-
-fails : (b : Bool) → (b ≡ true → ⊥) → b ≡ false
-fails true never = absurd (never refl)
-fails false never = refl
-
-both : (a b : Bool) → (a && b) ≡ true → (a ≡ true) × (b ≡ true)
-both true b e = (refl, e)
-both false b e = Prim.cc e
 
 module _ {K : Type 0} {R : K → K → Ordering} (t : IsTotalOrder R) (e : IsAntisymmetric R) where
   not_later : (x j : K) (ks : List K) → IsStrictlySortedBy R (x ∷ ks) → Contains ks j → j ≡ x → ⊥
@@ -110,7 +56,7 @@ module _ {K : Type 0} {R : K → K → Ordering} (t : IsTotalOrder R) (e : IsAnt
     none_passes : (ks : List K) → ((k : K) → Contains ks k → p k ≡ true → ⊥) → count_by p ks ≡ 0
     none_passes [] never = refl
     none_passes (k ∷ ks) never =
-        let first : weight (p k) ≡ 0 = ap weight (fails (p k) (never k (at_head k ks))) in
+        let first : weight (p k) ≡ 0 = ap weight (false_from_ne_true (p k) (never k (at_head k ks))) in
         omega (
           arith,
           sum_by-cons (λ k. weight (p k)) k ks,
@@ -134,7 +80,7 @@ module _ {K : Type 0} {R : K → K → Ordering} (t : IsTotalOrder R) (e : IsAnt
               omega (arith, sum_by-cons (λ k. weight (p k)) x ks, first, rest)
           | inr later ↦
               let first : weight (p x) ≡ 0 = ap weight
-              (fails (p x) (λ passes.
+              (false_from_ne_true (p x) (λ passes.
               not_later x k ks rises later (sym (only x (at_head x ks) passes)))) in
               let rest = one_passes ks (sorted_tail R x ks rises) k
               (λ j a. only j (at_tail x j ks a)) later is in
@@ -144,7 +90,7 @@ module _ {K : Type 0} {R : K → K → Ordering} (t : IsTotalOrder R) (e : IsAnt
   -- ---- entries of a map
 
   module _ {X : Type 0} where
-    found_at : (es : List (K × X)) → IsStrictlySortedBy R (map (λ x. x.0) es) → (x : K × X)
+    pub found_at : (es : List (K × X)) → IsStrictlySortedBy R (map (λ x. x.0) es) → (x : K × X)
         → Contains es x → map_of.find R x.0 es ≡ Some x.1
     found_at [] rises x at = absurd (none_listed x at)
     found_at (y ∷ es) rises x at =
@@ -153,7 +99,7 @@ module _ {K : Type 0} {R : K → K → Ordering} (t : IsTotalOrder R) (e : IsAnt
               (ap (λ b. cond b (Some y.1) (map_of.find R y.0 es))
               ((Equal-is (R y.0 y.0)).1 (tied_itself t y.0)))
           | inr later ↦
-              let apart : eq_by_cmp R x.0 y.0 ≡ false = fails (eq_by_cmp R x.0 y.0) (λ tie.
+              let apart : eq_by_cmp R x.0 y.0 ≡ false = false_from_ne_true (eq_by_cmp R x.0 y.0) (λ tie.
               not_later y.0 x.0 (map (λ x. x.0) es) rises (in_map (λ (x : K × X). x.0) x es later)
               (e x.0 y.0 ((Equal-is (R x.0 y.0)).0 tie)))
               in
@@ -167,46 +113,18 @@ module _ (frame : Frame) (s : Facts) (c : ℕ) where
   abbrev table : Rows
   table = rows frame.contests s
 
-  abbrev rising : IsStrictlySortedBy key_cmp (map_of.keys table)
+  abbrev pub rising : IsStrictlySortedBy key_cmp (map_of.keys table)
   rising = keys_rise key_cmp (entries table) (entries_sorted table)
 
   -- the keys of the contest
-  abbrev keys : List RowKey
+  abbrev pub keys : List RowKey
   keys = filter (λ q. q.contest == c) (map_of.keys table)
 
   abbrev standing : RowKey → ℕ
   standing q = length (filter (stands_in frame.contests s q) (records s))
 
-  abbrev has : RecordName → Bool
+  abbrev pub has : RecordName → Bool
   has r = is_some (sums_at frame.contests s c r)
-
-  theirs : (x : RowKey × Row) → Contains (entries table) x → x.1.ballots ≡ standing x.0
-  theirs x at =
-      (row_stands frame.contests s x.0 (records s) x.1
-      (sym (rows_law frame.contests s x.0)
-      ∙ (get-entries table x.0 ∙ found_at keys_total keys_exact (entries table) rising x at))).0
-
-  by_keys : (es : List (RowKey × Row)) →
-      ((x : RowKey × Row) → Contains es x → x.1.ballots ≡ standing x.0)
-      → sum_by (λ x. x.1.ballots) (filter (λ x. x.0.contest == c) es)
-      ≡ sum_by standing (filter (λ q. q.contest == c) (map (λ x. x.0) es))
-  by_keys [] is = refl
-  by_keys (x ∷ es) is =
-      let rest = by_keys es (λ y at. is y (at_tail x y es at)) in
-      let kept = filter (λ (x : RowKey × Row). x.0.contest == c) es in
-      let left = filter (λ (q : RowKey). q.contest == c) (map (λ (x : RowKey × Row). x.0) es) in
-      elim (x.0.contest == c) as (λ b. sum_by (λ (x : RowKey × Row). x.1.ballots)
-      (cond b (x ∷ kept) kept) ≡ sum_by standing (cond b (x.0 ∷ left) left)) [
-        | true ↦ omega (
-          arith,
-          sum_by-cons (λ (x : RowKey × Row). x.1.ballots) x kept,
-          sum_by-cons
-              standing x.0 left,
-          is x (at_head x es),
-          rest,
-        )
-        | false ↦ rest
-      ]
 
   -- ---- one record
 
@@ -263,9 +181,9 @@ module _ (frame : Frame) (s : Facts) (c : ℕ) where
     own_only q at stands =
         let contest = eqb-true q.contest c
         (from_filter (λ (q : RowKey). q.contest == c) (map_of.keys table) q at).1 in
-        let parts = both (is_headed q (header s r)) (is_some (sums_at frame.contests s q.contest r))
+        let parts = and_parts (is_headed q (header s r)) (is_some (sums_at frame.contests s q.contest r))
         stands in
-        let ties = both (is_eq (part_cmp q.unit (unit_of head)))
+        let ties = and_parts (is_eq (part_cmp q.unit (unit_of head)))
         (is_eq (part_cmp q.batch (batch_of head))) (ap (is_headed q) (sym h) ∙ parts.0) in
         let first : nat_cmp q.contest c ≡ Equal =
         ap (λ n. nat_cmp n c) contest ∙ tied_itself nat_cmp_total c in
@@ -273,7 +191,7 @@ module _ (frame : Frame) (s : Facts) (c : ℕ) where
         let batch = (Equal-is (part_cmp q.batch (batch_of head))).0 ties.1 in
         keys_exact q own (λ i. ordering_then (first i) (ordering_then (unit i) (batch i)))
 
-  each_record : Keeps frame s → (r : RecordName) → Contains (records s) r
+  pub each_record : Keeps frame s → (r : RecordName) → Contains (records s) r
       → count_by (λ q. stands_in frame.contests s q r) keys ≡ weight (has r)
   each_record keeps r at =
       elim (has r) as (λ b. has r ≡ b → count_by (λ q. stands_in frame.contests s q r) keys
@@ -289,15 +207,7 @@ module _ (frame : Frame) (s : Facts) (c : ℕ) where
             (λ q a stands.
             let contest = eqb-true q.contest c
             (from_filter (λ (q : RowKey). q.contest == c) (map_of.keys table) q a).1 in
-            let had = (both (is_headed q (header s r))
+            let had = (and_parts (is_headed q (header s r))
             (is_some (sums_at frame.contests s q.contest r)) stands).1 in
             true≢false (sym had ∙ (ap (λ k. is_some (sums_at frame.contests s k r)) contest ∙ is)))
       ] refl
-
-pub ballots_add_up : AddUpLaw
-ballots_add_up frame s c keeps =
-    by_keys frame s c (entries (rows frame.contests s)) (theirs frame s c)
-    ∙ (exchanged (stands_in frame.contests s) (keys frame s c) (records s)
-    ∙ (sum_by-same (λ r. count_by (λ q. stands_in frame.contests s q r) (keys frame s c))
-    (λ r. weight (has frame s c r)) (records s) (each_record frame s c keeps)
-    ∙ sym (length-filter (has frame s c) (records s))))
