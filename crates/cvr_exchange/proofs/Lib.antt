@@ -15,3 +15,4 @@ pub mod Histories
 pub mod Among
 pub mod Kept
 pub mod ByFiles
+pub mod Laws

@@ -1,6 +1,7 @@
 -- What proofs of other crates may cite: each is a clause of one of this crate's functions, which
 -- has the statement.
 pub use Rattle.cvr_office.proofs.AnsweredAlike.{answer_alike}
+pub use Rattle.cvr_office.proofs.ColumnTotals.{ballots_add_up, columns_add_up}
 pub use Rattle.cvr_office.proofs.Included.{device_known, includes, known_device}
 pub use Rattle.cvr_office.proofs.Keeping.{import_keeps, join_keeps}
 pub use Rattle.cvr_office.proofs.Lasting.{held_lasts, import_lasts}

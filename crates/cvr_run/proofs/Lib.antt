@@ -37,3 +37,5 @@ pub mod GivenChecks
 pub mod GivenMerges
 pub mod GivenValues
 pub mod ThreeFiles
+pub mod Laws
+pub mod Lemmas

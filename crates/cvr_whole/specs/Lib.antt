@@ -1,0 +1,5 @@
+pub mod Runs
+pub mod Volumes
+pub mod Votes
+pub mod Lines
+pub mod Examples
