@@ -59,7 +59,7 @@ SameBytesLaw = (job other : Job) (run : WholeRun job) (again : WholeRun other)
 -- ---- one status
 
 -- one task, over one definition and the same files, in any order and however often
-pub record HaveSameFiles (job other : Job) : Type 0 where
+pub record AreOneJob (job other : Job) : Type 0 where
   pub task : job.request.task ≡ other.request.task
   pub definition : job.def ≡ other.def
   pub files : HaveSameBytes job.files other.files
@@ -67,7 +67,7 @@ pub record HaveSameFiles (job other : Job) : Type 0 where
 -- then two whole runs have one status; a drill depends on the order of its steps
 abbrev pub SameStatusLaw : Type 0
 SameStatusLaw = (job other : Job) (run : WholeRun job) (again : WholeRun other)
-    → takes_files job.request.task ≡ true → HaveSameFiles job other → run.status ≡ again.status
+    → takes_files job.request.task ≡ true → AreOneJob job other → run.status ≡ again.status
 
 -- nothing is to be refused: the definition is sound, each file is valid, and `merge` has no fault
 pub record IsClean (job : Job) : Type 0 where
