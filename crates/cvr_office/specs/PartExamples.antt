@@ -2,7 +2,8 @@
 -- and what their columns come to. (This project's own.)
 use Rattle.std.specs.Prelude.{◌≡◌, ℕ, List, [], ◌∷◌, ◌++◌, map, codes, Some, None}
 use Rattle.std.specs.FinSet.{from_list, union}
-use Rattle.cvr_fact_types.specs.Columns.{VotesFor, columns}
+use Rattle.cvr_fact_types.specs.Columns.{Ballots, Overvotes, Undervotes, WriteIns, Pending}
+use Rattle.cvr_fact_types.specs.Columns.{Unassigned, VotesFor}
 use Rattle.cvr_fact_types.specs.Facts.{Fact, Device, Header, Snapshot, Facts}
 use Rattle.cvr_tally.specs.Examples.{ballot_box, dot}
 use Rattle.cvr_tally.specs.declared.key.RowKey.{RowKey}
@@ -100,8 +101,10 @@ SumsOfRows =
 
 -- ---- columns
 
--- what each column of mayor comes to in both
+-- what columns of mayor come to in both
 abbrev pub TotalsOfBoth : Type 0
 TotalsOfBoth =
-    map (total_of (rows contests (union first second)) 0) (columns ++ VotesFor 0 ∷ VotesFor 1 ∷ [])
+    map (total_of (rows contests (union first second)) 0)
+    (Ballots ∷ Overvotes ∷ Undervotes ∷ WriteIns ∷ Pending ∷ Unassigned ∷ VotesFor 0 ∷ VotesFor 1
+    ∷ [])
     ≡ 4 ∷ 21 ∷ 32 ∷ 48 ∷ 65 ∷ 54 ∷ 138 ∷ 109 ∷ []

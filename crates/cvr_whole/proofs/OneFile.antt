@@ -15,12 +15,12 @@ use Rattle.cvr_facts.specs.Reports.{facts}
 use Rattle.cvr_facts.specs.Unions.{union_assoc, union_same, union_empty}
 use Rattle.cvr_facts.proofs.Lemmas.{at_head, head_or_tail, none_listed, from_list-append}
 use Rattle.cvr_office.specs.Keeps.{starting_content}
-use Rattle.cvr_office.specs.Tallied.{tally}
 use Rattle.cvr_report.specs.Head.{Head}
 use Rattle.cvr_report.specs.Page.{volumes}
 use Rattle.cvr_report.specs.Volume.{volume}
 use Rattle.cvr_exchange.specs.Passing.{CanHead, AreAllTo}
-use Rattle.cvr_words.specs.declared.request.Task.TheVariants.{Tally}
+use Rattle.cvr_words.specs.declared.request.Task.TheVariants.{Currents}
+use Rattle.cvr_run.specs.Currents.{currents}
 use Rattle.cvr_run.specs.Outcome.{accepted_facts, content_of_files, run_text}
 use Rattle.cvr_run.proofs.Lemmas.{text_beside}
 use Rattle.cvr_whole.specs.Runs.{AreOneDefinition}
@@ -74,14 +74,12 @@ module _ (definition : Frame) (file : List ℕ) (starts fs : List Fact)
 
 -- ---- what is printed
 
-pub tally_given : (def : List ℕ) (files : List (List ℕ)) (fs : List Fact) (text : List ℕ)
-    → Sound def → value_in def ≡ data_of def
-    → content_of_files (frame_in def) files ≡ from_list fs
-    → tally (frame_put (data_of def)).contests (from_list fs) ≡ text
-    → run_text Tally def [] files ≡ text
-tally_given def files fs text s value held is =
-    sym (text_beside Tally def (frame_in def) [] files s refl)
-    ∙ ((λ i. tally (frame_is def value i).contests (held i)) ∙ is)
+pub currents_given : (def : List ℕ) (files : List (List ℕ)) (fs : List Fact) (text : List ℕ)
+    → Sound def → content_of_files (frame_in def) files ≡ from_list fs → currents (from_list fs) ≡ text
+    → run_text Currents def [] files ≡ text
+currents_given def files fs text s held is =
+    sym (text_beside Currents def (frame_in def) [] files s refl)
+    ∙ (ap currents held ∙ is)
 
 -- ---- one volume
 

@@ -3,7 +3,7 @@
 use Rattle.std.specs.Prelude.{◌≡◌, ℕ, List, [], ◌∷◌, ◌++◌, codes}
 use Rattle.cdf_check.specs.Rows as file
 use Rattle.cvr_report.specs.Head.{Head}
-use Rattle.cvr_words.specs.declared.request.Task.TheVariants.{Tally}
+use Rattle.cvr_words.specs.declared.request.Task.TheVariants.{Currents}
 use Rattle.cvr_run.specs.Ends.{job_text}
 use Rattle.cvr_run.specs.Job.{Job}
 use Rattle.cvr_run.specs.Rows.{spelled_anew}
@@ -12,21 +12,21 @@ use Rattle.cvr_whole.specs.Volumes.{AreVolumes}
 
 -- ---- jobs
 
--- the tally of these files under this definition
-abbrev pub tally_of : List ℕ → List (List ℕ) → Job
-tally_of def files = record {
-  request = record { task = Tally; def = codes "def.json"; paths = [] };
+-- the current snapshots of these files under this definition
+abbrev pub currents_of : List ℕ → List (List ℕ) → Job
+currents_of def files = record {
+  request = record { task = Currents; def = codes "def.json"; paths = [] };
   def = def;
   files = files;
 }
 
 -- a file that is accepted is clean, and beside one that is refused it isn't
 abbrev pub OneIsClean : Type 0
-OneIsClean = IsClean (tally_of file.definition_file (file.one_file ∷ []))
+OneIsClean = IsClean (currents_of file.definition_file (file.one_file ∷ []))
 
 abbrev pub TwoAreNot : Type 0
 TwoAreNot =
-    ¬ IsClean (tally_of file.definition_file (file.one_file ∷ file.two_faults_file ∷ []))
+    ¬ IsClean (currents_of file.definition_file (file.one_file ∷ file.two_faults_file ∷ []))
 
 -- ---- the same input
 
@@ -37,13 +37,13 @@ definition_anew = codes "\n" ++ file.definition_file
 -- the same record, with other bytes and beside a refused file, and given twice: one input
 abbrev pub SameInput : Type 0
 SameInput = HaveSameInput
-    (tally_of file.definition_file (spelled_anew ∷ file.two_faults_file ∷ []))
-    (tally_of definition_anew (file.one_file ∷ file.one_file ∷ []))
+    (currents_of file.definition_file (spelled_anew ∷ file.two_faults_file ∷ []))
+    (currents_of definition_anew (file.one_file ∷ file.one_file ∷ []))
 
 -- of which this is printed
 abbrev pub TextOfOne : Type 0
-TextOfOne = job_text (tally_of definition_anew (file.one_file ∷ file.one_file ∷ []))
-    ≡ codes "\"mayor\" \"p1\" null 1 0 0 0 0 0 \"ann\" 1 \"bob\" 0 \"wi\" 0\n"
+TextOfOne = job_text (currents_of definition_anew (file.one_file ∷ file.one_file ∷ []))
+    ≡ codes "\"s1\" \"u1\" \"a\" original\n"
 
 -- ---- a volume
 

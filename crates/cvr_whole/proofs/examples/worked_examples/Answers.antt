@@ -14,18 +14,17 @@ use Rattle.cdf_check.specs.Rows as file
 use Rattle.cdf_check.proofs.Lemmas.{ascii_unsound, ascii_refusal}
 use Rattle.cvr_facts.specs.Choosing.{data_of}
 use Rattle.cvr_facts.proofs.Lemmas.{at_head, at_tail}
-use Rattle.cvr_office.proofs.Lemmas.{tally-given}
 use Rattle.cvr_report.specs.Head.{is_device_of}
 use Rattle.cvr_report.specs.Page.{volumes}
 use Rattle.cvr_report.specs.Volume.{volume}
 use Rattle.cvr_report.proofs.Lemmas.{volume-given, volumes-given}
 use Rattle.cvr_run.specs.Rows.{spelled_anew}
-use Rattle.cvr_run.proofs.Lemmas.{facts-given, of_one_file, same_values, starts-given}
-use Rattle.cvr_run.proofs.Lemmas.{three_devices, value-ascii}
+use Rattle.cvr_run.proofs.Lemmas.{currents-given, facts-given, of_one_file, same_values}
+use Rattle.cvr_run.proofs.Lemmas.{starts-given, three_devices, value-ascii}
 use Rattle.cvr_whole.specs.Examples.{OneIsClean, TwoAreNot, SameInput, TextOfOne, OneVolume}
 use Rattle.cvr_whole.specs.Examples.{definition_anew, heading}
 use Rattle.cvr_whole.proofs.OneFile.{only, frame_is, one_by_value, held_once, held_twice}
-use Rattle.cvr_whole.proofs.OneFile.{tally_given, one_volume}
+use Rattle.cvr_whole.proofs.OneFile.{currents_given, one_volume}
 use Rattle.cvr_whole.proofs.examples.worked_examples.Goals as goal
 
 -- ---- the files
@@ -94,13 +93,12 @@ same_input = record {
 text_of_one : TextOfOne
 unfolding serde_json_on_literals jiff_on_literals digits escape_byte
 text_of_one =
-    tally_given definition_anew (file.one_file ∷ file.one_file ∷ []) (three_devices ++ of_one_file)
-    _ anew_sound anew_value
+    currents_given definition_anew (file.one_file ∷ file.one_file ∷ []) (three_devices ++ of_one_file)
+    _ anew_sound
     (held_twice (frame_in definition_anew) file.one_file three_devices of_one_file
     (starts-given definition_anew three_devices refl refl) one_there
     (facts-given file.one_file of_one_file refl refl))
-    (tally-given (frame_put (data_of definition_anew)).contests (three_devices ++ of_one_file)
-    ∙ refl)
+    (currents-given (three_devices ++ of_one_file) ∙ refl)
 
 one_volume_is : OneVolume
 unfolding serde_json_on_literals jiff_on_literals digits escape_byte
