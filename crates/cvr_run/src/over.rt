@@ -1,15 +1,23 @@
-ghost use Rattle.std.specs.Prelude.{◌≡◌, ◌<◌, ◌≤◌, length, true, false, None};
-ghost use Rattle.std.specs.Io.KnownBytes.{ReadConsumes, WriteAppends};
-ghost use Rattle.cdf_types.specs.Device.{count, fails_read, fails_write};
+ghost use Rattle.std.specs.Prelude.{◌≡◌, ◌<◌, ◌≤◌, length, true, false, None, Some, IfSome};
+ghost use Rattle.std.specs.Prelude.{is_some};
+ghost use Rattle.std.specs.Option.{option_and};
+ghost use Rattle.std.specs.Io.KnownBytes.{ReadConsumes};
+ghost use Rattle.cdf_types.specs.Device.{count, fails_read};
 
 use cdf_types::{DeviceFault, Sink, Source};
 use std::io::{Read, Write};
+use std::snapshot::Snapshot;
 
-/// A sink over a writer. It doesn't show its bytes. An interrupted call counts as a failure.
+/// A sink over a writer. It shows the bytes that the writer holds, if the writer shows them. An
+/// interrupted call counts as a failure.
 #[derive(Drop)]
-pub struct OverWrite<W> {
+pub struct OverWrite<W: Write> {
     inner: W,
     failed: bool,
+    // The writer as it was given, for clauses alone: a writer that showed its bytes then shows them
+    // from then on.
+    given: Snapshot<W>,
+    ghost shows: { is_some (W.contents given.value) ≡ true → is_some (W.contents inner) ≡ true },
 }
 
 impl<W: Write + Drop> OverWrite<W> {
@@ -17,29 +25,38 @@ impl<W: Write + Drop> OverWrite<W> {
     pub fn new(inner: W) -> OverWrite<W>
         ensures working { result.failed ≡ false }
         ensures inner { result.inner ≡ inner }
+        ensures shown { (⟦<OverWrite<W> as Sink>⟧.taken result).bytes ≡ W.contents inner }
     {
+        let given = Snapshot::of(&inner);
         OverWrite {
             inner,
             failed: false,
+            given,
         }
+    }
+
+    /// The writer, which holds the bytes that the sink shows. Takes no memory.
+    pub fn into_inner(self) -> W
+        ensures inner { result ≡ self.inner }
+        ensures shown { IfSome (⟦<OverWrite<W> as Sink>⟧.taken self).bytes
+            (λ bytes. W.contents result ≡ Some bytes) }
+    {
+        let OverWrite { inner, .. } = self;
+        inner
     }
 }
 
 impl<W: Write + Drop> Sink for OverWrite<W> {
-    ghost taken = { λ s. record { bytes = None; failed = s.failed } };
+    ghost taken = { λ s. record {
+      bytes = option_and (W.contents s.given.value) (W.contents s.inner);
+      failed = s.failed;
+    } };
 
     /// Writes once to the writer, which takes what the answer says.
     ///
     /// # Errors
     /// `DeviceFault` where the writer answered an error. The sink has then failed.
-    fn write(&mut self, bytes: &[u8]) -> Result<usize, DeviceFault>
-        requires working { self.old.failed ≡ false }
-        requires some { 0 < length bytes.now }
-        ensures within { count result ≤ length bytes.now }
-        ensures failed { self.new.failed ≡ fails_write result }
-        ensures inner { WriteAppends (W.contents self.old.inner) (W.contents self.new.inner)
-            result bytes.now }
-    {
+    fn write(&mut self, bytes: &[u8]) -> Result<usize, DeviceFault> {
         match self.inner.write(bytes) {
             Ok(count) => {
                 self.failed = count == 0;

@@ -1,6 +1,4 @@
-ghost use Rattle.std.specs.Prelude.{◌≡◌, ◌<◌, ◌≤◌, length, false, None};
-ghost use Rattle.std.specs.Io.KnownBytes.{WriteAppends};
-ghost use Rattle.cdf_types.specs.Device.{count, fails_write};
+ghost use Rattle.std.specs.Prelude.{◌≡◌, false};
 
 use crate::notes::Notes;
 use crate::progress::Progress;
@@ -77,9 +75,10 @@ impl<F: Drop, R: Eprint + AllocGlobal> Drop for Watched<'_, F, R> {
     }
 }
 
-/// The log: it removes the line before it takes bytes, and the notes take note of them.
+/// The log: it removes the line before it takes bytes, and the notes take note of them. It shows
+/// the bytes that the writer holds, if the writer shows them.
 #[derive(Drop)]
-pub struct Log<'a, W, R> {
+pub struct Log<'a, W: Write, R> {
     inner: OverWrite<W>,
     progress: &'a Progress<'a, R>,
     notes: &'a Notes<'a, R>,
@@ -88,7 +87,8 @@ pub struct Log<'a, W, R> {
 impl<'a, W: Write + Drop, R: Eprint + AllocGlobal> Log<'a, W, R> {
     /// The log over a writer; it hasn't failed.
     pub fn new(output: W, progress: &'a Progress<'a, R>, notes: &'a Notes<'a, R>) -> Log<'a, W, R>
-        ensures { result.inner.failed ≡ false }
+        ensures working { result.inner.failed ≡ false }
+        ensures shown { (⟦<OverWrite<W> as Sink>⟧.taken result.inner).bytes ≡ W.contents output }
     {
         Log {
             inner: OverWrite::new(output),
@@ -99,17 +99,10 @@ impl<'a, W: Write + Drop, R: Eprint + AllocGlobal> Log<'a, W, R> {
 }
 
 impl<W: Write + Drop, R: Eprint + AllocGlobal> Sink for Log<'_, W, R> {
-    ghost taken = { λ s. record { bytes = None; failed = s.inner.failed } };
+    ghost taken = { λ s. ⟦<OverWrite<W> as Sink>⟧.taken s.inner };
 
     /// Hands the bytes on, and nothing else.
-    fn write(&mut self, bytes: &[u8]) -> Result<usize, DeviceFault>
-        requires working { self.old.inner.failed ≡ false }
-        requires some { 0 < length bytes.now }
-        ensures within { count result ≤ length bytes.now }
-        ensures failed { self.new.inner.failed ≡ fails_write result }
-        ensures inner { WriteAppends
-            (W.contents self.old.inner.inner) (W.contents self.new.inner.inner) result bytes.now }
-    {
+    fn write(&mut self, bytes: &[u8]) -> Result<usize, DeviceFault> {
         self.progress.clear();
         self.notes.hear(bytes);
         self.inner.write(bytes)
