@@ -2,22 +2,34 @@
 //! a definition and reports that lie where it runs, and prints what the calls answer.
 #![tactic(auto)]
 
-ghost use Rattle.std.specs.Prelude.{◌≡◌, ◌<◌, ◌≤◌, true};
+ghost use Rattle.std.specs.Prelude.{◌≡◌, ◌<◌, ◌≤◌, true, false, length};
 ghost use Rattle.cvr_report.specs.Head.{is_device_of};
 ghost use Rattle.cvr_report.specs.Page.{volumes};
+ghost use Rattle.cvr_run.specs.Outcome.{files_of, IsWhole, run_text};
 
 use cdf_check::{Definition, check_report};
-use cdf_types::{Memory, MemorySink, ReadFault};
-use cvr_cli::{conflicts_text, currents_text};
+use cdf_types::{Memory, MemorySink, ReadFault, Sink};
+use cvr_cli::{OverWrite, Request, Status, conflicts_text, currents_text, read_words, run};
 use cvr_collect::{Cause, Event, Office, Outcome, PlainOffice, play};
 use cvr_facts::{FactList, facts_of};
 use cvr_report::{Heading, WriteFault, volumes, write_volume};
 use cvr_tally::tally_text;
-use std::alloc::Global;
+use std::alloc::{AllocError, Global};
 use std::fs;
+use std::io::Write;
 
 // The reports, by their places from 0. The last one is refused.
 static REPORTS: [&str; 4] = [
+    "scan.json",
+    "adjudicated.json",
+    "corrected.json",
+    "damaged.json",
+];
+
+// A command and its words, as they stand after the name of the program.
+static WORDS: [&str; 6] = [
+    "conflicts",
+    "definition.json",
     "scan.json",
     "adjudicated.json",
     "corrected.json",
@@ -238,6 +250,47 @@ fn read_back(rt: &HostRuntime, office: &PlainOffice) -> anyhow::Result<()> {
     Ok(())
 }
 
+// The words of the command, as texts of their own.
+fn words(alloc: Global) -> Result<Vec<String>, AllocError> {
+    let mut words = Vec::new(alloc);
+    for word in &WORDS {
+        words.push(word.to_string(alloc)?)?;
+    }
+    Ok(words)
+}
+
+// What a run prints, in memory, and how it ends. The conditions are those of `run`. A `Vec` shows
+// its bytes, so the contract says which they are: of a run that is whole, its text.
+fn run_in_memory<L: Sink>(
+    alloc: Global,
+    request: &Request,
+    def: &[u8],
+    files: &[Vec<u8>],
+    log: &mut L,
+) -> (Status, Vec<u8>)
+    requires log_working { (L.taken log.old).failed ≡ false }
+    requires named { length request.now.paths ≡ length files.now }
+    ensures { IsWhole result.0 → result.1.items
+        ≡ run_text request.now.task def.now request.now.paths (files_of files.now) }
+{
+    let mut out = OverWrite::new(Vec::new(alloc));
+    let status = run(alloc, request, def, files, &mut out, log);
+    (status, out.into_inner())
+}
+
+// Runs the command over the reports, and prints what it has to print.
+fn print_run(rt: &HostRuntime, files: &[Vec<u8>]) -> anyhow::Result<()> {
+    let alloc = rt.alloc();
+    let def = fs::read(rt, "definition.json")?;
+    let request = read_words(alloc, words(alloc)?.as_slice())?;
+    if request.paths.as_slice().len() == files.len() {
+        let mut log = MemorySink::new(alloc, PIECE, 0);
+        let (_, text) = run_in_memory(alloc, &request, def.as_slice(), files, &mut log);
+        rt.stdout().write_all(text.as_slice())?;
+    }
+    Ok(())
+}
+
 // All that is shown of one office.
 fn show_office(rt: &HostRuntime, definition: &Definition, files: &[Vec<u8>]) -> anyhow::Result<()> {
     let office = collect(rt, definition, files)?;
@@ -250,7 +303,8 @@ fn show(rt: &HostRuntime, definition: &Definition) -> anyhow::Result<()> {
     let files = read_reports(rt)?;
     check(rt, definition, files.as_slice())?;
     show_office(rt, definition, files.as_slice())?;
-    exchange(rt, definition, files.as_slice())
+    exchange(rt, definition, files.as_slice())?;
+    print_run(rt, files.as_slice())
 }
 
 // What a function holds at each of its exits makes its proof long. So each function here holds
