@@ -1,13 +1,17 @@
 //! The program: it hands the words to the library, with the files and the devices of the system.
 #![tactic(auto)]
 
+mod answering;
 mod choices;
 
 ghost use Rattle.std.specs.Prelude.{◌≡◌, None, false, true};
+ghost use Rattle.std.specs.Process.{exit_status};
 ghost use Rattle.cvr_run.specs.Opening.{Unknown};
+ghost use Rattle.cvr_run.specs.Status.{code_of};
 
+use answering::answer;
 use choices::{behind_the_name, file_fault, words_line, words_status};
-use cvr_cli::{FileFault, Open, OverRead, OverWrite, Status, listing_of, respond};
+use cvr_cli::{FileFault, Open, OverRead, OverWrite, Status, listing_of};
 use cvr_screen::{Cleared, Log, Notes, Progress, Watched};
 use std::io::IsTerminal;
 use std::process::ExitCode;
@@ -65,36 +69,41 @@ fn devices<'a>(
     (OverWrite::new(out), Log::new(rt.stderr(), progress, notes))
 }
 
-// The status of a run over the words after the program's name.
-fn work_on_words(rt: &HostRuntime, words: &[String]) -> Status {
+// Answers all words, with the files and the devices of the system.
+fn answer_here(rt: &HostRuntime, words: &[String]) -> ExitCode {
     let is_terminal = rt.stderr().is_terminal();
+    let has_list = listing_of(behind_the_name(words)).is_some();
     let progress = Progress::new(rt, is_terminal);
-    let notes = Notes::new(rt, is_terminal, listing_of(words).is_some() as usize);
+    let notes = Notes::new(rt, is_terminal, has_list as usize);
     let (mut out, mut log) = devices(rt, &progress, &notes);
     let mut system = System {
         rt,
         progress: &progress,
         notes: &notes,
     };
-    let status = respond(rt.alloc(), &mut system, words, &mut out, &mut log);
-    progress.clear();
-    notes.print(&status);
-    status
+    answer(
+        rt.alloc(),
+        &mut system,
+        words,
+        &mut out,
+        &mut log,
+        &progress,
+        &notes,
+    )
 }
 
-// Answers the status of a run without words, and prints its line to standard error.
-fn end_without_words<R: Eprint>(rt: &R, status: Status) -> Status
-    ensures { result ≡ status }
+// Ends without words: prints why there are none to standard error.
+fn end_without_words<R: Eprint>(rt: &R, status: Status) -> ExitCode
+    ensures { exit_status result ≡ code_of status }
 {
     let line = words_line(&status);
     let _ = eprintln!(rt; "{line}");
-    status
+    ExitCode::from(status.code())
 }
 
 fn main(rt: HostRuntime) -> ExitCode {
-    let status = match all_words(&rt) {
-        Ok(words) => work_on_words(&rt, behind_the_name(words.as_slice())),
+    match all_words(&rt) {
+        Ok(words) => answer_here(&rt, words.as_slice()),
         Err(status) => end_without_words(&rt, status),
-    };
-    ExitCode::from(status.code())
+    }
 }
