@@ -103,7 +103,8 @@ pub votes_more : (n : ℕ) (xs : List SelectionVote) (i : ℕ) (x : SelectionVot
     ≡ votes_by_place n (take (i + 1) xs)
 votes_more n xs i x less is here =
     let votes = votes_by_place n (take i xs) in
-    let for_place = λ (j place : ℕ). sum_by (votes_of counts) (filter (names_place place) (take j xs)) in
+    let for_place = λ (j place : ℕ).
+    sum_by (votes_of counts) (filter (names_place place) (take j xs)) in
     let long : length votes ≡ n = length-map-range_with_len (for_place i) 0 n in
     let within : IfSome x.selection (λ p. p < length votes) =
     subst (λ m. IfSome x.selection (λ p. p < m)) (sym long) here in

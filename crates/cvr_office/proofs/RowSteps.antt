@@ -67,7 +67,8 @@ passed : {X : Type 0} (b : Bool) (o : Option X) (x : X) → cond b o None ≡ So
 passed true o x e = e
 passed false o x e = Prim.cc e
 
-pub shown : {X : Type 0} (b : Bool) (x y : X) → cond b None (Some x) ≡ Some y → (b ≡ false) × (x ≡ y)
+pub shown : {X : Type 0} (b : Bool) (x y : X) → cond b None (Some x) ≡ Some y
+    → (b ≡ false) × (x ≡ y)
 shown true x y e = Prim.cc e
 shown false x y e = (refl, Prim.cc e)
 

@@ -56,7 +56,8 @@ module _ {K : Type 0} {R : K → K → Ordering} (t : IsTotalOrder R) (e : IsAnt
     none_passes : (ks : List K) → ((k : K) → Contains ks k → p k ≡ true → ⊥) → count_by p ks ≡ 0
     none_passes [] never = refl
     none_passes (k ∷ ks) never =
-        let first : weight (p k) ≡ 0 = ap weight (false_from_ne_true (p k) (never k (at_head k ks))) in
+        let first : weight (p k) ≡ 0 =
+        ap weight (false_from_ne_true (p k) (never k (at_head k ks))) in
         omega (
           arith,
           sum_by-cons (λ k. weight (p k)) k ks,
@@ -99,7 +100,8 @@ module _ {K : Type 0} {R : K → K → Ordering} (t : IsTotalOrder R) (e : IsAnt
               (ap (λ b. cond b (Some y.1) (map_of.find R y.0 es))
               ((Equal-is (R y.0 y.0)).1 (tied_itself t y.0)))
           | inr later ↦
-              let apart : eq_by_cmp R x.0 y.0 ≡ false = false_from_ne_true (eq_by_cmp R x.0 y.0) (λ tie.
+              let apart : eq_by_cmp R x.0 y.0 ≡ false =
+              false_from_ne_true (eq_by_cmp R x.0 y.0) (λ tie.
               not_later y.0 x.0 (map (λ x. x.0) es) rises (in_map (λ (x : K × X). x.0) x es later)
               (e x.0 y.0 ((Equal-is (R x.0 y.0)).0 tie)))
               in
@@ -181,8 +183,8 @@ module _ (frame : Frame) (s : Facts) (c : ℕ) where
     own_only q at stands =
         let contest = eqb-true q.contest c
         (from_filter (λ (q : RowKey). q.contest == c) (map_of.keys table) q at).1 in
-        let parts = and_parts (is_headed q (header s r)) (is_some (sums_at frame.contests s q.contest r))
-        stands in
+        let parts = and_parts (is_headed q (header s r))
+        (is_some (sums_at frame.contests s q.contest r)) stands in
         let ties = and_parts (is_eq (part_cmp q.unit (unit_of head)))
         (is_eq (part_cmp q.batch (batch_of head))) (ap (is_headed q) (sym h) ∙ parts.0) in
         let first : nat_cmp q.contest c ≡ Equal =

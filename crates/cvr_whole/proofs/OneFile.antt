@@ -75,8 +75,8 @@ module _ (definition : Frame) (file : List ℕ) (starts fs : List Fact)
 -- ---- what is printed
 
 pub currents_given : (def : List ℕ) (files : List (List ℕ)) (fs : List Fact) (text : List ℕ)
-    → Sound def → content_of_files (frame_in def) files ≡ from_list fs → currents (from_list fs) ≡ text
-    → run_text Currents def [] files ≡ text
+    → Sound def → content_of_files (frame_in def) files ≡ from_list fs
+    → currents (from_list fs) ≡ text → run_text Currents def [] files ≡ text
 currents_given def files fs text s held is =
     sym (text_beside Currents def (frame_in def) [] files s refl)
     ∙ (ap currents held ∙ is)

@@ -93,8 +93,8 @@ same_input = record {
 text_of_one : TextOfOne
 unfolding serde_json_on_literals jiff_on_literals digits escape_byte
 text_of_one =
-    currents_given definition_anew (file.one_file ∷ file.one_file ∷ []) (three_devices ++ of_one_file)
-    _ anew_sound
+    currents_given definition_anew (file.one_file ∷ file.one_file ∷ [])
+    (three_devices ++ of_one_file) _ anew_sound
     (held_twice (frame_in definition_anew) file.one_file three_devices of_one_file
     (starts-given definition_anew three_devices refl refl) one_there
     (facts-given file.one_file of_one_file refl refl))
