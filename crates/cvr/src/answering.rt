@@ -8,7 +8,7 @@ ghost use Rattle.cvr_run.specs.Ends.{Ran};
 ghost use Rattle.cvr_run.specs.Explained.{AsksCode, Explains};
 ghost use Rattle.cvr_run.specs.Job.{Job};
 ghost use Rattle.cvr_run.specs.Listed.{AnswersListed, AsksListed, IsGivenEither, ListedRequest};
-ghost use Rattle.cvr_run.specs.Opening.{Opens};
+ghost use Rattle.cvr_run.specs.Opening.{Opens, SaysTheSame};
 ghost use Rattle.cvr_run.specs.Outcome.{IsWhole};
 ghost use Rattle.cvr_run.specs.OwnWords.{AsksVersion, PrintsOwn, version_text};
 ghost use Rattle.cvr_run.specs.Status.{code_of};
@@ -66,6 +66,7 @@ pub fn answer<O: Open, W: Sink, L: Sink, R: Eprint + AllocGlobal>(
     ensures asked { (request : Request)
         → IsRequest (with_program (map string_bytes (drop 1 words.now))) request
         → ended result ≢ CommandLine }
+    ensures says { SaysTheSame (O.state opener.old) (O.state opener.new) }
     ensures unopened { AsksVersion (map string_bytes (drop 1 words.now))
         ⊎ ((name : List ℕ) × AsksCode (map string_bytes (drop 1 words.now)) name)
         → Opens (O.state opener.old) (O.state opener.new) [] }

@@ -17,5 +17,6 @@ returns g c =
       works = rw e (rw w at said.works);
       given = rw e (rw w at said.given);
       asked = rw e (rw w at said.asked);
+      says = said.says;
       unopened = rw w at said.unopened;
     }
