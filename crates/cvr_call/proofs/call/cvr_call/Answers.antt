@@ -1,0 +1,64 @@
+use Rattle.std.proofs.Common.{◌≡◌, ◌≢◌, ◌∙◌, ℕ, List, [], ◌∷◌, length, ap, arith, inl, inr, refl}
+use Rattle.cvr_call.specs.declared.fault.CallFault.{CallFault}
+use Rattle.cvr_call.specs.declared.fault.CallFault.TheVariants.{Pieces, Memory}
+use Rattle.cvr_call.specs.Told.{fault_code, no_input, no_memory, put_into}
+use Rattle.cvr_call.proofs.call.cvr_call.Goals as goal
+
+of_memory : (fault : CallFault) (code : ℕ) → code ≡ fault_code fault → fault ≢ Pieces
+    → code ≡ no_memory
+of_memory Pieces code is other = absurd (other refl)
+of_memory Memory code is other = is
+
+of_pieces : (fault : CallFault) (code : ℕ) → code ≡ fault_code fault → code ≡ no_input
+    → fault ≡ Pieces
+of_pieces Pieces code is five = refl
+of_pieces Memory code is five = absurd (omega (arith, is, five))
+
+pub returns-in-Ok-clause-told : goal.returns-in-Ok-clause-told
+returns-in-Ok-clause-told c given is = inr (
+  record {
+    status = c.in-Ok.status;
+    text = c.answer_input-answered.new.out.taken;
+    log = c.answer_input-answered.new.log.taken;
+  },
+  c.in-Ok.ensures.answered given is,
+  record {
+    status = cc;
+    text = cc;
+    log = cc;
+    text_size = ap length c.taken-3.ensures;
+    log_size = ap length c.taken-4.ensures;
+  },
+)
+
+pub returns-in-Ok-clause-bad_input : goal.returns-in-Ok-clause-bad_input
+returns-in-Ok-clause-bad_input c none = absurd (none c.in-Ok.ensures.some.0 c.in-Ok.ensures.some.1)
+
+pub returns-clause-told : goal.returns-clause-told
+returns-clause-told c given is = inl (of_memory c.in-Err.fault c.code.result c.code.ensures
+    (λ pieces. c.in-Err.ensures.none pieces given is))
+
+pub returns-clause-no_input : goal.returns-clause-no_input
+returns-clause-no_input c five =
+    c.in-Err.ensures.none (of_pieces c.in-Err.fault c.code.result c.code.ensures five)
+
+put_none : (room : List ℕ) → put_into room [] ≡ room
+put_none [] = refl
+put_none (byte ∷ room) = refl
+
+-- a room stays as it was where there is nothing to put into it
+kept : (room new bytes taken : List ℕ) → new ≡ put_into room bytes → bytes ≡ taken → taken ≡ []
+    → new ≡ room
+kept room new bytes taken put same none = put ∙ (ap (put_into room) (same ∙ none) ∙ put_none room)
+
+pub returns-clause-untold : goal.returns-clause-untold
+returns-clause-untold c five =
+    let pieces = of_pieces c.in-Err.fault c.code.result c.code.ensures five in
+    let text = c.in-Err.ensures.quiet pieces in
+    let log = c.in-Err.ensures.log_quiet pieces in
+    record {
+      text = kept c.args.text.now _ _ _ c.put-text_fits.ensures.room c.taken.ensures text;
+      log = kept c.args.log.now _ _ _ c.put-log_fits.ensures.room c.taken-2.ensures log;
+      text_size = ap length (c.taken-3.ensures ∙ text);
+      log_size = ap length (c.taken-4.ensures ∙ log);
+    }

@@ -1,0 +1,4 @@
+pub mod Given
+pub mod Pieces
+pub mod Responds
+pub mod Told
