@@ -7,7 +7,7 @@ SHARE = $(DESTDIR)$(PREFIX)/share
 DOCUMENTS = README.md CHANGELOG.md LICENSE SECURITY.md examples/README.md \
 	$(wildcard docs/*.* docs/reference/*.md examples/*/*.*)
 # What the repository alone has: of a link to it, an installed document has the text.
-ALONE = CONTRIBUTING\.md|(bench|crates|man|tests)/
+ALONE = CONTRIBUTING\.md|(bench|crates|library|man|python|tests)/
 
 .PHONY: all install uninstall package
 
