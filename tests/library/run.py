@@ -1,10 +1,10 @@
 #!/usr/bin/env python3
 """run.py [--library FOLDER] [--only NAME]
 
-Tries the library that tools/library makes, or that it made in FOLDER: calls.c, which calls it from C; the example;
-and all rows of tests/rows, through driver.c, which is the command line of the program over the library. Rows that it
-can't answer as the program does stand in elsewhere.txt, each with the reason: one that is answered rightly all the same
-is wrong, and so is one that is no row.
+Tries the library that tools/library makes, or that it made in FOLDER: calls.c, which calls it from C; the example in C; the
+package for Python, with its example; and all rows of tests/rows, through driver.c, which is the command line of the
+program over the library. Rows that it can't answer as the program does stand in elsewhere.txt, each with the reason:
+one that is answered rightly all the same is wrong, and so is one that is no row.
 
 It needs a C compiler, `cc`. The last line is `library: N right, M wrong`; the status is 0 only where M is 0 and N is
 not."""
@@ -83,14 +83,24 @@ def calls(folder, library):
 
 
 def examples(folder, library):
-    """(right, wrong) of the example: it prints what the program prints."""
-    program = os.path.join(folder, 'tally')
+    """(right, wrong) of the two examples: they print what the program prints."""
+    source, program = os.path.join(TOP, 'examples/library/tally'), os.path.join(folder, 'tally')
     wanted = printed([os.path.join(folder, 'driver'), 'tally'] + FILES, cwd=COUNTY)[1]
-    told = compiled(os.path.join(TOP, 'examples/library/tally.c'), library, program) or printed([program] + FILES, cwd=COUNTY)[1]
-    if told != wanted or not wanted:
-        print('WRONG: examples/library/tally.c prints\n' + told)
-        return 0, 1
-    return 1, 0
+    told = [compiled(source + '.c', library, program) or printed([program] + FILES, cwd=COUNTY)[1]]
+    environment = dict(os.environ, LIBCVR=os.path.join(library, 'libcvr.so'), PYTHONPATH=os.path.join(TOP, 'python'), PYTHONDONTWRITEBYTECODE='1')
+    told.append(printed([sys.executable, source + '.py'] + FILES, cwd=COUNTY, env=environment)[1])
+    right = [it == wanted and bool(wanted) for it in told]
+    for it, ending in zip(told, ('c', 'py')):
+        if it != wanted or not wanted:
+            print('WRONG: examples/library/tally.%s prints\n%s' % (ending, it))
+    return right.count(True), right.count(False)
+
+
+def package(library):
+    """(right, wrong) of the package for Python."""
+    told = printed([sys.executable, os.path.join(HERE, 'package.py')], env=dict(os.environ, LIBCVR=os.path.join(library, 'libcvr.so')))[1]
+    print(told.strip(), flush=True)
+    return sums(told, 'python')
 
 
 def main():
@@ -106,7 +116,7 @@ def main():
         told = compiled(os.path.join(HERE, 'driver.c'), library, driver)
         if told:
             sys.exit('WRONG: driver.c: %s\nlibrary: 0 right, 1 wrong' % told)
-        found = [calls(folder, library), examples(folder, library), rows(driver, words.only)]
+        found = [calls(folder, library), examples(folder, library), package(library), rows(driver, words.only)]
     right, wrong = map(sum, zip(*found))
     print('library: %d right, %d wrong' % (right, wrong))
     sys.exit(1 if wrong or not right else 0)

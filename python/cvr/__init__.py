@@ -1,0 +1,182 @@
+"""cvr in Python: the proved program as a library, over files or bytes.
+
+    import cvr
+    for row in cvr.tally('definition.json', ['scan.json']):
+        print(row.contest, row.ballots, row.votes)
+
+A definition, and each file, is a path, or a pair of a name and its bytes. What a command refuses is raised, with its
+code, path and rule; `run` raises nothing of the kind, and gives text, log and status as the program does. Calls may run
+in several threads. The words that are used here are those of the program's glossary."""
+import json
+import os
+from dataclasses import dataclass
+from typing import Dict, Iterable, List, Optional, Sequence, Tuple, Union
+
+from ._library import NO_INPUT, Result, call
+
+__all__ = ['Conflict', 'Conflicts', 'Current', 'Fault', 'File', 'Result', 'Row', 'check', 'conflicts', 'currents', 'merge', 'run', 'tally']
+
+File = Union[str, 'os.PathLike[str]', Tuple[str, bytes]]
+DECODER = json.JSONDecoder()
+
+
+class Fault(Exception):
+    """Why a command has no result: the first line that was logged, in parts, and all of them.
+
+    `file` is what the line is about, as it was given: a file, or a word. `code` is one of docs/FAULTS.md, `None` where the
+    words themselves were refused; `path` is where the fault is in the file, a JSON Pointer, and `rule` the broken rule's
+    number, both only of some codes. `status` is the program's."""
+
+    def __init__(self, result: Result):
+        self.status, self.log = result.status, result.log.decode('utf-8', 'replace')
+        self.file: Optional[str] = None
+        self.code: Optional[str] = None
+        self.path: Optional[str] = None
+        self.rule: Optional[int] = None
+        super().__init__(self.log.strip() or 'status %d' % self.status)
+        self._read(self.log.partition('\n')[0])
+
+    def _read(self, line: str) -> None:
+        file, colon, rest = line.rpartition(': ')
+        code, _, more = rest.partition(' ')
+        if not colon or not (len(code) == 2 and code[0].isupper() and code[1].isdigit()):
+            return
+        self.file, self.code = file, code
+        if code == 'E3':
+            path, _, rule = more.rpartition(' ')
+            self.path, self.rule = path, int(rule)
+        elif code in ('E4', 'E5'):
+            self.path = more
+
+
+@dataclass(frozen=True)
+class Row:
+    """A row of the tally: the numbers of a contest for the records of a unit and a batch. `votes` has the ids of the
+    contest's selections in the definition's order."""
+    contest: str
+    unit: Optional[str]
+    batch: Optional[str]
+    ballots: int
+    overvotes: int
+    undervotes: int
+    write_ins: int
+    pending: int
+    unassigned: int
+    votes: Dict[str, int]
+
+
+@dataclass(frozen=True)
+class Current:
+    """A record's name, and the id and the type of its current snapshot."""
+    device: str
+    record: str
+    snapshot: str
+    type: str
+
+
+@dataclass(frozen=True)
+class Conflict:
+    """A name with several bodies: that of a device, of the header of a record, or of one of its snapshots."""
+    kind: str
+    device: str
+    record: Optional[str]
+    snapshot: Optional[str]
+    bodies: int
+
+
+@dataclass(frozen=True)
+class Conflicts:
+    """The names with several bodies, and how many volumes show all of them."""
+    names: List[Conflict]
+    volumes: int
+
+
+def _given(file: File) -> Tuple[str, bytes]:
+    """A file's name and its bytes."""
+    if isinstance(file, tuple):
+        return file
+    with open(file, 'rb') as opened:
+        return os.fspath(file), opened.read()
+
+
+def run(words: Sequence[str], files: Iterable[File] = ()) -> Result:
+    """What the program prints and logs for the words after its name, and its status, over these files alone: a word names
+    a file by its path or name. `ValueError` where a word isn't UTF-8 or a path has half a pair of surrogates."""
+    given = [(name.encode(), data) for name, data in map(_given, files)]
+    result = call([word.encode() for word in words], given)
+    if result.status == NO_INPUT:
+        raise ValueError('no words and files')
+    return result
+
+
+def _printed(command: str, definition: File, files: Iterable[File], more: Sequence[str] = ()) -> str:
+    """The text of a command, as far as everything was accepted."""
+    held = [_given(file) for file in (definition, *files)]
+    names = [name for name, _ in held]
+    if len(set(names)) < len(names) and any(dict(held)[name] != data for name, data in held):
+        raise ValueError('two files have one name')
+    result = run([command, '--', names[0], *more, *names[1:]], held)
+    if result.status:
+        raise Fault(result)
+    return result.text.decode()
+
+
+def _parts(line: str) -> List[Union[str, None]]:
+    """The parts of a printed line: texts of JSON strings, `None` of null, and other words as they stand."""
+    found: List[Union[str, None]] = []
+    while line:
+        if line[0] == '"':
+            part, end = DECODER.raw_decode(line)
+        else:
+            end = (line + ' ').index(' ')
+            part = None if line[:end] == 'null' else line[:end]
+        found.append(part)
+        line = line[end + 1:]
+    return found
+
+
+def _lines(text: str) -> List[List[str]]:
+    return [_parts(line) for line in text.split('\n')[:-1]]     # type: ignore[misc]
+
+
+def tally(definition: File, files: Iterable[File]) -> List[Row]:
+    """The rows of the tally, in the order in which they are printed. Raises `Fault` where anything is refused."""
+    rows = []
+    for contest, unit, batch, *numbers in _lines(_printed('tally', definition, files)):
+        counts, votes = [int(it) for it in numbers[:6]], numbers[6:]
+        rows.append(Row(contest, unit, batch, *counts, dict(zip(votes[::2], map(int, votes[1::2])))))
+    return rows
+
+
+def currents(definition: File, files: Iterable[File]) -> List[Current]:
+    """The current snapshot of each record, by name. Raises `Fault` where anything is refused."""
+    return [Current(*parts) for parts in _lines(_printed('currents', definition, files))]
+
+
+def conflicts(definition: File, files: Iterable[File]) -> Conflicts:
+    """The names with several bodies, and how many volumes show them. Raises `Fault` where anything is refused."""
+    *lines, last = _lines(_printed('conflicts', definition, files))
+    return Conflicts([_conflict(parts) for parts in lines], int(last[1]))
+
+
+def _conflict(parts: List[str]) -> Conflict:
+    if len(parts) == 3 and parts[0] == 'device':
+        return Conflict('device', parts[1], None, None, int(parts[2]))
+    kind = parts[2]
+    return Conflict(kind, parts[0], parts[1], parts[3] if kind == 'snapshot' else None, int(parts[-1]))
+
+
+def check(definition: File, files: Iterable[File]) -> Dict[str, int]:
+    """How many cast vote records each file has, by its name. Raises `Fault` where one is refused."""
+    held = [_given(file) for file in files]
+    text, counts = _printed('check', definition, held), {}
+    for name, _ in held:        # a name may have a line feed
+        count, _, text = text[len(name) + 1:].partition('\n')
+        counts[name] = int(count)
+    return counts
+
+
+def merge(definition: File, date: str, device: str, volume: int, files: Iterable[File]) -> bytes:
+    """The volume with this number of what the files hold, under a date and a device: the bytes of a report. Raises `Fault`
+    where anything is refused."""
+    return _printed('merge', definition, files, [date, device, str(volume)]).encode()
