@@ -1,6 +1,6 @@
 -- The words and the files that a call is given. (This project's own.)
 use Rattle.std.specs.Prelude.{◌≡◌, ℕ, List, [], ◌∷◌, ◌++◌, length, if◌then◌else◌, false, None}
-use Rattle.std.specs.Prelude.{All, IsUtf8, flat_map}
+use Rattle.std.specs.Prelude.{All, IsUtf8, codes, flat_map}
 use Rattle.std.specs.Str.{bytes_eq}
 use Rattle.cvr_run.specs.Opening.{At, Absent, Has, Opener}
 use Rattle.cvr_call.specs.Pieces.{AreCut}
@@ -48,3 +48,18 @@ found_at (file ∷ files) path =
 -- the opener over files: their reading doesn't fail, and it doesn't show what it was to open
 abbrev pub opener_over : List File → Opener
 opener_over files = record { at = found_at files; may_fail = λ path. false; opened = None }
+
+-- ---- an example
+
+-- the words `tally d f`, and the files `d` and `f`
+abbrev pub tally_of_two : Given
+tally_of_two = record {
+  words = codes "tally" ∷ codes "d" ∷ codes "f" ∷ [];
+  files = record { path = codes "d"; bytes = codes "{}" }
+      ∷ record { path = codes "f"; bytes = codes "[1]" } ∷ [];
+}
+
+-- their pieces as one input
+abbrev pub TallyCut : Type 0
+TallyCut = AreCut 0 (codes "tallydfd{}f[1]") (5 ∷ 6 ∷ 7 ∷ 8 ∷ 10 ∷ 11 ∷ 14 ∷ [])
+    (tally_of_two.words ++ file_pieces tally_of_two.files)

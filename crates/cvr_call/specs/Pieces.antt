@@ -12,10 +12,3 @@ ends_from place (piece ∷ pieces) =
 pub record AreCut (place : ℕ) (bytes ends : List ℕ) (pieces : List (List ℕ)) : Type 0 where
   pub joined : concat pieces ≡ bytes
   pub ended : ends_from place pieces ≡ ends
-
--- ---- an example
-
--- three bytes as three pieces, of which the second is empty
-abbrev pub ThreePieces : Type 0
-ThreePieces =
-    AreCut 0 (7 ∷ 8 ∷ 9 ∷ []) (1 ∷ 1 ∷ 3 ∷ []) ((7 ∷ []) ∷ [] ∷ (8 ∷ 9 ∷ []) ∷ [])

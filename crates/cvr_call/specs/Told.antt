@@ -1,5 +1,5 @@
 -- What a call leaves with its caller. (This project's own.)
-use Rattle.std.specs.Prelude.{◌≡◌, ℕ, List, ◌++◌, length, take, drop, nat_le, ◌&&◌, Bool}
+use Rattle.std.specs.Prelude.{◌≡◌, ℕ, List, [], ◌∷◌, ◌++◌, length, take, drop, nat_le, ◌&&◌, Bool}
 use Rattle.std.specs.Prelude.{if◌then◌else◌}
 use Rattle.cvr_run.specs.Status.{code_of}
 use Rattle.cvr_run.specs.declared.status.Status.TheVariants as status
@@ -58,3 +58,10 @@ pub record IsUntold (old new : Rooms) (sizes : CvrSizes) : Type 0 where
   pub log : new.log ≡ old.log
   pub text_size : sizes.text ≡ 0
   pub log_size : sizes.log ≡ 0
+
+-- ---- an example
+
+-- a room of three bytes, into which one byte is put, and then four
+pub record RoomOfThree : Type 0 where
+  pub more : put_into (1 ∷ 2 ∷ 3 ∷ []) (7 ∷ []) ≡ 7 ∷ 2 ∷ 3 ∷ []
+  pub less : put_into (7 ∷ 2 ∷ 3 ∷ []) (4 ∷ 5 ∷ 6 ∷ 8 ∷ []) ≡ 4 ∷ 5 ∷ 6 ∷ []

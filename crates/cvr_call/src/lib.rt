@@ -3,6 +3,7 @@
 
 mod answer;
 mod call;
+pub mod examples;
 mod fault;
 mod files;
 mod pieces;
