@@ -1,5 +1,6 @@
 /* Calls the library and prints what it answers, for run.py: which statuses there are, that sizes and rooms are what
-   cvr.h says, that calls side by side answer as one after the other, and that no byte stays behind.
+   cvr.h says, that calls side by side answer as one after the other, that no byte stays behind, and what a refused growth
+   does.
 
    calls DEFINITION FILE ..  */
 #include "cvr.h"
@@ -10,6 +11,32 @@
 #include <string.h>
 
 enum { MOST = 64, THREADS = 8, CALLS = 1000, UNTOUCHED = 0xa5 };
+
+/* ---- memory
+
+   What the library takes and gives back goes through these: run.py has the linker put them in the place of malloc, realloc
+   and free. */
+void *__real_malloc(size_t size), *__real_realloc(void *held, size_t size);
+void __real_free(void *held);
+static _Atomic long long live, taken, refused;      /* bytes that are held; growths so far; which of them is refused */
+
+void *__wrap_malloc(size_t size) {
+    void *found = ++taken == refused ? NULL : __real_malloc(size);
+    live += found ? (long long)malloc_usable_size(found) : 0;
+    return found;
+}
+
+void *__wrap_realloc(void *held, size_t size) {
+    long long before = held ? (long long)malloc_usable_size(held) : 0;
+    void *found = ++taken == refused ? NULL : __real_realloc(held, size);
+    live += found ? (long long)malloc_usable_size(found) - before : 0;
+    return found;
+}
+
+void __wrap_free(void *held) {
+    live -= held ? (long long)malloc_usable_size(held) : 0;
+    __real_free(held);
+}
 
 /* An input, and what a call answered. */
 typedef struct {
@@ -208,38 +235,35 @@ static void try_threads(char **paths, int many) {
     tell(all && first.status == CVR_DONE, "eight calls at once answer as one does");
 }
 
-/* What the library takes and gives back goes through these: run.py has the linker put them in the place of malloc, realloc
-   and free. */
-void *__real_malloc(size_t size), *__real_realloc(void *held, size_t size);
-void __real_free(void *held);
-static _Atomic long long live, taken;
-
-void *__wrap_malloc(size_t size) {
-    void *found = __real_malloc(size);
-    taken++;
-    live += found ? (long long)malloc_usable_size(found) : 0;
-    return found;
-}
-
-void *__wrap_realloc(void *held, size_t size) {
-    long long before = held ? (long long)malloc_usable_size(held) : 0;
-    void *found = __real_realloc(held, size);
-    taken++;
-    live += found ? (long long)malloc_usable_size(found) - before : 0;
-    return found;
-}
-
-void __wrap_free(void *held) {
-    live -= held ? (long long)malloc_usable_size(held) : 0;
-    __real_free(held);
-}
-
 static void try_many(void) {
     long long before = live, calls = taken;
     for (int n = 0; n < CALLS; n++)
         let_go(call(&shared, 1 << 16, 1 << 16));
     tell(live == before, "a thousand calls keep no byte");
     tell(taken > calls + 10 * CALLS, "they take memory");
+}
+
+/* Refuses the growths of a call one after the other. One that isn't needed, as that of a buffer, changes nothing. */
+static void try_refusals(Input input) {
+    Answer whole = call(&input, 1 << 16, 1 << 16), answer;
+    long long before = live, growth = 0, last = 0, refusals = 0;
+    int right_answer = 1, kept = 0;
+    while (last >= growth) {
+        refused = taken + 3 + growth++;         /* behind the two rooms */
+        answer = call(&input, 1 << 16, 1 << 16);
+        last = growth + taken - refused;        /* the growths of this call */
+        refusals += answer.status == CVR_MEMORY;
+        right_answer &= answer.status == CVR_MEMORY || is_same(answer, whole);
+        let_go(answer);
+        kept |= live != before;
+    }
+    refused = 0;
+    printf("of %lld growths %lld were answered by 4 where they were refused\n", growth - 1, refusals);
+    tell(refusals > growth / 2, "a refused growth is answered by 4");
+    tell(right_answer, "or changes nothing");
+    tell(!kept, "no byte is kept after one");
+    let_go(whole);
+    free(input.bytes);
 }
 
 int main(int many, char **paths) {
@@ -250,6 +274,8 @@ int main(int many, char **paths) {
     try_log_room(paths + 1, many - 1);
     try_threads(paths + 1, many - 1);
     try_many();
+    try_refusals(over("tally", paths + 1, many - 1, 0));
+    try_refusals(over("conflicts", paths + 1, many - 1, 0));
     printf("calls: %d right, %d wrong\n", right, wrong);
     return wrong || !right;
 }
