@@ -109,7 +109,7 @@ def main():
     words.add_argument('--only', help='rows whose name begins with this text')
     words = words.parse_args()
     with tempfile.TemporaryDirectory() as folder:
-        library, driver = os.path.abspath(words.library or os.path.join(folder, 'library')), os.path.join(folder, 'driver')
+        library, driver = os.path.abspath(words.library or os.path.join(TOP, 'out/library')), os.path.join(folder, 'driver')
         told = '' if words.library else made(library)
         if told:
             sys.exit('WRONG: tools/library: %s\nlibrary: 0 right, 1 wrong' % told)
