@@ -9,6 +9,5 @@ try:
 except cvr.Fault as fault:
     sys.exit('%s is refused by %s at %s' % (fault.file, fault.code, fault.path))
 for row in rows:
-    counts = [row.ballots, row.overvotes, row.undervotes, row.write_ins, row.pending, row.unassigned]
     votes = [part for selection, votes in row.votes.items() for part in (json.dumps(selection), votes)]
-    print(json.dumps(row.contest), json.dumps(row.unit), json.dumps(row.batch), *counts, *votes)
+    print(json.dumps(row.contest), json.dumps(row.unit), json.dumps(row.batch), *row.numbers, *votes)

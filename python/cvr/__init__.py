@@ -9,7 +9,7 @@ code, path and rule; `run` raises nothing of the kind, and gives text, log and s
 in several threads. The words that are used here are those of the program's glossary."""
 import json
 import os
-from dataclasses import dataclass
+from dataclasses import dataclass, fields
 from typing import Dict, Iterable, List, Optional, Sequence, Tuple, Union
 
 from ._library import NO_INPUT, Result, call
@@ -63,6 +63,14 @@ class Row:
     pending: int
     unassigned: int
     votes: Dict[str, int]
+
+    @property
+    def numbers(self) -> List[int]:
+        """The numbers in the columns, in the order in which they are printed."""
+        return [getattr(self, it) for it in COLUMNS]
+
+
+COLUMNS = [it.name for it in fields(Row)][3:-1]     # all that stands between what a row is of and its votes
 
 
 @dataclass(frozen=True)
@@ -143,7 +151,7 @@ def tally(definition: File, files: Iterable[File]) -> List[Row]:
     """The rows of the tally, in the order in which they are printed. Raises `Fault` where anything is refused."""
     rows = []
     for contest, unit, batch, *numbers in _lines(_printed('tally', definition, files)):
-        counts, votes = [int(it) for it in numbers[:6]], numbers[6:]
+        counts, votes = map(int, numbers[:len(COLUMNS)]), numbers[len(COLUMNS):]
         rows.append(Row(contest, unit, batch, *counts, dict(zip(votes[::2], map(int, votes[1::2])))))
     return rows
 

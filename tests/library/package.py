@@ -37,9 +37,8 @@ def of_rows():
     yield 'there is a row for each line', len(rows) == len(text) > 0
     quoted = lambda it: 'null' if it is None else '"%s"' % it
     for row, line in zip(rows, text):
-        counts = [row.ballots, row.overvotes, row.undervotes, row.write_ins, row.pending, row.unassigned]
         votes = [it for pair in row.votes.items() for it in (quoted(pair[0]), pair[1])]
-        parts = [quoted(row.contest), quoted(row.unit), quoted(row.batch), *counts, *votes]
+        parts = [quoted(row.contest), quoted(row.unit), quoted(row.batch), *row.numbers, *votes]
         yield 'a row is its line', ' '.join(map(str, parts)) == line
 
 
