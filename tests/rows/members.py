@@ -2,8 +2,9 @@
 """members.py: rows for every member of every class, made from the tables of docs/FORMAT.md.
 
 Each row is one run of `check` over many files: vectors/classes.json with one value after another at one member. A file
-is named after the value. rules.py works out the answers from the tables, without the program. Where a changed Election,
-GpUnit or Party has the right form, it isn't the definition's, and the answer is E5."""
+is named after the value, with ' and = for " and :, which no name on Windows has. rules.py works out the answers from
+the tables, without the program. Where a changed Election, GpUnit or Party has the right form, it isn't the
+definition's, and the answer is E5."""
 import copy
 import json
 
@@ -14,6 +15,7 @@ VECTOR = 'classes.json'
 HERE = '<here>'
 PLAIN = ['null', 'true', '0', '-1', '4294967295', '4294967296', '18446744073709551615', '-9223372036854775808', '1.5', '{}', '"x"']
 TEXTS = ['', ' ', 'X']
+NAMED = str.maketrans({'"': "'", ':': '='})
 IDS = ['s1', 'p1', 'red', 'cora', 'e', 'm', 'judge', 'for-cora', 'no']      # of each class that is named; and of another contest
 MOMENTS = ['2024-11-05T20:00:00Z', '20241105T20Z', '2024-11-05T20:00:00Z[UTC]', '2024-11-05']
 
@@ -81,7 +83,7 @@ def values(rules, kind, held):
         texts += ['["x","y"]'] + ['[%s]' % text for text in leaf_values(rules, kind[1])]
     else:
         texts += leaf_values(rules, kind)
-    yield from ((text, text) for text in texts)
+    yield from ((text.translate(NAMED), text) for text in texts)
     if kind[0] == 'array' and kind[1][0] == 'classes' and held:
         yield from twins(held[-1])
 
