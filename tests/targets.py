@@ -1,0 +1,290 @@
+#!/usr/bin/env python3
+"""targets.py [--only NAME]
+
+Makes the program for other systems with tools/targets, and runs every row of tests/rows with each: ARM's under
+qemu-user, Windows' under Wine, with a server that stays. Output, log and status have to be the same bytes as the row
+states. The rows that a system can't run, such as those with names that Windows forbids, stand by their names and
+reasons in tests/targets/windows.txt; one that differs and doesn't stand there is wrong, and so is one that stands there
+and doesn't differ. Then random files are read (tests/rows/random_files.py), and each target is tried on what no row
+has: standard input and a closed pipe, and on Windows also paths. No program needs a library of the system but those in
+NEEDED. Before that, small texts show what tools/targets changes in LLVM's text, and what it refuses.
+
+Of a target that passes, out/targets/NAME/tried has the sum of the program, so that tools/package packs it. A target
+whose tools, qemu or Wine are missing is left out, and that is said.
+
+The last line is `targets: N right, M wrong`; the status is 0 only where M is 0 and N is not."""
+import argparse
+import contextlib
+import hashlib
+import importlib.machinery
+import importlib.util
+import os
+import re
+import shlex
+import shutil
+import subprocess
+import sys
+import tempfile
+import time
+from concurrent.futures import ThreadPoolExecutor
+
+sys.dont_write_bytecode = True
+HERE = os.path.dirname(os.path.abspath(__file__))
+TOP = os.path.dirname(HERE)
+sys.path.insert(0, os.path.join(HERE, 'rows'))
+import members      # noqa: E402
+import run as rows  # noqa: E402 (both stand in tests/rows)
+
+SECONDS = 5         # of random files for each target
+WINE, SERVER = '/usr/lib/wine/wine64', '/usr/lib/wine/wineserver64'
+NEEDED = {'KERNEL32.dll', 'msvcrt.dll', 'SHELL32.dll'}      # of cvr.exe; those of Linux need none
+
+
+class Target:
+    """A target: the words that run its program, the packages of Debian that have them, and the file of the rows that it
+    can't run."""
+
+    def __init__(self, name, before=(), packages='', listed=None):
+        self.name, self.before, self.packages = name, list(before), packages
+        self.path = os.path.join(TOP, 'out/targets', name, 'cvr.exe' if name.startswith('windows') else 'cvr')
+        self.listed = listed_in(listed) if listed else {}
+
+    def lacks(self):
+        """What is missing to make or to run it, or None."""
+        if not os.path.exists(self.path):
+            return 'it is not made'
+        if self.before and not shutil.which(self.before[0]):
+            return 'there is no %s. On Debian: apt-get install %s' % (self.before[0], self.packages)
+        return None
+
+    def script(self, folder):
+        """A command that runs it, as a file."""
+        path = os.path.join(folder, self.name)
+        with open(path, 'w') as file:
+            file.write('#!/bin/sh\nexec %s "$@"\n' % shlex.join(self.before + [self.path]))
+        os.chmod(path, 0o755)
+        return path
+
+
+def listed_in(name):
+    """The rows of a file, each with its reason: lines `# REASON`, and below each the names of its rows."""
+    found, reason = {}, ''
+    with open(os.path.join(HERE, 'targets', name), encoding='utf-8') as file:
+        for line in file.read().splitlines():
+            if line.startswith('# '):
+                reason = line[2:]
+            elif line:
+                found[line] = reason
+    return found
+
+
+def row_faults(target, cvr):
+    """Yields a line for each row that is wrong, and None for each other."""
+    every, start, differing = [it[1:] for it in rows.all_rows()] + [(row, {}) for row in members.rows()], time.time(), 0
+    for name in sorted(set(target.listed) - {row['name'] for row, _ in every}):
+        yield 'no row is called %s, which is listed' % name
+    with ThreadPoolExecutor(min(rows.SIDE_BY_SIDE, len(os.sched_getaffinity(0)))) as pool:
+        for (row, _), found in zip(every, pool.map(lambda it: rows.tried(cvr, *it), every)):
+            reason, differing = target.listed.get(row['name']), differing + bool(found)
+            if found and not reason:
+                yield 'row %s: %s' % (row['name'], '; '.join(found))
+            elif reason and not found:
+                yield 'row %s is listed (%s), and right' % (row['name'], reason)
+            else:
+                yield None
+    print('%s: %d rows ran, %d differ; %d s' % (target.name, len(every), differing, time.time() - start), flush=True)
+
+
+# ---- how tools/targets changes LLVM's text
+
+BEFORE = r"""target datalayout = "e-m:e-p270:32:32-p271:32:32-p272:64:64-i64:64-i128:128-f80:128-n8:16:32:64-S128"
+target triple = "x86_64-unknown-linux-gnu"
+@static.0 = private constant [7 x i8] c"@read(\22", align 1
+define i32 @main() #0 {
+  %r0 = call { i64, i64 } @rattle_alloc(i64 8, i64 8)
+  %r1 = call i64 @write(i32 1, ptr @static.0, i64 7)
+  %r2 = call i64 @__write(i32 2, ptr @static.0, i64 7)
+  %r3 = call i32 (ptr, i32, ...) @open(ptr @static.0, i32 524544)
+  ret i32 0
+}
+declare { i64, i64 } @rattle_alloc(i64 noundef, i64 noundef) #1
+declare i64 @write(i32, ptr, i64) #1
+declare i64 @__write(i32, ptr, i64) #1
+declare i32 @open(ptr, i32, ...) #1
+declare void @llvm.trap() #1
+attributes #0 = { nounwind "probe-stack"="inline-asm" "stack-probe-size"="3072" "target-cpu"="x86-64-v2" }
+attributes #1 = { nobuiltin nounwind }
+"""
+AFTER = r"""target datalayout = "e-m:w-p270:32:32-p271:32:32-p272:64:64-i64:64-i128:128-f80:128-n8:16:32:64-S128"
+target triple = "x86_64-w64-windows-gnu"
+@static.0 = private constant [7 x i8] c"@read(\22", align 1
+define i32 @cvr_main() #0 {
+  %r0 = call x86_64_sysvcc { i64, i64 } @rattle_alloc(i64 8, i64 8)
+  %r1 = call i64 @cvr_write(i32 1, ptr @static.0, i64 7)
+  %r2 = call i64 @cvr_write(i32 2, ptr @static.0, i64 7)
+  %r3 = call i32 (ptr, i32, ...) @cvr_open(ptr @static.0, i32 524544)
+  ret i32 0
+}
+declare x86_64_sysvcc { i64, i64 } @rattle_alloc(i64 noundef, i64 noundef) #1
+declare i64 @cvr_write(i32, ptr, i64) #1
+declare i32 @cvr_open(ptr, i32, ...) #1
+declare void @llvm.trap() #1
+attributes #0 = { nounwind "target-cpu"="x86-64-v2" }
+attributes #1 = { nobuiltin nounwind }
+"""
+# What isn't known: another function or intrinsic, layout, system, word in an attribute, kind of variable.
+ODD = [('@llvm.trap()', '@getenv(ptr)'), ('@llvm.trap()', '@llvm.frameaddress.p0(i32)'), ('e-m:e-', 'E-m:e-'), ('-unknown-linux-gnu', '-pc-solaris'),
+       ('"target-cpu"', '"patchable-function"'), ('private constant', 'thread_local constant'), ('nobuiltin', 'nobuiltin "stackrealign"')]
+
+
+def text_faults():
+    """Yields a line for each text that tools/targets changes wrongly, or doesn't refuse, and None for each other."""
+    loader = importlib.machinery.SourceFileLoader('tools_targets', os.path.join(TOP, 'tools/targets'))
+    tool = importlib.util.module_from_spec(importlib.util.spec_from_loader('tools_targets', loader))
+    loader.exec_module(tool)
+    yield None if tool.retargeted(BEFORE)[0] == AFTER else 'tools/targets changes its text to %s' % tool.retargeted(BEFORE)[0]
+    for old, new in ODD:
+        try:
+            tool.retargeted(BEFORE.replace(old, new))
+            yield 'tools/targets takes a text with %s' % new
+        except tool.Stopped:
+            yield None
+
+
+# ---- what no row has
+
+def whole(words, out='', err='', status=0, files=None, folders=()):
+    row = rows.whole_row(' '.join(words)[:60], words, files or {}, out, err, status)
+    return dict(row, folders=list(folders))
+
+
+LONG = ['a' * 120, 'b' * 120, 'c' * 120]     # folders, one in the other
+VECTOR = {'of': 'f2.json'}
+# Of Windows: backslashes, names beyond ASCII, a path longer than MAX_PATH, a device, a word that isn't UTF-16.
+PATHS = [
+    whole(['check', 'def.json', 'sub\\other.json', '.\\sub/other.json'], out='sub\\other.json 1\n.\\sub/other.json 1\n',
+          files={'sub/other.json': VECTOR}, folders=['sub']),
+    whole(['check', 'def.json', 'W\u00e4hler \u7968 \U0001f5f3.json'], out='W\u00e4hler \u7968 \U0001f5f3.json 1\n',
+          files={'W\u00e4hler \u7968 \U0001f5f3.json': VECTOR}),
+    whole(['check', 'def.json', '\\'.join(LONG + ['other.json'])], out='\\'.join(LONG + ['other.json 1\n']),
+          files={'/'.join(LONG + ['other.json']): VECTOR}, folders=['/'.join(LONG)]),
+    whole(['check', 'def.json', 'NUL'], err='NUL: E2\n', status=1),
+    whole(['check', 'def.json', 'sub'], err='sub: K1\n', status=3, folders=['sub']),
+    whole(['check', 'def.json', 'none\\other.json'], err='none\\other.json: K1\n', status=3),
+]
+# What stands behind a text shows whether standard input comes unchanged: `\x1a` ends it where it isn't read as bytes.
+INPUTS = [(b'', 0, b'/dev/stdin 1\n', b''), (b'\r\n', 0, b'/dev/stdin 1\n', b''), (b'\x1a', 1, b'', b'/dev/stdin: E2\n')]
+
+
+def own_faults(target, cvr, folder):
+    """Yields a line for each trial that is wrong, and None for each other."""
+    for row in PATHS if target.name.startswith('windows') else []:
+        found = rows.tried(cvr, row, {})
+        yield '%s: %s' % (row['words'], '; '.join(found)) if found else None
+    for name in 'def.json', 'f2.json':
+        with open(os.path.join(folder, name), 'wb') as file:
+            file.write(rows.VECTORS[name])
+    for more, status, out, err in INPUTS:
+        got = subprocess.run([cvr, 'check', 'def.json', '/dev/stdin'], cwd=folder, input=rows.VECTORS['f2.json'] + more,
+                             stdout=subprocess.PIPE, stderr=subprocess.PIPE)
+        is_right = (got.returncode, got.stdout, got.stderr) == (status, out, err)
+        yield None if is_right else 'standard input with %r: %r' % (more, got)
+    reader, writer = os.pipe()
+    os.close(reader)
+    got = subprocess.run([cvr, 'check', 'def.json', 'f2.json'], cwd=folder, stdin=subprocess.DEVNULL, stdout=writer, stderr=subprocess.PIPE)
+    os.close(writer)
+    yield None if (got.returncode, got.stderr) == (3, b'out: X1\n') else 'a closed pipe: %r' % got
+    yield library_fault(target)
+
+
+def library_fault(target):
+    """What is wrong with the libraries that a program needs, or None."""
+    if target.name.startswith('windows'):
+        told = subprocess.run(['x86_64-w64-mingw32-objdump', '-p', target.path], stdout=subprocess.PIPE, text=True).stdout
+        found, wanted = set(re.findall(r'DLL Name: (\S+)', told)), NEEDED
+    else:
+        told = subprocess.run(['readelf', '-dl', target.path], stdout=subprocess.PIPE, text=True).stdout
+        found, wanted = set(re.findall(r'(?:NEEDED.*\[(.*)\]|(INTERP))', told)), set()
+    return None if found == wanted else 'the libraries of %s: %s' % (target.name, found)
+
+
+def random_fault(cvr):
+    """What is wrong where the program reads random files, or None."""
+    ran = subprocess.run([sys.executable, os.path.join(HERE, 'rows/random_files.py'), '--cvr', cvr, '--seconds', '%d' % SECONDS],
+                         stdout=subprocess.PIPE, text=True)
+    print('  ' + ran.stdout.splitlines()[-1])
+    return None if ran.returncode == 0 else ran.stdout
+
+
+@contextlib.contextmanager
+def wine(folder):
+    """Has Wine keep its own files in the folder, and one server for all calls."""
+    os.environ.update(WINEPREFIX=folder + '/wine', WINEDEBUG='-all', WINEDLLOVERRIDES='mscoree,mshtml=', WINEARCH='win64')
+    os.environ.pop('DISPLAY', None)
+    quiet = {'stdin': subprocess.DEVNULL, 'stdout': subprocess.DEVNULL, 'stderr': subprocess.DEVNULL}
+    os.mkdir(os.environ['WINEPREFIX'])
+    server = subprocess.Popen([SERVER, '-f', '-p'], **quiet)
+    try:
+        subprocess.run([WINE, 'wineboot', '-i'], **quiet)       # what it says for once, it says here
+        yield
+    finally:
+        if server.poll() is not None:
+            print('  the server of Wine has ended meanwhile, with status %d' % server.returncode)
+        subprocess.run([SERVER, '-k'], **quiet)
+        server.wait()
+
+
+def tried(target):
+    """(right, wrong) of a target that is made."""
+    with tempfile.TemporaryDirectory() as folder, wine(folder) if WINE in target.before else contextlib.nullcontext():
+        cvr = target.script(folder)
+        found = [*own_faults(target, cvr, folder), *row_faults(target, cvr), random_fault(cvr)]
+    for line in found:
+        if line:
+            print('WRONG %s: %s' % (target.name, line))
+    return found.count(None), len(found) - found.count(None)
+
+
+def note(target, is_right):
+    """Notes for tools/package that the program passed, or that it didn't."""
+    path = os.path.join(os.path.dirname(target.path), 'tried')
+    if os.path.exists(path):
+        os.remove(path)
+    if is_right:
+        with open(target.path, 'rb') as file, open(path, 'w') as out:
+            out.write(hashlib.sha256(file.read()).hexdigest() + '\n')
+
+
+TARGETS = [
+    Target('linux-x86_64'),
+    Target('windows-x86_64', [WINE], 'wine64', 'windows.txt'),
+    Target('linux-aarch64', ['qemu-aarch64-static'], 'qemu-user-static'),
+]
+
+
+def main():
+    words = argparse.ArgumentParser()
+    words.add_argument('--only', help='the name of a target')
+    words = words.parse_args()
+    sys.stdout.reconfigure(errors='backslashreplace')       # a word may be invalid UTF-8
+    found = list(text_faults())
+    for line in found:
+        if line:
+            print('WRONG ' + line)
+    right, wrong = found.count(None), len(found) - found.count(None)
+    for target in [it for it in TARGETS if words.only in (None, it.name)]:
+        is_made = subprocess.run([sys.executable, os.path.join(TOP, 'tools/targets'), target.name]).returncode == 0
+        lacking = target.lacks()
+        if lacking:
+            print('%s is left out: %s' % (target.name, lacking), flush=True)
+            wrong += not is_made
+            continue
+        found = tried(target)
+        note(target, not found[1])
+        right, wrong = right + found[0], wrong + found[1]
+    print('targets: %d right, %d wrong' % (right, wrong))
+    sys.exit(0 if right and not wrong else 1)
+
+
+if __name__ == '__main__':
+    main()
