@@ -1,14 +1,17 @@
 #!/usr/bin/env python3
 """package.py --cvr PATH
 
-What is installed and packed: `make install` below a folder, and the package of Debian and the archive of tools/package,
-unpacked. In the first the commands of all documents are run with its programs, but for those that read the sources, and
-in the others those of README and of AUDITING, each time in a folder with a copy of its examples, made as the guide
-says. Each link of a document leads to something there. `make uninstall` leaves all that was there before `make install`,
-also what a package adds, and nothing else. `man` finds and reads the pages of the package, and the program needs the C
-library alone. PROVENANCE has the checksums of the program and of the sources, as the commands in it print them. A
-second packing gives the same bytes. Where lintian is installed, it finds no error. Where git finds no commit at the top,
-as in an unpacked archive, a commit made of its files takes its place.
+What is installed and packed: `make install` below a folder, and what tools/package makes, unpacked: the package of
+Debian and the archive of the static program that tools/targets makes, and the ZIP. In the first the commands of all
+documents are run with its programs, but for those that read the sources, and in the package and the archive those of
+README and of AUDITING, each time in a folder with a copy of its examples, made as the guide says. Each link of a
+document leads to something there. `make uninstall` leaves all that was there before `make install`, also what a package
+adds, and nothing else. `man` finds and reads the pages of the package, and the packed program needs no library. The
+object file beside it can be linked again. SHA256SUMS has the sums of all files, each PROVENANCE those of its program and
+of the sources, as the commands in it print them. A second packing gives the same bytes, and a program that was not
+tried isn't packed. Programs for other systems may be missing here (tests/targets.py makes them): something else stands
+in for them then. Where lintian is installed, it finds no error. Where git finds no commit at the top, as in an unpacked
+archive, a commit made of its files takes its place.
 
 The last line is `package: N right, M wrong`; the status is 0 only where M is 0 and N is not."""
 import argparse
@@ -22,6 +25,7 @@ import shutil
 import subprocess
 import sys
 import tempfile
+import zipfile
 
 sys.dont_write_bytecode = True
 HERE = os.path.dirname(os.path.abspath(__file__))
@@ -36,7 +40,7 @@ READ = [path % name for name in ('cvr', 'cvr-audit') for path in FOR_EACH]
 READ += ['share/doc/cvr/docs/FAULTS.md', 'share/doc/cvr/docs/AUDITING.md']
 READ += ['share/doc/cvr/docs/reference/README.md', 'share/doc/cvr/docs/reference/cvr_office.md']
 READ += ['share/cvr/cvr_audit/line.py']
-LIBRARIES = {'linux-vdso.so.1', 'libc.so.6', 'ld-linux-x86-64.so.2', 'ld-linux-aarch64.so.1'}
+NAMES = ['linux-x86_64', 'linux-aarch64', 'windows-x86_64']       # of targets; the first runs here
 SECONDS = 300
 
 
@@ -142,17 +146,40 @@ def elsewhere(folder):
     return {'umask': 0o077, 'env': dict(os.environ, **more)}
 
 
-def packed(cvr, out, **more):
-    """The paths of what tools/package makes, by their endings."""
-    status, told = done(sys.executable, 'tools/package', '--cvr', cvr, '--out', out, **more)
+def targets(folder):
+    """A folder with the program of each target, as if each was tried. For one that isn't made the first stands in."""
+    if done(sys.executable, 'tools/targets', NAMES[0])[0]:
+        sys.exit('tools/targets makes no %s\npackage: 0 right, 1 wrong' % NAMES[0])
+    for name in NAMES:
+        made = os.path.join(TOP, 'out/targets', name)
+        is_made = os.path.exists(made + '/linked')
+        shutil.copytree(made if is_made else os.path.join(folder, NAMES[0]), os.path.join(folder, name))
+        program = os.path.join(folder, name, 'cvr.exe' if 'windows' in name else 'cvr')
+        if not os.path.exists(program):
+            shutil.copy(os.path.join(folder, name, 'cvr'), program)
+        for note, text in ('tried', held(program)), ('native', held(os.path.join(TOP, 'crates/cvr/out/cvr'))):
+            with open(os.path.join(folder, name, note), 'w') as file:
+                file.write(hashlib.sha256(text).hexdigest())
+    return folder
+
+
+def packed(cvr, made, out, **more):
+    """The paths of what tools/package makes, by their names."""
+    status, told = done(sys.executable, 'tools/package', '--cvr', cvr, '--targets', made, '--out', out, **more)
     if status:
         sys.exit(told + 'package: 0 right, 1 wrong')
-    return {end: os.path.join(out, name) for name in os.listdir(out) for end in ('.deb', '.tar.gz', 'PROVENANCE') if name.endswith(end)}
+    return {name: os.path.join(out, name) for name in os.listdir(out)}
+
+
+def one(found, end):
+    """The path of the one file whose name has this end."""
+    path, = [path for name, path in found.items() if name.endswith(end)]
+    return path
 
 
 def libraries(program):
-    """The libraries that a program needs."""
-    return {os.path.basename(word) for word in re.findall(r'^\s*(\S+)', done('env', '-u', 'LD_PRELOAD', 'ldd', program)[1], re.M)}
+    """The libraries that a program needs, and its loader."""
+    return re.findall(r'NEEDED.*|INTERP', done('readelf', '-dl', program)[1])
 
 
 def man_page(prefix, name):
@@ -172,38 +199,87 @@ def provenance(text, program):
     yield 'the commit', told['commit'].split(',')[0] == done('git', 'rev-parse', 'HEAD')[1].strip()
 
 
+def unpacked(found, folder):
+    """Yields whether each is unpacked; then where the package and the archive for this kind of machine are."""
+    below = os.path.join(folder, 'local')
+    os.mkdir(below)
+    yield 'dpkg-deb unpacks it', done('dpkg-deb', '-x', one(found, '_amd64.deb'), os.path.join(folder, 'unpacked'))[0] == 0
+    words = ['tar', '-xzf', one(found, 'linux-x86_64.tar.gz'), '-C', below, '--strip-components=1']
+    yield 'tar unpacks it', done(*words, umask=0o022)[0] == 0 and is_installed(below)
+
+
+def held_in(place, program, made):
+    """Yields each trial of an unpacked package."""
+    told = os.path.join(place, 'share/doc/cvr')
+    yield links(place)
+    yield from first_runs(place, ['README.md', 'docs/AUDITING.md'])
+    yield 'the program in ' + place, held(os.path.join(place, 'bin/cvr')) == held(program)
+    yield 'PROVENANCE in ' + place, held(os.path.join(told, 'PROVENANCE')) == held(made['PROVENANCE-' + NAMES[0]])
+    yield 'the page names the kit in ' + place, names_kit(place)
+    text = held(os.path.join(told, 'copyright'))
+    yield 'copyright in ' + place, held(os.path.join(TOP, 'LICENSE')).strip() in text and b'GNU LESSER GENERAL PUBLIC LICENSE' in text
+
+
+def zipped(path, program):
+    """Yields each trial of the ZIP."""
+    with zipfile.ZipFile(path) as file:
+        names = [it.partition('/')[2] for it in file.namelist()]
+        texts = {it.partition('/')[2]: file.read(it) for it in file.namelist()}
+    yield 'the program in the ZIP', texts['cvr.exe'] == held(program)
+    yield 'one of each name in the ZIP, in whatever case', len({it.lower() for it in names}) == len(names)
+    wanted = {'cvr-audit', 'cvr_audit/line.py', 'PROVENANCE', 'copyright', 'README.md', 'docs/FORMAT.md', 'examples/county/scan.json'}
+    yield 'what stands in the ZIP: %s' % (wanted - set(names)), wanted <= set(names)
+    yield 'PROVENANCE of the ZIP', b'\nprogram  %s\n' % hashlib.sha256(held(program)).hexdigest().encode() in texts['PROVENANCE']
+
+
+def sums(found, out):
+    """Yields whether SHA256SUMS has every other file, with its sum."""
+    status, text = done('sh', '-c', 'cd "$0" && sha256sum -c SHA256SUMS', out)
+    yield 'the sums of SHA256SUMS', status == 0 and len(text.splitlines()) == len(found) - 1
+
+
+def again(made, found, folder):
+    """Yields whether the object file beside a package gives a program that runs; and whether only what was tried is packed."""
+    program = os.path.join(folder, 'linked again')
+    status, _ = done('gcc', '-static-pie', '-o', program, one(found, 'linux-x86_64.o'))
+    yield 'the object file, linked again', status == 0 and done(program, '--version') == done(os.path.join(made, NAMES[0], 'cvr'), '--version')
+    for name, note in (NAMES[1], 'tried'), (NAMES[2], 'native'):
+        with open(os.path.join(made, name, note), 'w') as file:
+            file.write('another sum')
+    left = packed(os.path.join(TOP, 'crates/cvr/out/cvr'), made, os.path.join(folder, 'fewer'))
+    wanted = [it for it in found if not re.search('aarch64|arm64|windows', it)]
+    yield 'what was not tried is not packed', sorted(left) == sorted(wanted)
+
+
 def tried(cvr, folder):
     """Yields each trial, and whether it is right."""
-    prefix = os.path.join(folder, 'a prefix')
+    prefix, out = os.path.join(folder, 'a prefix'), os.path.join(folder, 'one')
     yield 'make install', done('make', 'install', 'CVR=' + cvr, 'PREFIX=' + prefix, umask=0o077)[0] == 0 and is_installed(prefix)
     yield links(prefix)
     yield from first_runs(prefix, commands.FILES)
     yield from uninstalls(cvr, folder)
-    made, again = packed(cvr, os.path.join(folder, 'one')), packed(cvr, os.path.join(folder, 'other'), **elsewhere(folder))
-    for end in '.deb', '.tar.gz', 'PROVENANCE':
-        yield 'packed twice: ' + end, held(made[end]) == held(again[end])
-    unpacked, below = os.path.join(folder, 'unpacked/usr'), os.path.join(folder, 'local')
-    os.mkdir(below)
-    yield 'dpkg-deb unpacks it', done('dpkg-deb', '-x', made['.deb'], os.path.dirname(unpacked))[0] == 0
-    yield 'tar unpacks it', done('tar', '-xzf', made['.tar.gz'], '-C', below, '--strip-components=1', umask=0o022)[0] == 0 and is_installed(below)
-    for place in unpacked, below:
-        yield links(place)
-        yield from first_runs(place, ['README.md', 'docs/AUDITING.md'])
-        yield 'the program in ' + place, held(os.path.join(place, 'bin/cvr')) == held(cvr)
-        yield 'PROVENANCE in ' + place, held(os.path.join(place, 'share/doc/cvr/PROVENANCE')) == held(made['PROVENANCE'])
-        yield 'the page names the kit in ' + place, names_kit(place)
-        yield 'copyright in ' + place, held(os.path.join(TOP, 'LICENSE')).strip() in held(os.path.join(place, 'share/doc/cvr/copyright'))
-    yield from provenance(held(made['PROVENANCE']).decode('utf-8'), cvr)
-    yield 'the C library alone', 'libc.so.6' in libraries(os.path.join(unpacked, 'bin/cvr')) <= LIBRARIES
-    yield 'libc6 alone', re.fullmatch(r'libc6 \(>= 2\.\d+\)\n', done('dpkg-deb', '-f', made['.deb'], 'Depends')[1]) is not None
-    yield 'no address of a commit', done('dpkg-deb', '-f', made['.deb'], 'Maintainer')[1].endswith('.invalid>\n')
+    made = targets(os.path.join(folder, 'targets'))
+    found, other = packed(cvr, made, out), packed(cvr, made, os.path.join(folder, 'other'), **elsewhere(folder))
+    yield 'packed twice', {name: held(path) for name, path in found.items()} == {name: held(path) for name, path in other.items()}
+    yield from unpacked(found, folder)
+    program, place = os.path.join(made, NAMES[0], 'cvr'), os.path.join(folder, 'unpacked/usr')
+    for it in place, os.path.join(folder, 'local'):
+        yield from held_in(it, program, found)
+    yield from zipped(one(found, '.zip'), os.path.join(made, NAMES[2], 'cvr.exe'))
+    yield from sums(found, out)
+    yield from provenance(held(found['PROVENANCE-' + NAMES[0]]).decode('utf-8'), program)
+    yield 'no library', libraries(os.path.join(place, 'bin/cvr')) == []
+    for architecture in 'amd64', 'arm64':
+        control = done('dpkg-deb', '-f', one(found, '_%s.deb' % architecture), 'Architecture', 'Depends', 'Maintainer')[1]
+        yield 'no package is needed: ' + control, re.fullmatch(r'Architecture: %s\nMaintainer: .*\.invalid>\n' % architecture, control) is not None
     for name, about in ('cvr', r'cvr +- +check'), ('cvr-audit', r'cvr-audit +- +print'):
-        status, text = man_page(unpacked, name)
+        status, text = man_page(place, name)
         is_read = status == 0 and re.search(about, text) and not re.search(r':\d+: warning', text)
         yield 'man reads the page of ' + name, bool(is_read)
     if shutil.which('lintian'):
-        status, text = done('lintian', '--allow-root', '--fail-on', 'error', made['.deb'])
+        status, text = done('lintian', '--allow-root', '--fail-on', 'error', one(found, '_amd64.deb'))
         yield 'lintian: ' + text, status == 0
+    yield from again(made, found, folder)
 
 
 def main():
