@@ -9,8 +9,11 @@ and doesn't differ. Then random files are read (tests/rows/random_files.py), and
 has: standard input and a closed pipe, and on Windows also paths. No program needs a library of the system but those in
 NEEDED. Before that, small texts show what tools/targets changes in LLVM's text, and what it refuses.
 
-Of a target that passes, out/targets/NAME/tried has the sum of the program, so that tools/package packs it. A target
-whose tools, qemu or Wine are missing is left out, and that is said.
+Where a target has the library, it is tried, too: that of Linux by tests/library/run.py, with the rows of `tally`; that of
+Windows by its driver.c, with one row of EACH, and by calls.c.
+
+Of a target that passes, out/targets/NAME/tried has the sum of the program, so that tools/package packs it, and
+tried_library that of the library. A target whose tools, qemu or Wine are missing is left out, and that is said.
 
 The last line is `targets: N right, M wrong`; the status is 0 only where M is 0 and N is not."""
 import argparse
@@ -37,7 +40,10 @@ import run as rows  # noqa: E402 (both stand in tests/rows)
 
 SECONDS = 5         # of random files for each target
 WINE, SERVER = '/usr/lib/wine/wine64', '/usr/lib/wine/wineserver64'
-NEEDED = {'KERNEL32.dll', 'msvcrt.dll', 'SHELL32.dll'}      # of cvr.exe; those of Linux need none
+NEEDED = {'KERNEL32.dll', 'msvcrt.dll', 'SHELL32.dll'}      # of cvr.exe, and all but the last of cvr.dll; those of Linux need none
+LIBRARIES = {'linux-x86_64': 'libcvr.so', 'windows-x86_64': 'cvr.dll'}
+EACH = 40           # of so many rows one is tried through the library under Wine
+COMPILED = ['x86_64-w64-mingw32-gcc', '-std=c11', '-O1', '-Wall', '-Wextra', '-Werror', '-static', '-pthread']
 
 
 class Target:
@@ -47,6 +53,7 @@ class Target:
     def __init__(self, name, before=(), packages='', listed=None):
         self.name, self.before, self.packages = name, list(before), packages
         self.path = os.path.join(TOP, 'out/targets', name, 'cvr.exe' if name.startswith('windows') else 'cvr')
+        self.library = os.path.join(os.path.dirname(self.path), LIBRARIES[name]) if name in LIBRARIES else None
         self.listed = listed_in(listed) if listed else {}
 
     def lacks(self):
@@ -57,11 +64,11 @@ class Target:
             return 'there is no %s. On Debian: apt-get install %s' % (self.before[0], self.packages)
         return None
 
-    def script(self, folder):
-        """A command that runs it, as a file."""
-        path = os.path.join(folder, self.name)
+    def script(self, folder, program):
+        """A command that runs a program for the target, as a file."""
+        path = os.path.join(folder, os.path.basename(program) + '.sh')
         with open(path, 'w') as file:
-            file.write('#!/bin/sh\nexec %s "$@"\n' % shlex.join(self.before + [self.path]))
+            file.write('#!/bin/sh\nexec %s "$@"\n' % shlex.join(self.before + [program]))
         os.chmod(path, 0o755)
         return path
 
@@ -197,15 +204,62 @@ def own_faults(target, cvr, folder):
     yield library_fault(target)
 
 
+def needed(path):
+    """The libraries that a program or a library for Windows needs."""
+    told = subprocess.run(['x86_64-w64-mingw32-objdump', '-p', path], stdout=subprocess.PIPE, text=True).stdout
+    return set(re.findall(r'DLL Name: (\S+)', told))
+
+
 def library_fault(target):
     """What is wrong with the libraries that a program needs, or None."""
     if target.name.startswith('windows'):
-        told = subprocess.run(['x86_64-w64-mingw32-objdump', '-p', target.path], stdout=subprocess.PIPE, text=True).stdout
-        found, wanted = set(re.findall(r'DLL Name: (\S+)', told)), NEEDED
+        found, wanted = needed(target.path), NEEDED
     else:
         told = subprocess.run(['readelf', '-dl', target.path], stdout=subprocess.PIPE, text=True).stdout
         found, wanted = set(re.findall(r'(?:NEEDED.*\[(.*)\]|(INTERP))', told)), set()
     return None if found == wanted else 'the libraries of %s: %s' % (target.name, found)
+
+
+# ---- the library of a target
+
+def library_faults(target, folder):
+    """Yields a line for each trial of a target's library that is wrong, and None for each other."""
+    if target.name.startswith('windows'):
+        yield from dll_faults(target, folder)
+    elif target.library:
+        words = [sys.executable, os.path.join(HERE, 'library/run.py'), '--only', 'tally', '--library', os.path.dirname(target.library)]
+        ran = subprocess.run(words, stdout=subprocess.PIPE, stderr=subprocess.STDOUT, text=True)
+        print('  ' + ran.stdout.splitlines()[-1])
+        yield None if ran.returncode == 0 else ran.stdout
+
+
+def dll_faults(target, folder):
+    """The same of a DLL, called by driver.c and calls.c, which stand beside it."""
+    room, source = os.path.join(folder, 'dll'), os.path.join(HERE, 'library/%s.c')
+    os.mkdir(room)
+    shutil.copy(target.library, room)
+    for name in 'driver', 'calls':
+        words = [*COMPILED, '-I', os.path.dirname(target.library), '-o', '%s/%s.exe' % (room, name), source % name, target.library]
+        ran = subprocess.run(words, stdout=subprocess.PIPE, stderr=subprocess.STDOUT, text=True)
+        if ran.returncode:
+            yield '%s.c: %s' % (name, ran.stdout)
+            return
+    yield None if needed(target.library) == NEEDED - {'SHELL32.dll'} else 'the libraries of cvr.dll: %s' % needed(target.library)
+    words = [target.script(room, room + '/calls.exe'), 'definition.json', 'scan.json', 'adjudicated.json']
+    ran = subprocess.run(words, cwd=os.path.join(TOP, 'examples/county'), stdout=subprocess.PIPE, text=True)
+    yield None if re.fullmatch(r'calls: [1-9]\d* right, 0 wrong', ran.stdout.strip()) and not ran.returncode else 'calls.c: %r' % ran
+    yield from driven_faults(target, target.script(room, room + '/driver.exe'))
+
+
+def driven_faults(target, driver):
+    """Yields a line for each row through the library that is wrong, and None for each other. The driver has the words in
+    the letters of Windows' own code page, so a row with others is left out."""
+    every = [it[1:] for it in rows.all_rows()][::EACH]
+    every = [it for it in every if it[0]['name'] not in target.listed and str((it[0]['words'], list(it[0].get('files', ())))).isascii()]
+    for row, short in every:
+        found = rows.tried(driver, row, short)
+        yield 'row %s through the library: %s' % (row['name'], '; '.join(found)) if found else None
+    print('%s: %d rows ran through the library' % (target.name, len(every)), flush=True)
 
 
 def random_fault(cvr):
@@ -237,8 +291,8 @@ def wine(folder):
 def tried(target):
     """(right, wrong) of a target that is made."""
     with tempfile.TemporaryDirectory() as folder, wine(folder) if WINE in target.before else contextlib.nullcontext():
-        cvr = target.script(folder)
-        found = [*own_faults(target, cvr, folder), *row_faults(target, cvr), random_fault(cvr)]
+        cvr = target.script(folder, target.path)
+        found = [*own_faults(target, cvr, folder), *library_faults(target, folder), *row_faults(target, cvr), random_fault(cvr)]
     for line in found:
         if line:
             print('WRONG %s: %s' % (target.name, line))
@@ -246,13 +300,14 @@ def tried(target):
 
 
 def note(target, is_right):
-    """Notes for tools/package that the program passed, or that it didn't."""
-    path = os.path.join(os.path.dirname(target.path), 'tried')
-    if os.path.exists(path):
-        os.remove(path)
-    if is_right:
-        with open(target.path, 'rb') as file, open(path, 'w') as out:
-            out.write(hashlib.sha256(file.read()).hexdigest() + '\n')
+    """Notes for tools/package that the program and the library passed, or that they didn't."""
+    for name, path in ('tried', target.path), ('tried_library', target.library):
+        noted = os.path.join(os.path.dirname(target.path), name)
+        if os.path.exists(noted):
+            os.remove(noted)
+        if is_right and path:
+            with open(path, 'rb') as file, open(noted, 'w') as out:
+                out.write(hashlib.sha256(file.read()).hexdigest() + '\n')
 
 
 TARGETS = [

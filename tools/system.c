@@ -1,12 +1,13 @@
 /* What the program calls of a system, on systems for which the kit has no C library of its own: Windows, and Linux on
    ARM. It passes on words, memory, the opening and reading of files, and writing; tools/targets links it. On Windows
    paths and words are UTF-8 here, and no end of a line is changed. Of errno the program tells apart EINTR and ENOMEM,
-   whose numbers are those of Linux. */
+   whose numbers are those of Linux. With LIBRARY it has memory alone, which is all that the library calls. */
 #include <errno.h>
 #include <stdint.h>
 #include <stdlib.h>
 #include <string.h>
 
+#ifndef LIBRARY
 /* ---- words */
 
 static int64_t count;
@@ -24,6 +25,7 @@ int64_t rattle_arg(int64_t at, char *into, int64_t room) {
 int rattle_errno(void) { return errno; }
 
 void rattle_set_errno(int number) { errno = number; }
+#endif
 
 /* ---- memory */
 
@@ -49,9 +51,10 @@ BY_REGISTERS Tried rattle_realloc(void *place, size_t old, size_t size, size_t a
 
 void rattle_dealloc(void *place) { free(place); }
 
+#ifndef LIBRARY
+#ifndef _WIN32
 /* ---- Linux */
 
-#ifndef _WIN32
 /* glibc hands the words also to what runs before `main`. */
 __attribute__((constructor)) static void keep(int number, char **given) {
     count = number;
@@ -148,4 +151,5 @@ int main(void) {
     if (before) SetConsoleOutputCP(before);
     return status;
 }
+#endif
 #endif

@@ -4,6 +4,10 @@
 #include <stdio.h>
 #include <stdlib.h>
 #include <string.h>
+#ifdef _WIN32
+#include <fcntl.h>
+#include <io.h>
+#endif
 
 enum { HELD = 67108865 };       /* the most bytes that the program holds of a file */
 
@@ -113,6 +117,10 @@ static int call(uint8_t **text, uint8_t **log, CvrSizes *sizes) {
 int main(int many, char **all) {
     uint8_t *text = NULL, *log = NULL;
     CvrSizes sizes;
+#ifdef _WIN32
+    for (int file = 0; file < 3; file++)
+        _setmode(file, _O_BINARY);
+#endif
     add("", 0);
     ends = grown(ends, (places = 64) * sizeof *ends);
     for (int at = 1; at < many; at++)
