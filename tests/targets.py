@@ -234,7 +234,7 @@ def library_faults(target, folder):
 
 
 def dll_faults(target, folder):
-    """The same of a DLL, called by driver.c and calls.c, which stand beside it."""
+    """The same of a DLL, called by driver.c and calls.c, which stand beside it, and of its wheel."""
     room, source = os.path.join(folder, 'dll'), os.path.join(HERE, 'library/%s.c')
     os.mkdir(room)
     shutil.copy(target.library, room)
@@ -249,6 +249,8 @@ def dll_faults(target, folder):
     ran = subprocess.run(words, cwd=os.path.join(TOP, 'examples/county'), stdout=subprocess.PIPE, text=True)
     yield None if re.fullmatch(r'calls: [1-9]\d* right, 0 wrong', ran.stdout.strip()) and not ran.returncode else 'calls.c: %r' % ran
     yield from driven_faults(target, target.script(room, room + '/driver.exe'))
+    ran = subprocess.run([sys.executable, os.path.join(HERE, 'library/wheel.py'), target.library], stdout=subprocess.PIPE, text=True)
+    yield None if ran.returncode == 0 else ran.stdout
 
 
 def driven_faults(target, driver):

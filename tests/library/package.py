@@ -1,15 +1,16 @@
 #!/usr/bin/env python3
-"""package.py
+"""package.py [--installed]
 
-Tries the package for Python, over the library that LIBCVR names, on the examples of a county. The answers are those that
-the guide works out by hand, or follow from FORMAT. The last line is `python: N right, M wrong`."""
+Tries the package for Python, over the library that LIBCVR names, or the one that is installed, on the examples of a
+county. The answers are those that the guide works out by hand, or follow from FORMAT. The last line is `python: N right, M wrong`."""
 import os
 import sys
 import threading
 
 sys.dont_write_bytecode = True
 TOP = os.path.dirname(os.path.dirname(os.path.dirname(os.path.abspath(__file__))))
-sys.path.insert(0, os.path.join(TOP, 'python'))
+if sys.argv[1:] != ['--installed']:
+    sys.path.insert(0, os.path.join(TOP, 'python'))
 import cvr  # noqa: E402 (it stands there)
 
 COUNTY = os.path.join(TOP, 'examples', 'county')

@@ -2,8 +2,8 @@
 """run.py [--library FOLDER] [--only NAME]
 
 Tries the library that tools/library makes, or that it made in FOLDER: calls.c, which calls it from C; the example in C; the
-package for Python, with its example; and all rows of tests/rows, through driver.c, which is the command line of the
-program over the library. Rows that it can't answer as the program does stand in elsewhere.txt, each with the reason:
+package for Python, with its example, also as a wheel (wheel.py); and all rows of tests/rows, through driver.c, which is
+the command line of the program over the library. Rows that it can't answer as the program does stand in elsewhere.txt, each with the reason:
 one that is answered rightly all the same is wrong, and so is one that is no row.
 
 It needs a C compiler, `cc`. The last line is `library: N right, M wrong`; the status is 0 only where M is 0 and N is
@@ -103,6 +103,13 @@ def package(library):
     return sums(told, 'python')
 
 
+def wheel(library):
+    """(right, wrong) of the wheel for Python."""
+    told = printed([sys.executable, os.path.join(HERE, 'wheel.py'), os.path.join(library, 'libcvr.so')])[1]
+    print(told.strip(), flush=True)
+    return sums(told, 'wheel')
+
+
 def main():
     words = argparse.ArgumentParser()
     words.add_argument('--library', help='the folder of a library that is made')
@@ -116,7 +123,7 @@ def main():
         told = compiled(os.path.join(HERE, 'driver.c'), library, driver)
         if told:
             sys.exit('WRONG: driver.c: %s\nlibrary: 0 right, 1 wrong' % told)
-        found = [calls(folder, library), examples(folder, library), package(library), rows(driver, words.only)]
+        found = [calls(folder, library), examples(folder, library), package(library), wheel(library), rows(driver, words.only)]
     right, wrong = map(sum, zip(*found))
     print('library: %d right, %d wrong' % (right, wrong))
     sys.exit(1 if wrong or not right else 0)
