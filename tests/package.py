@@ -157,7 +157,11 @@ def targets(folder):
         program = os.path.join(folder, name, 'cvr.exe' if 'windows' in name else 'cvr')
         if not os.path.exists(program):
             shutil.copy(os.path.join(folder, name, 'cvr'), program)
-        for note, text in ('tried', held(program)), ('native', held(os.path.join(TOP, 'crates/cvr/out/cvr'))):
+        library = os.path.join(folder, name, 'cvr.dll' if 'windows' in name else 'libcvr.so')
+        if not os.path.exists(library):
+            shutil.copy(os.path.join(folder, NAMES[0], 'libcvr.so'), library)
+        native = os.path.join(TOP, 'crates/cvr/out/cvr')
+        for note, text in ('tried', held(program)), ('tried_library', held(library)), ('native', held(native)):
             with open(os.path.join(folder, name, note), 'w') as file:
                 file.write(hashlib.sha256(text).hexdigest())
     return folder
@@ -232,6 +236,19 @@ def zipped(path, program):
     yield 'PROVENANCE of the ZIP', b'\nprogram  %s\n' % hashlib.sha256(held(program)).hexdigest().encode() in texts['PROVENANCE']
 
 
+def wheels(found, made):
+    """Yields each trial of the wheels."""
+    for end, target, library in ('_x86_64.whl', NAMES[0], 'libcvr.so'), ('-win_amd64.whl', NAMES[2], 'cvr.dll'):
+        with zipfile.ZipFile(one(found, end)) as file:
+            texts = {os.path.basename(it): file.read(it) for it in file.namelist()}
+        text = held(os.path.join(made, target, library))
+        yield 'the library in the wheel ' + end, texts[library] == text
+        yield 'README names the wheel ' + end, os.path.basename(one(found, end)) in held(os.path.join(TOP, 'README.md')).decode('utf-8')
+        yield 'PROVENANCE in the wheel ' + end, texts['PROVENANCE'] == held(found['PROVENANCE-' + target])
+        yield 'the sum of the library ' + end, b'\nlibrary  %s\n' % hashlib.sha256(text).hexdigest().encode() in texts['PROVENANCE']
+        yield 'the licences in the wheel ' + end, held(os.path.join(TOP, 'LICENSE')).strip() in texts['LICENSE'] and b'of the Rattle kit' in texts['LICENSE']
+
+
 def sums(found, out):
     """Yields whether SHA256SUMS has every other file, with its sum."""
     status, text = done('sh', '-c', 'cd "$0" && sha256sum -c SHA256SUMS', out)
@@ -243,11 +260,11 @@ def again(made, found, folder):
     program = os.path.join(folder, 'linked again')
     status, _ = done('gcc', '-static-pie', '-o', program, one(found, 'linux-x86_64.o'))
     yield 'the object file, linked again', status == 0 and done(program, '--version') == done(os.path.join(made, NAMES[0], 'cvr'), '--version')
-    for name, note in (NAMES[1], 'tried'), (NAMES[2], 'native'):
+    for name, note in (NAMES[0], 'tried_library'), (NAMES[1], 'tried'), (NAMES[2], 'native'):
         with open(os.path.join(made, name, note), 'w') as file:
             file.write('another sum')
     left = packed(os.path.join(TOP, 'crates/cvr/out/cvr'), made, os.path.join(folder, 'fewer'))
-    wanted = [it for it in found if not re.search('aarch64|arm64|windows', it)]
+    wanted = [it for it in found if not re.search('aarch64|arm64|win|whl', it)]
     yield 'what was not tried is not packed', sorted(left) == sorted(wanted)
 
 
@@ -266,6 +283,7 @@ def tried(cvr, folder):
     for it in place, os.path.join(folder, 'local'):
         yield from held_in(it, program, found)
     yield from zipped(one(found, '.zip'), os.path.join(made, NAMES[2], 'cvr.exe'))
+    yield from wheels(found, made)
     yield from sums(found, out)
     yield from provenance(held(found['PROVENANCE-' + NAMES[0]]).decode('utf-8'), program)
     yield 'no library', libraries(os.path.join(place, 'bin/cvr')) == []

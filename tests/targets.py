@@ -12,8 +12,8 @@ NEEDED. Before that, small texts show what tools/targets changes in LLVM's text,
 Where a target has the library, it is tried, too: that of Linux by tests/library/run.py, with the rows of `tally`; that of
 Windows by its driver.c, with one row of EACH, and by calls.c.
 
-Of a target that passes, out/targets/NAME/tried has the sum of the program, so that tools/package packs it, and
-tried_library that of the library. A target whose tools, qemu or Wine are missing is left out, and that is said.
+Of a target that passes, out/targets/NAME/tried has the sum of the program, and tried_library that of the library, so
+that tools/package packs them. A target whose tools, qemu or Wine are missing is left out, and that is said.
 
 The last line is `targets: N right, M wrong`; the status is 0 only where M is 0 and N is not."""
 import argparse
