@@ -19,10 +19,9 @@ The last line is `targets: N right, M wrong`; the status is 0 only where M is 0 
 import argparse
 import contextlib
 import hashlib
-import importlib.machinery
-import importlib.util
 import os
 import re
+import runpy
 import shlex
 import shutil
 import subprocess
@@ -38,10 +37,10 @@ sys.path.insert(0, os.path.join(HERE, 'rows'))
 import members      # noqa: E402
 import run as rows  # noqa: E402 (both stand in tests/rows)
 
+TOOL = runpy.run_path(os.path.join(TOP, 'tools/targets'))
 SECONDS = 5         # of random files for each target
 WINE, SERVER = '/usr/lib/wine/wine64', '/usr/lib/wine/wineserver64'
 NEEDED = {'KERNEL32.dll', 'msvcrt.dll', 'SHELL32.dll'}      # of cvr.exe, and all but the last of cvr.dll; those of Linux need none
-LIBRARIES = {'linux-x86_64': 'libcvr.so', 'windows-x86_64': 'cvr.dll'}
 EACH = 40           # of so many rows one is tried through the library under Wine
 COMPILED = ['x86_64-w64-mingw32-gcc', '-std=c11', '-O1', '-Wall', '-Wextra', '-Werror', '-static', '-pthread']
 
@@ -52,8 +51,7 @@ class Target:
 
     def __init__(self, name, before=(), packages='', listed=None):
         self.name, self.before, self.packages = name, list(before), packages
-        self.path = os.path.join(TOP, 'out/targets', name, 'cvr.exe' if name.startswith('windows') else 'cvr')
-        self.library = os.path.join(os.path.dirname(self.path), LIBRARIES[name]) if name in LIBRARIES else None
+        self.path, self.library = (os.path.join(TOP, 'out/targets', name, it) if it else None for it in TOOL['FILES'][name])
         self.listed = listed_in(listed) if listed else {}
 
     def lacks(self):
@@ -146,15 +144,13 @@ ODD = [('@llvm.trap()', '@getenv(ptr)'), ('@llvm.trap()', '@llvm.frameaddress.p0
 
 def text_faults():
     """Yields a line for each text that tools/targets changes wrongly, or doesn't refuse, and None for each other."""
-    loader = importlib.machinery.SourceFileLoader('tools_targets', os.path.join(TOP, 'tools/targets'))
-    tool = importlib.util.module_from_spec(importlib.util.spec_from_loader('tools_targets', loader))
-    loader.exec_module(tool)
-    yield None if tool.retargeted(BEFORE)[0] == AFTER else 'tools/targets changes its text to %s' % tool.retargeted(BEFORE)[0]
+    changed, _ = TOOL['retargeted'](BEFORE)
+    yield None if changed == AFTER else 'tools/targets changes its text to %s' % changed
     for old, new in ODD:
         try:
-            tool.retargeted(BEFORE.replace(old, new))
+            TOOL['retargeted'](BEFORE.replace(old, new))
             yield 'tools/targets takes a text with %s' % new
-        except tool.Stopped:
+        except TOOL['Stopped']:
             yield None
 
 
