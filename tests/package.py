@@ -20,6 +20,7 @@ import importlib.machinery
 import importlib.util
 import os
 import re
+import runpy
 import shlex
 import shutil
 import subprocess
@@ -40,13 +41,16 @@ READ = [path % name for name in ('cvr', 'cvr-audit') for path in FOR_EACH]
 READ += ['share/doc/cvr/docs/FAULTS.md', 'share/doc/cvr/docs/AUDITING.md']
 READ += ['share/doc/cvr/docs/reference/README.md', 'share/doc/cvr/docs/reference/cvr_office.md']
 READ += ['share/cvr/cvr_audit/line.py']
-NAMES = ['linux-x86_64', 'linux-aarch64', 'windows-x86_64']       # of targets; the first runs here
+FILES = runpy.run_path(os.path.join(TOP, 'tools/targets'))['FILES']
+NAMES = list(FILES)     # of targets; the first runs here
+PROGRAM, MADE = os.path.join(TOP, 'crates/cvr/out/cvr'), os.path.join(TOP, 'out/targets')
 SECONDS = 300
+MAKING = 3600   # seconds that making the first may take, beside proofs
 
 
-def done(*words, **more):
+def done(*words, timeout=SECONDS, **more):
     """(status, both outputs) of a command at the top."""
-    told = subprocess.run(words, cwd=TOP, stdin=subprocess.DEVNULL, stdout=subprocess.PIPE, stderr=subprocess.STDOUT, timeout=SECONDS, **more)
+    told = subprocess.run(words, cwd=TOP, stdin=subprocess.DEVNULL, stdout=subprocess.PIPE, stderr=subprocess.STDOUT, timeout=timeout, **more)
     return told.returncode, told.stdout.decode('utf-8', 'replace')
 
 
@@ -61,6 +65,10 @@ def stand_in_a_commit(folder):
 def held(path):
     with open(path, 'rb') as file:
         return file.read()
+
+
+def sum_of(path):
+    return hashlib.sha256(held(path)).hexdigest()
 
 
 def is_installed(prefix):
@@ -146,24 +154,27 @@ def elsewhere(folder):
     return {'umask': 0o077, 'env': dict(os.environ, **more)}
 
 
+def is_made(name):
+    """Whether a target is made of the built program."""
+    noted = os.path.join(MADE, name, 'native')
+    return os.path.exists(noted) and held(noted).decode().strip() == sum_of(PROGRAM)
+
+
 def targets(folder):
-    """A folder with the program of each target, as if each was tried. For one that isn't made the first stands in."""
-    if done(sys.executable, 'tools/targets', NAMES[0])[0]:
+    """A folder with what is made for each target, as if it was tried. For what isn't made that of the first stands in."""
+    if not is_made(NAMES[0]) and done(sys.executable, 'tools/targets', NAMES[0], timeout=MAKING)[0]:
         sys.exit('tools/targets makes no %s\npackage: 0 right, 1 wrong' % NAMES[0])
-    for name in NAMES:
-        made = os.path.join(TOP, 'out/targets', name)
-        is_made = os.path.exists(made + '/linked')
-        shutil.copytree(made if is_made else os.path.join(folder, NAMES[0]), os.path.join(folder, name))
-        program = os.path.join(folder, name, 'cvr.exe' if 'windows' in name else 'cvr')
-        if not os.path.exists(program):
-            shutil.copy(os.path.join(folder, name, 'cvr'), program)
-        library = os.path.join(folder, name, 'cvr.dll' if 'windows' in name else 'libcvr.so')
-        if not os.path.exists(library):
-            shutil.copy(os.path.join(folder, NAMES[0], 'libcvr.so'), library)
-        native = os.path.join(TOP, 'crates/cvr/out/cvr')
-        for note, text in ('tried', held(program)), ('tried_library', held(library)), ('native', held(native)):
-            with open(os.path.join(folder, name, note), 'w') as file:
-                file.write(hashlib.sha256(text).hexdigest())
+    first = os.path.join(folder, NAMES[0])
+    for name, files in FILES.items():
+        place = os.path.join(folder, name)
+        shutil.copytree(os.path.join(MADE, name) if is_made(name) else first, place)
+        for note, file, other in zip(('tried', 'tried_library'), files, FILES[NAMES[0]]):
+            path = os.path.join(place, file)
+            if not os.path.exists(path):
+                shutil.copy(os.path.join(first, other), path)
+            if os.path.isfile(path):
+                with open(os.path.join(place, note), 'w') as out:
+                    out.write(sum_of(path))
     return folder
 
 
@@ -196,7 +207,7 @@ def man_page(prefix, name):
 def provenance(text, program):
     """Yields what PROVENANCE has to say, and whether it does."""
     told = dict(re.findall(r'^(\w+) +(.*)$', text.split('\n\n')[1], re.M))
-    yield 'the sum of the program', told['program'] == hashlib.sha256(held(program)).hexdigest()
+    yield 'the sum of the program', told['program'] == sum_of(program)
     yield 'the sum of the sources', told['sources'] == done('sh', '-c', re.search(r'^ +(git ls-files .*)$', text, re.M).group(1))[1].split()[0]
     yield 'the kit', told['kit'] == kit()
     yield 'the same bytes where a clone changes ends of lines', '\r' not in done('git', '-c', 'core.autocrlf=true', 'archive', 'HEAD', 'cvr')[1]
@@ -233,7 +244,7 @@ def zipped(path, program):
     yield 'one of each name in the ZIP, in whatever case', len({it.lower() for it in names}) == len(names)
     wanted = {'cvr-audit', 'cvr_audit/line.py', 'PROVENANCE', 'copyright', 'README.md', 'docs/FORMAT.md', 'examples/county/scan.json'}
     yield 'what stands in the ZIP: %s' % (wanted - set(names)), wanted <= set(names)
-    yield 'PROVENANCE of the ZIP', b'\nprogram  %s\n' % hashlib.sha256(held(program)).hexdigest().encode() in texts['PROVENANCE']
+    yield 'PROVENANCE of the ZIP', b'\nprogram  %s\n' % sum_of(program).encode() in texts['PROVENANCE']
 
 
 def wheels(found, made):
@@ -263,7 +274,7 @@ def again(made, found, folder):
     for name, note in (NAMES[0], 'tried_library'), (NAMES[1], 'tried'), (NAMES[2], 'native'):
         with open(os.path.join(made, name, note), 'w') as file:
             file.write('another sum')
-    left = packed(os.path.join(TOP, 'crates/cvr/out/cvr'), made, os.path.join(folder, 'fewer'))
+    left = packed(PROGRAM, made, os.path.join(folder, 'fewer'))
     wanted = [it for it in found if not re.search('aarch64|arm64|win|whl', it)]
     yield 'what was not tried is not packed', sorted(left) == sorted(wanted)
 
