@@ -1,13 +1,14 @@
 #!/usr/bin/env python3
-"""random_files.py --cvr PATH [--seed N] [--seconds N]
+"""random_files.py --cvr PATH [--seed N] [--seconds N | --rounds N]
 
 Compares the program with rules.py and printed.py on random files. First vectors with one to three random changes, with
 members in any order and sometimes twice: each file is checked beside its vector's definition, and has to have the fault
 that rules.py gives, or its number of records; and output, log and status have to be those of all of them. Then several
 files at once, random reports as of round_trip.py and changed vectors: what `currents`, `tally`, `conflicts` and `merge`
 print and log for them, and a `drill` of random steps, has to be what printed.py gives. Each difference is printed with
-its files. One seed gives the same files on every machine; how many depends on the seconds. The last line is `files: N
-right, M wrong`, of files that were checked and of commands; the status is 0 only where M is 0 and N is not."""
+its files. One seed gives the same files on every machine: as many rounds, or as many as begin within the seconds. The last
+line is `files: N right, M wrong`, of files that were checked and of commands; the status is 0 only where M is 0 and N is
+not."""
 import argparse
 import copy
 import json
@@ -181,11 +182,12 @@ def main():
     words.add_argument('--cvr', required=True, help='the program to try')
     words.add_argument('--seed', type=int, default=1)
     words.add_argument('--seconds', type=float, default=60)
+    words.add_argument('--rounds', type=int)
     words = words.parse_args()
     cvr, rules, chance, right, wrong = os.path.abspath(words.cvr), format_rules.Rules(), random.Random(words.seed), 0, 0
     names = sorted({'@type', '@id', 'x', 'a/b~', '', '\ue000', '\U0001f600'}.union(*rules.classes.values()))
     end = time.time() + words.seconds
-    while time.time() < end:
+    for _ in range(words.rounds) if words.rounds else iter(lambda: time.time() < end, False):
         found = list(checked(cvr, rules, chance, names))
         for _ in range(CASES):
             found += printed_of(cvr, rules, chance, names)
