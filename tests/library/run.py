@@ -1,16 +1,18 @@
 #!/usr/bin/env python3
 """run.py [--library FOLDER] [--only NAME]
 
-Tries the library that tools/library makes, or that it made in FOLDER: calls.c, which calls it from C; the example in C; the
-package for Python, with its example, also as a wheel (wheel.py); and all rows of tests/rows, through driver.c, which is
-the command line of the program over the library. Rows that it can't answer as the program does stand in elsewhere.txt, each with the reason:
-one that is answered rightly all the same is wrong, and so is one that is no row.
+Tries the library that tools/library makes, or that it made in FOLDER: calls.c, which calls it from C; the package for
+Python, also as a wheel (wheel.py); the commands in docs/LIBRARY.md, which show an example in each language; and all rows
+of tests/rows, through driver.c, which is the command line of the program over the library. Rows that it can't answer as
+the program does stand in elsewhere.txt, each with the reason: one that is answered rightly all the same is wrong, and so
+is one that is no row.
 
 It needs a C compiler, `cc`. The last line is `library: N right, M wrong`; the status is 0 only where M is 0 and N is
 not."""
 import argparse
 import os
 import re
+import shutil
 import subprocess
 import sys
 import tempfile
@@ -18,11 +20,14 @@ import tempfile
 sys.dont_write_bytecode = True
 HERE = os.path.dirname(os.path.abspath(__file__))
 TOP = os.path.dirname(os.path.dirname(HERE))
+sys.path.insert(0, os.path.join(TOP, 'tests'))
+import commands     # noqa: E402 (it stands there)
+
 COUNTY = os.path.join(TOP, 'examples', 'county')
 FILES = ['definition.json', 'scan.json', 'adjudicated.json']
 FLAGS = ['-std=c11', '-O1', '-Wall', '-Wextra', '-Werror', '-pthread']
 COUNTED = ['-Wl,--wrap=malloc,--wrap=realloc,--wrap=free']
-SECONDS = 900
+SECONDS = 3600      # of a command, also where the library is proved beside other proofs
 
 
 def printed(command, **more):
@@ -83,17 +88,12 @@ def calls(folder, library):
 
 
 def examples(folder, library):
-    """(right, wrong) of the two examples: they print what the program prints."""
-    source, program = os.path.join(TOP, 'examples/library/tally'), os.path.join(folder, 'tally')
-    wanted = printed([os.path.join(folder, 'driver'), 'tally'] + FILES, cwd=COUNTY)[1]
-    told = [compiled(source + '.c', library, program) or printed([program] + FILES, cwd=COUNTY)[1]]
-    environment = dict(os.environ, LIBCVR=os.path.join(library, 'libcvr.so'), PYTHONPATH=os.path.join(TOP, 'python'), PYTHONDONTWRITEBYTECODE='1')
-    told.append(printed([sys.executable, source + '.py'] + FILES, cwd=COUNTY, env=environment)[1])
-    right = [it == wanted and bool(wanted) for it in told]
-    for it, ending in zip(told, ('c', 'py')):
-        if it != wanted or not wanted:
-            print('WRONG: examples/library/tally.%s prints\n%s' % (ending, it))
-    return right.count(True), right.count(False)
+    """(right, wrong) of the commands in docs/LIBRARY.md, run where they find the examples, the package and the library."""
+    copy = os.path.join(folder, 'copy')
+    for name in 'examples', 'python':
+        shutil.copytree(os.path.join(TOP, name), os.path.join(copy, name))
+    shutil.copytree(library, os.path.join(copy, 'out/library'))
+    return commands.try_all('docs/LIBRARY.md', '', copy)
 
 
 def package(library):
