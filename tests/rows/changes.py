@@ -247,8 +247,37 @@ def changes_of_agreement(rules):
     yield 'ReportingDevice has to be the definition\'s', set_bound('agreeing', held + ['ReportingDevice'])
 
 
+# Of moments: forms that may be refused, and what would have to stand in place of others for these to be taken.
+REFUSED = {
+    'a date without dashes': r'.*\d{8}[Tt ].*', 'a time of hours alone': r'.*[Tt ]\d\d[Zz+-].*', 'a time without seconds': r'.*[Tt ]\d\d:\d\d[Zz+-].*',
+    'a time without colons': r'.*[Tt ]\d{4}.*', 'a small t': '.*t.*', 'a space for T': '.* .*', 'a small z': '.*z', 'a comma': '.*,.*',
+    'a fraction of nine digits': r'.*\.\d{9}.*', 'a second 60': r'.*[Tt ]\d\d:\d\d:60.*', '29 February 2000': '2000-02-29.*',
+    'an offset of hours alone': r'.*[Tt ].*[+-]\d\d', 'an offset without a colon': r'.*[Tt ].*[+-]\d{4}', 'an offset of six digits': r'.*[Tt ].*[+-]\d{6}',
+    'an offset with seconds': r'.*[Tt ].*[+-]\d\d:\d\d:\d\d', 'an offset of 24 hours or more': r'.*[Tt ].*[+-]2[45].*'}
+TAKEN = {
+    'an underscore for T': ('_', 'T'), 'a fraction of ten digits': (r'(\.\d{9})\d', r'\1'), 'a fraction of no digits': (r'\.Z', 'Z'),
+    'a fraction of minutes': (r'(T\d\d:\d\d)\.\d+', r'\1'), 'a minute 60': (r'(T\d\d):60', r'\1:59'), 'a second 61': (r'(T\d\d:\d\d):61', r'\1:60'),
+    '29 February 1900': ('1900-02-29', '1900-02-28'), 'an offset of 26 hours': (r'([+-])26:', r'\g<1>25:'),
+    'an offset of minute 60': (r'([+-]\d\d):60', r'\1:59'), 'an offset of second 60': (r'([+-]\d\d:\d\d):60', r'\1:59'),
+    'an offset with one colon': (r'([+-]\d\d):(\d{4})', r'\1\2')}
+
+
+def set_moments(is_moment):
+    def change(rules):
+        rules.is_moment = is_moment
+    return change
+
+
+def changes_of_moments(rules):
+    held = rules.is_moment
+    for name, form in REFUSED.items():
+        yield 'a moment with %s is refused' % name, set_moments(lambda text, form=form: held(text) and not re.fullmatch(form, text))
+    for name, (wrong, right) in TAKEN.items():
+        yield 'a moment with %s is taken' % name, set_moments(lambda text, wrong=wrong, right=right: held(re.sub(wrong, right, text)))
+
+
 def all_changes(rules):
-    for changes in (changes_of_rows, changes_of_lists, changes_of_bounds, changes_of_looks, changes_of_agreement):
+    for changes in (changes_of_rows, changes_of_lists, changes_of_bounds, changes_of_looks, changes_of_agreement, changes_of_moments):
         yield from changes(rules)
 
 

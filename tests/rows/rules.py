@@ -47,6 +47,7 @@ class Rules:
         self.is_read_otherwise = False
         self.most_bytes, self.most_nested, self.most_count = 67108864, 127, 4294967295
         self.least_whole, self.most_whole = -9223372036854775808, 18446744073709551615
+        self.is_moment = is_moment
 
     @staticmethod
     def enumerations(text):
@@ -230,7 +231,7 @@ def rule_of(rules, value, kind):
     if word == 'array':
         return 8 if len(value) < kind[2] else 9 if kind[3] is not None and len(value) > kind[3] else 0
     broken = {'name': (6, lambda: value == ''), 'listed': (4, lambda: value not in rules.lists[kind[1]]),
-              'count': (7, lambda: not 0 <= value <= rules.most_count), 'moment': (11, lambda: not is_moment(value))}
+              'count': (7, lambda: not 0 <= value <= rules.most_count), 'moment': (11, lambda: not rules.is_moment(value))}
     return broken[word][0] if word in broken and broken[word][1]() else 0
 
 
