@@ -7,8 +7,9 @@ What becomes of files that were damaged on their way, and of runs whose devices 
 reports of each what tests/rows/rules.py does. Beside f2 each refused one alone, and all of them before and after it,
 leave what is printed as it was.
 - The output, the log or the reading fails at each call, with one byte a call, or reads or writes nothing: the bytes
-before are left, and the fault is reported, for each command, for help and for refused words. The device is devices.c,
-which cc builds on the spot and LD_PRELOAD loads with the program.
+before are left, and the fault is reported, for each command, for help and for refused words. A file can't be opened, as
+it may not be read, or since memory is refused. The device is devices.c, which cc builds on the spot and LD_PRELOAD loads
+with the program.
 - The program is killed at each such call of its output, and from outside while it writes a long volume to a file: what
 is left is a prefix of the volume, and `check` refuses each proper prefix as no JSON.
 
@@ -192,6 +193,14 @@ def cut_off(whole, names):
     yield whole._replace(device='0 %d fails' % (call + 1))
 
 
+def unopened(whole, names):
+    """A run in which the definition or a file may not be read, or memory is refused while it is opened."""
+    for place, name in enumerate(names):
+        for how, code, status in ('denied', 'K1', 3), ('lacking', 'K2', 4):
+            yield Case(whole.words, '3 %d %s' % (place + 1, how), b'', ('%s: %s\n' % (name, code)).encode('ascii'), status)
+    yield whole._replace(device='3 %d denied' % (len(names) + 1))
+
+
 def failing():
     """The runs whose devices fail."""
     files = held('f2.json', 'f6.json', 'f8.json')
@@ -204,6 +213,7 @@ def failing():
     yield from cut_short(refused, 2, 'fails')
     yield from cut_short(refused, 2, 'nothing')
     yield from cut_off(case('check', files[:1]), ('def.json', 'f2.json'))
+    yield from unopened(case('tally', files), ('def.json', 'f2.json', 'f6.json', 'f8.json'))
     yield from failing_drills()
     yield from failing_words()
 

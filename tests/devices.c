@@ -2,9 +2,11 @@
 
    DEVICE=`STREAM CALL HOW`. STREAM is 0 for the files that are read, 1 for standard output, 2 for standard error. Each
    call on it reads or writes one byte. HOW says what happens at call number CALL, counted from 1 over all files:
-   `fails` answers an error, `nothing` reads or writes nothing, and `killed` ends the program by SIGKILL. Other calls
-   are as usual. */
+   `fails` answers an error, `nothing` reads or writes nothing, and `killed` ends the program by SIGKILL. Where STREAM is
+   3, the call is one that opens a file: `denied` answers that it may not be read, `lacking` that there is no memory.
+   Other calls are as usual. */
 #include <errno.h>
+#include <fcntl.h>
 #include <signal.h>
 #include <stdio.h>
 #include <stdlib.h>
@@ -34,6 +36,14 @@ ssize_t write(int file, const void *bytes, size_t size) {
 }
 
 ssize_t __write(int file, const void *bytes, size_t size) { return write(file, bytes, size); }
+
+/* The program opens files to read them alone, so there is no mode. */
+int open(const char *path, int flags, ...) {
+    if (stream != 3 || ++calls != last)
+        return syscall(SYS_openat, AT_FDCWD, path, flags, 0);
+    errno = how[0] == 'l' ? ENOMEM : EACCES;
+    return -1;
+}
 
 __attribute__((constructor)) static void start(void) {
     const char *words = getenv("DEVICE");
