@@ -3,7 +3,7 @@ _cvr_audit() {
     COMPREPLY=()
     if [ "$COMP_CWORD" -eq 1 ]; then
         compopt +o default
-        COMPREPLY=($(compgen -W 'records compare trace page warnings -h --help --version' -- "$2"))
+        COMPREPLY=($(compgen -W 'records compare trace page warnings definition -h --help --version' -- "$2"))
         return
     fi
     case $3 in
@@ -19,6 +19,7 @@ _cvr_audit() {
     trace:-*) COMPREPLY=($(compgen -W '--contest --unit --batch --selection -h --help' -- "$2")) ;;
     page:-*) COMPREPLY=($(compgen -W '--manifest --public -o -h --help' -- "$2")) ;;
     warnings:-*) COMPREPLY=($(compgen -W '--manifest -h --help' -- "$2")) ;;
+    definition:-*) COMPREPLY=($(compgen -W '-o -h --help' -- "$2")) ;;
     esac
 }
 complete -o default -F _cvr_audit cvr-audit

@@ -7,7 +7,8 @@ complete -c cvr-audit -n __fish_use_subcommand -a compare -d 'Print what differs
 complete -c cvr-audit -n __fish_use_subcommand -a trace -d 'Print the records, the places in files and the votes that make up a number of the tally'
 complete -c cvr-audit -n __fish_use_subcommand -a page -d 'Print a page for a browser: the tally by name, with warnings, conflicts and adjudications, and lines to sign'
 complete -c cvr-audit -n __fish_use_subcommand -a warnings -d 'Print a line for each thing that needs a person before the tally is used'
-complete -c cvr-audit -n '__fish_seen_subcommand_from records compare trace page warnings' -F
+complete -c cvr-audit -n __fish_use_subcommand -a definition -d 'Print a definition made of reports: their election, and all their units, parties and devices'
+complete -c cvr-audit -n '__fish_seen_subcommand_from records compare trace page warnings definition' -F
 complete -c cvr-audit -n '__fish_seen_subcommand_from records' -s o -r -F -d 'the file to write to, in place of standard output'
 complete -c cvr-audit -n '__fish_seen_subcommand_from records' -l columns -x -a 'manifest batches cvrs' -d 'another form: `manifest`, `batches` or `cvrs`'
 complete -c cvr-audit -n '__fish_seen_subcommand_from compare' -l one -d 'the files of one side'
@@ -20,3 +21,4 @@ complete -c cvr-audit -n '__fish_seen_subcommand_from page' -l manifest -r -F -d
 complete -c cvr-audit -n '__fish_seen_subcommand_from page' -l public -d 'a page for the public: no path, no record, and no number from which one below ten follows'
 complete -c cvr-audit -n '__fish_seen_subcommand_from page' -s o -r -F -d 'the file to write to, in place of standard output'
 complete -c cvr-audit -n '__fish_seen_subcommand_from warnings' -l manifest -r -F -d 'a file of lines `batch,ballots`'
+complete -c cvr-audit -n '__fish_seen_subcommand_from definition' -s o -r -F -d 'the file to write to, in place of standard output'

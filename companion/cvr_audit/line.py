@@ -2,13 +2,13 @@
 import argparse
 import sys
 
-from . import VERSION, compare, page, program, records, table, trace, warnings
+from . import VERSION, compare, definition, page, program, records, table, trace, warnings
 
 ABOUT = ('Print cast vote records one by one, compare two sets of files, trace a number of the '
          'tally, and warn of what needs a person.')
 STATUSES = [
     ('0', 'all was done; `compare` found no difference, and `warnings` nothing to warn of'),
-    ('1', 'a file was refused, the two sides differ, or there is a warning'),
+    ('1', 'a file was refused, two sides or reports differ, or there is a warning'),
     ('2', 'the words fit no command, the definition lacks a contest or selection that they name, '
           'or the manifest has another form; nothing is printed'),
     ('3', 'a file could not be read or written'),
@@ -29,7 +29,13 @@ COMMANDS = {
                        'and adjudications, and lines to sign.'),
     'warnings': (warnings.run, 'Print a line for each thing that needs a person before the tally '
                                'is used.'),
+    'definition': (definition.run, 'Print a definition made of reports: their election, and all '
+                                   'their units, parties and devices.'),
 }
+# what a command takes beside its options: a definition, and what stands for its files
+TAKEN = {'compare': ('DEF', None), 'definition': (None, 'FILE')}
+MEANT = {'DEF': 'a report of the election; its own records are not counted',
+         'FILE': 'reports of cast vote records'}
 # each command's options, with what stands for their values
 OPTIONS = {
     'records': [
@@ -60,12 +66,22 @@ OPTIONS = {
     'warnings': [
         (('--manifest',), 'CSV', {'help': 'a file of lines `batch,ballots`'}),
     ],
+    'definition': [
+        (('-o',), 'JSON', {'dest': 'output',
+                           'help': 'the file to write to, in place of standard output'}),
+    ],
 }
+
+
+def taken_of(name):
+    return TAKEN.get(name, ('DEF', 'FILE'))
 
 
 def usage_of(name):
     """The words of a command, as help shows them."""
-    parts = ['cvr-audit', name, 'DEF'] + ['[FILE ...]'] * (name != 'compare')
+    definition, files = taken_of(name)
+    many = '[%s ...]' if definition else '%s ...'
+    parts = ['cvr-audit', name] + [definition] * bool(definition) + [many % files] * bool(files)
     for words, value, more in OPTIONS[name]:
         value = '[%s ...]' % value if 'nargs' in more else value
         option = ' '.join(filter(None, [words[0], value]))
@@ -84,12 +100,12 @@ class Command:
             self.options.add_argument(*words, **(dict(more, metavar=value) if value else more))
         self.parser = commands.add_parser(name, parents=[self.options], help=about, epilog=EPILOG,
                                           description=about, usage=usage_of(name))
-        self.parser.add_argument('definition', metavar='DEF', help='a report of the election; its '
-                                                                   'own records are not counted')
-        self.takes_files = name != 'compare'
-        if self.takes_files:
-            self.parser.add_argument('files', metavar='FILE', nargs='*',
-                                     help='reports of cast vote records')
+        self.definition, self.files = taken_of(name)
+        if self.definition:
+            self.parser.add_argument('definition', metavar='DEF', help=MEANT['DEF'])
+        if self.files:
+            self.parser.add_argument('files', metavar=self.files, help=MEANT[self.files],
+                                     nargs='*' if self.definition else '+')
         self.options.error = self.parser.error
 
     def read(self, words):
@@ -100,12 +116,14 @@ class Command:
         values, left = self.options.parse_known_args(words[:place])
         paths = left + words[place + 1:]
         unknown = [it for it in left if it.startswith('-') and it != '-']
-        unknown = unknown or ([] if self.takes_files else paths[1:])
+        unknown = unknown or ([] if self.files else paths[1:])
         if unknown:
             self.parser.error('unrecognized arguments: ' + ' '.join(unknown))
         if not paths:
-            self.parser.error('the following arguments are required: DEF')
-        values.run, values.definition, values.files = self.run, paths[0], paths[1:]
+            needed = self.definition or self.files
+            self.parser.error('the following arguments are required: ' + needed)
+        values.definition = paths.pop(0) if self.definition else None
+        values.run, values.files = self.run, paths
         values.output = getattr(values, 'output', None)
         return values
 
@@ -159,7 +177,7 @@ def sides(words):
 def made(words):
     """The text that the words ask for, and the status of a run that prints it."""
     try:
-        files = sides(words)
+        files = sides(words) if words.definition is not None else []
         text, is_found = words.run(*files, words)
         for side in files:
             side.see_unchanged()

@@ -5,7 +5,8 @@ A set is a definition and files as random_files.py makes them: most records come
 bodies, and some files are refused. For each set `records` has to add up to the tally, `compare` to
 agree with `drill` and with the tallies of both sides, `trace` to come to each row's number by
 places that exist in the files, and `warnings` to have what the texts of `cvr` have. The bodies that
-the companion finds in the files have to be those of volumes 1 to N."""
+the companion finds in the files have to be those of volumes 1 to N, and `definition` has to have
+each object of the accepted files once, by id, and of a device the greatest text."""
 import importlib
 import json
 import os
@@ -265,6 +266,29 @@ class Set:
         lacking = {json.loads(words[1].rstrip(':')) for words in kinds.get('contest', [])}
         see(lacking == set(self.contests) - {row[0] for row in rows}, 'contests without a row')
 
+    # ---- definition
+
+    def texts_of(self, kind):
+        """The texts of each object of a kind in the accepted files, by its id."""
+        texts = {}
+        for report in self.accepted.values():
+            for one in report.get(kind, []):
+                texts.setdefault(one['@id'], set()).add(spelled(one))
+        return texts
+
+    def see_definition(self):
+        if not self.accepted:
+            return
+        os.environ['CVR'] = self.cvr
+        words = SimpleNamespace(files=list(self.accepted))
+        made = json.loads(self.package.definition.run(words)[0])
+        for kind in ('GpUnit', 'Party', 'ReportingDevice'):
+            found = [(it['@id'], spelled(it)) for it in made.get(kind, [])]
+            held = {name: max(texts) for name, texts in self.texts_of(kind).items()}
+            see(found == sorted(held.items()), 'other objects, or another order: ' + kind)
+        see(spelled(made['Election']) == spelled(self.known['Election']), 'another election')
+        see(made['CVR'] == [], 'records in a definition')
+
     @staticmethod
     def conflicts(kinds):
         """Each conflict in the warnings: its kind, and how many texts it has."""
@@ -286,7 +310,7 @@ def package_in(companion):
 def differences(package, cvr, seed):
     """What one set finds wrong, as lines."""
     found = []
-    for task in ('records', 'bodies', 'compare', 'trace', 'warnings'):
+    for task in ('records', 'bodies', 'compare', 'trace', 'warnings', 'definition'):
         with tempfile.TemporaryDirectory() as folder:
             held = Set(package, cvr, random.Random(seed), folder)
             try:

@@ -185,6 +185,27 @@ WAYS = [
         'nothing to look at'),
     Way('takes_a_batch_twice', 'manifest.py', ' or cells[0] in held:', ':',
         'a manifest that names a batch again'),
+    # ---- definition
+    Way('takes_any_election', 'definition.py',
+        "self.see_same('/Election', path, report['Election'], first)", 'pass',
+        'reports with two names of a candidate'),
+    Way('takes_any_unit', 'definition.py', "if kind != 'ReportingDevice':", 'if False:',
+        'reports with two kinds of a unit'),
+    Way('keeps_the_first_text_of_a_device', 'definition.py',
+        'elif spelled(one) > spelled(held[0]):', 'elif False:',
+        SETS),
+    Way('keeps_the_order_of_reports', 'definition.py', 'for name in sorted(held)]',
+        'for name in held]',
+        'a definition of the same reports in another order'),
+    Way('keeps_the_date_of_the_last_report', 'definition.py', 'min(self.dates)',
+        'self.dates[-1]',
+        'a definition of the same reports in another order'),
+    Way('forgets_units_of_later_reports', 'definition.py', 'self.held[kind].setdefault(',
+        '{}.setdefault(',
+        'a definition of two reports'),
+    Way('passes_a_changed_report', 'definition.py', 'if program.mark_of(path) != mark:',
+        'if False:',
+        'a definition of a file that is changed'),
 ]
 
 
