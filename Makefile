@@ -5,7 +5,7 @@ CVR = crates/cvr/out/cvr
 ZSH = $(PREFIX)/share/zsh/site-functions
 SHARE = $(DESTDIR)$(PREFIX)/share
 DOCUMENTS = README.md CHANGELOG.md LICENSE SECURITY.md examples/README.md \
-	$(wildcard docs/*.* docs/reference/*.md examples/*/*.*)
+	$(wildcard docs/*.* docs/reference/*.md examples/*/*.* examples/exports/*/*.* examples/exports/*/*/*.*)
 # What the repository alone has: of a link to it, an installed document has the text.
 ALONE = CONTRIBUTING\.md|(bench|crates|library|man|python|tests)/
 

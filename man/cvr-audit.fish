@@ -8,7 +8,8 @@ complete -c cvr-audit -n __fish_use_subcommand -a trace -d 'Print the records, t
 complete -c cvr-audit -n __fish_use_subcommand -a page -d 'Print a page for a browser: the tally by name, with warnings, conflicts and adjudications, and lines to sign'
 complete -c cvr-audit -n __fish_use_subcommand -a warnings -d 'Print a line for each thing that needs a person before the tally is used'
 complete -c cvr-audit -n __fish_use_subcommand -a definition -d 'Print a definition made of reports: their election, and all their units, parties and devices'
-complete -c cvr-audit -n '__fish_seen_subcommand_from records compare trace page warnings definition' -F
+complete -c cvr-audit -n __fish_use_subcommand -a gather -d 'Write a folder with a definition and reports, made of what a voting system exports'
+complete -c cvr-audit -n '__fish_seen_subcommand_from records compare trace page warnings definition gather' -F
 complete -c cvr-audit -n '__fish_seen_subcommand_from records' -s o -r -F -d 'the file to write to, in place of standard output'
 complete -c cvr-audit -n '__fish_seen_subcommand_from records' -l columns -x -a 'manifest batches cvrs' -d 'another form: `manifest`, `batches` or `cvrs`'
 complete -c cvr-audit -n '__fish_seen_subcommand_from compare' -l one -d 'the files of one side'
@@ -22,3 +23,5 @@ complete -c cvr-audit -n '__fish_seen_subcommand_from page' -l public -d 'a page
 complete -c cvr-audit -n '__fish_seen_subcommand_from page' -s o -r -F -d 'the file to write to, in place of standard output'
 complete -c cvr-audit -n '__fish_seen_subcommand_from warnings' -l manifest -r -F -d 'a file of lines `batch,ballots`'
 complete -c cvr-audit -n '__fish_seen_subcommand_from definition' -s o -r -F -d 'the file to write to, in place of standard output'
+complete -c cvr-audit -n '__fish_seen_subcommand_from gather' -s o -r -F -d 'the folder to write, which isn'\''t there yet'
+complete -c cvr-audit -n '__fish_seen_subcommand_from gather' -l as -x -a 'vxsuite cdf' -d 'the kind of the export, in place of recognising it'

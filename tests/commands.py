@@ -20,7 +20,7 @@ import sys
 import tempfile
 
 TOP = os.path.dirname(os.path.dirname(os.path.abspath(__file__)))
-FILES = ['README.md', 'docs/GUIDE.md', 'docs/AUDITING.md', 'docs/PAGE.md', 'examples/README.md',
+FILES = ['README.md', 'docs/GUIDE.md', 'docs/AUDITING.md', 'docs/GATHER.md', 'docs/PAGE.md', 'examples/README.md',
          'examples/recipes/README.md', 'examples/many-machines/README.md']
 TOOLS = ['awk', 'comm', 'diff', 'gzip', 'jq', 'python3', 'sha256sum', 'sqlite3', 'zcat']
 STATUS = 'echo $?'

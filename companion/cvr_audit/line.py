@@ -2,13 +2,15 @@
 import argparse
 import sys
 
-from . import VERSION, compare, definition, page, program, records, table, trace, warnings
+from . import (VERSION, compare, definition, gather, page, program, records, table, trace,
+               warnings)
 
 ABOUT = ('Print cast vote records one by one, compare two sets of files, trace a number of the '
-         'tally, and warn of what needs a person.')
+         'tally, warn of what needs a person, and make what a voting system exports into files '
+         'that cvr accepts.')
 STATUSES = [
     ('0', 'all was done; `compare` found no difference, and `warnings` nothing to warn of'),
-    ('1', 'a file was refused, two sides or reports differ, or there is a warning'),
+    ('1', 'a file or export was refused, two sides or reports differ, or there is a warning'),
     ('2', 'the words fit no command, the definition lacks a contest or selection that they name, '
           'or the manifest has another form; nothing is printed'),
     ('3', 'a file could not be read or written'),
@@ -31,11 +33,13 @@ COMMANDS = {
                                'is used.'),
     'definition': (definition.run, 'Print a definition made of reports: their election, and all '
                                    'their units, parties and devices.'),
+    'gather': (gather.run, 'Write a folder with a definition and reports, made of what a voting '
+                           'system exports.'),
 }
 # what a command takes beside its options: a definition, and what stands for its files
-TAKEN = {'compare': ('DEF', None), 'definition': (None, 'FILE')}
+TAKEN = {'compare': ('DEF', None), 'definition': (None, 'FILE'), 'gather': (None, 'FROM')}
 MEANT = {'DEF': 'a report of the election; its own records are not counted',
-         'FILE': 'reports of cast vote records'}
+         'FILE': 'reports of cast vote records', 'FROM': 'the folders, ZIPs or files of an export'}
 # each command's options, with what stands for their values
 OPTIONS = {
     'records': [
@@ -69,6 +73,12 @@ OPTIONS = {
     'definition': [
         (('-o',), 'JSON', {'dest': 'output',
                            'help': 'the file to write to, in place of standard output'}),
+    ],
+    'gather': [
+        (('-o',), 'OUT', {'dest': 'folder', 'required': True,
+                          'help': 'the folder to write, which isn\'t there yet'}),
+        (('--as',), 'KIND', {'dest': 'kind', 'choices': list(gather.KINDS),
+                             'help': 'the kind of the export, in place of recognising it'}),
     ],
 }
 

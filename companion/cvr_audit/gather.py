@@ -1,0 +1,108 @@
+"""cvr-audit gather: makes what a voting system exports into a definition and reports that `cvr`
+accepts. docs/GATHER.md has the forms that are read."""
+import os
+import re
+import sys
+
+from . import gather_cdf, gather_vxsuite, page_faults, program
+from .gather_out import DEFINITION, writing
+from .gather_source import fault, sources_in
+from .progress import Progress
+from .reading import spelled
+
+KINDS = {
+    'vxsuite': gather_vxsuite,
+    'cdf': gather_cdf,
+}
+RECORD = re.compile(r'/CVR/(\d+)')
+UNKNOWN = ('no form of export is recognised here (%s); if it is one of these, name it with --as, '
+           'and see docs/GATHER.md' % ', '.join(KINDS))
+WORKBOOK = 'it is a workbook of Excel; have the records exported as CSV in UTF-8'
+
+
+def recognised(sources, paths):
+    """The only kind to which something of the sources belongs."""
+    found = [name for name, kind in KINDS.items() if any(map(kind.fits, sources))]
+    if len(found) == 1:
+        return found[0]
+    if any(it.name.endswith('/xl/workbook.xml') for it in sources):
+        raise fault(paths[0], WORKBOOK)
+    if found:
+        raise fault(paths[0], 'there is more than one kind here: %s; name one with --as'
+                    % ', '.join(found))
+    raise fault(paths[0], UNKNOWN)
+
+
+def refused(out, log):
+    """The end where `cvr` refuses what was written: its fault, at the place in the source."""
+    lines = log.decode('utf-8', 'replace').splitlines()
+    name, found = lines[0].rpartition(': ')[::2] if lines else ('', '')
+    name = os.path.basename(name)
+    place = RECORD.search(found)
+    source, where = (name, None)
+    if place and name in out.files:
+        source, where = out.place_of(name, int(place.group(1)))
+        found = found.replace(place.group(), '', 1)
+    what, _ = page_faults.in_words(found) if found[:2] in page_faults.CODES else ('', None)
+    return fault(source, ' '.join(it for it in ('cvr refuses it:', found, what) if it), where)
+
+
+def see_accepted(cvr, out):
+    """The number of records that `cvr check` prints, and of names that `cvr currents` prints."""
+    paths = [out.at(DEFINITION)] + [out.at(name) for name in out.files]
+    done = program.started([cvr, 'check', '--'] + paths)
+    if done.returncode == 1:
+        raise refused(out, done.stderr)
+    if done.returncode:
+        raise program.Ended(done.returncode, done.stderr)
+    counts = program.accepted_in(paths[1:], done.stdout)
+    done = program.started([cvr, 'currents', '--'] + paths)
+    if done.returncode:
+        raise program.Ended(done.returncode, done.stderr)
+    return [count for _, count in counts], done.stdout.count(b'\n')
+
+
+def see_counts(cvr, kind, sources, out):
+    """Stops where the records that `cvr` reads are not as many as those of the sources, which are
+    counted here in another way."""
+    counts, names = see_accepted(cvr, out)
+    expected = kind.count(sources)
+    if (sum(counts), names) != expected:
+        text = ('cvr reads %d records with %d names, but the sources have %d with %d; nothing is '
+                'written' % (sum(counts), names, *expected))
+        raise program.mismatch(text)
+    return counts
+
+
+def text_of(name, words, out, counts, sources):
+    """What is printed: the kind, the reports with their records, and what isn't in them."""
+    lines = ['kind %s' % name]
+    lines += ['%s %d' % (os.path.join(words.folder, file), count)
+              for file, count in zip(out.files, counts)]
+    lines += ['left out %s' % spelled(it.name) for it in sources
+              if it.digest is None and not KINDS[name].stays(it)]
+    return ''.join(line + '\n' for line in lines + out.left)
+
+
+def run(words):
+    """Writes the folder; the text says what it has."""
+    cvr, progress = program.find(), Progress(sys.stderr, 2)
+    sources = sources_in(words.files)
+    name = words.kind or recognised(sources, words.files)
+    kind = KINDS[name]
+    if not any(map(kind.fits, sources)):
+        raise fault(words.files[0], 'nothing here is of the kind %s' % name)
+    with writing(words.folder) as out:
+        try:
+            progress.show('read %d sources of the kind %s' % (len(sources), name))
+            report = kind.read(sources, out, cvr)
+            if not out.count:
+                raise fault(words.files[0], 'there is no record of the kind %s' % name)
+            out.finish(report, sources)
+            progress.show('cvr check: %d records' % out.count)
+            counts = see_counts(cvr, kind, sources, out)
+        finally:
+            progress.end()
+        text = text_of(name, words, out, counts, sources)
+        out.keep()
+    return text, False

@@ -1,0 +1,143 @@
+"""JSON of an export: a document whose long array is read item by item, each with its own text."""
+import json
+import re
+from json.decoder import scanstring
+
+from . import definition, program
+from .gather_out import Record
+from .gather_source import fault
+from .reading import pointer, spelled
+
+WHITE = re.compile(r'[ \t\n\r]*')
+UNNAMED = ('this record has no %s. The standard leaves it optional; here it is part of the name by '
+           'which records are told apart, and nothing can stand in for it. Ask the maker of the '
+           'system to export each record with a CreatingDeviceId and a UniqueId')
+
+
+def no_number(text):
+    raise ValueError('%s is no number of JSON' % text)
+
+
+DECODER = json.JSONDecoder(parse_constant=no_number)
+
+
+def behind(text, place):
+    """The index behind white space."""
+    return WHITE.match(text, place).end()
+
+
+def sign_at(text, place, signs):
+    """The sign that stands at an index, behind white space, and the index behind it."""
+    place = behind(text, place)
+    sign = text[place:place + 1]
+    if not sign or sign not in signs:
+        raise json.JSONDecodeError('Expecting %s' % ' or '.join(signs), text, place)
+    return sign, place + 1
+
+
+class Document:
+    """A source whose value is an object. `items` yields the index, the value and the text of each
+    item of its array of a name. Once that is done, `rest` has the other members, and `is_there`
+    says whether it has that array."""
+
+    def __init__(self, source, name):
+        self.source, self.name, self.rest, self.is_there = source, name, {}, False
+
+    def items(self):
+        text = self.source.text()
+        try:
+            yield from self.members(text)
+        except json.JSONDecodeError as wrong:
+            raise self.no_json(wrong.msg, 'line %d' % wrong.lineno) from None
+        except (ValueError, RecursionError) as wrong:
+            raise self.no_json(str(wrong)) from None
+
+    def no_json(self, text, place=None):
+        return fault(self.source.name, 'it is no JSON, or cut off: ' + text, place)
+
+    def members(self, text):
+        sign, place, seen = *sign_at(text, 0, '{'), set()
+        while sign != '}':
+            _, place = sign_at(text, place, '"')
+            name, place = scanstring(text, place)
+            _, place = sign_at(text, place, ':')
+            if name in seen:
+                raise fault(self.source.name, 'its member %s stands twice' % spelled(name))
+            seen.add(name)
+            if name == self.name:
+                place = yield from self.array(text, place)
+            else:
+                self.rest[name], place = DECODER.raw_decode(text, behind(text, place))
+            sign, place = sign_at(text, place, ',}')
+        if behind(text, place) != len(text):
+            raise json.JSONDecodeError('Extra data', text, place)
+        self.is_there = self.name in seen
+
+    def array(self, text, place):
+        """The items of the array at an index; answers the index behind it."""
+        sign, place = sign_at(text, place, '[')
+        if text.startswith(']', behind(text, place)):
+            return behind(text, place) + 1
+        number = 0
+        while sign != ']':
+            start = behind(text, place)
+            value, end = DECODER.raw_decode(text, start)
+            yield number, value, text[start:end]
+            sign, place = sign_at(text, end, ',]')
+            number += 1
+        return place
+
+
+def value_in(source):
+    """The value of a source that is read whole."""
+    try:
+        return json.loads(source.text(), parse_constant=no_number)
+    except json.JSONDecodeError as wrong:
+        raise fault(source.name, 'it is no JSON, or cut off: ' + wrong.msg,
+                    'line %d' % wrong.lineno) from None
+    except (ValueError, RecursionError) as wrong:
+        raise fault(source.name, 'it is no JSON: %s' % wrong) from None
+
+
+# ---- reports of the standard
+
+def record_of(source, number, value, text):
+    """A record of a report, with its own text."""
+    place = pointer('CVR', number)
+    for name in ('CreatingDeviceId', 'UniqueId'):
+        if not isinstance(value, dict) or name not in value:
+            raise fault(source.name, UNNAMED % name, place)
+        if not isinstance(value[name], str):
+            raise fault(source.name, 'the %s of this record is no text' % name, place)
+    return Record(source, place, value['CreatingDeviceId'], value['UniqueId'],
+                  text.encode('utf-8'))
+
+
+def see_frame(cvr, source, frame, above=''):
+    """Stops where `cvr` doesn't accept a report without its records."""
+    with definition.laid(definition.text_of(frame)) as path:
+        done = program.started([cvr, 'check', '--', path])
+    if done.returncode == 1:
+        found = done.stderr.decode('utf-8', 'replace').strip().rpartition(': ')[2]
+        raise fault(source.name, 'cvr refuses it: %s' % found.replace(' /', ' %s/' % above, 1))
+    if done.returncode:
+        raise program.Ended(done.returncode, done.stderr)
+
+
+class Names:
+    """Counts the records of reports in another way than they are gathered: by their class."""
+
+    def __init__(self):
+        self.count, self.names = 0, set()
+
+    def take(self, value):
+        if value.get('@type') == definition.RECORD:
+            self.count += 1
+            self.names.add((value.get('CreatingDeviceId'), value.get('UniqueId')))
+            return None
+        return value
+
+    def of(self, sources):
+        for source in sources:
+            json.loads(source.text(), object_hook=self.take)
+        return self.count, len(self.names)

@@ -1,0 +1,162 @@
+"""What `gather` writes: a folder with a definition, reports, and a list of where each record came
+from. It has another name until all is done, and nothing is left of it where that fails."""
+import csv
+import os
+import shutil
+import signal
+import tempfile
+from collections import namedtuple
+from contextlib import contextmanager
+
+from . import definition
+from .gather_source import fault
+from .program import FAILED, ended
+from .reading import spelled
+
+MOST = 60000000         # bytes of a report; `cvr` reads up to 67,108,864
+ROOM = 10000000         # of these for what is not a record
+HEAD = b'{"@type":"CVR.CastVoteRecordReport","CVR":[\n'
+DEFINITION, SOURCES = 'definition.json', 'sources.csv'
+COLUMNS = 'source', 'place', 'length', 'SHA-256', 'CreatingDeviceId', 'UniqueId', 'file'
+
+# A record: its source, its place there, its name, and its text as bytes.
+Record = namedtuple('Record', 'source place device unique text')
+
+
+def private(path, flags):
+    """Opens a file that nobody else may read."""
+    return os.open(path, flags, 0o600)
+
+
+class Out:
+    """The folder that is written. `files` has the names of the reports, and `left` the lines for
+    what isn't in them."""
+
+    def __init__(self, path):
+        self.path, self.names, self.files, self.left = path, set(), [], []
+        self.file, self.room, self.count = None, 0, 0
+        above, name = os.path.split(os.path.abspath(path))
+        if os.path.lexists(path):
+            raise ended(FAILED, '%s: it is there already; name a folder that isn\'t' % path)
+        self.folder = tempfile.mkdtemp(prefix='.%s.' % name, dir=above)
+        self.sources = self.opened(SOURCES, newline='', encoding='utf-8', errors='backslashreplace')
+        self.lines = csv.writer(self.sources, lineterminator='\n')
+        self.lines.writerow(COLUMNS)
+
+    def at(self, name):
+        return os.path.join(self.folder, name)
+
+    def opened(self, name, mode='x', **more):
+        return open(self.at(name), mode, opener=private, **more)
+
+    def note(self, text):
+        self.left.append('note: %s' % text)
+
+    # ---- records
+
+    def add(self, record, may_repeat=False):
+        """Writes a record behind those before it, in the same file or the next."""
+        name = record.device, record.unique
+        if name in self.names and not may_repeat:
+            raise self.twice(record)
+        self.names.add(name)
+        self.count += 1
+        if len(record.text) + 2 > self.room:
+            self.next_file(record)
+        else:
+            self.file.write(b',\n')
+        self.file.write(record.text)
+        self.room -= len(record.text) + 2
+        self.lines.writerow([record.source.name, record.place, None, None, *name, self.files[-1]])
+
+    def next_file(self, record):
+        self.room = MOST - ROOM - len(HEAD)
+        if len(record.text) + 2 > self.room:
+            raise fault(record.source.name, 'this record is too long', record.place)
+        if self.file:
+            self.file.close()
+        self.files.append('records-%d.json' % (len(self.files) + 1))
+        self.file = self.opened(self.files[-1], 'xb')
+        self.file.write(HEAD)
+
+    def twice(self, record):
+        """The end where a name stands twice; what tells ballots apart is in the name."""
+        names = [record.device, record.unique]
+        first = next((line for line in self.held() if line[4:6] == names), ['another source', ''])
+        text = 'the record %s stands here and in %s: %s' % (
+            ' '.join(map(spelled, names)), first[0], first[1])
+        return fault(record.source.name, text, record.place)
+
+    def held(self):
+        """The lines of the list as far as it is written."""
+        if not self.sources.closed:
+            self.sources.flush()
+        with open(self.at(SOURCES), newline='', encoding='utf-8') as file:
+            yield from csv.reader(file)
+
+    def place_of(self, name, number):
+        """The source of a record by its file and its place there, and the place in the source."""
+        lines = (line for line in self.held() if line[6] == name)
+        return next(line[:2] for place, line in enumerate(lines) if place == number)
+
+    # ---- the end
+
+    def finish(self, report, sources):
+        """Writes the definition, the end of each report, and the lines of the sources."""
+        tail = {name: part for name, part in report.items() if name not in ('@type', 'CVR')}
+        tail = ('\n],' + spelled(tail)[1:]).encode('utf-8')
+        if len(tail) > ROOM:
+            raise fault(self.path, 'the election has more than %d bytes' % ROOM)
+        self.file.close()
+        for name in self.files:
+            with open(self.at(name), 'ab') as file:
+                file.write(tail)
+        with self.opened(DEFINITION, encoding='utf-8') as file:
+            file.write(definition.text_of(report))
+        for source in sources:
+            self.lines.writerow([source.name, None, source.size, source.digest, None, None, None])
+        self.sources.close()
+
+    def keep(self):
+        """Gives the folder its name, once all is on the disk."""
+        for name in [DEFINITION, SOURCES] + self.files:
+            with open(self.at(name), 'rb') as file:
+                os.fsync(file.fileno())
+        os.rename(self.folder, self.path)
+        self.folder = None
+
+    def drop(self):
+        if self.folder:
+            shutil.rmtree(self.folder)
+
+
+class Stopped(BaseException):
+    """A signal asked the run to end."""
+
+
+def stop(number, _):
+    raise Stopped(number)
+
+
+@contextmanager
+def writing(path):
+    """A folder to write. Nothing is left of it where the run ends early, also by a signal."""
+    numbers = [it for it in (signal.SIGINT, signal.SIGTERM, signal.SIGHUP)
+               if signal.getsignal(it) == signal.SIG_DFL]
+    for number in numbers:
+        signal.signal(number, stop)
+    out = None
+    try:
+        out = Out(path)
+        yield out
+    except Stopped as by:
+        for number in numbers:
+            signal.signal(number, signal.SIG_DFL)
+        if out:
+            out.drop()
+        os.kill(os.getpid(), by.args[0])
+    finally:
+        for number in numbers:
+            signal.signal(number, signal.SIG_DFL)
+        if out:
+            out.drop()

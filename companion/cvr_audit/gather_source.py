@@ -1,0 +1,181 @@
+"""What `gather` reads: files, and those in folders and ZIPs, as one list of sources."""
+import hashlib
+import io
+import os
+import stat
+import zipfile
+import zlib
+
+from .program import ended
+
+REFUSED = 1                 # the status where a source is refused
+LONGEST = 1 << 30           # bytes of a file in a ZIP
+WHOLE = 1 << 33             # bytes of all files in a ZIP
+DENSEST = 500               # bytes of a file in a ZIP for one packed byte
+FREE = 1 << 20              # bytes of a file in a ZIP that may be packed more densely
+HEAD = 1 << 16              # bytes by which a kind is recognised
+PIECE = 1 << 20             # bytes that are read at once
+PACKED = b'PK\x03\x04'
+NO_TEXT = 'this is not text in UTF-8; export it in that encoding'
+DAMAGE = zipfile.BadZipFile, zlib.error, EOFError, NotImplementedError, RuntimeError
+
+
+def fault(name, text, place=None):
+    """The end of a run over a source that isn't as it should be, with the place there."""
+    return ended(REFUSED, ': '.join(it for it in (name, place, text) if it))
+
+
+class Source:
+    """A file of what was given. `name` is its path, with that of its ZIP before it, and `digest` the
+    SHA-256 of what was read of it, once it was read. A folder without files has a name that ends
+    with `/`."""
+
+    def __init__(self, name, size, opened):
+        self.name, self.size, self.opened, self.digest = name, size, opened, None
+        self.folder, self.base = os.path.split(name)
+
+    def file(self):
+        try:
+            return io.BufferedReader(self.opened())
+        except DAMAGE:
+            raise self.damaged() from None
+
+    def damaged(self):
+        return fault(self.name, 'the ZIP is damaged here, or packed in a way that is not known')
+
+    def head(self):
+        """The first bytes; they aren't noted as read."""
+        if not self.opened:
+            return b''
+        try:
+            with self.file() as file:
+                return file.read(HEAD)
+        except DAMAGE:
+            raise self.damaged() from None
+
+    def lines(self):
+        """The lines, as bytes with their ends."""
+        return self.parts(iter)
+
+    def parts(self, cut):
+        """The parts into which an open file is cut, and their SHA-256 as `digest` at the end."""
+        digest = hashlib.sha256()
+        try:
+            with self.file() as file:
+                for part in cut(file):
+                    digest.update(part)
+                    yield part
+        except DAMAGE:
+            raise self.damaged() from None
+        if self.digest not in (None, digest.hexdigest()):
+            raise fault(self.name, 'it was changed while it was read')
+        self.digest = digest.hexdigest()
+
+    def data(self):
+        """All bytes."""
+        return b''.join(self.parts(lambda file: iter(lambda: file.read(PIECE), b'')))
+
+    def text(self):
+        """The whole text."""
+        data = self.data()
+        try:
+            return data.decode('utf-8-sig')
+        except UnicodeDecodeError as wrong:
+            line = data.count(b'\n', 0, wrong.start) + 1
+            raise fault(self.name, NO_TEXT, 'line %d' % line) from None
+
+
+def opener(path):
+    return lambda: open(path, 'rb', buffering=0)
+
+
+def file_source(path, name):
+    """A file of the system. A link may lead out of a folder, and a pipe can't be read twice."""
+    held = os.lstat(path)
+    if not stat.S_ISREG(held.st_mode):
+        raise fault(name, 'it is no regular file: a link may lead out of the folder, and a pipe '
+                          'can be read only once')
+    return Source(name, held.st_size, opener(path))
+
+
+def raised(wrong):
+    raise wrong
+
+
+def in_folder(path):
+    """The files below a folder, and the folders without any."""
+    for folder, folders, names in os.walk(path, onerror=raised):
+        for name in folders:
+            if os.path.islink(os.path.join(folder, name)):
+                raise fault(os.path.join(folder, name), 'it is a link, which may lead out of the '
+                                                        'folder')
+        if not folders and not names:
+            yield Source(os.path.join(folder, ''), 0, None)
+        for name in names:
+            yield file_source(os.path.join(folder, name), os.path.join(folder, name))
+
+
+def is_inside(name):
+    """Whether the name of a file in a ZIP leads to no place outside."""
+    parts = name.split('/')
+    is_plain = not name.startswith('/') and '\\' not in name
+    return is_plain and '..' not in parts and ':' not in parts[0]
+
+
+def see_entry(path, entry):
+    """Stops at a file of a ZIP that isn't plain, or may be a bomb."""
+    name = '%s/%s' % (path, entry.filename)
+    if not is_inside(entry.filename):
+        raise fault(name, 'its path leads out of the ZIP')
+    if stat.S_ISLNK(entry.external_attr >> 16):
+        raise fault(name, 'it is a link, which may lead out of the ZIP')
+    if entry.flag_bits & 1:
+        raise fault(name, 'it is encrypted')
+    if entry.compress_type not in (zipfile.ZIP_STORED, zipfile.ZIP_DEFLATED):
+        raise fault(name, 'it is packed in a way that is not known')
+    is_dense = entry.file_size > FREE and entry.file_size > DENSEST * entry.compress_size
+    if entry.file_size > LONGEST or is_dense:
+        raise fault(name, 'it unpacks to %d bytes, which is too many' % entry.file_size)
+
+
+def in_zip(path):
+    """The files of a ZIP, and its folders without any."""
+    try:
+        archive = zipfile.ZipFile(path)
+    except DAMAGE:
+        raise fault(path, 'the ZIP is damaged or cut off') from None
+    entries, names = archive.infolist(), set()
+    for entry in entries:
+        see_entry(path, entry)
+        if entry.filename in names:
+            raise fault('%s/%s' % (path, entry.filename), 'it stands twice in the ZIP')
+        names.add(entry.filename)
+    if sum(it.file_size for it in entries) > WHOLE:
+        raise fault(path, 'it unpacks to more than %d bytes' % WHOLE)
+    for entry in entries:
+        name = '%s/%s' % (path, entry.filename)
+        if not entry.is_dir():
+            yield Source(name, entry.file_size, lambda entry=entry: archive.open(entry))
+        elif not any(it != entry.filename and it.startswith(entry.filename) for it in names):
+            yield Source(name, 0, None)
+
+
+def is_zip(path):
+    with open(path, 'rb') as file:
+        return file.read(len(PACKED)) == PACKED
+
+
+def sources_in(paths):
+    """The sources of what was given, by name."""
+    held = {}
+    for path in paths:
+        if os.path.isdir(path):
+            found = in_folder(path)
+        else:
+            found = [file_source(os.path.realpath(path), path)]
+            found = in_zip(path) if is_zip(path) else found
+        for source in found:
+            if source.name in held:
+                raise fault(source.name, 'it was given twice')
+            held[source.name] = source
+    return [held[name] for name in sorted(held)]

@@ -1,0 +1,95 @@
+"""faults.py: exports that aren't as they should be. Each is an invented county of examples/exports with a change, by a pair
+of texts of a file or by a function, and the line with which `cvr-audit gather` has to end; its status is 1 where nothing
+else is said. Nothing may be left of the folder that was to be written."""
+import os
+import shutil
+from collections import namedtuple
+
+import make
+
+Fault = namedtuple('Fault', 'name export change log status words', defaults=(1, ()))
+FIRST = 'vxsuite/2e251cd0-3350-5d62-babe-c97e89f72c31/'
+VX = FIRST + 'cast-vote-record-report.json'
+LOST = ('this record has no %s. The standard leaves it optional; here it is part of the name by which records are told apart, '
+        'and nothing can stand in for it. Ask the maker of the system to export each record with a CreatingDeviceId and a UniqueId')
+UNKNOWN = ('no form of export is recognised here (%s); if it is one of these, name it with --as, and see docs/GATHER.md'
+           % ', '.join(make.KINDS))
+NO_TEXT = 'this is not text in UTF-8; export it in that encoding'
+
+
+def read(path):
+    with open(path, 'rb') as file:
+        return file.read()
+
+
+def write(path, data):
+    with open(path, 'wb') as file:
+        file.write(data)
+
+
+def replaced(path, old, new):
+    """A change of a text that stands once in a file; b'' for the old one stands for its end."""
+    def change():
+        data = read(path)
+        if old == b'':
+            write(path, data + new)
+        elif data.count(old) == 1:
+            write(path, data.replace(old, new))
+        else:
+            raise ValueError('%r stands %d times in %s' % (old, data.count(old), path))
+    return change
+
+
+def everywhere(path, old, new):
+    return lambda: write(path, read(path).replace(old, new))
+
+
+def cut(path, number):
+    return lambda: write(path, read(path)[:-number])
+
+
+def vxsuite():
+    yield 'cut', cut(VX, 3), VX + ': line 1: it is no JSON, or cut off: ..'
+    yield 'no id', replaced(VX, b'"UniqueId"', b'"Unique"'), VX + ': /CVR/0: ' + LOST % 'UniqueId'
+    yield ('a record twice', lambda: shutil.copytree(FIRST, 'vxsuite/ffff'),
+           'vxsuite/ffff/cast-vote-record-report.json: /CVR/0: the record "scanner-1" "1-0003" stands here and in ' + VX + ': /CVR/0')
+    yield 'two records', lambda: write(VX, read(VX)[:-2] + b',' + read(VX)[9:]), VX + ': it is no object with a CVR of one record, and nothing else'
+    yield 'a ballot without a report', lambda: os.remove(VX), FIRST[:-1] + ': there is no cast-vote-record-report.json in this folder of a ballot'
+    yield ('an empty ballot', lambda: os.mkdir('vxsuite/ffff'),
+           'vxsuite/ffff: there is no cast-vote-record-report.json in this folder of a ballot')
+    yield 'no metadata', lambda: os.remove('vxsuite/metadata.json'), 'vxsuite: ' + UNKNOWN
+    yield ('metadata without a version', replaced('vxsuite/metadata.json', b'"Version": "1.0.0", ', b''),
+           'vxsuite/metadata.json: cvr refuses it: E3 /castVoteRecordReportMetadata/Version 2')
+    yield ('a contest that is not there', everywhere(VX, b'"council"', b'"nosuch"'),
+           VX + ': /CVR/0: cvr refuses it: E4 /CVRSnapshot/0/CVRContest/0/ContestId A text of it has to be the id of something in the '
+           'file, and is not: /CVRSnapshot/0/CVRContest/0/ContestId.')
+    yield 'a link', lambda: os.symlink('/etc/passwd', FIRST + 'link.json'), FIRST + 'link.json: it is no regular file: a link may lead out of the folder, and a pipe can be read only once'
+    yield 'a folder that is a link', lambda: os.symlink('/etc', 'vxsuite/link'), 'vxsuite/link: it is a link, which may lead out of the folder'
+    yield 'another encoding', replaced(VX, b'"@type": "CVR.CVR"', b'"x": "\xf3", "@type": "CVR.CVR"'), \
+        VX + ': line 1: ' + NO_TEXT
+
+
+def cdf():
+    path = 'cdf/scan.json'
+    yield 'no UniqueId', replaced(path, b'"UniqueId": "1-0003"', b'"x": 1'), path + ': /CVR/2: ' + LOST % 'UniqueId'
+    yield ('no device', lambda: write(path, read(path).replace(b'"CreatingDeviceId": "scanner-1",', b'', 1)),
+           path + ': /CVR/0: ' + LOST % 'CreatingDeviceId')
+    yield 'cut', cut(path, 4), None
+    yield 'two texts', replaced(path, b'', b'{}'), path + ': line 148: it is no JSON, or cut off: ..'
+    yield 'records twice', replaced(path, b'"CVR": [', b'"CVR": [], "CVR": ['), path + ': its member "CVR" stands twice'
+    yield ('two names', replaced(path, b'Omar Field', b'Omar Fields'),
+           '/Election/0/Candidate/1/Name: cdf/adjudicated.json "Omar Field", cdf/scan.json "Omar Fields"')
+    yield ('another kind', replaced(path, b'"UniqueId": "1-0003"', b'"UniqueId": "1-0003", "BallotAuditId": 7'),
+           path + ': /CVR/2: cvr refuses it: E3 /BallotAuditId 3 The file does not have the form of a report: a value is of another kind, at /BallotAuditId.')
+    yield 'no number', replaced(path, b'"UniqueId": "1-0003"', b'"UniqueId": "1-0003", "x": NaN'), path + ': it is no JSON, or cut off: ..'
+    yield 'no version', replaced(path, b'"Version": "1.0.0",', b''), path + ': cvr refuses it: E3 /Version 2'
+
+
+GROUPS = [('vxsuite', vxsuite), ('cdf', cdf)]
+
+
+def all_faults():
+    """Each fault; where its line isn't said, the line has to begin with its export."""
+    for export, group in GROUPS:
+        for name, change, log in group():
+            yield Fault('%s: %s' % (export, name), export, change, log)

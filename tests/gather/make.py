@@ -1,0 +1,211 @@
+#!/usr/bin/env python3
+"""make.py KIND FOLDER [--ballots N] [--seed N]
+
+Writes an invented export of a kind that `cvr-audit gather` reads: of the county of examples/, or of N random ballots.
+It shares no code with the companion: what it writes follows docs/GATHER.md, read a second time. `make.py --check`
+compares examples/exports with what it makes, and `make.py --examples` writes that."""
+import argparse
+import filecmp
+import json
+import os
+import random
+import shutil
+import sys
+import tempfile
+import uuid
+
+TOP = os.path.dirname(os.path.dirname(os.path.dirname(os.path.abspath(__file__))))
+EXAMPLES = os.path.join(TOP, 'examples', 'exports')
+COUNTY = os.path.join(TOP, 'examples', 'county')
+
+
+class Contest:
+    def __init__(self, name, allowed, choices, is_ranked=False):
+        self.name, self.allowed, self.choices, self.is_ranked = name, allowed, choices, is_ranked
+
+
+class Ballot:
+    """A ballot: `marks` has the indices of the marked choices by contest, and no contest that isn't on it. `before` has
+    them as scanned, where someone changed them later, and `unsure` pairs of contest and choice with an ambiguous mark."""
+
+    def __init__(self, device, batch, number, unit, marks, before=None, unsure=()):
+        self.device, self.batch, self.number, self.unit = device, batch, number, unit
+        self.marks, self.before, self.unsure = marks, before, unsure
+
+
+class Election:
+    def __init__(self, name, contests, units, ballots):
+        self.name, self.contests, self.units, self.ballots = name, contests, units, ballots
+
+
+def county():
+    """The county of examples/, with two batches, as it is after adjudication."""
+    contests = [Contest('County Council', 1, [('Iris Vale', 'HER'), ('Omar Field', 'LAR'), ('Write-in', '')]),
+                Contest('Measure 1: parks', 1, [('Yes', ''), ('No', '')])]
+    units = ['Old Mill', 'Ferry Landing', 'North Orchard']
+    ballots = [Ballot(1, 1, 1, 0, {0: [0], 1: [0]}), Ballot(1, 1, 2, 1, {0: [1], 1: [1]}, before={0: [0, 1], 1: [1]}),
+               Ballot(1, 1, 3, 1, {0: [2], 1: []}, before={0: [], 1: []}), Ballot(2, 1, 1, 2, {0: [1], 1: [1]})]
+    ballots[2].unsure = [(0, 2)]
+    return Election('Alder County General Election', contests, units, ballots)
+
+
+def random_election(chance, count):
+    """An election of some contests with odd names, and ballots of few styles."""
+    contests = []
+    for k in range(chance.randint(2, 30)):
+        choices = [('Choice %d-%d%s' % (k, i, chance.choice(['', ', Jr.', ' "Al"', ' é'])), chance.choice(['', 'HER', 'LAR']))
+                   for i in range(chance.randint(2, 6))]
+        choices += [('Write-in', '')] * chance.randint(0, 1)
+        contests.append(Contest('Contest %d%s' % (k, chance.choice(['', ': a, b', ' "x"', ' é', ' (part)'])),
+                                min(chance.choice([1, 1, 1, 2, 3]), len(choices)), choices))
+    units = ['Unit %d' % k for k in range(chance.randint(1, 12))]
+    styles = {unit: sorted(chance.sample(range(len(contests)), chance.randint(1, len(contests)))) for unit in range(len(units))}
+    ballots = []
+    for k in range(count):
+        unit = chance.randrange(len(units))
+        device, batch = 1 + k % 3, 1 + k // 60
+        marks = {it: random_marks(chance, contests[it]) for it in styles[unit]}
+        before = {it: random_marks(chance, contests[it]) for it in marks} if chance.random() < 0.1 else None
+        unsure = [(it, i) for it in marks for i in range(len(contests[it].choices)) if i not in marks[it] and chance.random() < 0.02]
+        ballots.append(Ballot(device, batch, 1 + k % 60 // 3, unit, marks, before, unsure))
+    return Election('Invented, "%d" ballots' % count, contests, units, ballots)
+
+
+def random_marks(chance, contest):
+    number = min(len(contest.choices), max(0, contest.allowed + chance.choice([0, 0, 0, 0, 0, -1, -1, 1, -contest.allowed])))
+    return sorted(chance.sample(range(len(contest.choices)), number))
+
+
+# ---- writing
+
+def put(folder, name, text):
+    path = os.path.join(folder, name)
+    os.makedirs(os.path.dirname(path), exist_ok=True)
+    with open(path, 'w', encoding='utf-8', newline='') as file:
+        file.write(text)
+
+
+# ---- reports of the standard
+
+def frame(election):
+    """A report of the standard without records."""
+    contests = [{'@id': 'contest-%d' % k, '@type': 'CVR.CandidateContest', 'Name': it.name, 'VotesAllowed': it.allowed,
+                 'ContestSelection': [{'@id': 'choice-%d-%d' % (k, i), '@type': 'CVR.CandidateSelection'} for i in range(len(it.choices))]}
+                for k, it in enumerate(election.contests)]
+    return {'@type': 'CVR.CastVoteRecordReport', 'Version': '1.0.0', 'GeneratedDate': '2024-11-05T21:40:00Z', 'ReportGeneratingDeviceIds': ['scanner-1'],
+            'ReportingDevice': [{'@id': 'scanner-%d' % k, '@type': 'CVR.ReportingDevice'} for k in sorted({it.device for it in election.ballots})],
+            'GpUnit': [{'@id': 'county', '@type': 'CVR.GpUnit', 'Type': 'county'}] + [{'@id': 'unit-%d' % k, '@type': 'CVR.GpUnit', 'Type': 'precinct', 'Name': it}
+                                                                                    for k, it in enumerate(election.units)],
+            'Party': [], 'Election': [{'@id': 'election', '@type': 'CVR.Election', 'Name': election.name, 'ElectionScopeId': 'county', 'Contest': contests}]}
+
+
+def snapshot(election, ballot, marks, name, kind):
+    held = []
+    for k in marks:
+        lost = election.contests[k].allowed - len(marks[k])
+        found = [{'@type': 'CVR.CVRContestSelection', 'ContestSelectionId': 'choice-%d-%d' % (k, i), 'SelectionPosition': [
+            dict({'@type': 'CVR.SelectionPosition', 'HasIndication': 'yes', 'NumberVotes': 1}, **({} if lost >= 0 else {'IsAllocable': 'no'}))]}
+                 for i in marks[k]]
+        held.append({'@type': 'CVR.CVRContest', 'ContestId': 'contest-%d' % k, 'Undervotes': max(lost, 0),
+                     'Overvotes': election.contests[k].allowed if lost < 0 else 0, 'CVRContestSelection': found})
+    return {'@id': name, '@type': 'CVR.CVRSnapshot', 'Type': kind, 'CVRContest': held}
+
+
+def record(election, ballot):
+    name = '%d-%d-%d' % (ballot.device, ballot.batch, ballot.number)
+    versions = [('original', ballot.before or ballot.marks)] + [('modified', ballot.marks)] * (ballot.before is not None)
+    return {'@type': 'CVR.CVR', 'CreatingDeviceId': 'scanner-%d' % ballot.device, 'UniqueId': str(uuid.uuid5(uuid.NAMESPACE_URL, name)),
+            'ElectionId': 'election', 'BallotStyleUnitId': 'unit-%d' % ballot.unit, 'BatchId': 'batch-%d-%d' % (ballot.device, ballot.batch),
+            'BallotImage': [{'@type': 'CVR.ImageData', 'Location': 'file:%s-front.jpg' % name}], 'CurrentSnapshotId': versions[-1][0],
+            'CVRSnapshot': [snapshot(election, ballot, marks, kind, kind) for kind, marks in versions]}
+
+
+def cdf(election, folder):
+    """Two reports: the second has the later half of the records."""
+    held, half = [record(election, it) for it in election.ballots], len(election.ballots) // 2
+    for name, part in ('first', held[:half]), ('second', held[half:]):
+        put(folder, 'cdf/%s.json' % name, json.dumps(dict(frame(election), CVR=part), indent=1))
+
+
+def county_cdf(folder):
+    """The reports of the county themselves."""
+    for name in 'scan.json', 'adjudicated.json':
+        os.makedirs(os.path.join(folder, 'cdf'), exist_ok=True)
+        shutil.copy(os.path.join(COUNTY, name), os.path.join(folder, 'cdf', name))
+
+
+def vx(folder, head, records):
+    """A folder as VxSuite writes it, of a report's head and records; the first has an image, and one ballot was rejected."""
+    meta = {'arePollsClosed': True, 'castVoteRecordReportMetadata': head, 'castVoteRecordRootHash': '0' * 64, 'batchManifest': []}
+    put(folder, 'vxsuite/metadata.json', json.dumps(meta))
+    for one in records:
+        name = str(uuid.uuid5(uuid.NAMESPACE_URL, one['CreatingDeviceId'] + one['UniqueId']))
+        put(folder, 'vxsuite/%s/cast-vote-record-report.json' % name, json.dumps({'CVR': [one]}))
+        put(folder, 'vxsuite/%s/%s-front.layout.json' % (name, name), '{}')
+    put(folder, 'vxsuite/rejected-%s/front.layout.json' % uuid.uuid5(uuid.NAMESPACE_URL, 'rejected'), '{}')
+
+
+def vxsuite(election, folder):
+    vx(folder, frame(election), [record(election, it) for it in election.ballots])
+
+
+def county_vxsuite(folder):
+    """The records of the county, each with all its snapshots."""
+    texts = [open(os.path.join(COUNTY, name), encoding='utf-8').read() for name in ('scan.json', 'adjudicated.json')]
+    scan, adjudicated = map(json.loads, texts)
+    records = {(it['CreatingDeviceId'], it['UniqueId']): it for it in scan['CVR']}
+    for it in adjudicated['CVR']:
+        held = records[it['CreatingDeviceId'], it['UniqueId']]
+        known = {one['@id'] for one in held['CVRSnapshot']}
+        held['CVRSnapshot'] += [one for one in it['CVRSnapshot'] if one['@id'] not in known]
+        held['CurrentSnapshotId'] = it['CurrentSnapshotId']
+    scan.pop('CVR')
+    vx(folder, scan, records.values())
+
+
+KINDS = {'vxsuite': vxsuite, 'cdf': cdf}
+COUNTIES = {'vxsuite': county_vxsuite, 'cdf': county_cdf}
+
+
+def make(kind, folder, count=0, seed=1):
+    """Writes an export of the county, or of random ballots."""
+    if count:
+        KINDS[kind](random_election(random.Random(seed), count), folder)
+    elif kind in COUNTIES:
+        COUNTIES[kind](folder)
+    else:
+        KINDS[kind](county(), folder)
+
+
+def files_below(folder):
+    return sorted(os.path.relpath(os.path.join(above, name), folder) for above, _, names in os.walk(folder) for name in names)
+
+
+def is_same(one, other):
+    names = files_below(one)
+    return names == files_below(other) and not any(filecmp.cmpfiles(one, other, names, shallow=False)[1:])
+
+
+def main():
+    words = argparse.ArgumentParser()
+    words.add_argument('kind', nargs='?', choices=list(KINDS))
+    words.add_argument('folder', nargs='?')
+    words.add_argument('--ballots', type=int, default=0, help='random ones, in place of the county')
+    words.add_argument('--seed', type=int, default=1)
+    words.add_argument('--examples', action='store_true', help='write examples/exports')
+    words.add_argument('--check', action='store_true', help='compare examples/exports')
+    words = words.parse_args()
+    if words.kind:
+        make(words.kind, words.folder, words.ballots, words.seed)
+        return 0
+    with tempfile.TemporaryDirectory() as folder:
+        for kind in KINDS:
+            make(kind, folder)
+        if words.examples:
+            shutil.rmtree(EXAMPLES, ignore_errors=True)
+            shutil.copytree(folder, EXAMPLES)
+        return 0 if is_same(folder, EXAMPLES) else 1
+
+
+if __name__ == '__main__':
+    sys.exit(main())

@@ -1,0 +1,296 @@
+#!/usr/bin/env python3
+"""run.py --cvr PATH [--sets N] [--seed N] [--only KIND]
+
+Tests `cvr-audit gather` with the given program. The exports of examples/exports are those that make.py makes, and each
+has the tally of examples/county. Random exports of make.py have the votes that recount.py counts, whose few lines share no
+code with the companion. The exports of faults.py are refused, and leave nothing. Then the slips of wrong_ways.py: each is
+made in a copy of the companion, and the recount of random exports has to find it. The last line is `gather: N right, M
+wrong`; the status is 0 only where M is 0 and N is not."""
+import argparse
+import csv
+import hashlib
+import os
+import shutil
+import signal
+import stat
+import subprocess
+import sys
+import tempfile
+import time
+from concurrent.futures import ThreadPoolExecutor
+
+sys.dont_write_bytecode = True
+HERE = os.path.dirname(os.path.abspath(__file__))
+TOP = os.path.dirname(os.path.dirname(HERE))
+COMPANION = os.path.join(TOP, 'companion')
+sys.path[:0] = [HERE, os.path.join(TOP, 'examples', 'recipes')]
+import faults      # noqa: E402
+import make        # noqa: E402
+import recount     # noqa: E402
+import wrong_ways  # noqa: E402 (they stand here and in examples/recipes)
+
+SIDE_BY_SIDE = 4
+SECONDS = 300
+BALLOTS = 80
+
+
+class Wrong(Exception):
+    """What a trial finds wrong."""
+
+
+def see(is_right, text):
+    if not is_right:
+        raise Wrong(text)
+
+
+def run(words, cvr, companion=COMPANION, folder=None, **more):
+    """(output, log, status) of cvr-audit."""
+    done = subprocess.run([sys.executable, os.path.join(companion, 'cvr-audit')] + words, cwd=folder, env=dict(os.environ, CVR=cvr, **more),
+                          stdin=subprocess.DEVNULL, stdout=subprocess.PIPE, stderr=subprocess.PIPE, timeout=SECONDS)
+    return done.stdout.decode('utf-8', 'replace'), done.stderr.decode('utf-8', 'replace'), done.returncode
+
+
+def path_of(kind, folder):
+    """The path of an export of a kind in a folder."""
+    path = os.path.join(folder, kind)
+    return path if os.path.isdir(path) else path + '.csv'
+
+
+# ---- what was written
+
+def see_sources(out, export):
+    """The list of sources has each record once, with its file, and each file with its length and SHA-256."""
+    with open(os.path.join(out, 'sources.csv'), encoding='utf-8', newline='') as file:
+        heads, *lines = csv.reader(file)
+    see(heads == ['source', 'place', 'length', 'SHA-256', 'CreatingDeviceId', 'UniqueId', 'file'], 'the heads of sources.csv')
+    held = {}
+    for source, _, length, digest, _, _, file in lines:
+        if not file and not source.endswith('/'):
+            data = faults.read(source)
+            see(int(length) == len(data) and digest in ('', hashlib.sha256(data).hexdigest()), 'the line of ' + source)
+        held[file] = held.get(file, 0) + 1
+    files = [export] if os.path.isfile(export) else [os.path.join(export, it) for it in make.files_below(export)]
+    see({it[0] for it in lines if not it[6]} == set(files), 'the sources of sources.csv')
+    return {file: number for file, number in held.items() if file}
+
+
+def see_modes(out):
+    modes = {stat.S_IMODE(os.stat(os.path.join(out, name)).st_mode) for name in os.listdir(out)}
+    see(modes == {0o600} and stat.S_IMODE(os.stat(out).st_mode) == 0o700, 'others may read what is written')
+
+
+def gathered(kind, export, cvr, out, companion=COMPANION):
+    """Gathers an export, and compares it with the recount; answers how many votes were compared."""
+    text, log, status = run(['gather', export, '-o', out], cvr, companion)
+    see((status, log) == (0, ''), 'status %d, %r' % (status, log))
+    found, compared = recount.differences(kind, export, cvr, out)
+    see(not found, '\n    '.join(found[:5]))
+    return text, compared
+
+
+def see_random(kind, cvr, seed, companion=COMPANION, ballots=BALLOTS):
+    with tempfile.TemporaryDirectory() as folder:
+        make.make(kind, folder, ballots, seed)
+        out = os.path.join(folder, 'out')
+        text, compared = gathered(kind, path_of(kind, folder), cvr, out, companion)
+        see(compared > 10, 'only %d votes were compared' % compared)
+        if companion is COMPANION:
+            counts = see_sources(out, path_of(kind, folder))
+            see(text.splitlines()[:2] == ['kind ' + kind, '%s/records-1.json %d' % (out, counts['records-1.json'])], 'what is printed')
+            see_modes(out)
+
+
+def county_votes(cvr):
+    """The county's tally by ids."""
+    with tempfile.TemporaryDirectory() as folder:
+        shutil.copy(os.path.join(make.COUNTY, 'definition.json'), folder)
+        for number, name in enumerate(('scan', 'adjudicated'), 1):
+            shutil.copy(os.path.join(make.COUNTY, name + '.json'), os.path.join(folder, 'records-%d.json' % number))
+        return recount.tallied(cvr, folder, False)
+
+
+def see_county(kind, cvr):
+    """The example of a kind has the tally of the county."""
+    with tempfile.TemporaryDirectory() as folder:
+        out = os.path.join(folder, 'out')
+        gathered(kind, path_of(kind, make.EXAMPLES), cvr, out)
+        see(recount.tallied(cvr, out, False) == county_votes(cvr), 'another tally than the county\'s')
+
+
+def see_examples():
+    with tempfile.TemporaryDirectory() as folder:
+        for kind in make.KINDS:
+            make.make(kind, folder)
+        see(make.is_same(folder, make.EXAMPLES), 'examples/exports is not what make.py makes')
+
+
+# ---- what is refused
+
+def see_fault(fault, cvr):
+    with tempfile.TemporaryDirectory() as folder:
+        shutil.copytree(make.EXAMPLES, os.path.join(folder, 'exports'))
+        done = subprocess.run([sys.executable, os.path.abspath(__file__), '--change', fault.name], cwd=os.path.join(folder, 'exports'),
+                              stdout=subprocess.PIPE, stderr=subprocess.STDOUT, timeout=SECONDS)
+        see(done.returncode == 0, done.stdout.decode('utf-8', 'replace'))
+        before = os.listdir(folder)
+        text, log, status = run(['gather', fault.export, '-o', '../out', *fault.words], cvr, folder=os.path.join(folder, 'exports'))
+        see(os.listdir(folder) == before and not [it for it in os.listdir(os.path.join(folder, 'exports')) if it.startswith('.')], 'something is left')
+    wanted = 'cvr-audit: %s\n' % fault.log
+    begins = fault.log[:-2] if fault.log and fault.log.endswith('..') else fault.export.partition('.')[0]
+    is_right = log == wanted or wanted.endswith(('..\n', 'None\n')) and log.startswith('cvr-audit: ' + begins) and log.count('\n') == 1
+    see(is_right and text == '' and status == fault.status, 'status %d, %r, and not %r' % (status, log, wanted))
+
+
+def change(name):
+    """Makes a fault in the folder where this runs."""
+    next(it for it in faults.all_faults() if it.name == name).change()
+
+
+def see_there(cvr):
+    """A folder that is there stays as it is."""
+    with tempfile.TemporaryDirectory() as folder:
+        out = os.path.join(folder, 'out')
+        os.mkdir(out)
+        got = run(['gather', path_of('cdf', make.EXAMPLES), '-o', out], cvr)
+        see(got == ('', 'cvr-audit: %s: it is there already; name a folder that isn\'t\n' % out, 3) and os.listdir(folder) == ['out'] and not os.listdir(out), repr(got))
+
+
+def see_two_kinds(cvr):
+    """Two kinds in one folder: they are named, and `--as` chooses; what is of the other kind is listed as left out."""
+    with tempfile.TemporaryDirectory() as folder:
+        held = os.path.join(folder, 'held')
+        for kind in ('vxsuite', 'cdf'):
+            shutil.copytree(path_of(kind, make.EXAMPLES), os.path.join(held, kind))
+        words = ['gather', held, '-o', os.path.join(folder, 'out')]
+        got = run(words, cvr)
+        see(got == ('', 'cvr-audit: %s: there is more than one kind here: vxsuite, cdf; name one with --as\n' % held, 1), repr(got))
+        text, log, status = run(words + ['--as', 'vxsuite'], cvr)
+        left = ['left out "%s/cdf/%s.json"' % (held, name) for name in ('adjudicated', 'scan')]
+        see((log, status) == ('', 0) and text.splitlines()[2:4] == left and text.count('left out') == 3, repr(text))
+
+
+def see_zip(kind, cvr):
+    """An export in a ZIP has the records of the folder."""
+    with tempfile.TemporaryDirectory() as folder:
+        shutil.make_archive(os.path.join(folder, 'export'), 'zip', make.EXAMPLES, os.path.basename(path_of(kind, make.EXAMPLES)))
+        texts = []
+        for number, path in enumerate([os.path.join(folder, 'export.zip'), path_of(kind, make.EXAMPLES)]):
+            out = os.path.join(folder, 'out-%d' % number)
+            _, log, status = run(['gather', path, '-o', out], cvr)
+            see((log, status) == ('', 0), repr(log))
+            texts.append([faults.read(os.path.join(out, name)) for name in ('definition.json', 'records-1.json')])
+        see(texts[0] == texts[1], 'other records than of the folder')
+
+
+def see_long(cvr):
+    """Records of more than 60 MB stand in several files, whose bytes are those of the source."""
+    with tempfile.TemporaryDirectory() as folder:
+        election = make.county()
+        one = make.record(election, election.ballots[0])
+        one['BallotImage'][0]['Location'] = 'x' * 1000000
+        records = [dict(one, UniqueId=str(number)) for number in range(70)]
+        path = os.path.join(folder, 'cdf', 'long.json')
+        make.put(folder, 'cdf/long.json', make.json.dumps(dict(make.frame(election), CVR=records)))
+        see(os.path.getsize(path) > 67108864, 'the file is too short')
+        out = os.path.join(folder, 'out')
+        text, log, status = run(['gather', path, '-o', out], cvr)
+        see((log, status) == ('', 0), repr(log))
+        held = sorted(it for it in os.listdir(out) if it.startswith('records'))
+        see(text == 'kind cdf\n%s/records-1.json 49\n%s/records-2.json 21\n' % (out, out) and len(held) == 2, repr(text))
+        see(all(os.path.getsize(os.path.join(out, it)) <= 60000000 for it in held), 'a file is too long')
+        data = b''.join(faults.read(os.path.join(out, it)) for it in held)
+        see(all(make.json.dumps(it).encode() in data for it in records[:3] + records[-3:]), 'other bytes')
+
+
+def see_stopped(cvr, number):
+    """A run that is stopped leaves nothing."""
+    with tempfile.TemporaryDirectory() as folder:
+        false = os.path.join(folder, 'false')
+        faults.write(false, b'#!/bin/sh\n[ "$1" = --version ] && exec "$REAL" --version\n: >"$0.seen"\nexec sleep 60\n')
+        os.chmod(false, 0o700)
+        process = subprocess.Popen([sys.executable, os.path.join(COMPANION, 'cvr-audit'), 'gather', path_of('cdf', make.EXAMPLES), '-o', os.path.join(folder, 'out')],
+                                   env=dict(os.environ, CVR=false, REAL=cvr), stdin=subprocess.DEVNULL, stdout=subprocess.PIPE, stderr=subprocess.PIPE)
+        end = time.time() + 60
+        while not os.path.exists(false + '.seen') and time.time() < end:
+            time.sleep(0.05)
+        process.send_signal(number)
+        process.communicate(timeout=SECONDS)
+        see(process.returncode == -number and sorted(os.listdir(folder)) == ['false', 'false.seen'], 'status %d, %r' % (process.returncode, os.listdir(folder)))
+
+
+def see_way(way, cvr):
+    """The recount of one of some random exports finds a slip."""
+    with tempfile.TemporaryDirectory() as folder:
+        copy = wrong_ways.made(COMPANION, folder, way)
+        for seed in wrong_ways.SEEDS:
+            try:
+                see_random(way.kind, cvr, seed, copy, wrong_ways.BALLOTS)
+            except Wrong as wrong:
+                see('Error' not in str(wrong) or 'Traceback' not in str(wrong), 'the copy doesn\'t run: %s' % wrong)
+                return
+    raise Wrong('not found by the recount')
+
+
+# ---- all trials
+
+def trials(words, cvr):
+    """Each trial: its name, and the call that makes it."""
+    kinds = [words.only] if words.only else list(make.KINDS)
+    yield 'examples', see_examples
+    for kind in kinds:
+        yield 'the county in ' + kind, lambda kind=kind: see_county(kind, cvr)
+        yield 'a ZIP of ' + kind, lambda kind=kind: see_zip(kind, cvr)
+        for seed in range(words.seed, words.seed + words.sets):
+            yield '%s, seed %d' % (kind, seed), lambda kind=kind, seed=seed: see_random(kind, cvr, seed)
+    for fault in faults.all_faults():
+        if fault.export.partition('.')[0] in kinds or not words.only:
+            yield fault.name, lambda fault=fault: see_fault(fault, cvr)
+    yield 'a folder that is there', lambda: see_there(cvr)
+    yield 'two kinds', lambda: see_two_kinds(cvr)
+    yield 'a long report', lambda: see_long(cvr)
+    for number in (signal.SIGINT, signal.SIGTERM):
+        yield 'signal %d' % number, lambda number=number: see_stopped(cvr, number)
+    for way in wrong_ways.WAYS:
+        if way.kind in kinds:
+            yield 'wrong way %s of %s' % (way.name, way.kind), lambda way=way: see_way(way, cvr)
+
+
+def tried(trial):
+    """What a trial finds wrong, or None."""
+    name, call = trial
+    try:
+        call()
+    except Wrong as wrong:
+        return '%s: %s' % (name, wrong)
+    except Exception as fault:
+        return '%s: %s: %s' % (name, type(fault).__name__, fault)
+    return None
+
+
+def read_words():
+    words = argparse.ArgumentParser()
+    words.add_argument('--cvr', help='the program to try it with')
+    words.add_argument('--sets', type=int, default=3, help='random exports of each kind')
+    words.add_argument('--seed', type=int, default=1)
+    words.add_argument('--only', choices=list(make.KINDS))
+    words.add_argument('--change', help='make a fault in this folder, for a process of its own')
+    return words.parse_args()
+
+
+def main():
+    words, right, wrong = read_words(), 0, 0
+    signal.signal(signal.SIGINT, signal.default_int_handler)        # what starts this in the background may have it ignored
+    if words.change:
+        change(words.change)
+        return 0
+    with ThreadPoolExecutor(min(SIDE_BY_SIDE, len(os.sched_getaffinity(0)))) as pool:
+        for found in pool.map(tried, trials(words, os.path.abspath(words.cvr))):
+            right, wrong = right + (found is None), wrong + (found is not None)
+            if found:
+                print('WRONG ' + found, flush=True)
+    print('gather: %d right, %d wrong' % (right, wrong))
+    return 1 if wrong or not right else 0
+
+
+if __name__ == '__main__':
+    sys.exit(main())
