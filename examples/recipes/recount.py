@@ -6,6 +6,7 @@ with `cvr tally` of what `cvr-audit gather` made of the export (OUT). Each diffe
 there is none. What is counted: for each contest, unit and batch the ballots, overvotes, undervotes, write-ins, and the votes of
 each choice by its name; and the number of records and of their names."""
 import argparse
+import csv
 import glob
 import json
 import os
@@ -45,6 +46,30 @@ class Count:
             self.votes[(*row, label(choice))] += 1
 
 
+def table(path):
+    with open(path, encoding='utf-8-sig', newline='') as file:
+        return list(csv.reader(file))
+
+
+def flagged(count, row, allowed, cells):
+    """A contest of (choice, cell): an overvote where more cells than allowed are 1."""
+    chosen = [choice for choice, cell in cells if cell == '1']
+    if any(cell for _, cell in cells):
+        count.contest(row, chosen, allowed if len(chosen) > allowed else 0, max(0, allowed - len(chosen)))
+
+
+def dominion(count, path):
+    (_, contests, choices, heads, *rows) = table(path)
+    at = {name: heads.index(name) for name in ('TabulatorNum', 'BatchId', 'RecordId', 'PrecinctPortion')}
+    for row in rows:
+        device, batch, number, unit = (row[at[name]].strip('="') for name in at)
+        count.record(device, batch, number)
+        for name in dict.fromkeys(filter(None, contests)):
+            title, allowed = re.fullmatch(r'(.*) \(Vote For=(\d+)\)', name).groups()
+            cells = [(choices[i], row[i]) for i, it in enumerate(contests) if it == name]
+            flagged(count, (title, unit, device + '-' + batch), int(allowed), cells)
+
+
 def choosing(snapshot):
     stamps = [datetime.fromisoformat(it['TimeStamp'].replace('Z', '+00:00')).timestamp() for it in snapshot.get('Annotation', []) if 'TimeStamp' in it]
     return TYPES.index(snapshot['Type']), max(stamps, default=float('-inf')), json.dumps(snapshot, sort_keys=True)
@@ -69,7 +94,7 @@ def reports(count, folder):
                         count.votes[(*row, one['ContestSelectionId'])] += it['NumberVotes']
 
 
-KINDS = {'vxsuite': reports, 'cdf': reports}
+KINDS = {'vxsuite': reports, 'cdf': reports, 'dominion': dominion}
 
 
 # ---- what `cvr` counts

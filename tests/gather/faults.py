@@ -15,6 +15,7 @@ LOST = ('this record has no %s. The standard leaves it optional; here it is part
 UNKNOWN = ('no form of export is recognised here (%s); if it is one of these, name it with --as, and see docs/GATHER.md'
            % ', '.join(make.KINDS))
 NO_TEXT = 'this is not text in UTF-8; export it in that encoding'
+CUT = 'it is cut off, or has a comma that is not in quotes'
 
 
 def read(path):
@@ -46,6 +47,37 @@ def everywhere(path, old, new):
 
 def cut(path, number):
     return lambda: write(path, read(path)[:-number])
+
+
+def line_again(path, number, end=b'\r\n'):
+    """A line of a file once more at its end."""
+    return lambda: write(path, read(path) + read(path).split(end)[number] + end)
+
+
+def dominion():
+    path = 'dominion.csv'
+    yield 'cut in a line', cut(path, 6), 'dominion.csv: line 8: it has 11 cells, and the head 13: ' + CUT
+    yield 'a column is missing', replaced(path, b'PrecinctPortion', b'Portion'), 'dominion.csv: line 4: there is no column PrecinctPortion'
+    yield 'a column more', replaced(path, b'CountingGroup', b'Mystery'), 'dominion.csv: line 4: the column Mystery is not of this form as it is known'
+    yield 'a column twice', replaced(path, b'CountingGroup', b'RecordId'), 'dominion.csv: line 4: the column RecordId is there twice'
+    yield ('a choice of no contest', replaced(path, b'Measure 1: parks (Vote For=1),Measure 1: parks (Vote For=1)', b'Measure 1: parks (Vote For=1),'),
+           'dominion.csv: line 4: column 13 has a contest without a choice, or a choice without a contest')
+    yield ('no number of votes', everywhere(path, b'parks (Vote For=1)', b'parks'),
+           'dominion.csv: line 4: column 12: no (Vote For=N) behind Measure 1: parks')
+    yield ('a choice twice', lambda: (replaced(path, b'Omar Field', b'Iris Vale')(), replaced(path, b',LAR,', b',,')()),
+           'dominion.csv: line 4: the choice Iris Vale stands twice in County Council')
+    yield 'the heads again', line_again(path, 3), 'dominion.csv: line 9: the head stands here again: two files in one'
+    yield 'another encoding', replaced(path, b'Old Mill', b'Old M\xefll'), 'dominion.csv: line 5: ' + NO_TEXT
+    yield 'a quote that is not closed', replaced(path, b'1,1,1,1,"=', b'"1,1,1,1,"='), None
+    yield ('semicolons', everywhere(path, b',', b';'),
+           'dominion.csv: line 4: the cells are parted by semicolons; this form has commas')
+    yield ('an id twice', replaced(path, b'2,1,1,2,', b'2,1,1,1,'),
+           'dominion.csv: line 6: the record "1" "1-1-1" stands here and in dominion.csv: line 5')
+    yield 'no id', replaced(path, b'2,1,1,2,', b'2,1,1,,'), 'dominion.csv: line 6: TabulatorNum, BatchId or RecordId is empty'
+    yield 'another mark', replaced(path, b'Style 0,1,0,0', b'Style 0,2,0,0'), 'dominion.csv: line 5: a mark is neither 1, 0 nor empty, but 2'
+    yield 'a cell is empty', replaced(path, b'Style 0,1,0,0', b'Style 0,1,,0'), 'dominion.csv: line 5: some cells of a contest are empty and others are not'
+    yield 'heads alone', lambda: write(path, b'\r\n'.join(read(path).split(b'\r\n')[:4]) + b'\r\n'), 'dominion.csv: there is no record of the kind dominion'
+    yield 'no heads', lambda: write(path, b'TabulatorNum,RecordId\r\n'), 'dominion.csv: line 1: the file ends here, before its four lines of heads'
 
 
 def vxsuite():
@@ -85,7 +117,7 @@ def cdf():
     yield 'no version', replaced(path, b'"Version": "1.0.0",', b''), path + ': cvr refuses it: E3 /Version 2'
 
 
-GROUPS = [('vxsuite', vxsuite), ('cdf', cdf)]
+GROUPS = [('dominion.csv', dominion), ('vxsuite', vxsuite), ('cdf', cdf)]
 
 
 def all_faults():

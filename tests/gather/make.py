@@ -5,7 +5,9 @@ Writes an invented export of a kind that `cvr-audit gather` reads: of the county
 It shares no code with the companion: what it writes follows docs/GATHER.md, read a second time. `make.py --check`
 compares examples/exports with what it makes, and `make.py --examples` writes that."""
 import argparse
+import csv
 import filecmp
+import io
 import json
 import os
 import random
@@ -83,6 +85,34 @@ def put(folder, name, text):
     os.makedirs(os.path.dirname(path), exist_ok=True)
     with open(path, 'w', encoding='utf-8', newline='') as file:
         file.write(text)
+
+
+def csv_text(rows, end='\r\n'):
+    text = io.StringIO()
+    csv.writer(text, lineterminator=end).writerows(rows)
+    return text.getvalue()
+
+
+def columns(election):
+    return [(k, contest, i, choice) for k, contest in enumerate(election.contests) for i, choice in enumerate(contest.choices)]
+
+
+def flags(election, ballot):
+    """A cell for each choice: 1, 0, or nothing where the contest isn't on the ballot."""
+    return ['' if k not in ballot.marks else int(i in ballot.marks[k]) for k, _, i, _ in columns(election)]
+
+
+def dominion(election, folder):
+    held = columns(election)
+    fixed = ['CvrNumber', 'TabulatorNum', 'BatchId', 'RecordId', 'ImprintedId', 'CountingGroup', 'PrecinctPortion', 'BallotType']
+    rows = [[election.name, '5.11.3.1'] + [''] * (len(held) + 6),
+            [''] * 8 + ['%s (Vote For=%d)' % (contest.name, contest.allowed) for _, contest, _, _ in held],
+            [''] * 8 + [choice for _, _, _, (choice, _) in held], fixed + [party for _, _, _, (_, party) in held]]
+    for k, it in enumerate(election.ballots, 1):
+        name = '%d-%d-%d' % (it.device, it.batch, it.number)
+        rows.append([k, it.device, it.batch, it.number, '="%s"' % name, 'In person', election.units[it.unit], 'Style %d' % it.unit]
+                    + flags(election, it))
+    put(folder, 'dominion.csv', csv_text(rows))
 
 
 # ---- reports of the standard
@@ -163,7 +193,7 @@ def county_vxsuite(folder):
     vx(folder, scan, records.values())
 
 
-KINDS = {'vxsuite': vxsuite, 'cdf': cdf}
+KINDS = {'vxsuite': vxsuite, 'cdf': cdf, 'dominion': dominion}
 COUNTIES = {'vxsuite': county_vxsuite, 'cdf': county_cdf}
 
 

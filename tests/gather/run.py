@@ -32,6 +32,8 @@ import wrong_ways  # noqa: E402 (they stand here and in examples/recipes)
 SIDE_BY_SIDE = 4
 SECONDS = 300
 BALLOTS = 80
+# the names of the county's batches in each kind
+BATCHES = {'dominion': {'1-1': 'batch-1', '2-1': 'batch-2'}}
 
 
 class Wrong(Exception):
@@ -101,12 +103,17 @@ def see_random(kind, cvr, seed, companion=COMPANION, ballots=BALLOTS):
 
 
 def county_votes(cvr):
-    """The county's tally by ids."""
+    """The county's tally by the names of its contests, units and selections; the names of selections are those of make.py."""
     with tempfile.TemporaryDirectory() as folder:
         shutil.copy(os.path.join(make.COUNTY, 'definition.json'), folder)
         for number, name in enumerate(('scan', 'adjudicated'), 1):
             shutil.copy(os.path.join(make.COUNTY, name + '.json'), os.path.join(folder, 'records-%d.json' % number))
-        return recount.tallied(cvr, folder, False)
+        votes = recount.tallied(cvr, folder, False)
+    units = {'precinct-1': 'Old Mill', 'precinct-2': 'Ferry Landing', 'precinct-3': 'North Orchard'}
+    names = {'council': 'County Council', 'parks': 'Measure 1: parks', 'council-iris': 'Iris Vale', 'council-omar': 'Omar Field',
+             'council-other': 'write-in', 'parks-yes': 'Yes', 'parks-no': 'No'}
+    return votes, {(names[contest], units[unit], batch, names.get(column, column)): number
+                   for (contest, unit, batch, column), number in votes.items()}
 
 
 def see_county(kind, cvr):
@@ -114,7 +121,14 @@ def see_county(kind, cvr):
     with tempfile.TemporaryDirectory() as folder:
         out = os.path.join(folder, 'out')
         gathered(kind, path_of(kind, make.EXAMPLES), cvr, out)
-        see(recount.tallied(cvr, out, False) == county_votes(cvr), 'another tally than the county\'s')
+        by_id, by_name = county_votes(cvr)
+        if kind not in BATCHES:
+            see(recount.tallied(cvr, out, False) == by_id, 'another tally than the county\'s')
+            return
+        batches = BATCHES[kind]
+        found = {(contest, unit, batches[batch], column): number for (contest, unit, batch, column), number in recount.tallied(cvr, out, True).items()}
+        wanted = {(contest, unit, batch if len(batches) > 1 else None, column): number for (contest, unit, batch, column), number in by_name.items()}
+        see(found == wanted, 'another tally than the county\'s')
 
 
 def see_examples():

@@ -8,11 +8,31 @@ Way = namedtuple('Way', 'kind name file old new')
 SEEDS = 11, 12, 13          # of the random exports with which a slip is tried
 BALLOTS = 80
 
+# ---- what several kinds use
+MARKED = [
+    ('counts_overvotes', 'gather_frame.py', 'position(is_vote=lost >= 0)', 'position()'),
+    ('states_one_overvote', 'gather_frame.py', 'self.allowed if lost < 0 else 0', '1 if lost < 0 else 0'),
+    ('states_one_undervote', 'gather_frame.py', 'max(lost, 0)', 'int(lost > 0)'),
+    ('states_no_write_ins', 'gather_frame.py', 'sum(self.selections[key] for key in chosen)}', '0}'),
+    ('knows_no_write_ins', 'gather_frame.py', ".replace('-', '').replace(' ', '')", ''),
+    ('takes_the_cells_that_are_0', 'gather_table.py', "if cells[place] == '1'", "if cells[place] == '0'"),
+    ('leaves_out_blank_contests', 'gather_table.py', "if found == {''}:", "if found <= {'', '0'}:"),
+    ('remembers_the_wrong_contest', 'gather_frame.py', 'chosen = tuple(chosen)', 'chosen = tuple(chosen)[:1]'),
+]
 
 def of(kind, ways):
     return [Way(kind, *way) for way in ways]
 
 
+DOMINION = of('dominion', MARKED + [
+    ('forgets_the_tabulator', 'gather_dominion.py', "(parts[0], '-'.join(parts)), header", "('1', '-'.join(parts[1:])), header"),
+    ('joins_batches_of_tabulators', 'gather_dominion.py', "'BatchId': '-'.join(parts[:2])}", "'BatchId': parts[1]}"),
+    ('takes_the_style_for_the_unit', 'gather_dominion.py', "frame.unit(held['PrecinctPortion'])", "frame.unit(held['BallotType'])"),
+    ('allows_one_vote', 'gather_dominion.py', 'int(found.group(2))', '1'),
+    ('leaves_out_the_last_contest', 'gather_dominion.py', 'in heads.columns.items():', 'in list(heads.columns.items())[:-1]:'),
+    ('leaves_out_rows_of_a_batch', 'gather_dominion.py', '            table.see_row(cells, heads.cells)\n',
+     "            table.see_row(cells, heads.cells)\n            if cells[heads.fixed['BatchId']] == '2':\n                continue\n"),
+])
 # ---- reports of the standard, whose records are copied
 REPORTS = [
     ('loses_a_record', 'gather_out.py', '        self.names.add(name)\n', '        self.names.add(name)\n        if len(self.names) == 40:\n            return\n'),
@@ -37,7 +57,7 @@ CDF = of('cdf', REPORTS + [
     ('reads_the_first_file_alone', 'gather_cdf.py', '    for source in filter(fits, sources):', '    for source in list(filter(fits, sources))[:1]:'),
     ('forgets_the_first_record', 'gather_cdf.py', '            out.add(', '            if number: out.add('),
 ])
-WAYS = VXSUITE + CDF
+WAYS = DOMINION + VXSUITE + CDF
 
 
 def made(companion, folder, way):
