@@ -70,6 +70,23 @@ def dominion(count, path):
             flagged(count, (title, unit, device + '-' + batch), int(allowed), cells)
 
 
+def dominion_json(count, folder):
+    lists = {name: {it['Id']: it for it in json.load(open(os.path.join(folder, name + 'Manifest.json'), encoding='utf-8'))['List']}
+             for name in ('Contest', 'Candidate', 'PrecinctPortion')}
+    for path in glob.glob(os.path.join(folder, 'CvrExport*.json')):
+        for session in json.load(open(path, encoding='utf-8'))['Sessions']:
+            current = session.get('Modified') or session['Original']
+            device, batch = session['TabulatorId'], session['BatchId']
+            unit = lists['PrecinctPortion'][current['PrecinctPortionId']]['Description']
+            for number, card in enumerate(current['Cards']):
+                count.record(device, batch, session['RecordId'], number)
+                for contest in card['Contests']:
+                    chosen = [lists['Candidate'][it['CandidateId']]['Description'] for it in contest['Marks'] if it['IsVote'] and not it['IsAmbiguous']]
+                    row = lists['Contest'][contest['Id']]['Description'], unit, '%s-%s' % (device, batch)
+                    count.contest(row, chosen, 0, contest['Undervotes'])
+                    count.votes[(*row, 'overvotes')] += contest['Overvotes']
+
+
 def choosing(snapshot):
     stamps = [datetime.fromisoformat(it['TimeStamp'].replace('Z', '+00:00')).timestamp() for it in snapshot.get('Annotation', []) if 'TimeStamp' in it]
     return TYPES.index(snapshot['Type']), max(stamps, default=float('-inf')), json.dumps(snapshot, sort_keys=True)
@@ -94,7 +111,7 @@ def reports(count, folder):
                         count.votes[(*row, one['ContestSelectionId'])] += it['NumberVotes']
 
 
-KINDS = {'vxsuite': reports, 'cdf': reports, 'dominion': dominion}
+KINDS = {'vxsuite': reports, 'cdf': reports, 'dominion': dominion, 'dominion-json': dominion_json}
 
 
 # ---- what `cvr` counts

@@ -117,7 +117,31 @@ def cdf():
     yield 'no version', replaced(path, b'"Version": "1.0.0",', b''), path + ': cvr refuses it: E3 /Version 2'
 
 
-GROUPS = [('dominion.csv', dominion), ('vxsuite', vxsuite), ('cdf', cdf)]
+def dominion_json():
+    path, more = 'dominion-json/CvrExport.json', 'dominion-json/'
+    yield 'no list of contests', lambda: os.remove(more + 'ContestManifest.json'), 'ContestManifest.json: it has to be there once, beside CvrExport.json'
+    yield ('a choice of no contest', lambda: write(more + 'CandidateManifest.json', read(more + 'CandidateManifest.json').replace(b'"ContestId": 0', b'"ContestId": 9', 1)),
+           'CandidateManifest.json: the candidate 0 is of no contest')
+    yield ('a choice of another contest', lambda: write(path, read(path).replace(b'"CandidateId": 0,', b'"CandidateId": 100,', 1)),
+           path + ': /Sessions/0/Original/Cards/0/Contests/0/Marks/0: the CandidateId 100 is none of the contest 0')
+    yield 'a contest twice', replaced(more + 'ContestManifest.json', b'"Id": 1,', b'"Id": 0,'), more + 'ContestManifest.json: /List/1: it has no Id of its own'
+    yield ('a number withheld', lambda: write(path, read(path).replace(b'"RecordId": 1', b'"RecordId": "X"', 1)),
+           path + ': /Sessions/0: its RecordId is absent or withheld, so nothing tells the ballots of the batch apart')
+    yield ('an id twice', replaced(path, b'"RecordId": 2', b'"RecordId": 1'),
+           path + ': /Sessions/1/Original/Cards/0: the record "1" "1-1-1" stands here and in ' + path + ': /Sessions/0/Original/Cards/0')
+    yield ('a version that is not current', lambda: write(path, read(path).replace(b'"IsCurrent": true', b'"IsCurrent": false', 1)),
+           path + ': /Sessions/0: the current version has to be Modified, where it has one, and else Original, and no other; cvr counts that one')
+    yield ('a member more', lambda: write(path, read(path).replace(b'"SessionType"', b'"Mystery"', 1)),
+           path + ': /Sessions/0: the member "Mystery" of a Session is not of this form as it is known')
+    yield ('a mark without a word', lambda: write(path, read(path).replace(b'"IsVote": true', b'"IsVote": 1', 1)),
+           path + ': /Sessions/0/Original/Cards/0/Contests/0/Marks/0: its IsVote is absent, or not true or false')
+    yield ('a unit that is not there', lambda: write(path, read(path).replace(b'"PrecinctPortionId": 0', b'"PrecinctPortionId": 9', 1)),
+           path + ': /Sessions/0/Original: the PrecinctPortionId 9 is not in PrecinctPortionManifest.json')
+    yield 'cut', cut(path, 9), None
+    yield 'no sessions', everywhere(path, b'"Sessions"', b'"Session"'), 'dominion-json: ' + UNKNOWN
+
+
+GROUPS = [('dominion.csv', dominion), ('vxsuite', vxsuite), ('cdf', cdf), ('dominion-json', dominion_json)]
 
 
 def all_faults():

@@ -115,6 +115,50 @@ def dominion(election, folder):
     put(folder, 'dominion.csv', csv_text(rows))
 
 
+# ---- the JSON of Dominion
+
+def listed(election):
+    """The lists of Dominion's JSON, by the names of their files."""
+    candidates = [{'Description': choice, 'Id': 100 * k + i, 'ExternalId': '', 'ContestId': k, 'Type': 'WriteIn' if choice == 'Write-in' else 'Regular'}
+                  for k, _, i, (choice, _) in columns(election)]
+    contests = [{'Description': it.name, 'Id': k, 'ExternalId': '', 'DistrictId': 1, 'VoteFor': it.allowed, 'NumOfRanks': 0}
+                for k, it in enumerate(election.contests)]
+    units = [{'Description': it, 'Id': k, 'ExternalId': '', 'PrecinctId': k} for k, it in enumerate(election.units)]
+    return {'ContestManifest': contests, 'CandidateManifest': candidates, 'PrecinctPortionManifest': units}
+
+
+def dominion_version(election, ballot, marks, is_current, cards):
+    """The Original or the Modified of a session."""
+    held = []
+    for k in marks:
+        contest, lost = election.contests[k], election.contests[k].allowed - len(marks[k])
+        found = [(i, lost >= 0, False) for i in marks[k]] + [(i, False, True) for place, i in ballot.unsure if place == k and i not in marks[k]]
+        held.append({'Id': k, 'ManifestationId': k, 'Undervotes': max(lost, 0), 'Overvotes': contest.allowed if lost < 0 else 0,
+                     'OutstackConditionIds': [],
+                     'Marks': [{'CandidateId': 100 * k + i, 'ManifestationId': i, 'PartyId': 0, 'Rank': 1, 'MarkDensity': 50 if unsure else 99,
+                                'IsAmbiguous': unsure, 'IsVote': is_vote, 'OutstackConditionIds': []} for i, is_vote, unsure in found]})
+    parts = [held[place::cards] for place in range(cards)]
+    return {'PrecinctPortionId': ballot.unit, 'BallotTypeId': ballot.unit, 'IsCurrent': is_current,
+            'Cards': [{'Id': place, 'KeyInId': place, 'PaperIndex': place, 'Contests': part, 'OutstackConditionIds': []}
+                      for place, part in enumerate(parts)]}
+
+
+def dominion_json(election, folder):
+    sessions = []
+    for k, it in enumerate(election.ballots):
+        cards = 2 if len(election.contests) > 2 and k % 10 == 0 else 1
+        session = {'TabulatorId': it.device, 'BatchId': it.batch, 'RecordId': it.number, 'CountingGroupId': 1, 'ImageMask': '', 'SessionType': 'ScannedVote',
+                   'VotingSessionIdentifier': '', 'UniqueVotingIdentifier': ''}
+        first = it.marks if it.before is None else it.before
+        session['Original'] = dominion_version(election, it, first, it.before is None, cards)
+        if it.before is not None:
+            session['Modified'] = dominion_version(election, it, it.marks, True, cards)
+        sessions.append(session)
+    put(folder, 'dominion-json/CvrExport.json', json.dumps({'Version': '5.10.50.85', 'ElectionId': election.name, 'Sessions': sessions}, indent=1))
+    for name, held in listed(election).items():
+        put(folder, 'dominion-json/%s.json' % name, json.dumps({'Version': '5.10.50.85', 'List': held}, indent=1))
+
+
 # ---- reports of the standard
 
 def frame(election):
@@ -193,7 +237,7 @@ def county_vxsuite(folder):
     vx(folder, scan, records.values())
 
 
-KINDS = {'vxsuite': vxsuite, 'cdf': cdf, 'dominion': dominion}
+KINDS = {'vxsuite': vxsuite, 'cdf': cdf, 'dominion': dominion, 'dominion-json': dominion_json}
 COUNTIES = {'vxsuite': county_vxsuite, 'cdf': county_cdf}
 
 

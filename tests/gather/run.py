@@ -33,7 +33,7 @@ SIDE_BY_SIDE = 4
 SECONDS = 300
 BALLOTS = 80
 # the names of the county's batches in each kind
-BATCHES = {'dominion': {'1-1': 'batch-1', '2-1': 'batch-2'}}
+BATCHES = {'dominion': {'1-1': 'batch-1', '2-1': 'batch-2'}, 'dominion-json': {'1-1': 'batch-1', '2-1': 'batch-2'}}
 
 
 class Wrong(Exception):

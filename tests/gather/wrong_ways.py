@@ -33,6 +33,22 @@ DOMINION = of('dominion', MARKED + [
     ('leaves_out_rows_of_a_batch', 'gather_dominion.py', '            table.see_row(cells, heads.cells)\n',
      "            table.see_row(cells, heads.cells)\n            if cells[heads.fixed['BatchId']] == '2':\n                continue\n"),
 ])
+DOMINION_JSON = of('dominion-json', [
+    ('counts_ambiguous_marks', 'gather_dominion_json.py', 'position(is_vote, is_sure, rank)', 'position(True, True, rank)'),
+    ('counts_marks_that_are_no_vote', 'gather_dominion_json.py', 'position(is_vote, is_sure, rank)', 'position(True, is_sure, rank)'),
+    ('counts_the_original', 'gather_dominion_json.py', 'zip(names, versions)]', 'zip(names[:1], versions)]'),
+    ('takes_the_original_for_modified', 'gather_dominion_json.py', "cards = [self.cards(name) for name in names]", "cards = [self.cards('Original') for name in names]"),
+    ('forgets_the_tabulator', 'gather_dominion_json.py', "(parts[0], '-'.join(parts + more))", "('1', '-'.join(parts[1:] + more))"),
+    ('joins_batches_of_tabulators', 'gather_dominion_json.py', "'BatchId': '-'.join(parts[:2])}", "'BatchId': parts[1]}"),
+    ('takes_the_first_card_alone', 'gather_dominion_json.py', 'enumerate(zip(*cards)):', 'list(enumerate(zip(*cards)))[:1]:'),
+    ('forgets_the_card', 'gather_dominion_json.py', 'more = [str(place + 1)] if len(held[0]) > 1 else []', 'more = []'),
+    ('states_no_overvotes', 'gather_dominion_json.py', "for it in ('Overvotes', 'Undervotes')", "for it in ('Undervotes',)"),
+    ('states_no_undervotes', 'gather_dominion_json.py', "for it in ('Overvotes', 'Undervotes')", "for it in ('Overvotes',)"),
+    ('counts_write_ins_that_are_no_vote', 'gather_dominion_json.py', 'written += is_counted and', 'written +='),
+    ('takes_the_style_for_the_unit', 'gather_dominion_json.py', "unit = value.get('PrecinctPortionId')", "unit = 0 * value.get('PrecinctPortionId')"),
+    ('knows_no_write_ins', 'gather_dominion_json.py', "item.get('Type') == 'WriteIn'", 'False'),
+    ('takes_a_mark_of_a_choice_alone', 'gather_dominion_json.py', 'contest.written(chosen.items(), dict(', 'contest.written(list(chosen.items())[:1], dict('),
+])
 # ---- reports of the standard, whose records are copied
 REPORTS = [
     ('loses_a_record', 'gather_out.py', '        self.names.add(name)\n', '        self.names.add(name)\n        if len(self.names) == 40:\n            return\n'),
@@ -57,7 +73,7 @@ CDF = of('cdf', REPORTS + [
     ('reads_the_first_file_alone', 'gather_cdf.py', '    for source in filter(fits, sources):', '    for source in list(filter(fits, sources))[:1]:'),
     ('forgets_the_first_record', 'gather_cdf.py', '            out.add(', '            if number: out.add('),
 ])
-WAYS = DOMINION + VXSUITE + CDF
+WAYS = DOMINION + DOMINION_JSON + VXSUITE + CDF
 
 
 def made(companion, folder, way):
