@@ -70,6 +70,19 @@ def dominion(count, path):
             flagged(count, (title, unit, device + '-' + batch), int(allowed), cells)
 
 
+def ess(count, path):
+    heads, *rows = table(path)
+    number, unit = heads.index('Cast Vote Record'), heads.index('Precinct')
+    for row in rows:
+        count.record(row[number])
+        for name in dict.fromkeys(heads[3:]):
+            cells = [row[i] for i, it in enumerate(heads) if it == name]
+            if any(cells):
+                words = [it.lower() for it in cells]
+                chosen = [it for it in cells if it.lower() not in ('undervote', 'overvote')]
+                count.contest((name, row[unit], None), chosen, words.count('overvote'), words.count('undervote'))
+
+
 def dominion_json(count, folder):
     lists = {name: {it['Id']: it for it in json.load(open(os.path.join(folder, name + 'Manifest.json'), encoding='utf-8'))['List']}
              for name in ('Contest', 'Candidate', 'PrecinctPortion')}
@@ -111,7 +124,7 @@ def reports(count, folder):
                         count.votes[(*row, one['ContestSelectionId'])] += it['NumberVotes']
 
 
-KINDS = {'vxsuite': reports, 'cdf': reports, 'dominion': dominion, 'dominion-json': dominion_json}
+KINDS = {'vxsuite': reports, 'cdf': reports, 'dominion': dominion, 'dominion-json': dominion_json, 'ess': ess}
 
 
 # ---- what `cvr` counts

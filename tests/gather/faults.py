@@ -80,6 +80,25 @@ def dominion():
     yield 'no heads', lambda: write(path, b'TabulatorNum,RecordId\r\n'), 'dominion.csv: line 1: the file ends here, before its four lines of heads'
 
 
+def ess():
+    path = 'ess.csv'
+    yield 'cut in a line', cut(path, 4), 'ess.csv: line 5: the last line has no end, so its last cell may be cut off'
+    yield 'cut in a choice', cut(path, 5), 'ess.csv: line 5: it has 4 cells, and the head 5: ' + CUT
+    yield 'a column is missing', replaced(path, b'Precinct', b'Place'), 'ess.csv: line 1: there is no column Precinct'
+    yield 'a column of another list', replaced(path, b'County Council', b'Tabulator CVR'), 'ess.csv: line 1: the column Tabulator CVR is not of this form as it is known'
+    yield ('a choice of no contest', replaced(path, b'Measure 1: parks', b''),
+           'ess.csv: line 1: column 5 has no contest, or one that stands elsewhere, too')
+    yield 'the heads again', line_again(path, 0), 'ess.csv: line 6: the head stands here again: two files in one'
+    yield 'another encoding', replaced(path, b'Old Mill', b'Old M\xefll'), 'ess.csv: line 2: ' + NO_TEXT
+    yield 'UTF-16', lambda: write(path, read(path).decode('utf-8').encode('utf-16')), 'ess.csv: ' + UNKNOWN
+    yield 'a byte that is 0', replaced(path, b'Old Mill', b'Old\0Mill'), 'ess.csv: line 2: ' + NO_TEXT
+    yield 'semicolons', everywhere(path, b',', b';'), 'ess.csv: line 1: the cells are parted by semicolons; this form has commas'
+    yield 'an id twice', replaced(path, b'104002', b'104001'), 'ess.csv: line 3: the record "ess" "104001" stands here and in ess.csv: line 2'
+    yield 'a pipe', lambda: (os.remove(path), os.mkfifo(path)), 'ess.csv: it is no regular file: a link may lead out of the folder, and a pipe can be read only once'
+    yield 'no id', replaced(path, b'104002', b''), 'ess.csv: line 3: the Cast Vote Record is empty'
+    yield 'a row too long', replaced(path, b'Style 0,Iris Vale', b'Style 0,Vale, Iris'), 'ess.csv: line 2: it has 6 cells, and the head 5: ' + CUT
+
+
 def vxsuite():
     yield 'cut', cut(VX, 3), VX + ': line 1: it is no JSON, or cut off: ..'
     yield 'no id', replaced(VX, b'"UniqueId"', b'"Unique"'), VX + ': /CVR/0: ' + LOST % 'UniqueId'
@@ -141,7 +160,7 @@ def dominion_json():
     yield 'no sessions', everywhere(path, b'"Sessions"', b'"Session"'), 'dominion-json: ' + UNKNOWN
 
 
-GROUPS = [('dominion.csv', dominion), ('vxsuite', vxsuite), ('cdf', cdf), ('dominion-json', dominion_json)]
+GROUPS = [('dominion.csv', dominion), ('ess.csv', ess), ('vxsuite', vxsuite), ('cdf', cdf), ('dominion-json', dominion_json)]
 
 
 def all_faults():

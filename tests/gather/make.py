@@ -115,6 +115,26 @@ def dominion(election, folder):
     put(folder, 'dominion.csv', csv_text(rows))
 
 
+def ess_cells(election, k, ballot):
+    """The cells of a contest, one for each vote."""
+    contest, marks = election.contests[k], ballot.marks.get(k)
+    if marks is None:
+        return [''] * contest.allowed
+    if len(marks) > contest.allowed:
+        return ['overvote'] * contest.allowed
+    word = 'Undervote' if ballot.number % 7 == 0 else 'undervote'
+    return [contest.choices[i][0] for i in marks] + [word] * (contest.allowed - len(marks))
+
+
+def ess(election, folder):
+    heads = ['Cast Vote Record', 'Precinct', 'Ballot Style'] + [it.name for it in election.contests for _ in range(it.allowed)]
+    rows = [heads]
+    for k, it in enumerate(election.ballots):
+        rows.append([104001 + k, election.units[it.unit], 'Style %d' % it.unit]
+                    + [cell for place in range(len(election.contests)) for cell in ess_cells(election, place, it)])
+    put(folder, 'ess.csv', csv_text(rows))
+
+
 # ---- the JSON of Dominion
 
 def listed(election):
@@ -237,7 +257,7 @@ def county_vxsuite(folder):
     vx(folder, scan, records.values())
 
 
-KINDS = {'vxsuite': vxsuite, 'cdf': cdf, 'dominion': dominion, 'dominion-json': dominion_json}
+KINDS = {'vxsuite': vxsuite, 'cdf': cdf, 'dominion': dominion, 'dominion-json': dominion_json, 'ess': ess}
 COUNTIES = {'vxsuite': county_vxsuite, 'cdf': county_cdf}
 
 

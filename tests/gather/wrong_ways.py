@@ -33,6 +33,23 @@ DOMINION = of('dominion', MARKED + [
     ('leaves_out_rows_of_a_batch', 'gather_dominion.py', '            table.see_row(cells, heads.cells)\n',
      "            table.see_row(cells, heads.cells)\n            if cells[heads.fixed['BatchId']] == '2':\n                continue\n"),
 ])
+ESS = of('ess', [
+    ('takes_the_style_for_the_unit', 'gather_ess.py', 'frame.unit(held[UNIT])', 'frame.unit(held[STYLE])'),
+    ('forgets_the_unit', 'gather_ess.py', "{'BallotStyleUnitId': frame.unit(held[UNIT]), 'BallotStyleId'", "{'BallotStyleId'"),
+    ('states_one_overvote', 'gather_ess.py', 'cells.count(OVERVOTE)', 'int(OVERVOTE in cells)'),
+    ('states_one_undervote', 'gather_ess.py', 'cells.count(UNDERVOTE)', 'int(UNDERVOTE in cells)'),
+    ('takes_undervotes_for_overvotes', 'gather_ess.py', "UNDERVOTE, OVERVOTE = 'undervote', 'overvote'", "UNDERVOTE, OVERVOTE = 'overvote', 'undervote'"),
+    ('states_no_write_ins', 'gather_ess.py', 'sum(contest.selections[it] for it in chosen)}', '0}'),
+    ('counts_no_votes', 'gather_ess.py', '[position()]', '[position(is_vote=False)]'),
+    ('takes_the_first_vote_alone', 'gather_ess.py', '[(it, [position()]) for it in chosen]', '[(it, [position()]) for it in chosen[:1]]'),
+    ('reads_one_column_of_a_contest', 'gather_ess.py', '[plain(cells[it]) for it in places]', '[plain(cells[it]) for it in places[:1]]'),
+    ('takes_undervotes_for_a_choice', 'gather_ess.py', 'not in (UNDERVOTE, OVERVOTE)]', '!= OVERVOTE]'),
+    ('leaves_out_overvoted_contests', 'gather_ess.py', '[it for it in texts if it]', "[it for it in texts if it and 'overvoted' not in it]"),
+    ('leaves_out_blank_contests', 'gather_ess.py', "if set(cells) == {''}:", "if set(cells) <= {'', UNDERVOTE}:"),
+    ('cuts_the_number', 'gather_ess.py', '(DEVICE, held[NUMBER]), header', '(DEVICE, held[NUMBER][-1:]), header'),
+    ('knows_words_in_small_letters_alone', 'gather_ess.py', 'return cell.lower() if', 'return cell if'),
+    ('knows_no_write_ins', 'gather_frame.py', ".replace('-', '').replace(' ', '')", ''),
+])
 DOMINION_JSON = of('dominion-json', [
     ('counts_ambiguous_marks', 'gather_dominion_json.py', 'position(is_vote, is_sure, rank)', 'position(True, True, rank)'),
     ('counts_marks_that_are_no_vote', 'gather_dominion_json.py', 'position(is_vote, is_sure, rank)', 'position(True, is_sure, rank)'),
@@ -73,7 +90,7 @@ CDF = of('cdf', REPORTS + [
     ('reads_the_first_file_alone', 'gather_cdf.py', '    for source in filter(fits, sources):', '    for source in list(filter(fits, sources))[:1]:'),
     ('forgets_the_first_record', 'gather_cdf.py', '            out.add(', '            if number: out.add('),
 ])
-WAYS = DOMINION + DOMINION_JSON + VXSUITE + CDF
+WAYS = DOMINION + DOMINION_JSON + ESS + VXSUITE + CDF
 
 
 def made(companion, folder, way):
