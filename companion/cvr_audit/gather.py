@@ -4,8 +4,8 @@ import os
 import re
 import sys
 
-from . import (gather_cdf, gather_dominion, gather_dominion_json, gather_ess, gather_vxsuite,
-               page_faults, program)
+from . import (gather_cdf, gather_clearballot, gather_dominion, gather_dominion_json, gather_ess,
+               gather_vxsuite, page_faults, program)
 from .gather_out import DEFINITION, writing
 from .gather_source import fault, sources_in
 from .progress import Progress
@@ -17,6 +17,7 @@ KINDS = {
     'dominion': gather_dominion,
     'dominion-json': gather_dominion_json,
     'ess': gather_ess,
+    'clearballot': gather_clearballot,
 }
 RECORD = re.compile(r'/CVR/(\d+)')
 UNKNOWN = ('no form of export is recognised here (%s); if it is one of these, name it with --as, '

@@ -70,6 +70,21 @@ def dominion(count, path):
             flagged(count, (title, unit, device + '-' + batch), int(allowed), cells)
 
 
+def clearballot(count, path):
+    heads, *rows = table(path)
+    at = {name: heads.index(name) for name in ('ScanComputerName', 'BoxID', 'BoxPosition', 'PrecinctID')}
+    held = {}
+    for i, head in enumerate(heads):
+        if head.startswith('Choice_'):
+            name, allowed, rest = re.fullmatch(r'Choice_\d+_1:(.*):Vote For (\d+):(.*)', head).groups()
+            held.setdefault((name, int(allowed)), []).append((rest.rpartition(':')[0], i))
+    for row in rows:
+        device, box, place, unit = (row[at[name]] for name in at)
+        count.record(device, box, place)
+        for (name, allowed), places in held.items():
+            flagged(count, (name, unit, box), allowed, [(choice, row[i]) for choice, i in places])
+
+
 def ess(count, path):
     heads, *rows = table(path)
     number, unit = heads.index('Cast Vote Record'), heads.index('Precinct')
@@ -124,7 +139,7 @@ def reports(count, folder):
                         count.votes[(*row, one['ContestSelectionId'])] += it['NumberVotes']
 
 
-KINDS = {'vxsuite': reports, 'cdf': reports, 'dominion': dominion, 'dominion-json': dominion_json, 'ess': ess}
+KINDS = {'vxsuite': reports, 'cdf': reports, 'dominion': dominion, 'dominion-json': dominion_json, 'ess': ess, 'clearballot': clearballot}
 
 
 # ---- what `cvr` counts

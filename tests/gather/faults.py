@@ -80,6 +80,26 @@ def dominion():
     yield 'no heads', lambda: write(path, b'TabulatorNum,RecordId\r\n'), 'dominion.csv: line 1: the file ends here, before its four lines of heads'
 
 
+def clearballot():
+    path = 'clearballot.csv'
+    yield 'cut in a line', cut(path, 6), 'clearballot.csv: line 5: it has 13 cells, and the head 15: ' + CUT
+    yield 'a column is missing', replaced(path, b'ScanComputerName', b'Computer'), 'clearballot.csv: line 1: there is no column ScanComputerName'
+    yield 'a column more', replaced(path, b'RowNumber', b'Mystery'), 'clearballot.csv: line 1: the column Mystery is not of this form as it is known'
+    yield ('a choice of no contest', replaced(path, b'Choice_4_1:Measure 1: parks:Vote For 1:Yes:', b'Choice_4_1:Yes:'),
+           'clearballot.csv: line 1: column 14 has no contest, `Vote For N` and choice: Choice_4_1:Yes:Non-Partisan')
+    yield ('two numbers of votes', replaced(path, b'Vote For 1:No:', b'Vote For 2:No:'),
+           'clearballot.csv: line 1: the choice No stands twice in Measure 1: parks, or the contest has two numbers of votes')
+    yield 'the heads again', line_again(path, 0), 'clearballot.csv: line 6: the head stands here again: two files in one'
+    yield 'another encoding', replaced(path, b'Old Mill', b'Old M\xefll'), 'clearballot.csv: line 2: ' + NO_TEXT
+    yield 'semicolons', everywhere(path, b',', b';'), 'clearballot.csv: line 1: the cells are parted by semicolons; this form has commas'
+    yield ('a ballot twice', replaced(path, b'BOX-1-1+00002', b'BOX-1-1+00001'),
+           'clearballot.csv: line 3: the BallotID BOX-1-1+00001 stands here and in clearballot.csv: line 2')
+    yield ('an id twice', replaced(path, b'2,BOX-1-1,2,', b'2,BOX-1-1,1,'),
+           'clearballot.csv: line 3: the record "ScanStation-1" "BOX-1-1-1" stands here and in clearballot.csv: line 2')
+    yield 'no box', replaced(path, b'2,BOX-1-1,2,', b'2,,2,'), 'clearballot.csv: line 3: ScanComputerName, BoxID or BoxPosition is empty'
+    yield 'another mark', replaced(path, b',0,1,0,0,1,0\r', b',0,x,0,0,1,0\r'), 'clearballot.csv: line 2: a mark is neither 1, 0 nor empty, but x'
+
+
 def ess():
     path = 'ess.csv'
     yield 'cut in a line', cut(path, 4), 'ess.csv: line 5: the last line has no end, so its last cell may be cut off'
@@ -160,7 +180,8 @@ def dominion_json():
     yield 'no sessions', everywhere(path, b'"Sessions"', b'"Session"'), 'dominion-json: ' + UNKNOWN
 
 
-GROUPS = [('dominion.csv', dominion), ('ess.csv', ess), ('vxsuite', vxsuite), ('cdf', cdf), ('dominion-json', dominion_json)]
+GROUPS = [('dominion.csv', dominion), ('clearballot.csv', clearballot), ('ess.csv', ess), ('vxsuite', vxsuite), ('cdf', cdf),
+          ('dominion-json', dominion_json)]
 
 
 def all_faults():

@@ -115,6 +115,19 @@ def dominion(election, folder):
     put(folder, 'dominion.csv', csv_text(rows))
 
 
+def clearballot(election, folder):
+    heads = ['RowNumber', 'BoxID', 'BoxPosition', 'BallotID', 'PrecinctID', 'BallotStyleID', 'PrecinctStyleName', 'ScanComputerName',
+             'Status', 'Remade']
+    heads += ['Choice_%d_1:%s:Vote For %d:%s:%s' % (n, contest.name, contest.allowed, choice, party or 'Non-Partisan')
+              for n, (_, contest, _, (choice, party)) in enumerate(columns(election), 1)]
+    rows = [heads]
+    for k, it in enumerate(election.ballots, 1):
+        box = 'BOX-%d-%d' % (it.device, it.batch)
+        rows.append([k, box, it.number, '%s+%05d' % (box, it.number), election.units[it.unit], 'S%d' % it.unit,
+                     'Style %d' % it.unit, 'ScanStation-%d' % it.device, '', 0] + flags(election, it))
+    put(folder, 'clearballot.csv', csv_text(rows))
+
+
 def ess_cells(election, k, ballot):
     """The cells of a contest, one for each vote."""
     contest, marks = election.contests[k], ballot.marks.get(k)
@@ -257,7 +270,7 @@ def county_vxsuite(folder):
     vx(folder, scan, records.values())
 
 
-KINDS = {'vxsuite': vxsuite, 'cdf': cdf, 'dominion': dominion, 'dominion-json': dominion_json, 'ess': ess}
+KINDS = {'vxsuite': vxsuite, 'cdf': cdf, 'dominion': dominion, 'dominion-json': dominion_json, 'ess': ess, 'clearballot': clearballot}
 COUNTIES = {'vxsuite': county_vxsuite, 'cdf': county_cdf}
 
 

@@ -33,6 +33,15 @@ DOMINION = of('dominion', MARKED + [
     ('leaves_out_rows_of_a_batch', 'gather_dominion.py', '            table.see_row(cells, heads.cells)\n',
      "            table.see_row(cells, heads.cells)\n            if cells[heads.fixed['BatchId']] == '2':\n                continue\n"),
 ])
+CLEARBALLOT = of('clearballot', MARKED + [
+    ('forgets_the_box', 'gather_clearballot.py', "held['ScanComputerName'], '-'.join(parts)", "held['ScanComputerName'], parts[1]"),
+    ('takes_the_device_for_the_batch', 'gather_clearballot.py', "'BatchId': held['BoxID']}", "'BatchId': held['ScanComputerName']}"),
+    ('takes_the_style_for_the_unit', 'gather_clearballot.py', "frame.unit(held['PrecinctID'])", "frame.unit(held['BallotStyleID'])"),
+    ('allows_one_vote', 'gather_clearballot.py', 'Contest(name, name, int(allowed))', 'Contest(name, name, 1)'),
+    ('takes_the_party_for_the_choice', 'gather_clearballot.py', 'name, allowed, choice, party = found', 'name, allowed, party, choice = found'),
+    ('cuts_names_at_a_colon', 'gather_clearballot.py', ':(.+):Vote For', ':([^:]+):.*Vote For'),
+    ('leaves_out_the_last_contest', 'gather_clearballot.py', 'in self.heads.columns.items()]', 'in list(self.heads.columns.items())[:-1]]'),
+])
 ESS = of('ess', [
     ('takes_the_style_for_the_unit', 'gather_ess.py', 'frame.unit(held[UNIT])', 'frame.unit(held[STYLE])'),
     ('forgets_the_unit', 'gather_ess.py', "{'BallotStyleUnitId': frame.unit(held[UNIT]), 'BallotStyleId'", "{'BallotStyleId'"),
@@ -90,7 +99,7 @@ CDF = of('cdf', REPORTS + [
     ('reads_the_first_file_alone', 'gather_cdf.py', '    for source in filter(fits, sources):', '    for source in list(filter(fits, sources))[:1]:'),
     ('forgets_the_first_record', 'gather_cdf.py', '            out.add(', '            if number: out.add('),
 ])
-WAYS = DOMINION + DOMINION_JSON + ESS + VXSUITE + CDF
+WAYS = DOMINION + DOMINION_JSON + ESS + CLEARBALLOT + VXSUITE + CDF
 
 
 def made(companion, folder, way):
