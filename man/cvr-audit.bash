@@ -12,7 +12,7 @@ _cvr_audit() {
     --unit) compopt +o default; return ;;
     --batch) compopt +o default; return ;;
     --selection) compopt +o default; return ;;
-    --as) compopt +o default; COMPREPLY=($(compgen -W 'vxsuite cdf dominion dominion-json ess clearballot' -- "$2")); return ;;
+    --as) compopt +o default; COMPREPLY=($(compgen -W 'vxsuite cdf dominion dominion-json ess hart clearballot' -- "$2")); return ;;
     esac
     case ${COMP_WORDS[1]}:$2 in
     records:-*) COMPREPLY=($(compgen -W '-o --columns -h --help' -- "$2")) ;;

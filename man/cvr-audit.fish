@@ -24,4 +24,4 @@ complete -c cvr-audit -n '__fish_seen_subcommand_from page' -s o -r -F -d 'the f
 complete -c cvr-audit -n '__fish_seen_subcommand_from warnings' -l manifest -r -F -d 'a file of lines `batch,ballots`'
 complete -c cvr-audit -n '__fish_seen_subcommand_from definition' -s o -r -F -d 'the file to write to, in place of standard output'
 complete -c cvr-audit -n '__fish_seen_subcommand_from gather' -s o -r -F -d 'the folder to write, which isn'\''t there yet'
-complete -c cvr-audit -n '__fish_seen_subcommand_from gather' -l as -x -a 'vxsuite cdf dominion dominion-json ess clearballot' -d 'the kind of the export, in place of recognising it'
+complete -c cvr-audit -n '__fish_seen_subcommand_from gather' -l as -x -a 'vxsuite cdf dominion dominion-json ess hart clearballot' -d 'the kind of the export, in place of recognising it'

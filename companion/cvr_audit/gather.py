@@ -5,7 +5,7 @@ import re
 import sys
 
 from . import (gather_cdf, gather_clearballot, gather_dominion, gather_dominion_json, gather_ess,
-               gather_vxsuite, page_faults, program)
+               gather_hart, gather_vxsuite, page_faults, program)
 from .gather_out import DEFINITION, writing
 from .gather_source import fault, sources_in
 from .progress import Progress
@@ -17,6 +17,7 @@ KINDS = {
     'dominion': gather_dominion,
     'dominion-json': gather_dominion_json,
     'ess': gather_ess,
+    'hart': gather_hart,
     'clearballot': gather_clearballot,
 }
 RECORD = re.compile(r'/CVR/(\d+)')

@@ -13,11 +13,13 @@ import os
 import re
 import subprocess
 import sys
+import xml.etree.ElementTree as ElementTree
 from collections import Counter
 from datetime import datetime
 
 COLUMNS = 'ballots', 'overvotes', 'undervotes', 'write-ins', 'pending', 'unassigned'
 WORD = re.compile(r'"(?:[^"\\]|\\.)*"|[^ ]+')
+SPACE = '{http://tempuri.org/CVRDesign.xsd}'
 WRITTEN = 'write-in'
 TYPES = 'original', 'interpreted', 'modified'
 
@@ -98,6 +100,17 @@ def ess(count, path):
                 count.contest((name, row[unit], None), chosen, words.count('overvote'), words.count('undervote'))
 
 
+def hart(count, folder):
+    for path in glob.glob(os.path.join(folder, '*.xml')):
+        root = ElementTree.parse(path).getroot()
+        count.record(root.findtext(SPACE + 'CvrGuid'))
+        place = root.findtext('%sPrecinctSplit/%sName' % (SPACE, SPACE)), root.findtext(SPACE + 'BatchNumber')
+        for contest in root.iter(SPACE + 'Contest'):
+            chosen = [it.findtext(SPACE + 'Name') for it in contest.iter(SPACE + 'Option') if it.findtext(SPACE + 'Value') == '1']
+            over, under = (int(contest.findtext(SPACE + it, '0')) for it in ('Overvotes', 'Undervotes'))
+            count.contest((contest.findtext(SPACE + 'Name'), *place), chosen, over, under)
+
+
 def dominion_json(count, folder):
     lists = {name: {it['Id']: it for it in json.load(open(os.path.join(folder, name + 'Manifest.json'), encoding='utf-8'))['List']}
              for name in ('Contest', 'Candidate', 'PrecinctPortion')}
@@ -139,7 +152,7 @@ def reports(count, folder):
                         count.votes[(*row, one['ContestSelectionId'])] += it['NumberVotes']
 
 
-KINDS = {'vxsuite': reports, 'cdf': reports, 'dominion': dominion, 'dominion-json': dominion_json, 'ess': ess, 'clearballot': clearballot}
+KINDS = {'vxsuite': reports, 'cdf': reports, 'dominion': dominion, 'dominion-json': dominion_json, 'ess': ess, 'hart': hart, 'clearballot': clearballot}
 
 
 # ---- what `cvr` counts

@@ -1,8 +1,11 @@
 """faults.py: exports that aren't as they should be. Each is an invented county of examples/exports with a change, by a pair
 of texts of a file or by a function, and the line with which `cvr-audit gather` has to end; its status is 1 where nothing
 else is said. Nothing may be left of the folder that was to be written."""
+import glob
 import os
 import shutil
+import struct
+import zipfile
 from collections import namedtuple
 
 import make
@@ -10,6 +13,7 @@ import make
 Fault = namedtuple('Fault', 'name export change log status words', defaults=(1, ()))
 FIRST = 'vxsuite/2e251cd0-3350-5d62-babe-c97e89f72c31/'
 VX = FIRST + 'cast-vote-record-report.json'
+HART = 'hart/4057b1ff-4e4d-53fa-9cfb-9d6724c76d81.xml'
 LOST = ('this record has no %s. The standard leaves it optional; here it is part of the name by which records are told apart, '
         'and nothing can stand in for it. Ask the maker of the system to export each record with a CreatingDeviceId and a UniqueId')
 UNKNOWN = ('no form of export is recognised here (%s); if it is one of these, name it with --as, and see docs/GATHER.md'
@@ -52,6 +56,45 @@ def cut(path, number):
 def line_again(path, number, end=b'\r\n'):
     """A line of a file once more at its end."""
     return lambda: write(path, read(path) + read(path).split(end)[number] + end)
+
+
+def zipped(change=None):
+    """The folder of Hart's export as export.zip, beside which it is gone; `change` adds to it."""
+    def pack():
+        with zipfile.ZipFile('export.zip', 'w', zipfile.ZIP_DEFLATED) as archive:
+            for path in sorted(glob.glob('hart/*.xml')):
+                archive.write(path)
+            if change:
+                change(archive)
+        shutil.rmtree('hart')
+    return pack
+
+
+def link_in(archive):
+    entry = zipfile.ZipInfo('hart/link.xml')
+    entry.create_system, entry.external_attr = 3, 0o120777 << 16
+    archive.writestr(entry, '/etc/passwd')
+
+
+def bomb_in(archive):
+    archive.writestr('hart/bomb.xml', b'\0' * 20000000)
+
+
+def damage():
+    """A byte of the first file's packed content is another."""
+    zipped()()
+    data = bytearray(read('export.zip'))
+    name, more = struct.unpack('<HH', bytes(data[26:30]))
+    data[30 + name + more + 40] ^= 255
+    write('export.zip', bytes(data))
+
+
+def encrypt():
+    """The first file says of itself that it is encrypted."""
+    zipped()()
+    data = bytearray(read('export.zip'))
+    data[data.index(b'PK\x01\x02') + 8] |= 1
+    write('export.zip', bytes(data))
 
 
 def dominion():
@@ -119,6 +162,35 @@ def ess():
     yield 'a row too long', replaced(path, b'Style 0,Iris Vale', b'Style 0,Vale, Iris'), 'ess.csv: line 2: it has 6 cells, and the head 5: ' + CUT
 
 
+def hart():
+    yield 'cut', cut(HART, 10), HART + ': line 2: it is no XML, or cut off: ..'
+    yield 'an element is missing', everywhere(HART, b'CvrGuid', b'CvrId'), HART + ': the element {http://tempuri.org/CVRDesign.xsd}CvrId in Cvr is not of this form as it is known'
+    yield 'no id', lambda: write(HART, read(HART).split(b'<CvrGuid>')[0] + b'</Cvr>'), HART + ': there is no CvrGuid in a Cvr'
+    yield ('an element in another', replaced(HART, b'<SheetNumber>1</SheetNumber>', b'<SheetNumber><Option/></SheetNumber>'), None)
+    yield ('an option of no contest', replaced(HART, b'<SheetNumber>', b'<Option/><SheetNumber>'),
+           HART + ': the element {http://tempuri.org/CVRDesign.xsd}Option in Cvr is not of this form as it is known')
+    yield ('entities', replaced(HART, b'<Cvr xmlns', b'<!DOCTYPE Cvr [<!ENTITY a "b">]><Cvr xmlns'),
+           HART + ': it has a document type, which may define entities; no export needs one')
+    yield 'another encoding', replaced(HART, b'encoding="utf-8"', b'encoding="martian"'), HART + ': it is no XML, or cut off: ..'
+    yield ('an id twice', lambda: shutil.copy(HART, 'hart/zz.xml'),
+           'hart/zz.xml: the record "hart" "4057b1ff-4e4d-53fa-9cfb-9d6724c76d81" stands here and in ' + HART + ': ')
+    yield 'another value', lambda: write(HART, read(HART).replace(b'<Value>1<', b'<Value>2<', 1)), HART + ': the Value of an Option is neither 1 nor 0, but 2'
+    yield 'another name', replaced('hart/f41a25eb-c6ff-5405-b03b-22e3dee6e0c6.xml', b'County Council', b'City Council'), None
+    yield 'no number', replaced(HART, b'<BatchSequence>1', b'<BatchSequence>one'), None
+
+
+def zips():
+    yield 'a path out', zipped(lambda it: it.writestr('../x.xml', 'x')), 'export.zip/../x.xml: its path leads out of the ZIP'
+    yield 'a path from the top', zipped(lambda it: it.writestr('/x.xml', 'x')), 'export.zip//x.xml: its path leads out of the ZIP'
+    yield 'a link', zipped(link_in), 'export.zip/hart/link.xml: it is a link, which may lead out of the ZIP'
+    yield 'a bomb', zipped(bomb_in), 'export.zip/hart/bomb.xml: it unpacks to 20000000 bytes, which is too many'
+    yield 'a damaged byte', damage, 'export.zip/' + HART + ': the ZIP is damaged here, or packed in a way that is not known'
+    yield 'encrypted', encrypt, 'export.zip/' + HART + ': it is encrypted'
+    yield 'cut', lambda: (zipped()(), cut('export.zip', 10)()), 'export.zip: the ZIP is damaged or cut off'
+    yield ('a workbook', lambda: (zipped()(), zipfile.ZipFile('export.zip', 'w').writestr('xl/workbook.xml', 'x')),
+           'export.zip: it is a workbook of Excel; have the records exported as CSV in UTF-8')
+
+
 def vxsuite():
     yield 'cut', cut(VX, 3), VX + ': line 1: it is no JSON, or cut off: ..'
     yield 'no id', replaced(VX, b'"UniqueId"', b'"Unique"'), VX + ': /CVR/0: ' + LOST % 'UniqueId'
@@ -180,8 +252,8 @@ def dominion_json():
     yield 'no sessions', everywhere(path, b'"Sessions"', b'"Session"'), 'dominion-json: ' + UNKNOWN
 
 
-GROUPS = [('dominion.csv', dominion), ('clearballot.csv', clearballot), ('ess.csv', ess), ('vxsuite', vxsuite), ('cdf', cdf),
-          ('dominion-json', dominion_json)]
+GROUPS = [('dominion.csv', dominion), ('clearballot.csv', clearballot), ('ess.csv', ess), ('hart', hart), ('vxsuite', vxsuite),
+          ('cdf', cdf), ('dominion-json', dominion_json), ('export.zip', zips)]
 
 
 def all_faults():

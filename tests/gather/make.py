@@ -19,6 +19,7 @@ import uuid
 TOP = os.path.dirname(os.path.dirname(os.path.dirname(os.path.abspath(__file__))))
 EXAMPLES = os.path.join(TOP, 'examples', 'exports')
 COUNTY = os.path.join(TOP, 'examples', 'county')
+SPACE = 'http://tempuri.org/CVRDesign.xsd'
 
 
 class Contest:
@@ -148,6 +149,30 @@ def ess(election, folder):
     put(folder, 'ess.csv', csv_text(rows))
 
 
+def escaped(text):
+    return text.replace('&', '&amp;').replace('<', '&lt;')
+
+
+def hart_contest(election, k, ballot):
+    contest, marks = election.contests[k], ballot.marks[k]
+    is_over = len(marks) > contest.allowed
+    options = ''.join('<Option><Name>%s</Name><Id>c%d-%d</Id><Value>1</Value></Option>' % (escaped(contest.choices[i][0]), k, i)
+                      for i in ([] if is_over else marks))
+    lost = contest.allowed - len(marks)
+    numbers = '<Undervotes>%d</Undervotes><Overvotes>%d</Overvotes>' % (max(lost, 0), contest.allowed if is_over else 0)
+    return '<Contest><Name>%s</Name><Id>c%d</Id><Options>%s</Options>%s</Contest>' % (escaped(contest.name), k, options, numbers)
+
+
+def hart(election, folder):
+    for it in election.ballots:
+        guid = uuid.uuid5(uuid.NAMESPACE_URL, '%d-%d-%d' % (it.device, it.batch, it.number))
+        contests = ''.join(hart_contest(election, k, it) for k in it.marks)
+        put(folder, 'hart/%s.xml' % guid, '<?xml version="1.0" encoding="utf-8"?>\n<Cvr xmlns="%s"><Contests>%s</Contests>'
+            '<BatchSequence>%d</BatchSequence><SheetNumber>1</SheetNumber><PrecinctSplit><Name>%s</Name><Id>p%d</Id></PrecinctSplit>'
+            '<BatchNumber>%d</BatchNumber><CvrGuid>%s</CvrGuid></Cvr>\n'
+            % (SPACE, contests, it.number, election.units[it.unit], it.unit, 1000 * it.device + it.batch, guid))
+
+
 # ---- the JSON of Dominion
 
 def listed(election):
@@ -270,7 +295,7 @@ def county_vxsuite(folder):
     vx(folder, scan, records.values())
 
 
-KINDS = {'vxsuite': vxsuite, 'cdf': cdf, 'dominion': dominion, 'dominion-json': dominion_json, 'ess': ess, 'clearballot': clearballot}
+KINDS = {'vxsuite': vxsuite, 'cdf': cdf, 'dominion': dominion, 'dominion-json': dominion_json, 'ess': ess, 'hart': hart, 'clearballot': clearballot}
 COUNTIES = {'vxsuite': county_vxsuite, 'cdf': county_cdf}
 
 

@@ -34,7 +34,7 @@ SECONDS = 300
 BALLOTS = 80
 # the names of the county's batches in each kind; ES&S's form has none
 BATCHES = {'dominion': {'1-1': 'batch-1', '2-1': 'batch-2'}, 'dominion-json': {'1-1': 'batch-1', '2-1': 'batch-2'},
-           'clearballot': {'BOX-1-1': 'batch-1', 'BOX-2-1': 'batch-2'}, 'ess': {None: None}}
+           'clearballot': {'BOX-1-1': 'batch-1', 'BOX-2-1': 'batch-2'}, 'hart': {'1001': 'batch-1', '2001': 'batch-2'}, 'ess': {None: None}}
 
 
 class Wrong(Exception):

@@ -59,6 +59,22 @@ ESS = of('ess', [
     ('knows_words_in_small_letters_alone', 'gather_ess.py', 'return cell.lower() if', 'return cell if'),
     ('knows_no_write_ins', 'gather_frame.py', ".replace('-', '').replace(' ', '')", ''),
 ])
+HART = of('hart', [
+    ('counts_no_votes', 'gather_hart.py', '[position()]', '[position(is_vote=False)]'),
+    ('takes_the_first_vote_alone', 'gather_hart.py', '[(it, [position()]) for it in chosen]', '[(it, [position()]) for it in chosen[:1]]'),
+    ('states_no_write_ins', 'gather_hart.py', 'sum(contest.selections[it] for it in chosen)}', '0}'),
+    ('knows_no_write_ins', 'gather_hart.py', 'is_written or is_write_in(name)', 'is_written'),
+    ('states_no_overvotes', 'gather_hart.py', "in ('Undervotes', 'Overvotes')", "in ('Undervotes',)"),
+    ('states_no_undervotes', 'gather_hart.py', "in ('Undervotes', 'Overvotes')", "in ('Overvotes',)"),
+    ('takes_the_sheet_for_the_batch', 'gather_hart.py', "{'BatchId': self.text(held, 'BatchNumber')", "{'BatchId': self.text(held, 'SheetNumber')"),
+    ('forgets_the_unit', 'gather_hart.py', "'BallotStyleUnitId': self.unit(held),", "'BallotStyleUnitId': self.unit(held) and None,"),
+    ('names_ballots_by_their_sequence', 'gather_hart.py', "DEVICE, self.text(held, 'CvrGuid')", "DEVICE, self.text(held, 'BatchSequence')"),
+    ('leaves_out_the_last_contest', 'gather_hart.py', 'for it in contests]', 'for it in contests[:-1]]'),
+    ('leaves_out_blank_contests', 'gather_hart.py', "[('a', snapshot('a', 'interpreted', texts))])",
+     "[('a', snapshot('a', 'interpreted', [it for it in texts if 'Position' in it]))])"),
+    ('names_all_units_alike', 'gather_hart.py', 'return self.frame.unit(key, name)', "return self.frame.unit('p', name)"),
+    ('reads_the_first_file_alone', 'gather_hart.py', 'for source in filter(fits, sources):', 'for source in list(filter(fits, sources))[:1]:'),
+])
 DOMINION_JSON = of('dominion-json', [
     ('counts_ambiguous_marks', 'gather_dominion_json.py', 'position(is_vote, is_sure, rank)', 'position(True, True, rank)'),
     ('counts_marks_that_are_no_vote', 'gather_dominion_json.py', 'position(is_vote, is_sure, rank)', 'position(True, is_sure, rank)'),
@@ -99,7 +115,7 @@ CDF = of('cdf', REPORTS + [
     ('reads_the_first_file_alone', 'gather_cdf.py', '    for source in filter(fits, sources):', '    for source in list(filter(fits, sources))[:1]:'),
     ('forgets_the_first_record', 'gather_cdf.py', '            out.add(', '            if number: out.add('),
 ])
-WAYS = DOMINION + DOMINION_JSON + ESS + CLEARBALLOT + VXSUITE + CDF
+WAYS = DOMINION + DOMINION_JSON + ESS + HART + CLEARBALLOT + VXSUITE + CDF
 
 
 def made(companion, folder, way):

@@ -1,0 +1,154 @@
+"""The export of Hart: a file of XML for each record, mostly in a ZIP."""
+from . import gather_xml
+from .gather_frame import Contest, Frame, is_write_in, position, snapshot
+from .gather_source import fault
+
+SPACE = '{http://tempuri.org/CVRDesign.xsd}'
+ROOT = SPACE + 'Cvr'
+DEVICE = 'hart'             # the form names no device
+WRITTEN = 'write-in'        # the id of a choice that is for a written name and has none of its own
+# the elements in each, and whether it has to be there
+INSIDE = {
+    'Cvr': {'Contests': True, 'CvrGuid': True, 'BatchNumber': True, 'BatchSequence': False,
+            'SheetNumber': False, 'PrecinctSplit': False, 'Party': False},
+    'PrecinctSplit': {'Name': True, 'Id': True},
+    'Contests': {'Contest': False},
+    'Contest': {'Name': True, 'Id': True, 'Options': False, 'Undervotes': False,
+                'Overvotes': False},
+    'Options': {'Option': False},
+    'Option': {'Name': False, 'Id': False, 'Value': True, 'WriteInData': False},
+}
+MANY = 'Contest', 'Option'
+
+
+def fits(source):
+    return source.base.endswith('.xml') and SPACE[1:-1].encode() in source.head()
+
+
+def stays(source):
+    return False
+
+
+class Reader:
+    """A source as a record."""
+
+    def __init__(self, source, frame):
+        self.source, self.frame = source, frame
+
+    def fault(self, text):
+        return fault(self.source.name, text)
+
+    def parts(self, element, name):
+        """The elements in an element, by name: one each, but lists of those of MANY."""
+        held = {it: [] for it in INSIDE[name] if it in MANY}
+        for part in element:
+            inner = part.tag[len(SPACE):]
+            if not part.tag.startswith(SPACE) or inner not in INSIDE[name]:
+                raise self.fault('the element %s in %s is not of this form as it is known'
+                                 % (part.tag, name))
+            if inner in MANY:
+                held[inner].append(part)
+            elif inner in held:
+                raise self.fault('the element %s stands twice in a %s' % (inner, name))
+            else:
+                held[inner] = part
+        lacking = [it for it, is_needed in INSIDE[name].items() if is_needed and it not in held]
+        if lacking:
+            raise self.fault('there is no %s in a %s' % (lacking[0], name))
+        return held
+
+    def text(self, held, name):
+        """The text of an element that has only that; None where it isn't there."""
+        if name not in held:
+            return None
+        if len(held[name]):
+            raise self.fault('the element %s has elements of its own' % name)
+        return (held[name].text or '').strip()
+
+    def number(self, held, name):
+        text = self.text(held, name)
+        if text is None:
+            return None
+        if not (text.isascii() and text.isdigit()):
+            raise self.fault('%s is no number, but %s' % (name, text))
+        return int(text)
+
+    def option(self, contest, element):
+        """The id of a choice that is marked, or None."""
+        held = self.parts(element, 'Option')
+        value, is_written = self.text(held, 'Value'), 'WriteInData' in held
+        if value not in ('0', '1'):
+            raise self.fault('the Value of an Option is neither 1 nor 0, but %s' % value)
+        name = self.text(held, 'Name') or (WRITTEN if is_written else '')
+        key = self.text(held, 'Id') or (WRITTEN if is_written else '')
+        if not key or not name:
+            raise self.fault('an Option of %s has no Name or no Id' % contest.key)
+        contest.add(key, name, is_written or is_write_in(name))
+        if contest.names[key] != name:
+            raise self.fault('the Option %s is named %s, and %s elsewhere'
+                             % (key, name, contest.names[key]))
+        return key if value == '1' else None
+
+    def contest(self, element):
+        """The text of a contest in a snapshot."""
+        held = self.parts(element, 'Contest')
+        key, name = self.text(held, 'Id'), self.text(held, 'Name')
+        contest = self.frame.contests.setdefault(key, Contest(key, name))
+        if contest.shown['Name'] != name:
+            raise self.fault('the Contest %s is named %s, and %s elsewhere'
+                             % (key, name, contest.shown['Name']))
+        options = self.parts(held['Options'], 'Options')['Option'] if 'Options' in held else []
+        chosen = [it for it in (self.option(contest, one) for one in options) if it is not None]
+        if len(set(chosen)) < len(chosen):
+            raise self.fault('an Option of %s is marked twice' % key)
+        numbers = {'WriteIns': sum(contest.selections[it] for it in chosen)}
+        numbers.update((it, self.number(held, it)) for it in ('Undervotes', 'Overvotes')
+                       if it in held)
+        return contest.written([(it, [position()]) for it in chosen], numbers)
+
+    def unit(self, held):
+        """The id of the unit; None where there is none."""
+        if 'PrecinctSplit' not in held:
+            return None
+        split = self.parts(held['PrecinctSplit'], 'PrecinctSplit')
+        key, name = self.text(split, 'Id'), self.text(split, 'Name')
+        if key and self.frame.units.get(key, name or key) != (name or key):
+            raise self.fault('the PrecinctSplit %s is named %s, and %s elsewhere'
+                             % (key, name, self.frame.units[key]))
+        return self.frame.unit(key, name)
+
+    def record(self):
+        root = gather_xml.tree(self.source)
+        if root.tag != ROOT:
+            raise self.fault('its root is %s, and not Cvr' % root.tag)
+        held = self.parts(root, 'Cvr')
+        contests = self.parts(held['Contests'], 'Contests')['Contest']
+        texts = [self.contest(it) for it in contests]
+        header = {'BatchId': self.text(held, 'BatchNumber'), 'BallotStyleUnitId': self.unit(held),
+                  'BallotSheetId': self.text(held, 'SheetNumber'),
+                  'BatchSequenceId': self.number(held, 'BatchSequence')}
+        name = DEVICE, self.text(held, 'CvrGuid')
+        return self.frame.record(self.source, '', name, header,
+                                 [('a', snapshot('a', 'interpreted', texts))])
+
+
+def in_order(frame):
+    """Puts contests and selections in order of their ids; the form has no list of them."""
+    frame.contests = {key: frame.contests[key] for key in sorted(frame.contests)}
+    for contest in frame.contests.values():
+        contest.selections = {key: contest.selections[key] for key in sorted(contest.selections)}
+
+
+def read(sources, out, cvr):
+    """Adds the records; answers the definition."""
+    frame = Frame('hart')
+    for source in filter(fits, sources):
+        out.add(Reader(source, frame).record())
+    in_order(frame)
+    return frame.report()
+
+
+def count(sources):
+    """The number of records and of names, counted in another way: one for each file."""
+    held = list(filter(fits, sources))
+    return len(held), len(held)
