@@ -7,6 +7,7 @@ from .gather_table import Table, begins, marks, rows_of
 NEEDED = 'TabulatorNum', 'BatchId', 'RecordId', 'PrecinctPortion', 'BallotType'
 OPTIONAL = 'CvrNumber', 'ImprintedId', 'CountingGroup', 'UniqueVotingIdentifier'
 CONTEST = re.compile(r'(.*\S)\s*\(Vote For=(\d+)\)', re.S)
+RANKED = re.compile(r'.+\(\d+\)', re.S)       # a choice at a rank, as in rounds
 HEADS = 4
 
 
@@ -39,10 +40,14 @@ class Heads:
         """Adds a column of a selection."""
         found = CONTEST.fullmatch(contest)
         if not contest or not choice:
-            raise self.table.fault('column %d has a contest without a choice, or a choice without a '
-                                   'contest' % (place + 1))
+            raise self.table.fault('column %d has a contest without a choice, or a choice without '
+                                   'a contest' % (place + 1))
         if not found:
             raise self.table.fault('column %d: no (Vote For=N) behind %s' % (place + 1, contest))
+        if RANKED.fullmatch(choice):
+            raise self.table.fault('column %d: %s has a number behind it, as choices with ranks '
+                                   'have; ranked contests are not read in this form'
+                                   % (place + 1, choice))
         name, allowed = found.group(1), int(found.group(2))
         held = self.frame.contests.setdefault(name, Contest(name, name, allowed))
         columns = self.columns.setdefault(name, [])

@@ -109,6 +109,8 @@ def dominion():
            'dominion.csv: line 4: column 12: no (Vote For=N) behind Measure 1: parks')
     yield ('a choice twice', lambda: (replaced(path, b'Omar Field', b'Iris Vale')(), replaced(path, b',LAR,', b',,')()),
            'dominion.csv: line 4: the choice Iris Vale stands twice in County Council')
+    yield ('a rank', replaced(path, b'Omar Field', b'Iris Vale(2)'),
+           'dominion.csv: line 4: column 10: Iris Vale(2) has a number behind it, as choices with ranks have; ranked contests are not read in this form')
     yield 'the heads again', line_again(path, 3), 'dominion.csv: line 9: the head stands here again: two files in one'
     yield 'another encoding', replaced(path, b'Old Mill', b'Old M\xefll'), 'dominion.csv: line 5: ' + NO_TEXT
     yield 'a quote that is not closed', replaced(path, b'1,1,1,1,"=', b'"1,1,1,1,"='), None
