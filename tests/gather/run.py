@@ -217,6 +217,17 @@ def see_long(cvr):
         see(all(make.json.dumps(it).encode() in data for it in records[:3] + records[-3:]), 'other bytes')
 
 
+def see_changed(cvr):
+    """A source that is changed before it is counted again is refused."""
+    with tempfile.TemporaryDirectory() as folder:
+        path, false = os.path.join(folder, 'ess.csv'), os.path.join(folder, 'false')
+        shutil.copy(path_of('ess', make.EXAMPLES), path)
+        faults.write(false, b'#!/bin/sh\n[ "$1" = currents ] && sed -i s/Iris/Olga/ "$CHANGED"\nexec "$REAL" "$@"\n')
+        os.chmod(false, 0o700)
+        got = run(['gather', path, '-o', os.path.join(folder, 'out')], false, REAL=cvr, CHANGED=path)
+        see(got == ('', 'cvr-audit: %s: it was changed while it was read\n' % path, 1) and sorted(os.listdir(folder)) == ['ess.csv', 'false'], repr(got))
+
+
 def see_stopped(cvr, number):
     """A run that is stopped leaves nothing."""
     with tempfile.TemporaryDirectory() as folder:
@@ -263,6 +274,7 @@ def trials(words, cvr):
     yield 'a folder that is there', lambda: see_there(cvr)
     yield 'two kinds', lambda: see_two_kinds(cvr)
     yield 'a long report', lambda: see_long(cvr)
+    yield 'a changed source', lambda: see_changed(cvr)
     for number in (signal.SIGINT, signal.SIGTERM):
         yield 'signal %d' % number, lambda number=number: see_stopped(cvr, number)
     for way in wrong_ways.WAYS:
