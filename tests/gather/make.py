@@ -224,7 +224,8 @@ def frame(election):
     contests = [{'@id': 'contest-%d' % k, '@type': 'CVR.CandidateContest', 'Name': it.name, 'VotesAllowed': it.allowed,
                  'ContestSelection': [{'@id': 'choice-%d-%d' % (k, i), '@type': 'CVR.CandidateSelection'} for i in range(len(it.choices))]}
                 for k, it in enumerate(election.contests)]
-    return {'@type': 'CVR.CastVoteRecordReport', 'Version': '1.0.0', 'GeneratedDate': '2024-11-05T21:40:00Z', 'ReportGeneratingDeviceIds': ['scanner-1'],
+    return {'@type': 'CVR.CastVoteRecordReport', 'Version': '1.0.0', 'GeneratedDate': '2024-11-05T21:40:00Z',
+            'ReportGeneratingDeviceIds': ['scanner-%d' % election.ballots[0].device],
             'ReportingDevice': [{'@id': 'scanner-%d' % k, '@type': 'CVR.ReportingDevice'} for k in sorted({it.device for it in election.ballots})],
             'GpUnit': [{'@id': 'county', '@type': 'CVR.GpUnit', 'Type': 'county'}] + [{'@id': 'unit-%d' % k, '@type': 'CVR.GpUnit', 'Type': 'precinct', 'Name': it}
                                                                                     for k, it in enumerate(election.units)],

@@ -217,6 +217,56 @@ def see_long(cvr):
         see(all(make.json.dumps(it).encode() in data for it in records[:3] + records[-3:]), 'other bytes')
 
 
+def see_bytes(cvr):
+    """The records of VxSuite are copied byte by byte; what isn't in them is listed, and an unknown file is named, too."""
+    with tempfile.TemporaryDirectory() as folder:
+        export, out = os.path.join(folder, 'vxsuite'), os.path.join(folder, 'out')
+        make.make('vxsuite', folder, BALLOTS, 21)
+        faults.write(os.path.join(export, 'notes.txt'), b'unknown')
+        text, log, status = run(['gather', export, '-o', out], cvr)
+        data = faults.read(os.path.join(out, 'records-1.json'))
+        held = [faults.read(os.path.join(export, it)) for it in make.files_below(export) if it.endswith('report.json')]
+        see(log == '' and len(held) == BALLOTS and all(one[len(b'{"CVR": ['):-len(b']}')] in data for one in held), 'other bytes')
+        left = [it for it in text.splitlines() if it.startswith('left out')]
+        see(left[0] == 'left out "%s/notes.txt"' % export and len(left) == 2 and '/rejected-' in left[1], repr(left))
+        see_sources(out, export)
+
+
+def halves(kind, election, folder):
+    """Writes an export in two parts: of VxSuite two folders by device, of a table two files of its rows."""
+    if kind == 'vxsuite':
+        for number in (0, 1):
+            part = make.Election(election.name, election.contests, election.units, [it for it in election.ballots if it.device % 2 == number])
+            make.vxsuite(part, os.path.join(folder, 'part-%d' % number))
+        return
+    make.KINDS[kind](election, folder)
+    path, end = path_of(kind, folder), b'\r\n'
+    lines, heads = faults.read(path).split(end)[:-1], 4 if kind == 'dominion' else 1
+    half = (heads + len(lines)) // 2
+    for number, part in enumerate([lines[:half], lines[:heads] + lines[half:]]):
+        faults.write(os.path.join(folder, 'part-%d.csv' % number), end.join(part) + end)
+    os.remove(path)
+
+
+def see_halves(kind, cvr):
+    """An export in two parts has the tally of the whole. One part given twice, under two names, is refused."""
+    with tempfile.TemporaryDirectory() as folder:
+        election, texts = make.random_election(make.random.Random(31), BALLOTS), []
+        make.KINDS[kind](election, os.path.join(folder, 'whole'))
+        halves(kind, election, os.path.join(folder, 'parts'))
+        for name in ('whole', 'parts'):
+            out = os.path.join(folder, 'out-' + name)
+            text, log, status = run(['gather', os.path.join(folder, name), '-o', out], cvr)
+            see((log, status) == ('', 0), repr(log))
+            texts.append(recount.printed(cvr, 'tally', out))
+        see(texts[0] == texts[1] and len(texts[0]) > 1, 'another tally than of the whole')
+        parts = sorted(os.listdir(os.path.join(folder, 'parts')))
+        one, copy = (os.path.join(folder, 'parts', it) for it in (parts[0], 'x' + parts[0]))
+        shutil.copytree(one, copy) if os.path.isdir(one) else shutil.copy(one, copy)
+        text, log, status = run(['gather', one, copy, '-o', os.path.join(folder, 'again')], cvr)
+        see(status == 1 and ' stands here and in ' in log or ' the BallotID ' in log, repr(log))
+
+
 def see_changed(cvr):
     """A source that is changed before it is counted again is refused."""
     with tempfile.TemporaryDirectory() as folder:
@@ -275,6 +325,9 @@ def trials(words, cvr):
     yield 'two kinds', lambda: see_two_kinds(cvr)
     yield 'a long report', lambda: see_long(cvr)
     yield 'a changed source', lambda: see_changed(cvr)
+    yield 'the bytes of records', lambda: see_bytes(cvr)
+    for kind in ('vxsuite', 'dominion', 'ess', 'clearballot'):
+        yield 'two parts of ' + kind, lambda kind=kind: see_halves(kind, cvr)
     for number in (signal.SIGINT, signal.SIGTERM):
         yield 'signal %d' % number, lambda number=number: see_stopped(cvr, number)
     for way in wrong_ways.WAYS:
