@@ -106,7 +106,7 @@ def hart(count, folder):
         count.record(root.findtext(SPACE + 'CvrGuid'))
         place = root.findtext('%sPrecinctSplit/%sName' % (SPACE, SPACE)), root.findtext(SPACE + 'BatchNumber')
         for contest in root.iter(SPACE + 'Contest'):
-            chosen = [it.findtext(SPACE + 'Name') for it in contest.iter(SPACE + 'Option') if it.findtext(SPACE + 'Value') == '1']
+            chosen = [it.findtext(SPACE + 'Name', WRITTEN) for it in contest.iter(SPACE + 'Option') if it.findtext(SPACE + 'Value') == '1']
             over, under = (int(contest.findtext(SPACE + it, '0')) for it in ('Overvotes', 'Undervotes'))
             count.contest((contest.findtext(SPACE + 'Name'), *place), chosen, over, under)
 
@@ -119,7 +119,7 @@ def dominion_json(count, folder):
             current = session.get('Modified') or session['Original']
             device, batch = session['TabulatorId'], session['BatchId']
             unit = lists['PrecinctPortion'][current['PrecinctPortionId']]['Description']
-            for number, card in enumerate(current['Cards']):
+            for number, card in enumerate(current.get('Cards', [current])):
                 count.record(device, batch, session['RecordId'], number)
                 for contest in card['Contests']:
                     chosen = [lists['Candidate'][it['CandidateId']]['Description'] for it in contest['Marks'] if it['IsVote'] and not it['IsAmbiguous']]

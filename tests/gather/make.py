@@ -23,6 +23,8 @@ SPACE = 'http://tempuri.org/CVRDesign.xsd'
 
 
 class Contest:
+    """A contest with its choices, each with its party. The forms that have ranks mark the choices of a ranked one by these."""
+
     def __init__(self, name, allowed, choices, is_ranked=False):
         self.name, self.allowed, self.choices, self.is_ranked = name, allowed, choices, is_ranked
 
@@ -60,7 +62,7 @@ def random_election(chance, count):
                    for i in range(chance.randint(2, 6))]
         choices += [('Write-in', '')] * chance.randint(0, 1)
         contests.append(Contest('Contest %d%s' % (k, chance.choice(['', ': a, b', ' "x"', ' é', ' (part)'])),
-                                min(chance.choice([1, 1, 1, 2, 3]), len(choices)), choices))
+                                min(chance.choice([1, 1, 1, 2, 3]), len(choices)), choices, chance.random() < 0.1))
     units = ['Unit %d' % k for k in range(chance.randint(1, 12))]
     styles = {unit: sorted(chance.sample(range(len(contests)), chance.randint(1, len(contests)))) for unit in range(len(units))}
     ballots = []
@@ -153,11 +155,18 @@ def escaped(text):
     return text.replace('&', '&amp;').replace('<', '&lt;')
 
 
+def hart_option(choice, name, ballot):
+    """A marked choice; a written name mostly has no name and id of its own."""
+    held = '<Name>%s</Name><Id>%s</Id>' % (escaped(choice), name)
+    if choice == 'Write-in' and ballot.number % 3:
+        held = '<WriteInData><ImageId>%d</ImageId></WriteInData>' % ballot.number
+    return '<Option>%s<Value>1</Value></Option>' % held
+
+
 def hart_contest(election, k, ballot):
     contest, marks = election.contests[k], ballot.marks[k]
     is_over = len(marks) > contest.allowed
-    options = ''.join('<Option><Name>%s</Name><Id>c%d-%d</Id><Value>1</Value></Option>' % (escaped(contest.choices[i][0]), k, i)
-                      for i in ([] if is_over else marks))
+    options = ''.join(hart_option(contest.choices[i][0], 'c%d-%d' % (k, i), ballot) for i in ([] if is_over else marks))
     lost = contest.allowed - len(marks)
     numbers = '<Undervotes>%d</Undervotes><Overvotes>%d</Overvotes>' % (max(lost, 0), contest.allowed if is_over else 0)
     return '<Contest><Name>%s</Name><Id>c%d</Id><Options>%s</Options>%s</Contest>' % (escaped(contest.name), k, options, numbers)
@@ -169,8 +178,9 @@ def hart(election, folder):
         contests = ''.join(hart_contest(election, k, it) for k in it.marks)
         put(folder, 'hart/%s.xml' % guid, '<?xml version="1.0" encoding="utf-8"?>\n<Cvr xmlns="%s"><Contests>%s</Contests>'
             '<BatchSequence>%d</BatchSequence><SheetNumber>1</SheetNumber><PrecinctSplit><Name>%s</Name><Id>p%d</Id></PrecinctSplit>'
-            '<BatchNumber>%d</BatchNumber><CvrGuid>%s</CvrGuid></Cvr>\n'
-            % (SPACE, contests, it.number, election.units[it.unit], it.unit, 1000 * it.device + it.batch, guid))
+            '<BatchNumber>%d</BatchNumber>%s<CvrGuid>%s</CvrGuid></Cvr>\n'
+            % (SPACE, contests, it.number, election.units[it.unit], it.unit, 1000 * it.device + it.batch,
+               '<Party><Name>Heron</Name></Party>' * (it.number % 5 == 0), guid))
 
 
 # ---- the JSON of Dominion
@@ -179,7 +189,7 @@ def listed(election):
     """The lists of Dominion's JSON, by the names of their files."""
     candidates = [{'Description': choice, 'Id': 100 * k + i, 'ExternalId': '', 'ContestId': k, 'Type': 'WriteIn' if choice == 'Write-in' else 'Regular'}
                   for k, _, i, (choice, _) in columns(election)]
-    contests = [{'Description': it.name, 'Id': k, 'ExternalId': '', 'DistrictId': 1, 'VoteFor': it.allowed, 'NumOfRanks': 0}
+    contests = [{'Description': it.name, 'Id': k, 'ExternalId': '', 'DistrictId': 1, 'VoteFor': it.allowed, 'NumOfRanks': 5 * it.is_ranked}
                 for k, it in enumerate(election.contests)]
     units = [{'Description': it, 'Id': k, 'ExternalId': '', 'PrecinctId': k} for k, it in enumerate(election.units)]
     return {'ContestManifest': contests, 'CandidateManifest': candidates, 'PrecinctPortionManifest': units}
@@ -190,13 +200,18 @@ def dominion_version(election, ballot, marks, is_current, cards):
     held = []
     for k in marks:
         contest, lost = election.contests[k], election.contests[k].allowed - len(marks[k])
-        found = [(i, lost >= 0, False) for i in marks[k]] + [(i, False, True) for place, i in ballot.unsure if place == k and i not in marks[k]]
-        held.append({'Id': k, 'ManifestationId': k, 'Undervotes': max(lost, 0), 'Overvotes': contest.allowed if lost < 0 else 0,
+        is_over = lost < 0 and not contest.is_ranked
+        found = [(i, not is_over, False) for i in marks[k]] + [(i, False, True) for place, i in ballot.unsure if place == k and i not in marks[k]]
+        held.append({'Id': k, 'ManifestationId': k, 'Undervotes': max(lost, 0), 'Overvotes': contest.allowed if is_over else 0,
                      'OutstackConditionIds': [],
-                     'Marks': [{'CandidateId': 100 * k + i, 'ManifestationId': i, 'PartyId': 0, 'Rank': 1, 'MarkDensity': 50 if unsure else 99,
-                                'IsAmbiguous': unsure, 'IsVote': is_vote, 'OutstackConditionIds': []} for i, is_vote, unsure in found]})
+                     'Marks': [{'CandidateId': 100 * k + i, 'ManifestationId': i, 'PartyId': 0, 'Rank': rank if contest.is_ranked else 1,
+                                'MarkDensity': 50 if unsure else 99, 'IsAmbiguous': unsure, 'IsVote': is_vote, 'OutstackConditionIds': []}
+                               for rank, (i, is_vote, unsure) in enumerate(found, 1)]})
     parts = [held[place::cards] for place in range(cards)]
-    return {'PrecinctPortionId': ballot.unit, 'BallotTypeId': ballot.unit, 'IsCurrent': is_current,
+    head = {'PrecinctPortionId': ballot.unit, 'BallotTypeId': ballot.unit, 'IsCurrent': is_current}
+    if not cards:       # as in older exports
+        return dict(head, Contests=held)
+    return {**head,
             'Cards': [{'Id': place, 'KeyInId': place, 'PaperIndex': place, 'Contests': part, 'OutstackConditionIds': []}
                       for place, part in enumerate(parts)]}
 
@@ -204,8 +219,9 @@ def dominion_version(election, ballot, marks, is_current, cards):
 def dominion_json(election, folder):
     sessions = []
     for k, it in enumerate(election.ballots):
-        cards = 2 if len(election.contests) > 2 and k % 10 == 0 else 1
-        session = {'TabulatorId': it.device, 'BatchId': it.batch, 'RecordId': it.number, 'CountingGroupId': 1, 'ImageMask': '', 'SessionType': 'ScannedVote',
+        cards = 0 if k % 15 == 7 else 2 if len(election.contests) > 2 and k % 10 == 0 else 1
+        session = {'TabulatorId': it.device, 'BatchId': it.batch, 'RecordId': str(it.number) if k % 11 == 5 else it.number,
+                   'CountingGroupId': 1, 'ImageMask': '', 'SessionType': 'ScannedVote',
                    'VotingSessionIdentifier': '', 'UniqueVotingIdentifier': ''}
         first = it.marks if it.before is None else it.before
         session['Original'] = dominion_version(election, it, first, it.before is None, cards)

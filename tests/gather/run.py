@@ -267,6 +267,23 @@ def see_halves(kind, cvr):
         see(status == 1 and ' stands here and in ' in log or ' the BallotID ' in log, repr(log))
 
 
+def see_variants(cvr):
+    """Tables with a byte order mark, with other line ends, with choices of one name, and with remade ballots."""
+    changes = {'a mark': lambda it: b'\xef\xbb\xbf' + it, 'line ends': lambda it: it.replace(b'\r\n', b'\n'),
+               'names': lambda it: it.replace(b'Omar Field', b'Iris Vale'), 'remade': lambda it: it.replace(b',,0,', b',,1,')}
+    for kind in ('dominion', 'clearballot', 'ess'):
+        for name, change in changes.items():
+            with tempfile.TemporaryDirectory() as folder:
+                path, out = os.path.join(folder, kind + '.csv'), os.path.join(folder, 'out')
+                data = faults.read(path_of(kind, make.EXAMPLES))
+                faults.write(path, change(data))
+                text, _ = gathered(kind, path, cvr, out)
+                note = 'note: %s: 4 records have a Remade that is not 0; each is a record as the others\n' % path
+                see((note in text) == (name == 'remade' and kind == 'clearballot'), 'the note of ' + kind)
+                lines = recount.printed(cvr, 'tally', out)
+                see(('"Iris Vale (LAR)"' in lines[0]) == (name == 'names' and kind != 'ess'), 'choices of one name in ' + kind)
+
+
 def see_changed(cvr):
     """A source that is changed before it is counted again is refused."""
     with tempfile.TemporaryDirectory() as folder:
@@ -326,6 +343,7 @@ def trials(words, cvr):
     yield 'a long report', lambda: see_long(cvr)
     yield 'a changed source', lambda: see_changed(cvr)
     yield 'the bytes of records', lambda: see_bytes(cvr)
+    yield 'variants of tables', lambda: see_variants(cvr)
     for kind in ('vxsuite', 'dominion', 'ess', 'clearballot'):
         yield 'two parts of ' + kind, lambda kind=kind: see_halves(kind, cvr)
     for number in (signal.SIGINT, signal.SIGTERM):
