@@ -7,7 +7,7 @@ import sys
 from . import (gather_cdf, gather_clearballot, gather_dominion, gather_dominion_json, gather_ess,
                gather_hart, gather_vxsuite, page_faults, program)
 from .gather_out import DEFINITION, writing
-from .gather_source import fault, sources_in
+from .gather_source import NO_TEXT, fault, sources_in
 from .progress import Progress
 from .reading import spelled
 
@@ -23,6 +23,7 @@ KINDS = {
 RECORD = re.compile(r'/CVR/(\d+)')
 UNKNOWN = ('no form of export is recognised here (%s); if it is one of these, name it with --as, '
            'and see docs/GATHER.md' % ', '.join(KINDS))
+UTF_16 = b'\xff\xfe', b'\xfe\xff'
 WORKBOOK = 'it is a workbook of Excel; have the records exported as CSV in UTF-8'
 
 
@@ -31,8 +32,11 @@ def recognised(sources, paths):
     found = [name for name, kind in KINDS.items() if any(map(kind.fits, sources))]
     if len(found) == 1:
         return found[0]
-    if any(it.name.endswith('/xl/workbook.xml') for it in sources):
-        raise fault(paths[0], WORKBOOK)
+    for source in sources if not found else ():
+        if source.name.endswith('/xl/workbook.xml'):
+            raise fault(paths[0], WORKBOOK)
+        if source.head().startswith(UTF_16):
+            raise fault(source.name, NO_TEXT, 'line 1')
     if found:
         raise fault(paths[0], 'there is more than one kind here: %s; name one with --as'
                     % ', '.join(found))

@@ -155,7 +155,7 @@ def ess():
            'ess.csv: line 1: column 5 has no contest, or one that stands elsewhere, too')
     yield 'the heads again', line_again(path, 0), 'ess.csv: line 6: the head stands here again: two files in one'
     yield 'another encoding', replaced(path, b'Old Mill', b'Old M\xefll'), 'ess.csv: line 2: ' + NO_TEXT
-    yield 'UTF-16', lambda: write(path, read(path).decode('utf-8').encode('utf-16')), 'ess.csv: ' + UNKNOWN
+    yield 'UTF-16', lambda: write(path, read(path).decode('utf-8').encode('utf-16')), 'ess.csv: line 1: ' + NO_TEXT
     yield 'a byte that is 0', replaced(path, b'Old Mill', b'Old\0Mill'), 'ess.csv: line 2: ' + NO_TEXT
     yield 'semicolons', everywhere(path, b',', b';'), 'ess.csv: line 1: the cells are parted by semicolons; this form has commas'
     yield 'an id twice', replaced(path, b'104002', b'104001'), 'ess.csv: line 3: the record "ess" "104001" stands here and in ess.csv: line 2'
@@ -250,6 +250,8 @@ def dominion_json():
            path + ': /Sessions/0/Original/Cards/0/Contests/0/Marks/0: its IsVote is absent, or not true or false')
     yield ('a unit that is not there', lambda: write(path, read(path).replace(b'"PrecinctPortionId": 0', b'"PrecinctPortionId": 9', 1)),
            path + ': /Sessions/0/Original: the PrecinctPortionId 9 is not in PrecinctPortionManifest.json')
+    yield ('half a sign', replaced(more + 'CandidateManifest.json', b'Iris Vale', b'Iris \\ud800'),
+           'definition.json: cvr refuses it: E2 The file is no JSON text.')
     yield 'cut', cut(path, 9), None
     yield 'no sessions', everywhere(path, b'"Sessions"', b'"Session"'), 'dominion-json: ' + UNKNOWN
 
