@@ -4,9 +4,11 @@ import os
 from . import definition
 from .gather_json import Document, record_of, see_frame, value_in
 from .gather_source import fault
+from .reading import spelled
 
 METADATA, REPORT = 'metadata.json', 'cast-vote-record-report.json'
 FRAME = 'castVoteRecordReportMetadata'
+LEFT = {'arePollsClosed', 'castVoteRecordRootHash', 'batchManifest'}
 REJECTED = 'rejected-'
 IMAGES = '.jpg', '.jpeg', '.png', '.layout.json'
 
@@ -26,12 +28,14 @@ def stays(source):
     return source.base.endswith(IMAGES) and not is_rejected
 
 
-def frame_in(source, cvr):
-    """What an export says of its election."""
+def frame_in(source, out, cvr):
+    """What an export says of its election. Members that aren't known are named."""
     held = value_in(source)
     frame = held.get(FRAME) if isinstance(held, dict) else None
     if not isinstance(frame, dict):
         raise fault(source.name, 'it has no %s' % FRAME)
+    for name in sorted({*held} - {FRAME} - LEFT):
+        out.note('%s: its member %s is left out' % (source.name, spelled(name)))
     frame = dict(frame, CVR=[])
     see_frame(cvr, source, frame, '/' + FRAME)
     return frame
@@ -51,7 +55,7 @@ def read(sources, out, cvr):
     union, reports = definition.Union(), [it for it in sources if it.base == REPORT]
     folders = [it.folder for it in sources if it.base == METADATA]
     for source in (it for it in sources if it.base == METADATA):
-        union.take(source.name, frame_in(source, cvr))
+        union.take(source.name, frame_in(source, out, cvr))
         see_ballots(source.folder, sources)
     for source in reports:
         if os.path.dirname(source.folder) not in folders:

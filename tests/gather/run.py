@@ -218,17 +218,20 @@ def see_long(cvr):
 
 
 def see_bytes(cvr):
-    """The records of VxSuite are copied byte by byte; what isn't in them is listed, and an unknown file is named, too."""
+    """The records of VxSuite are copied byte by byte; what isn't in them is listed, and an unknown file or member is named."""
     with tempfile.TemporaryDirectory() as folder:
         export, out = os.path.join(folder, 'vxsuite'), os.path.join(folder, 'out')
         make.make('vxsuite', folder, BALLOTS, 21)
         faults.write(os.path.join(export, 'notes.txt'), b'unknown')
+        meta = os.path.join(export, 'metadata.json')
+        faults.write(meta, faults.read(meta).replace(b'{"arePollsClosed"', b'{"mystery": 1, "arePollsClosed"'))
         text, log, status = run(['gather', export, '-o', out], cvr)
         data = faults.read(os.path.join(out, 'records-1.json'))
         held = [faults.read(os.path.join(export, it)) for it in make.files_below(export) if it.endswith('report.json')]
         see(log == '' and len(held) == BALLOTS and all(one[len(b'{"CVR": ['):-len(b']}')] in data for one in held), 'other bytes')
         left = [it for it in text.splitlines() if it.startswith('left out')]
         see(left[0] == 'left out "%s/notes.txt"' % export and len(left) == 2 and '/rejected-' in left[1], repr(left))
+        see(text.endswith('\nnote: %s: its member "mystery" is left out\n' % meta), repr(text))
         see_sources(out, export)
 
 
