@@ -9,7 +9,7 @@ from collections import namedtuple
 from contextlib import contextmanager
 
 from . import definition
-from .gather_source import fault
+from .gather_source import fault, in_a_line
 from .program import FAILED, ended
 from .reading import spelled
 
@@ -50,7 +50,7 @@ class Out:
         return open(self.at(name), mode, opener=private, **more)
 
     def note(self, text):
-        self.left.append('note: %s' % text)
+        self.left.append(in_a_line('note: %s' % text))
 
     # ---- records
 

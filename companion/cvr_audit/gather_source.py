@@ -20,9 +20,15 @@ NO_TEXT = 'this is not text in UTF-8; export it in that encoding'
 DAMAGE = zipfile.BadZipFile, zlib.error, EOFError, NotImplementedError, RuntimeError
 
 
+def in_a_line(text):
+    """A text as a terminal shows it in one line: other signs are spelled. Bytes of a path stay."""
+    return ''.join(it if it.isprintable() or '\udc80' <= it <= '\udcff' else ascii(it)[1:-1]
+                   for it in text)
+
+
 def fault(name, text, place=None):
     """The end of a run over a source that isn't as it should be, with the place there."""
-    return ended(REFUSED, ': '.join(it for it in (name, place, text) if it))
+    return ended(REFUSED, in_a_line(': '.join(it for it in (name, place, text) if it)))
 
 
 class Source:

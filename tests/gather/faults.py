@@ -111,6 +111,8 @@ def dominion():
            'dominion.csv: line 4: the choice Iris Vale stands twice in County Council')
     yield ('a rank', replaced(path, b'Omar Field', b'Iris Vale(2)'),
            'dominion.csv: line 4: column 10: Iris Vale(2) has a number behind it, as choices with ranks have; ranked contests are not read in this form')
+    yield ('signs of a terminal', replaced(path, b'Style 0,1,0,0', b'Style 0,"\x1b[2J\n\xe2\x80\xaex",0,0'),
+           'dominion.csv: line 5: a mark is neither 1, 0 nor empty, but \\x1b[2J\\n\\u202ex')
     yield 'the heads again', line_again(path, 3), 'dominion.csv: line 9: the head stands here again: two files in one'
     yield 'another encoding', replaced(path, b'Old Mill', b'Old M\xefll'), 'dominion.csv: line 5: ' + NO_TEXT
     yield 'a quote that is not closed', replaced(path, b'1,1,1,1,"=', b'"1,1,1,1,"='), None
@@ -196,6 +198,8 @@ def zips():
 def vxsuite():
     yield 'cut', cut(VX, 3), VX + ': line 1: it is no JSON, or cut off: ..'
     yield 'no id', replaced(VX, b'"UniqueId"', b'"Unique"'), VX + ': /CVR/0: ' + LOST % 'UniqueId'
+    yield ('half a sign twice', lambda: (write(VX, read(VX).replace(b'"1-0003"', b'"\\ud800"')), shutil.copytree(FIRST, 'vxsuite/ffff')),
+           'vxsuite/ffff/cast-vote-record-report.json: /CVR/0: the record "scanner-1" "\\ud800" stands here and in another source: ')
     yield ('a record twice', lambda: shutil.copytree(FIRST, 'vxsuite/ffff'),
            'vxsuite/ffff/cast-vote-record-report.json: /CVR/0: the record "scanner-1" "1-0003" stands here and in ' + VX + ': /CVR/0')
     yield 'two records', lambda: write(VX, read(VX)[:-2] + b',' + read(VX)[9:]), VX + ': it is no object with a CVR of one record, and nothing else'
@@ -244,6 +248,8 @@ def dominion_json():
            path + ': /Sessions/1/Original/Cards/0: the record "1" "1-1-1" stands here and in ' + path + ': /Sessions/0/Original/Cards/0')
     yield ('a version that is not current', lambda: write(path, read(path).replace(b'"IsCurrent": true', b'"IsCurrent": false', 1)),
            path + ': /Sessions/0: the current version has to be Modified, where it has one, and else Original, and no other; cvr counts that one')
+    yield ('half a sign in a member', lambda: write(path, read(path).replace(b'"SessionType"', b'"\\ud800"', 1)),
+           path + ': /Sessions/0: the member "\\ud800" of a Session is not of this form as it is known')
     yield ('a member more', lambda: write(path, read(path).replace(b'"SessionType"', b'"Mystery"', 1)),
            path + ': /Sessions/0: the member "Mystery" of a Session is not of this form as it is known')
     yield ('a mark without a word', lambda: write(path, read(path).replace(b'"IsVote": true', b'"IsVote": 1', 1)),
