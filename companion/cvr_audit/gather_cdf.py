@@ -2,7 +2,7 @@
 from . import definition
 from .gather_json import Document, Names, record_of, see_frame
 
-CLASS = b'"CVR.CastVoteRecordReport"'
+CLASS = b'"CVR.'       # of a report or, where its records stand first, of one of these
 # of VxSuite: such a report without its records, and others without what it has
 OTHERS = 'metadata.json', 'cast-vote-record-report.json', '.layout.json'
 

@@ -298,6 +298,22 @@ def see_changed(cvr):
         see(got == ('', 'cvr-audit: %s: it was changed while it was read\n' % path, 1) and sorted(os.listdir(folder)) == ['ess.csv', 'false'], repr(got))
 
 
+def see_long_heads(cvr):
+    """Heads of many contests are as long as they are, and a report may begin with its records."""
+    with tempfile.TemporaryDirectory() as folder:
+        path = os.path.join(folder, 'dominion.csv')
+        faults.write(path, faults.read(path_of('dominion', make.EXAMPLES)).replace(b'County Council', b'County Council' + b'x' * 100000))
+        gathered('dominion', path, cvr, os.path.join(folder, 'out'))
+        make.county_cdf(folder)
+        path = os.path.join(folder, 'cdf', 'scan.json')
+        report = make.json.loads(faults.read(path))
+        records = [dict(report['CVR'][0], UniqueId=str(k)) for k in range(2000)]
+        faults.write(path, make.json.dumps({'CVR': records, **{name: it for name, it in report.items() if name not in ('@type', 'CVR')}, '@type': report['@type']}).encode())
+        see(faults.read(path).index(b'CVR.CastVoteRecordReport') > 1 << 20, 'the class of the report stands too early')
+        text, _, status = run(['gather', os.path.join(folder, 'cdf'), '-o', os.path.join(folder, 'again')], cvr)
+        see(status == 0 and text.endswith('/records-1.json 2002\n'), repr(text))
+
+
 def see_stopped(cvr, number):
     """A run that is stopped leaves nothing."""
     with tempfile.TemporaryDirectory() as folder:
@@ -347,6 +363,7 @@ def trials(words, cvr):
     yield 'a changed source', lambda: see_changed(cvr)
     yield 'the bytes of records', lambda: see_bytes(cvr)
     yield 'variants of tables', lambda: see_variants(cvr)
+    yield 'long heads', lambda: see_long_heads(cvr)
     for kind in ('vxsuite', 'dominion', 'ess', 'clearballot'):
         yield 'two parts of ' + kind, lambda kind=kind: see_halves(kind, cvr)
     for number in (signal.SIGINT, signal.SIGTERM):
