@@ -6,7 +6,7 @@ from .gather_table import Table, begins, marks, rows_of
 
 NEEDED = ['BoxID', 'BoxPosition', 'BallotID', 'PrecinctID', 'BallotStyleID', 'ScanComputerName']
 OPTIONAL = ['RowNumber', 'PrecinctStyleName', 'Status', 'Remade']
-CHOICE = re.compile(r'Choice_\d+_1:(.+):Vote For (\d+):(.+):([^:]*)', re.S)
+CHOICE = re.compile(r'Choice_\d+_1:(.+):Vote For ([0-9]{1,9}):(.+):([^:]*)', re.S)
 HEADS = 1
 
 

@@ -6,7 +6,7 @@ from .gather_table import Table, begins, marks, rows_of
 
 NEEDED = 'TabulatorNum', 'BatchId', 'RecordId', 'PrecinctPortion', 'BallotType'
 OPTIONAL = 'CvrNumber', 'ImprintedId', 'CountingGroup', 'UniqueVotingIdentifier'
-CONTEST = re.compile(r'(.*\S)\s*\(Vote For=(\d+)\)', re.S)
+CONTEST = re.compile(r'(.*\S)\s*\(Vote For=([0-9]{1,9})\)', re.S)
 RANKED = re.compile(r'.+\(\d+\)', re.S)       # a choice at a rank, as in rounds
 HEADS = 4
 

@@ -111,6 +111,8 @@ def dominion():
            'dominion.csv: line 4: the choice Iris Vale stands twice in County Council')
     yield ('a rank', replaced(path, b'Omar Field', b'Iris Vale(2)'),
            'dominion.csv: line 4: column 10: Iris Vale(2) has a number behind it, as choices with ranks have; ranked contests are not read in this form')
+    yield ('a number of many digits', replaced(path, b'County Council (Vote For=1),County', b'County Council (Vote For=1%s),County' % (b'0' * 5000)),
+           'dominion.csv: line 4: column 9: no (Vote For=N) behind County Council (Vote For=1000..')
     yield ('signs of a terminal', replaced(path, b'Style 0,1,0,0', b'Style 0,"\x1b[2J\n\xe2\x80\xaex",0,0'),
            'dominion.csv: line 5: a mark is neither 1, 0 nor empty, but \\x1b[2J\\n\\u202ex')
     yield 'the heads again', line_again(path, 3), 'dominion.csv: line 9: the head stands here again: two files in one'
@@ -136,6 +138,8 @@ def clearballot():
            'clearballot.csv: line 1: column 14 has no contest, `Vote For N` and choice: Choice_4_1:Yes:Non-Partisan')
     yield ('two numbers of votes', replaced(path, b'Vote For 1:No:', b'Vote For 2:No:'),
            'clearballot.csv: line 1: the choice No stands twice in Measure 1: parks, or the contest has two numbers of votes')
+    yield ('a number of many digits', replaced(path, b'Vote For 1:No:', b'Vote For 1%s:No:' % (b'0' * 5000)),
+           'clearballot.csv: line 1: column 15 has no contest, `Vote For N` and choice: Choice_5_1:Measure 1: parks:Vote For 1000..')
     yield 'the heads again', line_again(path, 0), 'clearballot.csv: line 6: the head stands here again: two files in one'
     yield 'another encoding', replaced(path, b'Old Mill', b'Old M\xefll'), 'clearballot.csv: line 2: ' + NO_TEXT
     yield 'semicolons', everywhere(path, b',', b';'), 'clearballot.csv: line 1: the cells are parted by semicolons; this form has commas'
