@@ -130,8 +130,11 @@ class Session:
         contest, chosen, written = self.frame.contests[key], {}, 0
         for place, mark in enumerate(self.of(value, 'Marks', list, steps)):
             choice, made, is_counted = self.mark(contest, mark, [*steps, 'Marks', place])
-            chosen.setdefault(choice, []).append(made)
-            written += is_counted and contest.selections[choice]
+            is_written, votes = contest.selections[choice], chosen.setdefault(choice, [])
+            if votes and not is_written and 'VoteVariation' not in contest.shown:
+                raise self.fault('the CandidateId %s is marked twice' % choice, *steps)
+            votes.append(made)
+            written += is_counted and is_written
         numbers = {it: self.of(value, it, int, steps) for it in ('Overvotes', 'Undervotes')
                    if it in value}
         return contest.written(chosen.items(), dict(numbers, WriteIns=int(written)))
@@ -139,10 +142,11 @@ class Session:
     def cards(self, name):
         """The cards of a version, each with the steps that lead to it."""
         value = self.value[name]
-        self.see(value, 'Version', [name])
         if 'Cards' not in value:        # in older exports the contests stand here
             return [({'Contests': value.get('Contests')}, [name])]
         cards = self.of(value, 'Cards', list, [name])
+        if not cards or 'Contests' in value:
+            raise self.fault('it has no card, or Contests beside Cards', name)
         for place, card in enumerate(cards):
             self.see(card, 'Card', [name, 'Cards', place])
         return [(card, [name, 'Cards', place]) for place, card in enumerate(cards)]
@@ -161,25 +165,29 @@ class Session:
         for name in held:
             self.see(self.value[name], 'Version', [name])
         current = [name for name in held if self.value[name].get('IsCurrent') is True]
-        if not held or current != held[-1:]:
+        if 'Original' not in held:
+            raise self.fault('it has no Original')
+        if current != held[-1:]:
             raise self.fault('the current version has to be Modified, where it has one, and else '
                              'Original, and no other; cvr counts that one')
         return held
 
     def header(self, version, parts):
         """The header of the records, by the current version."""
-        value = self.value[version]
-        unit = value.get('PrecinctPortionId')
-        name = str(unit) if unit is not None else None
+        name, style = (self.id_of(version, it) for it in ('PrecinctPortionId', 'BallotTypeId'))
         if name is not None and self.units is not None:
             if name not in self.units:
                 raise self.fault('the PrecinctPortionId %s is not in %s' % (name, UNITS), version)
             self.frame.unit(name, self.units[name]['Description'])
         elif name is not None:
             self.frame.unit(name)
-        style = value.get('BallotTypeId')
-        return {'BallotStyleUnitId': name, 'BallotStyleId': None if style is None else str(style),
-                'BatchId': '-'.join(parts[:2])}
+        return {'BallotStyleUnitId': name, 'BallotStyleId': style, 'BatchId': '-'.join(parts[:2])}
+
+    def id_of(self, version, member):
+        """The text of a number that may be absent or null."""
+        value = self.value[version]
+        is_there = value.get(member) is not None
+        return str(self.of(value, member, int, [version])) if is_there else None
 
     def records(self):
         """The records: one for each card, whose number is in its name where there are several."""

@@ -3,6 +3,7 @@ of texts of a file or by a function, and the line with which `cvr-audit gather` 
 else is said. Nothing may be left of the folder that was to be written."""
 import glob
 import os
+import re
 import shutil
 import struct
 import zipfile
@@ -252,6 +253,15 @@ def dominion_json():
            path + ': /Sessions/1/Original/Cards/0: the record "1" "1-1-1" stands here and in ' + path + ': /Sessions/0/Original/Cards/0')
     yield ('a version that is not current', lambda: write(path, read(path).replace(b'"IsCurrent": true', b'"IsCurrent": false', 1)),
            path + ': /Sessions/0: the current version has to be Modified, where it has one, and else Original, and no other; cvr counts that one')
+    yield 'no Original', lambda: write(path, read(path).replace(b'"Original"', b'"Modified"', 1)), path + ': /Sessions/0: it has no Original'
+    yield 'no card', lambda: write(path, re.sub(rb'(?s)"Cards": .*?\n    \]', b'"Cards": []', read(path), 1)), \
+        path + ': /Sessions/0/Original: it has no card, or Contests beside Cards'
+    yield 'contests beside cards', lambda: write(path, read(path).replace(b'"Cards"', b'"Contests": [], "Cards"', 1)), \
+        path + ': /Sessions/0/Original: it has no card, or Contests beside Cards'
+    yield ('a unit that is no number', lambda: write(path, read(path).replace(b'"PrecinctPortionId": 0', b'"PrecinctPortionId": {"a": 1}', 1)),
+           path + ': /Sessions/0/Original: its PrecinctPortionId is absent, or not a whole number')
+    yield ('a mark twice', lambda: write(path, re.sub(rb'(?s)("Marks": \[)(.*?\n         \})', rb'\1\2,\2', read(path), 1)),
+           path + ': /Sessions/0/Original/Cards/0/Contests/0: the CandidateId 0 is marked twice')
     yield ('half a sign in a member', lambda: write(path, read(path).replace(b'"SessionType"', b'"\\ud800"', 1)),
            path + ': /Sessions/0: the member "\\ud800" of a Session is not of this form as it is known')
     yield ('a member more', lambda: write(path, read(path).replace(b'"SessionType"', b'"Mystery"', 1)),

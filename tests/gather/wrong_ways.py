@@ -87,7 +87,7 @@ DOMINION_JSON = of('dominion-json', [
     ('states_no_overvotes', 'gather_dominion_json.py', "for it in ('Overvotes', 'Undervotes')", "for it in ('Undervotes',)"),
     ('states_no_undervotes', 'gather_dominion_json.py', "for it in ('Overvotes', 'Undervotes')", "for it in ('Overvotes',)"),
     ('counts_write_ins_that_are_no_vote', 'gather_dominion_json.py', 'written += is_counted and', 'written +='),
-    ('takes_the_style_for_the_unit', 'gather_dominion_json.py', "unit = value.get('PrecinctPortionId')", "unit = 0 * value.get('PrecinctPortionId')"),
+    ('takes_the_style_for_the_unit', 'gather_dominion_json.py', "('PrecinctPortionId', 'BallotTypeId'))", "('PrecinctPortionId', 'BallotTypeId')); name = '0'"),
     ('knows_no_write_ins', 'gather_dominion_json.py', "item.get('Type') == 'WriteIn'", 'False'),
     ('takes_a_mark_of_a_choice_alone', 'gather_dominion_json.py', 'contest.written(chosen.items(), dict(', 'contest.written(list(chosen.items())[:1], dict('),
 ])
