@@ -1,4 +1,7 @@
 """The export of Hart: a file of XML for each record, mostly in a ZIP."""
+import collections
+import re
+
 from . import gather_xml
 from .gather_frame import Contest, Frame, is_write_in, position, snapshot
 from .gather_source import fault
@@ -19,10 +22,16 @@ INSIDE = {
     'Option': {'Name': False, 'Id': False, 'Value': True, 'WriteInData': False},
 }
 MANY = 'Contest', 'Option'
+NUMBER = re.compile('[0-9]{1,18}')
+
+
+def is_export(source):
+    """Whether a source has to be a record. A Mac puts `._` before the names of its own files."""
+    return source.base.lower().endswith('.xml') and not source.base.startswith('._')
 
 
 def fits(source):
-    return source.base.endswith('.xml') and SPACE[1:-1].encode() in source.head()
+    return is_export(source) and SPACE[1:-1].encode() in source.head()
 
 
 def stays(source):
@@ -69,7 +78,7 @@ class Reader:
         text = self.text(held, name)
         if text is None:
             return None
-        if not (text.isascii() and text.isdigit()):
+        if not NUMBER.fullmatch(text):
             raise self.fault('%s is no number, but %s' % (name, text))
         return int(text)
 
@@ -99,12 +108,15 @@ class Reader:
                              % (key, name, contest.shown['Name']))
         options = self.parts(held['Options'], 'Options')['Option'] if 'Options' in held else []
         chosen = [it for it in (self.option(contest, one) for one in options) if it is not None]
-        if len(set(chosen)) < len(chosen):
-            raise self.fault('an Option of %s is marked twice' % key)
+        marks = collections.Counter(chosen)
+        for it, number in marks.items():
+            if number > 1 and not contest.selections[it]:
+                raise self.fault('an Option of %s is marked twice' % key)
         numbers = {'WriteIns': sum(contest.selections[it] for it in chosen)}
         numbers.update((it, self.number(held, it)) for it in ('Undervotes', 'Overvotes')
                        if it in held)
-        return contest.written([(it, [position()]) for it in chosen], numbers)
+        positions = [(it, [position()] * number) for it, number in marks.items()]
+        return contest.written(positions, numbers)
 
     def unit(self, held):
         """The id of the unit; None where there is none."""
@@ -142,7 +154,7 @@ def in_order(frame):
 def read(sources, out, cvr):
     """Adds the records; answers the definition."""
     frame = Frame('hart')
-    for source in filter(fits, sources):
+    for source in filter(is_export, sources):
         out.add(Reader(source, frame).record())
     in_order(frame)
     return frame.report()
@@ -150,5 +162,5 @@ def read(sources, out, cvr):
 
 def count(sources):
     """The number of records and of names, counted in another way: one for each file."""
-    held = list(filter(fits, sources))
+    held = list(filter(is_export, sources))
     return len(held), len(held)

@@ -186,6 +186,12 @@ def hart():
     yield 'another value', lambda: write(HART, read(HART).replace(b'<Value>1<', b'<Value>2<', 1)), HART + ': the Value of an Option is neither 1 nor 0, but 2'
     yield 'another name', replaced('hart/f41a25eb-c6ff-5405-b03b-22e3dee6e0c6.xml', b'County Council', b'City Council'), None
     yield 'no number', replaced(HART, b'<BatchSequence>1', b'<BatchSequence>one'), None
+    yield 'a number of many digits', replaced(HART, b'<BatchSequence>1', b'<BatchSequence>' + b'1' * 5000), HART + ': BatchSequence is no number, but 111..'
+    yield ('an option twice', lambda: write(HART, read(HART).replace(b'</Options>', read(HART).partition(b'<Options>')[2].partition(b'</Options>')[0] + b'</Options>', 1)),
+           HART + ': an Option of c0 is marked twice')
+    yield 'an empty file', lambda: write('hart/zz.XML', b''), 'hart/zz.XML: line 1: it is no XML, or cut off: ..'
+    yield 'another root', everywhere(HART, b'Cvr xmlns', b'Log xmlns'), None
+    yield 'another namespace', everywhere(HART, b'CVRDesign', b'Other'), HART + ': its root is {http://tempuri.org/Other.xsd}Cvr, and not Cvr'
 
 
 def zips():

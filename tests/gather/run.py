@@ -314,6 +314,15 @@ def see_long_heads(cvr):
         see(status == 0 and text.endswith('/records-1.json 2002\n'), repr(text))
 
 
+def see_written(cvr):
+    """Two written names of a contest are two votes."""
+    with tempfile.TemporaryDirectory() as folder:
+        shutil.copytree(path_of('hart', make.EXAMPLES), os.path.join(folder, 'hart'))
+        path, one = os.path.join(folder, faults.HART), b'<Option><Value>1</Value><WriteInData/></Option>'
+        faults.write(path, faults.read(path).replace(b'<Options>', b'<Options>' + one * 2, 1))
+        gathered('hart', os.path.join(folder, 'hart'), cvr, os.path.join(folder, 'out'))
+
+
 def see_stopped(cvr, number):
     """A run that is stopped leaves nothing."""
     with tempfile.TemporaryDirectory() as folder:
@@ -364,6 +373,7 @@ def trials(words, cvr):
     yield 'the bytes of records', lambda: see_bytes(cvr)
     yield 'variants of tables', lambda: see_variants(cvr)
     yield 'long heads', lambda: see_long_heads(cvr)
+    yield 'two written names', lambda: see_written(cvr)
     for kind in ('vxsuite', 'dominion', 'ess', 'clearballot'):
         yield 'two parts of ' + kind, lambda kind=kind: see_halves(kind, cvr)
     for number in (signal.SIGINT, signal.SIGTERM):

@@ -61,7 +61,7 @@ ESS = of('ess', [
 ])
 HART = of('hart', [
     ('counts_no_votes', 'gather_hart.py', '[position()]', '[position(is_vote=False)]'),
-    ('takes_the_first_vote_alone', 'gather_hart.py', '[(it, [position()]) for it in chosen]', '[(it, [position()]) for it in chosen[:1]]'),
+    ('takes_the_first_vote_alone', 'gather_hart.py', 'in marks.items()]', 'in [*marks.items()][:1]]'),
     ('states_no_write_ins', 'gather_hart.py', 'sum(contest.selections[it] for it in chosen)}', '0}'),
     ('knows_no_write_ins', 'gather_hart.py', 'is_written or is_write_in(name)', 'is_written'),
     ('states_no_overvotes', 'gather_hart.py', "in ('Undervotes', 'Overvotes')", "in ('Undervotes',)"),
@@ -73,7 +73,7 @@ HART = of('hart', [
     ('leaves_out_blank_contests', 'gather_hart.py', "[('a', snapshot('a', 'interpreted', texts))])",
      "[('a', snapshot('a', 'interpreted', [it for it in texts if 'Position' in it]))])"),
     ('names_all_units_alike', 'gather_hart.py', 'return self.frame.unit(key, name)', "return self.frame.unit('p', name)"),
-    ('reads_the_first_file_alone', 'gather_hart.py', 'for source in filter(fits, sources):', 'for source in list(filter(fits, sources))[:1]:'),
+    ('reads_the_first_file_alone', 'gather_hart.py', 'for source in filter(is_export, sources):', 'for source in list(filter(is_export, sources))[:1]:'),
 ])
 DOMINION_JSON = of('dominion-json', [
     ('counts_ambiguous_marks', 'gather_dominion_json.py', 'position(is_vote, is_sure, rank)', 'position(True, True, rank)'),
