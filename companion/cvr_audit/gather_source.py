@@ -2,6 +2,7 @@
 import hashlib
 import io
 import os
+import re
 import stat
 import zipfile
 import zlib
@@ -16,6 +17,7 @@ FREE = 1 << 20              # bytes of a file in a ZIP that may be packed more d
 HEAD = 1 << 20              # bytes by which a kind is recognised, as heads may be long
 PIECE = 1 << 20             # bytes that are read at once
 PACKED = b'PK\x03\x04'
+OF_A_MAC = re.compile(r'__MACOSX/(.*/)?\._[^/]*', re.S)    # what a Mac keeps on each file of a ZIP
 NO_TEXT = 'this is not text in UTF-8; export it in that encoding'
 DAMAGE = zipfile.BadZipFile, zlib.error, EOFError, NotImplementedError, RuntimeError
 
@@ -124,13 +126,14 @@ def in_folder(path):
 def is_inside(name):
     """Whether the name of a file in a ZIP leads to no place outside."""
     parts = name.split('/')
-    is_plain = not name.startswith('/') and '\\' not in name
-    return is_plain and '..' not in parts and ':' not in parts[0]
+    return not name.startswith('/') and '..' not in parts and ':' not in parts[0]
 
 
 def see_entry(path, entry):
     """Stops at a file of a ZIP that isn't plain, or may be a bomb."""
     name = '%s/%s' % (path, entry.filename)
+    if '\\' in entry.filename:
+        raise fault(name, 'its path has a backslash; pack the ZIP with another tool')
     if not is_inside(entry.filename):
         raise fault(name, 'its path leads out of the ZIP')
     if stat.S_ISLNK(entry.external_attr >> 16):
@@ -158,11 +161,12 @@ def in_zip(path):
         names.add(entry.filename)
     if sum(it.file_size for it in entries) > WHOLE:
         raise fault(path, 'it unpacks to more than %d bytes' % WHOLE)
+    filled = {it[:place + 1] for it in names for place, sign in enumerate(it[:-1]) if sign == '/'}
     for entry in entries:
         name = '%s/%s' % (path, entry.filename)
-        if not entry.is_dir():
+        if not entry.is_dir() and not OF_A_MAC.fullmatch(entry.filename):
             yield Source(name, entry.file_size, lambda entry=entry: archive.open(entry))
-        elif not any(it != entry.filename and it.startswith(entry.filename) for it in names):
+        elif entry.is_dir() and entry.filename not in filled:
             yield Source(name, 0, None)
 
 

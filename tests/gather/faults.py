@@ -196,6 +196,7 @@ def hart():
 
 def zips():
     yield 'a path out', zipped(lambda it: it.writestr('../x.xml', 'x')), 'export.zip/../x.xml: its path leads out of the ZIP'
+    yield 'a backslash', zipped(lambda it: it.writestr('hart\\x.xml', 'x')), 'export.zip/hart\\x.xml: its path has a backslash; pack the ZIP with another tool'
     yield 'a path from the top', zipped(lambda it: it.writestr('/x.xml', 'x')), 'export.zip//x.xml: its path leads out of the ZIP'
     yield 'a link', zipped(link_in), 'export.zip/hart/link.xml: it is a link, which may lead out of the ZIP'
     yield 'a bomb', zipped(bomb_in), 'export.zip/hart/bomb.xml: it unpacks to 20000000 bytes, which is too many'

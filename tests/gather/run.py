@@ -17,6 +17,7 @@ import subprocess
 import sys
 import tempfile
 import time
+import zipfile
 from concurrent.futures import ThreadPoolExecutor
 
 sys.dont_write_bytecode = True
@@ -314,6 +315,19 @@ def see_long_heads(cvr):
         see(status == 0 and text.endswith('/records-1.json 2002\n'), repr(text))
 
 
+def see_mac(cvr):
+    """What a Mac adds to a ZIP isn't taken for a ballot, nor listed."""
+    with tempfile.TemporaryDirectory() as folder:
+        path, export = os.path.join(folder, 'export.zip'), path_of('vxsuite', make.EXAMPLES)
+        with zipfile.ZipFile(path, 'w') as archive:
+            for name in make.files_below(export):
+                above, base = os.path.split(name)
+                archive.write(os.path.join(export, name), name)
+                archive.writestr(os.path.join('__MACOSX', above, '._' + base), b'\0\5\x16\7')
+        text, log, status = run(['gather', path, '-o', os.path.join(folder, 'out')], cvr)
+        see((log, status, text.count('left out')) == ('', 0, 1) and '/rejected-' in text, repr(text + log))
+
+
 def see_written(cvr):
     """Two written names of a contest are two votes."""
     with tempfile.TemporaryDirectory() as folder:
@@ -373,6 +387,7 @@ def trials(words, cvr):
     yield 'the bytes of records', lambda: see_bytes(cvr)
     yield 'variants of tables', lambda: see_variants(cvr)
     yield 'long heads', lambda: see_long_heads(cvr)
+    yield 'a ZIP of a Mac', lambda: see_mac(cvr)
     yield 'two written names', lambda: see_written(cvr)
     for kind in ('vxsuite', 'dominion', 'ess', 'clearballot'):
         yield 'two parts of ' + kind, lambda kind=kind: see_halves(kind, cvr)
