@@ -1,7 +1,7 @@
 """An election as a form of export names it, and records under it, in the standard's members."""
 from . import VERSION
 from .gather_out import Record
-from .reading import spelled
+from .reading import pointer, spelled
 
 ELECTION, SCOPE = 'election', 'all units'
 NO_DATE = '1970-01-01T00:00:00Z'        # no form has one; so two runs write the same
@@ -35,7 +35,8 @@ class Contest:
             self.names[key] = name
 
     def candidate(self, key):
-        return '%s / %s' % (self.key, key)
+        """The id of a choice's candidate, which no choice of another contest has."""
+        return pointer(self.key, key)
 
     def candidates(self):
         for key, is_written in self.selections.items():

@@ -288,6 +288,17 @@ def see_variants(cvr):
                 see(('"Iris Vale (LAR)"' in lines[0]) == (name == 'names' and kind != 'ess'), 'choices of one name in ' + kind)
 
 
+def see_names(kind, cvr):
+    """Names of contests and choices that are alike once they are put together."""
+    with tempfile.TemporaryDirectory() as folder:
+        contests = [make.Contest(name, 1, [(it, '') for it in choices]) for name, choices in
+                    [('A', ['B / C', 'B/C', 'C']), ('A / B', ['C', 'B / C']), ('A/B', ['C', 'A']), ('A~1B', ['C', 'all units'])]]
+        ballots = [make.Ballot(1, 1, k + 1, 0, {0: [k % 3], 1: [k % 2], 2: [0], 3: [1]}) for k in range(7)]
+        make.KINDS[kind](make.Election('A / B', contests, ['A / B'], ballots), folder)
+        _, compared = gathered(kind, path_of(kind, folder), cvr, os.path.join(folder, 'out'))
+        see(compared == 28, '%d votes were compared' % compared)
+
+
 def see_changed(cvr):
     """A source that is changed before it is counted again is refused."""
     with tempfile.TemporaryDirectory() as folder:
@@ -386,6 +397,8 @@ def trials(words, cvr):
     yield 'a changed source', lambda: see_changed(cvr)
     yield 'the bytes of records', lambda: see_bytes(cvr)
     yield 'variants of tables', lambda: see_variants(cvr)
+    for kind in list(BATCHES):
+        yield 'names that meet in ' + kind, lambda kind=kind: see_names(kind, cvr)
     yield 'long heads', lambda: see_long_heads(cvr)
     yield 'a ZIP of a Mac', lambda: see_mac(cvr)
     yield 'two written names', lambda: see_written(cvr)
