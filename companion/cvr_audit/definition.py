@@ -90,8 +90,7 @@ def laid(text):
     """The path of a file with a text, which is there as long as it is used."""
     with tempfile.TemporaryDirectory() as folder:
         path = os.path.join(folder, 'definition.json')
-        # half a pair of surrogates is left for `cvr` to refuse
-        with open(path, 'w', encoding='utf-8', errors='surrogatepass') as file:
+        with open(path, 'w', encoding='utf-8') as file:
             file.write(text)
         yield path
 

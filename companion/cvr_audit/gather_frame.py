@@ -124,7 +124,7 @@ class Frame:
                 'ElectionId': ELECTION, 'CurrentSnapshotId': snapshots[-1][0]}
         held.update((member, header[member]) for member in HEADER if header.get(member))
         text = '%s,"CVRSnapshot":[%s]}' % (spelled(held)[:-1], ','.join(it for _, it in snapshots))
-        return Record(source, place, device, unique, text.encode('utf-8', 'surrogatepass'))
+        return Record(source, place, device, unique, text.encode('utf-8'))
 
     def report(self):
         """The definition. All is in the order of ids, but contests and selections are as added."""

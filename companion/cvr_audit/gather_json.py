@@ -9,9 +9,13 @@ from .gather_source import fault
 from .reading import pointer, spelled
 
 WHITE = re.compile(r'[ \t\n\r]*')
+# an escaped backslash, a whole pair of surrogates, or half of one
+ESCAPED = re.compile(r'\\\\|\\u[dD][89abAB]..\\u[dD][c-fC-F]..|(\\u[dD][89a-fA-F]..)')
 UNNAMED = ('this record has no %s. The standard leaves it optional; here it is part of the name by '
            'which records are told apart, and nothing can stand in for it. Ask the maker of the '
            'system to export each record with a CreatingDeviceId and a UniqueId')
+
+HALF = '%s is half of a sign, so a text here is cut off; have it exported anew'
 
 
 def no_number(text):
@@ -19,6 +23,16 @@ def no_number(text):
 
 
 DECODER = json.JSONDecoder(parse_constant=no_number)
+
+
+def text_of(source):
+    """The text of a source. It has no half of a pair of surrogates, which would be no sign."""
+    text = source.text()
+    for found in ESCAPED.finditer(text):
+        if found.group(1):
+            line = text.count('\n', 0, found.start()) + 1
+            raise fault(source.name, HALF % found.group(), 'line %d' % line)
+    return text
 
 
 def behind(text, place):
@@ -44,7 +58,7 @@ class Document:
         self.source, self.name, self.rest, self.is_there = source, name, {}, False
 
     def items(self):
-        text = self.source.text()
+        text = text_of(self.source)
         try:
             yield from self.members(text)
         except json.JSONDecodeError as wrong:
@@ -91,7 +105,7 @@ class Document:
 def value_in(source):
     """The value of a source that is read whole."""
     try:
-        return json.loads(source.text(), parse_constant=no_number)
+        return json.loads(text_of(source), parse_constant=no_number)
     except json.JSONDecodeError as wrong:
         raise fault(source.name, 'it is no JSON, or cut off: ' + wrong.msg,
                     'line %d' % wrong.lineno) from None

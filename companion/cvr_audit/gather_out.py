@@ -104,15 +104,14 @@ class Out:
     def finish(self, report, sources):
         """Writes the definition, the end of each report, and the lines of the sources."""
         tail = {name: part for name, part in report.items() if name not in ('@type', 'CVR')}
-        # half a pair of surrogates is left for `cvr` to refuse
-        tail = ('\n],' + spelled(tail)[1:]).encode('utf-8', 'surrogatepass')
+        tail = ('\n],' + spelled(tail)[1:]).encode('utf-8')
         if len(tail) > ROOM:
             raise fault(self.path, 'the election has more than %d bytes' % ROOM)
         self.file.close()
         for name in self.files:
             with open(self.at(name), 'ab') as file:
                 file.write(tail)
-        with self.opened(DEFINITION, encoding='utf-8', errors='surrogatepass') as file:
+        with self.opened(DEFINITION, encoding='utf-8') as file:
             file.write(definition.text_of(report))
         for source in sources:
             self.lines.writerow([source.name, None, source.size, source.digest, None, None, None])

@@ -19,6 +19,7 @@ LOST = ('this record has no %s. The standard leaves it optional; here it is part
         'and nothing can stand in for it. Ask the maker of the system to export each record with a CreatingDeviceId and a UniqueId')
 UNKNOWN = ('no form of export is recognised here (%s); if it is one of these, name it with --as, and see docs/GATHER.md'
            % ', '.join(make.KINDS))
+HALF = '%s is half of a sign, so a text here is cut off; have it exported anew'
 NO_TEXT = 'this is not text in UTF-8; export it in that encoding'
 CUT = 'it is cut off, or has a comma that is not in quotes'
 
@@ -210,8 +211,11 @@ def zips():
 def vxsuite():
     yield 'cut', cut(VX, 3), VX + ': line 1: it is no JSON, or cut off: ..'
     yield 'no id', replaced(VX, b'"UniqueId"', b'"Unique"'), VX + ': /CVR/0: ' + LOST % 'UniqueId'
-    yield ('half a sign twice', lambda: (write(VX, read(VX).replace(b'"1-0003"', b'"\\ud800"')), shutil.copytree(FIRST, 'vxsuite/ffff')),
-           'vxsuite/ffff/cast-vote-record-report.json: /CVR/0: the record "scanner-1" "\\ud800" stands here and in another source: ')
+    yield 'half a sign', replaced(VX, b'"1-0003"', b'"\\ud800"'), VX + ': line 1: ' + HALF % '\\ud800'
+    yield ('half a sign behind whole ones', replaced(VX, b'"BatchId": "', b'"BatchId": "\\ud83d\\ude00\\\\ud83d \\uDE00'),
+           VX + ': line 1: ' + HALF % '\\uDE00')
+    yield ('half a sign of the election', everywhere('vxsuite/metadata.json', b'Alder County', b'Alder \\ud83d\\u0041'),
+           'vxsuite/metadata.json: line 1: ' + HALF % '\\ud83d')
     yield ('a record twice', lambda: shutil.copytree(FIRST, 'vxsuite/ffff'),
            'vxsuite/ffff/cast-vote-record-report.json: /CVR/0: the record "scanner-1" "1-0003" stands here and in ' + VX + ': /CVR/0')
     yield 'two records', lambda: write(VX, read(VX)[:-2] + b',' + read(VX)[9:]), VX + ': it is no object with a CVR of one record, and nothing else'
@@ -270,7 +274,7 @@ def dominion_json():
     yield ('a mark twice', lambda: write(path, re.sub(rb'(?s)("Marks": \[)(.*?\n         \})', rb'\1\2,\2', read(path), 1)),
            path + ': /Sessions/0/Original/Cards/0/Contests/0: the CandidateId 0 is marked twice')
     yield ('half a sign in a member', lambda: write(path, read(path).replace(b'"SessionType"', b'"\\ud800"', 1)),
-           path + ': /Sessions/0: the member "\\ud800" of a Session is not of this form as it is known')
+           path + ': line 11: ' + HALF % '\\ud800')
     yield ('a member more', lambda: write(path, read(path).replace(b'"SessionType"', b'"Mystery"', 1)),
            path + ': /Sessions/0: the member "Mystery" of a Session is not of this form as it is known')
     yield ('a mark without a word', lambda: write(path, read(path).replace(b'"IsVote": true', b'"IsVote": 1', 1)),
@@ -278,7 +282,7 @@ def dominion_json():
     yield ('a unit that is not there', lambda: write(path, read(path).replace(b'"PrecinctPortionId": 0', b'"PrecinctPortionId": 9', 1)),
            path + ': /Sessions/0/Original: the PrecinctPortionId 9 is not in PrecinctPortionManifest.json')
     yield ('half a sign', replaced(more + 'CandidateManifest.json', b'Iris Vale', b'Iris \\ud800'),
-           'definition.json: cvr refuses it: E2 The file is no JSON text.')
+           more + 'CandidateManifest.json: line 5: ' + HALF % '\\ud800')
     yield 'cut', cut(path, 9), None
     yield 'no sessions', everywhere(path, b'"Sessions"', b'"Session"'), 'dominion-json: ' + UNKNOWN
 
