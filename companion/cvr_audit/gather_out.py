@@ -17,6 +17,8 @@ MOST = 60000000         # bytes of a report; `cvr` reads up to 67,108,864
 ROOM = 10000000         # of these for what is not a record
 HEAD = b'{"@type":"CVR.CastVoteRecordReport","CVR":[\n'
 DEFINITION, SOURCES = 'definition.json', 'sources.csv'
+# Names of records are spelled as `cvr` prints them, so that no spreadsheet takes one for a formula or
+# a date.
 COLUMNS = 'source', 'place', 'length', 'SHA-256', 'CreatingDeviceId', 'UniqueId', 'file'
 
 # A record: its source, its place there, its name, and its text as bytes.
@@ -67,7 +69,8 @@ class Out:
             self.file.write(b',\n')
         self.file.write(record.text)
         self.room -= len(record.text) + 2
-        self.lines.writerow([record.source.name, record.place, None, None, *name, self.files[-1]])
+        self.lines.writerow([record.source.name, record.place, None, None, *map(spelled, name),
+                             self.files[-1]])
 
     def next_file(self, record):
         self.room = MOST - ROOM - len(HEAD)
@@ -81,10 +84,9 @@ class Out:
 
     def twice(self, record):
         """The end where a name stands twice; what tells ballots apart is in the name."""
-        names = [record.device, record.unique]
-        first = next((line for line in self.held() if line[4:6] == names), ['another source', ''])
-        text = 'the record %s stands here and in %s: %s' % (
-            ' '.join(map(spelled, names)), first[0], first[1])
+        names = [spelled(record.device), spelled(record.unique)]
+        first = next(line for line in self.held() if line[4:6] == names)
+        text = 'the record %s stands here and in %s: %s' % (' '.join(names), *first[:2])
         return fault(record.source.name, text, record.place)
 
     def held(self):

@@ -16,6 +16,7 @@ DENSEST = 500               # bytes of a file in a ZIP for one packed byte
 FREE = 1 << 20              # bytes of a file in a ZIP that may be packed more densely
 HEAD = 1 << 20              # bytes by which a kind is recognised, as heads may be long
 PIECE = 1 << 20             # bytes that are read at once
+FORMULA = '=', '+', '-', '@'
 PACKED = b'PK\x03\x04'
 OF_A_MAC = re.compile(r'__MACOSX/(.*/)?\._[^/]*', re.S)    # what a Mac keeps on each file of a ZIP
 NO_TEXT = 'this is not text in UTF-8; export it in that encoding'
@@ -170,6 +171,11 @@ def in_zip(path):
             yield Source(name, 0, None)
 
 
+def named(path):
+    """A path, as another that doesn't begin as a formula of a spreadsheet does."""
+    return os.path.join('.', path) if path.startswith(FORMULA) else path
+
+
 def is_zip(path):
     with open(path, 'rb') as file:
         return file.read(len(PACKED)) == PACKED
@@ -178,7 +184,7 @@ def is_zip(path):
 def sources_in(paths):
     """The sources of what was given, by name."""
     held = {}
-    for path in paths:
+    for path in map(named, paths):
         if os.path.isdir(path):
             found = in_folder(path)
         else:

@@ -62,20 +62,27 @@ def path_of(kind, folder):
 
 # ---- what was written
 
-def see_sources(out, export):
-    """The list of sources has each record once, with its file, and each file with its length and SHA-256."""
+def see_sources(out, export, above=''):
+    """The list of sources has each record once, by its name as `cvr` prints it, with its file, and each source with its length
+    and SHA-256. No cell begins as a formula does. Paths are below `above`."""
     with open(os.path.join(out, 'sources.csv'), encoding='utf-8', newline='') as file:
         heads, *lines = csv.reader(file)
     see(heads == ['source', 'place', 'length', 'SHA-256', 'CreatingDeviceId', 'UniqueId', 'file'], 'the heads of sources.csv')
     held = {}
-    for source, _, length, digest, _, _, file in lines:
+    for source, _, length, digest, device, unique, file in lines:
         if not file and not source.endswith('/'):
-            data = faults.read(source)
+            data = faults.read(os.path.join(above, source))
             see(int(length) == len(data) and digest in ('', hashlib.sha256(data).hexdigest()), 'the line of ' + source)
-        held[file] = held.get(file, 0) + 1
-    files = [export] if os.path.isfile(export) else [os.path.join(export, it) for it in make.files_below(export)]
+        held.setdefault(file, []).append([device, unique])
+    see(not any(cell.startswith(('=', '+', '-', '@')) for line in lines for cell in line), 'a cell begins as a formula does')
+    below = make.files_below(os.path.join(above, export))
+    files = [os.path.join(export, it) for it in below] or [export]
     see({it[0] for it in lines if not it[6]} == set(files), 'the sources of sources.csv')
-    return {file: number for file, number in held.items() if file}
+    held.pop('')
+    for file, names in held.items():
+        records = make.json.loads(faults.read(os.path.join(out, file)))['CVR']
+        see(names == [[make.json.dumps(it[name], ensure_ascii=False) for name in ('CreatingDeviceId', 'UniqueId')] for it in records], 'the names of ' + file)
+    return {file: len(names) for file, names in held.items()}
 
 
 def see_modes(out):
@@ -299,6 +306,18 @@ def see_names(kind, cvr):
         see(compared == 28, '%d votes were compared' % compared)
 
 
+def see_formulas(cvr):
+    """Paths and names that a spreadsheet would take for formulas."""
+    with tempfile.TemporaryDirectory() as folder:
+        shutil.copytree(path_of('cdf', make.EXAMPLES), os.path.join(folder, '=cdf'))
+        for name in ('scan', 'adjudicated'):
+            path = os.path.join(folder, '=cdf', name + '.json')
+            faults.write(path, faults.read(path).replace(b'"1-0003"', b'"=1+1,\\"\\n2"').replace(b'"scanner-1"', b'"@SUM(A1)"'))
+        text, log, status = run(['gather', '=cdf', '-o', 'out'], cvr, folder=folder)
+        see((log, status) == ('', 0), repr(log))
+        see_sources(os.path.join(folder, 'out'), './=cdf', folder)
+
+
 def see_changed(cvr):
     """A source that is changed before it is counted again is refused."""
     with tempfile.TemporaryDirectory() as folder:
@@ -399,6 +418,7 @@ def trials(words, cvr):
     yield 'variants of tables', lambda: see_variants(cvr)
     for kind in list(BATCHES):
         yield 'names that meet in ' + kind, lambda kind=kind: see_names(kind, cvr)
+    yield 'names that are formulas', lambda: see_formulas(cvr)
     yield 'long heads', lambda: see_long_heads(cvr)
     yield 'a ZIP of a Mac', lambda: see_mac(cvr)
     yield 'two written names', lambda: see_written(cvr)
