@@ -108,6 +108,8 @@ def run(words):
             report = kind.read(sources, out, cvr)
             if not out.count:
                 raise fault(words.files[0], 'there is no record of the kind %s' % name)
+            if not report['Election'][0]['Contest']:
+                raise fault(words.files[0], 'there is no contest, so no record has a vote')
             out.finish(report, sources)
             progress.show('cvr check: %d records' % out.count)
             counts = see_counts(cvr, kind, sources, out)

@@ -88,7 +88,7 @@ def read(sources, out, cvr):
         table = Table(source)
         rows = table.rows()
         heads = Heads(table, rows)
-        first = first or heads.contests()
+        first = heads.contests() if first is None else first
         if heads.contests() != first:
             raise table.fault('its contests are not those of the files before it')
         for name, allowed in first.items():

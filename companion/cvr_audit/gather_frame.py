@@ -97,13 +97,14 @@ class Frame:
 
     def __init__(self, kind, name=None):
         self.kind, self.name, self.contests, self.units, self.devices = kind, name, {}, {}, {}
+        self.first = None       # what the first source says
 
     def see_same(self, other, table):
         """Takes over the contests of a first source, and stops where a later one has others."""
-        if not self.contests:
-            self.name, self.contests = other.name, other.contests
-        texts = [[it.report() for it in frame.contests.values()] for frame in (self, other)]
-        if self.name != other.name or texts[0] != texts[1]:
+        said = other.name, [it.report() for it in other.contests.values()]
+        if self.first is None:
+            self.first, self.name, self.contests = said, other.name, other.contests
+        if said != self.first:
             raise table.fault('its election or its contests are not those of the files before it')
 
     def unit(self, key, name=None):

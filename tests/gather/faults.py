@@ -1,6 +1,7 @@
 """faults.py: exports that aren't as they should be. Each is an invented county of examples/exports with a change, by a pair
 of texts of a file or by a function, and the line with which `cvr-audit gather` has to end; its status is 1 where nothing
 else is said. Nothing may be left of the folder that was to be written."""
+import csv
 import glob
 import os
 import re
@@ -20,6 +21,7 @@ LOST = ('this record has no %s. The standard leaves it optional; here it is part
 UNKNOWN = ('no form of export is recognised here (%s); if it is one of these, name it with --as, and see docs/GATHER.md'
            % ', '.join(make.KINDS))
 HALF = '%s is half of a sign, so a text here is cut off; have it exported anew'
+NO_CONTEST = ': there is no contest, so no record has a vote'
 NO_TEXT = 'this is not text in UTF-8; export it in that encoding'
 CUT = 'it is cut off, or has a comma that is not in quotes'
 
@@ -82,6 +84,15 @@ def bomb_in(archive):
     archive.writestr('hart/bomb.xml', b'\0' * 20000000)
 
 
+def first_columns(path, number):
+    """The first cells of each row alone."""
+    def change():
+        with open(path, encoding='utf-8', newline='') as file:
+            rows = list(csv.reader(file))
+        write(path, make.csv_text(row[:number] for row in rows).encode('utf-8'))
+    return change
+
+
 def damage():
     """A byte of the first file's packed content is another."""
     zipped()()
@@ -127,6 +138,7 @@ def dominion():
     yield 'no id', replaced(path, b'2,1,1,2,', b'2,1,1,,'), 'dominion.csv: line 6: TabulatorNum, BatchId or RecordId is empty'
     yield 'another mark', replaced(path, b'Style 0,1,0,0', b'Style 0,2,0,0'), 'dominion.csv: line 5: a mark is neither 1, 0 nor empty, but 2'
     yield 'a cell is empty', replaced(path, b'Style 0,1,0,0', b'Style 0,1,,0'), 'dominion.csv: line 5: some cells of a contest are empty and others are not'
+    yield 'no contest', first_columns(path, 8), path + NO_CONTEST
     yield 'heads alone', lambda: write(path, b'\r\n'.join(read(path).split(b'\r\n')[:4]) + b'\r\n'), 'dominion.csv: there is no record of the kind dominion'
     yield 'no heads', lambda: write(path, b'TabulatorNum,RecordId\r\n'), 'dominion.csv: line 1: the file ends here, before its four lines of heads'
 
@@ -138,6 +150,7 @@ def clearballot():
     yield 'a column more', replaced(path, b'RowNumber', b'Mystery'), 'clearballot.csv: line 1: the column Mystery is not of this form as it is known'
     yield ('a choice of no contest', replaced(path, b'Choice_4_1:Measure 1: parks:Vote For 1:Yes:', b'Choice_4_1:Yes:'),
            'clearballot.csv: line 1: column 14 has no contest, `Vote For N` and choice: Choice_4_1:Yes:Non-Partisan')
+    yield 'no contest', first_columns(path, 10), path + NO_CONTEST
     yield ('two numbers of votes', replaced(path, b'Vote For 1:No:', b'Vote For 2:No:'),
            'clearballot.csv: line 1: the choice No stands twice in Measure 1: parks, or the contest has two numbers of votes')
     yield ('a number of many digits', replaced(path, b'Vote For 1:No:', b'Vote For 1%s:No:' % (b'0' * 5000)),
@@ -168,6 +181,7 @@ def ess():
     yield 'semicolons', everywhere(path, b',', b';'), 'ess.csv: line 1: the cells are parted by semicolons; this form has commas'
     yield 'an id twice', replaced(path, b'104002', b'104001'), 'ess.csv: line 3: the record "ess" "104001" stands here and in ess.csv: line 2'
     yield 'a pipe', lambda: (os.remove(path), os.mkfifo(path)), 'ess.csv: it is no regular file: a link may lead out of the folder, and a pipe can be read only once'
+    yield 'no contest', first_columns(path, 3), path + NO_CONTEST
     yield 'no id', replaced(path, b'104002', b''), 'ess.csv: line 3: the Cast Vote Record is empty'
     yield 'a row too long', replaced(path, b'Style 0,Iris Vale', b'Style 0,Vale, Iris'), 'ess.csv: line 2: it has 6 cells, and the head 5: ' + CUT
 
@@ -191,6 +205,7 @@ def hart():
     yield ('an option twice', lambda: write(HART, read(HART).replace(b'</Options>', read(HART).partition(b'<Options>')[2].partition(b'</Options>')[0] + b'</Options>', 1)),
            HART + ': an Option of c0 is marked twice')
     yield 'an empty file', lambda: write('hart/zz.XML', b''), 'hart/zz.XML: line 1: it is no XML, or cut off: ..'
+    yield ('no contest', lambda: [write(it, re.sub(rb'<Contests>.*</Contests>', b'<Contests/>', read(it))) for it in glob.glob('hart/*')], 'hart' + NO_CONTEST)
     yield 'another root', everywhere(HART, b'Cvr xmlns', b'Log xmlns'), None
     yield 'another namespace', everywhere(HART, b'CVRDesign', b'Other'), HART + ': its root is {http://tempuri.org/Other.xsd}Cvr, and not Cvr'
 
@@ -258,6 +273,8 @@ def dominion_json():
     yield ('a choice of another contest', lambda: write(path, read(path).replace(b'"CandidateId": 0,', b'"CandidateId": 100,', 1)),
            path + ': /Sessions/0/Original/Cards/0/Contests/0/Marks/0: the CandidateId 100 is none of the contest 0')
     yield 'a contest twice', replaced(more + 'ContestManifest.json', b'"Id": 1,', b'"Id": 0,'), more + 'ContestManifest.json: /List/1: it has no Id of its own'
+    yield ('no contest', lambda: (write(more + 'ContestManifest.json', b'{"List": []}'), write(more + 'CandidateManifest.json', b'{"List": []}'),
+                                  write(path, re.sub(rb'(?s)"Contests": \[.*?\n      \]', b'"Contests": []', read(path)))), 'dominion-json' + NO_CONTEST)
     yield ('a number withheld', lambda: write(path, read(path).replace(b'"RecordId": 1', b'"RecordId": "X"', 1)),
            path + ': /Sessions/0: its RecordId is absent or withheld, so nothing tells the ballots of the batch apart')
     yield ('an id twice', replaced(path, b'"RecordId": 2', b'"RecordId": 1'),

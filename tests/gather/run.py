@@ -33,6 +33,8 @@ import wrong_ways  # noqa: E402 (they stand here and in examples/recipes)
 SIDE_BY_SIDE = 4
 SECONDS = 300
 BALLOTS = 80
+OTHER = 'contests are not those of the files before it'
+NOT_THOSE = {'dominion': 'its election or its ' + OTHER, 'clearballot': 'its election or its ' + OTHER, 'ess': 'its ' + OTHER}
 # the names of the county's batches in each kind; ES&S's form has none
 BATCHES = {'dominion': {'1-1': 'batch-1', '2-1': 'batch-2'}, 'dominion-json': {'1-1': 'batch-1', '2-1': 'batch-2'},
            'clearballot': {'BOX-1-1': 'batch-1', 'BOX-2-1': 'batch-2'}, 'hart': {'1001': 'batch-1', '2001': 'batch-2'}, 'ess': {None: None}}
@@ -278,6 +280,16 @@ def see_halves(kind, cvr):
         see(status == 1 and ' stands here and in ' in log or ' the BallotID ' in log, repr(log))
 
 
+def see_contests_missing(kind, cvr):
+    """A first file without a contest doesn't stand for one that has some."""
+    with tempfile.TemporaryDirectory() as folder:
+        for name in ('a.csv', 'b.csv'):
+            shutil.copy(path_of(kind, make.EXAMPLES), os.path.join(folder, name))
+        faults.first_columns(os.path.join(folder, 'a.csv'), {'dominion': 8, 'clearballot': 10, 'ess': 3}[kind])()
+        got = run(['gather', folder, '-o', os.path.join(folder, 'out')], cvr)
+        see(got[0] == '' and got[1].endswith('/b.csv: line %d: %s\n' % (4 if kind == 'dominion' else 1, NOT_THOSE[kind])) and got[2] == 1, repr(got))
+
+
 def see_variants(cvr):
     """Tables with a byte order mark, with other line ends, with choices of one name, and with remade ballots."""
     changes = {'a mark': lambda it: b'\xef\xbb\xbf' + it, 'line ends': lambda it: it.replace(b'\r\n', b'\n'),
@@ -416,7 +428,9 @@ def trials(words, cvr):
     yield 'a changed source', lambda: see_changed(cvr)
     yield 'the bytes of records', lambda: see_bytes(cvr)
     yield 'variants of tables', lambda: see_variants(cvr)
-    for kind in list(BATCHES):
+    for kind in NOT_THOSE:
+        yield 'no contest in a first file of ' + kind, lambda kind=kind: see_contests_missing(kind, cvr)
+    for kind in BATCHES:
         yield 'names that meet in ' + kind, lambda kind=kind: see_names(kind, cvr)
     yield 'names that are formulas', lambda: see_formulas(cvr)
     yield 'long heads', lambda: see_long_heads(cvr)
