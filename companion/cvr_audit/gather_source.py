@@ -20,6 +20,8 @@ FORMULA = '=', '+', '-', '@'
 PACKED = b'PK\x03\x04'
 OF_A_MAC = re.compile(r'__MACOSX/(.*/)?\._[^/]*', re.S)    # what a Mac keeps on each file of a ZIP
 NO_TEXT = 'this is not text in UTF-8; export it in that encoding'
+WITHIN = ('it is a ZIP in a folder or in another ZIP, and may have records; unpack it, or name it '
+          'by itself')
 DAMAGE = zipfile.BadZipFile, zlib.error, EOFError, NotImplementedError, RuntimeError
 
 
@@ -191,6 +193,8 @@ def sources_in(paths):
             found = [file_source(os.path.realpath(path), path)]
             found = in_zip(path) if is_zip(path) else found
         for source in found:
+            if source.name != path and source.base.lower().endswith('.zip'):
+                raise fault(source.name, WITHIN)
             if source.name in held:
                 raise fault(source.name, 'it was given twice')
             held[source.name] = source

@@ -22,6 +22,7 @@ UNKNOWN = ('no form of export is recognised here (%s); if it is one of these, na
            % ', '.join(make.KINDS))
 HALF = '%s is half of a sign, so a text here is cut off; have it exported anew'
 NO_CONTEST = ': there is no contest, so no record has a vote'
+WITHIN = 'it is a ZIP in a folder or in another ZIP, and may have records; unpack it, or name it by itself'
 NO_TEXT = 'this is not text in UTF-8; export it in that encoding'
 CUT = 'it is cut off, or has a comma that is not in quotes'
 
@@ -216,6 +217,7 @@ def zips():
     yield 'a path from the top', zipped(lambda it: it.writestr('/x.xml', 'x')), 'export.zip//x.xml: its path leads out of the ZIP'
     yield 'a link', zipped(link_in), 'export.zip/hart/link.xml: it is a link, which may lead out of the ZIP'
     yield 'a bomb', zipped(bomb_in), 'export.zip/hart/bomb.xml: it unpacks to 20000000 bytes, which is too many'
+    yield 'a ZIP in it', zipped(lambda it: it.writestr('hart/more.ZIP', 'x')), 'export.zip/hart/more.ZIP: ' + WITHIN
     yield 'a damaged byte', damage, 'export.zip/' + HART + ': the ZIP is damaged here, or packed in a way that is not known'
     yield 'encrypted', encrypt, 'export.zip/' + HART + ': it is encrypted'
     yield 'cut', lambda: (zipped()(), cut('export.zip', 10)()), 'export.zip: the ZIP is damaged or cut off'
@@ -243,6 +245,7 @@ def vxsuite():
     yield ('a contest that is not there', everywhere(VX, b'"council"', b'"nosuch"'),
            VX + ': /CVR/0: cvr refuses it: E4 /CVRSnapshot/0/CVRContest/0/ContestId A text of it has to be the id of something in the '
            'file, and is not: /CVRSnapshot/0/CVRContest/0/ContestId.')
+    yield 'a ZIP in the folder', lambda: write(FIRST + 'more.zip', b'PK'), FIRST + 'more.zip: ' + WITHIN
     yield 'a link', lambda: os.symlink('/etc/passwd', FIRST + 'link.json'), FIRST + 'link.json: it is no regular file: a link may lead out of the folder, and a pipe can be read only once'
     yield 'a folder that is a link', lambda: os.symlink('/etc', 'vxsuite/link'), 'vxsuite/link: it is a link, which may lead out of the folder'
     yield 'another encoding', replaced(VX, b'"@type": "CVR.CVR"', b'"x": "\xf3", "@type": "CVR.CVR"'), \
