@@ -8,7 +8,7 @@ NEEDED = 'TabulatorNum', 'BatchId', 'RecordId', 'PrecinctPortion', 'BallotType'
 OPTIONAL = 'CvrNumber', 'ImprintedId', 'CountingGroup', 'UniqueVotingIdentifier'
 CONTEST = re.compile(r'(.*\S)\s*\(Vote For=([0-9]{1,9})\)', re.S)
 RANKED = re.compile(r'.+\(\d+\)', re.S)       # a choice at a rank, as in rounds
-HEADS = 4
+HEADS, LINES = 4, 'its four lines of heads'
 
 
 def fits(source):
@@ -25,14 +25,15 @@ class Heads:
 
     def __init__(self, table, rows, frame):
         self.table, self.frame = table, frame
-        title, contests, choices, self.cells = (table.head(rows, 'its four lines of heads')
-                                                for _ in range(HEADS))
+        title, contests = table.head(rows, LINES), table.head(rows, LINES)
+        table.see_distinct(contests)
+        choices, self.cells = table.head(rows, LINES), table.head(rows, LINES)
         width = len(self.cells)
         contests, choices = (it + [''] * (width - len(it)) for it in (contests, choices))
         first = next((place for place, it in enumerate(contests) if it), width)
         table.see_head(self.cells[:first] if width > 1 else self.cells, NEEDED, OPTIONAL)
         self.fixed = {name: place for place, name in enumerate(self.cells[:first])}
-        self.columns, self.title = {}, title[0]
+        self.columns, self.title, self.texts = {}, title[0], {}
         for place in range(first, width):
             self.take(place, contests[place], choices[place], self.cells[place])
 
@@ -51,9 +52,9 @@ class Heads:
         name, allowed = found.group(1), int(found.group(2))
         held = self.frame.contests.setdefault(name, Contest(name, name, allowed))
         columns = self.columns.setdefault(name, [])
-        if held.allowed != allowed or columns and columns[-1][0] != place - 1:
-            raise self.table.fault('the contest %s stands in two places, or with two numbers of '
-                                   'votes' % name)
+        is_other = self.texts.setdefault(name, contest) != contest
+        if is_other or columns and columns[-1][0] != place - 1:
+            raise self.table.fault('the contest %s stands in two places, or under two heads' % name)
         key = '%s (%s)' % (choice, party) if choice in held.selections and party else choice
         if key in dict((it[::-1] for it in columns)):
             raise self.table.fault('the choice %s stands twice in %s' % (key, name))
@@ -67,6 +68,9 @@ def read_row(table, heads, frame, cells):
     parts = [held[name] for name in ('TabulatorNum', 'BatchId', 'RecordId')]
     if '' in parts:
         raise table.fault('TabulatorNum, BatchId or RecordId is empty')
+    if '-' in parts[0]:
+        raise table.fault('the TabulatorNum %s has a `-`, which parts it from the BatchId in the name '
+                          'of a batch' % parts[0])
     texts = []
     for name, columns in heads.columns.items():
         chosen = marks(table, columns, cells)

@@ -25,6 +25,7 @@ class Heads:
 
     def __init__(self, table, rows):
         self.cells, self.columns = table.head(rows, 'its heads'), {}
+        table.see_distinct(self.cells)
         fixed = [it for it in self.cells if it in NEEDED or it in OTHERS]
         table.see_head(fixed if len(self.cells) > 1 else self.cells, NEEDED, [])
         self.fixed = {name: self.cells.index(name) for name in NEEDED}

@@ -22,10 +22,11 @@ def bare(cell):
 
 
 class Table:
-    """The rows of a source. `line` is the number of the line where the last row began."""
+    """The rows of a source. `line` is the number of the line where the last row began, and `raw` has
+    the cells of that row as they stand."""
 
     def __init__(self, source):
-        self.source, self.line, self.read, self.is_ended = source, 0, 0, True
+        self.source, self.line, self.read, self.is_ended, self.raw = source, 0, 0, True, []
 
     def fault(self, text):
         return fault(self.source.name, text, 'line %d' % self.line)
@@ -58,6 +59,7 @@ class Table:
                 self.line = first
                 raise self.fault('it is no row of CSV: %s' % wrong) from None
             self.line = first
+            self.raw = cells
             if cells:
                 yield [bare(it) for it in cells]
 
@@ -67,6 +69,11 @@ class Table:
         if cells is None:
             raise self.fault('the file ends here, before %s' % what)
         return cells
+
+    def see_distinct(self, cells):
+        """Stops where heads of the last row become one text only once they are bare."""
+        if len({it for it in self.raw if bare(it)}) > len(set(filter(None, cells))):
+            raise self.fault('two heads are one only without the spaces at their ends')
 
     def see_head(self, cells, needed, known):
         """Stops where a head of a column is missing, is there twice or isn't known."""

@@ -23,6 +23,7 @@ UNKNOWN = ('no form of export is recognised here (%s); if it is one of these, na
 HALF = '%s is half of a sign, so a text here is cut off; have it exported anew'
 NO_CONTEST = ': there is no contest, so no record has a vote'
 WITHIN = 'it is a ZIP in a folder or in another ZIP, and may have records; unpack it, or name it by itself'
+ONE_HEAD = 'two heads are one only without the spaces at their ends'
 NO_TEXT = 'this is not text in UTF-8; export it in that encoding'
 CUT = 'it is cut off, or has a comma that is not in quotes'
 
@@ -119,6 +120,14 @@ def dominion():
     yield 'a column twice', replaced(path, b'CountingGroup', b'RecordId'), 'dominion.csv: line 4: the column RecordId is there twice'
     yield ('a choice of no contest', replaced(path, b'Measure 1: parks (Vote For=1),Measure 1: parks (Vote For=1)', b'Measure 1: parks (Vote For=1),'),
            'dominion.csv: line 4: column 13 has a contest without a choice, or a choice without a contest')
+    yield ('a contest under two heads', replaced(path, b'County Council (Vote For=1),Measure', b'County Council  (Vote For=1),Measure'),
+           'dominion.csv: line 4: the contest County Council stands in two places, or under two heads')
+    yield ('two numbers of votes', replaced(path, b'County Council (Vote For=1),Measure', b'County Council (Vote For=2),Measure'),
+           'dominion.csv: line 4: the contest County Council stands in two places, or under two heads')
+    yield ('two heads that are one', replaced(path, b'County Council (Vote For=1),Measure', b'County Council (Vote For=1) ,Measure'),
+           'dominion.csv: line 2: ' + ONE_HEAD)
+    yield ('batches that are one', (lambda: (replaced(path, b'2,1,1,2,', b'2,1,1-1,2,')(), replaced(path, b'3,1,1,3,', b'3,1-1,1,3,')())),
+           'dominion.csv: line 7: the TabulatorNum 1-1 has a `-`, which parts it from the BatchId in the name of a batch')
     yield ('no number of votes', everywhere(path, b'parks (Vote For=1)', b'parks'),
            'dominion.csv: line 4: column 12: no (Vote For=N) behind Measure 1: parks')
     yield ('a choice twice', lambda: (replaced(path, b'Omar Field', b'Iris Vale')(), replaced(path, b',LAR,', b',,')()),
@@ -172,6 +181,7 @@ def ess():
     yield 'cut in a line', cut(path, 4), 'ess.csv: line 5: the last line has no end, so its last cell may be cut off'
     yield 'cut in a choice', cut(path, 5), 'ess.csv: line 5: it has 4 cells, and the head 5: ' + CUT
     yield 'a column is missing', replaced(path, b'Precinct', b'Place'), 'ess.csv: line 1: there is no column Precinct'
+    yield 'two heads that are one', replaced(path, b'Measure 1: parks', b'County Council '), 'ess.csv: line 1: ' + ONE_HEAD
     yield 'a column of another list', replaced(path, b'County Council', b'Tabulator CVR'), 'ess.csv: line 1: the column Tabulator CVR is not of this form as it is known'
     yield ('a choice of no contest', replaced(path, b'Measure 1: parks', b''),
            'ess.csv: line 1: column 5 has no contest, or one that stands elsewhere, too')
