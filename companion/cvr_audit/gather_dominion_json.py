@@ -1,6 +1,6 @@
 """The JSON of Dominion: CvrExport.json, and lists of what its numbers name."""
 from .gather_frame import Contest, Frame, position, snapshot
-from .gather_json import Document, value_in
+from .gather_json import STRICT, Document, value_in
 from .gather_source import fault
 from .reading import pointer, spelled
 
@@ -227,7 +227,7 @@ def read(sources, out, cvr):
     add_contests(frame, sources)
     units = list_named(sources, UNITS, is_needed=False)
     for source in filter(is_export, sources):
-        document = Document(source, 'Sessions')
+        document = Document(source, 'Sessions', STRICT)
         for number, value, _ in document.items():
             for record in Session(frame, units, source, number, value).records():
                 out.add(record)

@@ -22,7 +22,25 @@ def no_number(text):
     raise ValueError('%s is no number of JSON' % text)
 
 
+class Repeated(Exception):
+    """A member that stands twice in an object."""
+
+
+def once(pairs):
+    """The members of an object, each once."""
+    held = dict(pairs)
+    if len(held) < len(pairs):
+        names = [name for name, _ in pairs]
+        raise Repeated(next(it for it in names if names.count(it) > 1))
+    return held
+
+
 DECODER = json.JSONDecoder(parse_constant=no_number)
+STRICT = json.JSONDecoder(parse_constant=no_number, object_pairs_hook=once)
+
+
+def twice(source, wrong):
+    return fault(source.name, 'the member %s stands twice in an object' % spelled(wrong.args[0]))
 
 
 def text_of(source):
@@ -52,15 +70,18 @@ def sign_at(text, place, signs):
 class Document:
     """A source whose value is an object. `items` yields the index, the value and the text of each
     item of its array of a name. Once that is done, `rest` has the other members, and `is_there`
-    says whether it has that array."""
+    says whether it has that array. DECODER takes the last of members of one name, as `cvr` does."""
 
-    def __init__(self, source, name):
-        self.source, self.name, self.rest, self.is_there = source, name, {}, False
+    def __init__(self, source, name, decoder=DECODER):
+        self.source, self.name, self.decoder = source, name, decoder
+        self.rest, self.is_there = {}, False
 
     def items(self):
         text = text_of(self.source)
         try:
             yield from self.members(text)
+        except Repeated as wrong:
+            raise twice(self.source, wrong) from None
         except json.JSONDecodeError as wrong:
             raise self.no_json(wrong.msg, 'line %d' % wrong.lineno) from None
         except (ValueError, RecursionError) as wrong:
@@ -76,12 +97,12 @@ class Document:
             name, place = scanstring(text, place)
             _, place = sign_at(text, place, ':')
             if name in seen:
-                raise fault(self.source.name, 'its member %s stands twice' % spelled(name))
+                raise Repeated(name)
             seen.add(name)
             if name == self.name:
                 place = yield from self.array(text, place)
             else:
-                self.rest[name], place = DECODER.raw_decode(text, behind(text, place))
+                self.rest[name], place = self.decoder.raw_decode(text, behind(text, place))
             sign, place = sign_at(text, place, ',}')
         if behind(text, place) != len(text):
             raise json.JSONDecodeError('Extra data', text, place)
@@ -95,7 +116,7 @@ class Document:
         number = 0
         while sign != ']':
             start = behind(text, place)
-            value, end = DECODER.raw_decode(text, start)
+            value, end = self.decoder.raw_decode(text, start)
             yield number, value, text[start:end]
             sign, place = sign_at(text, end, ',]')
             number += 1
@@ -105,7 +126,9 @@ class Document:
 def value_in(source):
     """The value of a source that is read whole."""
     try:
-        return json.loads(text_of(source), parse_constant=no_number)
+        return STRICT.decode(text_of(source))
+    except Repeated as wrong:
+        raise twice(source, wrong) from None
     except json.JSONDecodeError as wrong:
         raise fault(source.name, 'it is no JSON, or cut off: ' + wrong.msg,
                     'line %d' % wrong.lineno) from None

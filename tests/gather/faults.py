@@ -269,7 +269,7 @@ def cdf():
            path + ': /CVR/0: ' + LOST % 'CreatingDeviceId')
     yield 'cut', cut(path, 4), None
     yield 'two texts', replaced(path, b'', b'{}'), path + ': line 148: it is no JSON, or cut off: ..'
-    yield 'records twice', replaced(path, b'"CVR": [', b'"CVR": [], "CVR": ['), path + ': its member "CVR" stands twice'
+    yield 'records twice', replaced(path, b'"CVR": [', b'"CVR": [], "CVR": ['), path + ': the member "CVR" stands twice in an object'
     yield ('two names', replaced(path, b'Omar Field', b'Omar Fields'),
            '/Election/0/Candidate/1/Name: cdf/adjudicated.json "Omar Field", cdf/scan.json "Omar Fields"')
     yield ('another kind', replaced(path, b'"UniqueId": "1-0003"', b'"UniqueId": "1-0003", "BallotAuditId": 7'),
@@ -303,6 +303,10 @@ def dominion_json():
            path + ': /Sessions/0/Original: its PrecinctPortionId is absent, or not a whole number')
     yield ('a mark twice', lambda: write(path, re.sub(rb'(?s)("Marks": \[)(.*?\n         \})', rb'\1\2,\2', read(path), 1)),
            path + ': /Sessions/0/Original/Cards/0/Contests/0: the CandidateId 0 is marked twice')
+    yield ('a member twice', lambda: write(path, read(path).replace(b'"IsVote": true', b'"IsVote": false, "IsVote": true', 1)),
+           path + ': the member "IsVote" stands twice in an object')
+    yield ('a member of a list twice', replaced(more + 'CandidateManifest.json', b'"Description": "Iris Vale"', b'"Description": "x", "Description": "Iris Vale"'),
+           more + 'CandidateManifest.json: the member "Description" stands twice in an object')
     yield ('half a sign in a member', lambda: write(path, read(path).replace(b'"SessionType"', b'"\\ud800"', 1)),
            path + ': line 11: ' + HALF % '\\ud800')
     yield ('a member more', lambda: write(path, read(path).replace(b'"SessionType"', b'"Mystery"', 1)),
