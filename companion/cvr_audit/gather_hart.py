@@ -8,6 +8,8 @@ from .gather_source import fault
 
 SPACE = '{http://tempuri.org/CVRDesign.xsd}'
 ROOT = SPACE + 'Cvr'
+# how an attribute of XML itself begins, which says how a file is read
+SCHEMA = '{http://www.w3.org/2001/XMLSchema-instance}'
 DEVICE = 'hart'             # the form names no device
 WRITTEN = 'write-in'        # the id of a choice that is for a written name and has none of its own
 # the elements in each, and whether it has to be there
@@ -49,6 +51,7 @@ class Reader:
 
     def parts(self, element, name):
         """The elements in an element, by name: one each, but lists of those of MANY."""
+        self.see_bare(element, name)
         held = {it: [] for it in INSIDE[name] if it in MANY}
         for part in element:
             inner = part.tag[len(SPACE):]
@@ -65,6 +68,17 @@ class Reader:
         if lacking:
             raise self.fault('there is no %s in a %s' % (lacking[0], name))
         return held
+
+    def see_bare(self, element, name):
+        """Stops at an attribute of an element or of those in it, and at a text between these."""
+        for attribute in (it for part in (element, *element) for it in part.attrib):
+            if not attribute.startswith(SCHEMA):
+                raise self.fault('the attribute %s in %s is not of this form as it is known'
+                                 % (attribute, name))
+        for text in (element.text, *(part.tail for part in element)):
+            if text and text.strip():
+                raise self.fault('there is a text between the elements of %s: %s'
+                                 % (name, text.strip()))
 
     def text(self, held, name):
         """The text of an element that has only that; None where it isn't there."""

@@ -23,7 +23,10 @@ def tree(source):
     def full(name):
         return '{' + name if '}' in name else name
 
-    parser.StartElementHandler = lambda name, members: builder.start(full(name), members)
+    def start(name, members):
+        builder.start(full(name), {full(it): text for it, text in members.items()})
+
+    parser.StartElementHandler = start
     parser.EndElementHandler = lambda name: builder.end(full(name))
     parser.CharacterDataHandler = builder.data
     parser.StartDoctypeDeclHandler = parser.EntityDeclHandler = stop

@@ -202,6 +202,10 @@ def hart():
     yield 'an element is missing', everywhere(HART, b'CvrGuid', b'CvrId'), HART + ': the element {http://tempuri.org/CVRDesign.xsd}CvrId in Cvr is not of this form as it is known'
     yield 'no id', lambda: write(HART, read(HART).split(b'<CvrGuid>')[0] + b'</Cvr>'), HART + ': there is no CvrGuid in a Cvr'
     yield ('an element in another', replaced(HART, b'<SheetNumber>1</SheetNumber>', b'<SheetNumber><Option/></SheetNumber>'), None)
+    yield ('an attribute', lambda: write(HART, read(HART).replace(b'<Value>1<', b'<Value Weight="2">1<', 1)),
+           HART + ': the attribute Weight in Option is not of this form as it is known')
+    yield ('a text between elements', lambda: write(HART, read(HART).replace(b'<Value>1<', b'void<Value>1<', 1)),
+           HART + ': there is a text between the elements of Option: void')
     yield ('an option of no contest', replaced(HART, b'<SheetNumber>', b'<Option/><SheetNumber>'),
            HART + ': the element {http://tempuri.org/CVRDesign.xsd}Option in Cvr is not of this form as it is known')
     yield ('entities', replaced(HART, b'<Cvr xmlns', b'<!DOCTYPE Cvr [<!ENTITY a "b">]><Cvr xmlns'),

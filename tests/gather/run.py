@@ -371,11 +371,12 @@ def see_mac(cvr):
 
 
 def see_written(cvr):
-    """Two written names of a contest are two votes."""
+    """Two written names of a contest are two votes. The root says where its schema is."""
     with tempfile.TemporaryDirectory() as folder:
         shutil.copytree(path_of('hart', make.EXAMPLES), os.path.join(folder, 'hart'))
         path, one = os.path.join(folder, faults.HART), b'<Option><Value>1</Value><WriteInData/></Option>'
-        faults.write(path, faults.read(path).replace(b'<Options>', b'<Options>' + one * 2, 1))
+        faults.write(path, faults.read(path).replace(b'<Options>', b'<Options>' + one * 2, 1).replace(
+            b'<Cvr ', b'<Cvr xmlns:xsi="http://www.w3.org/2001/XMLSchema-instance" xsi:schemaLocation="a b" ', 1))
         gathered('hart', os.path.join(folder, 'hart'), cvr, os.path.join(folder, 'out'))
 
 
