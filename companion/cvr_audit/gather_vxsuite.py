@@ -34,6 +34,8 @@ def frame_in(source, out, cvr):
     frame = held.get(FRAME) if isinstance(held, dict) else None
     if not isinstance(frame, dict):
         raise fault(source.name, 'it has no %s' % FRAME)
+    if frame.get('CVR'):
+        raise fault(source.name, 'it has records itself, beside those in the folders of ballots')
     for name in sorted({*held} - {FRAME} - LEFT):
         out.note('%s: its member %s is left out' % (source.name, spelled(name)))
     frame = dict(frame, CVR=[])

@@ -256,6 +256,8 @@ def vxsuite():
     yield 'no metadata', lambda: os.remove('vxsuite/metadata.json'), 'vxsuite: ' + UNKNOWN
     yield ('metadata without a version', replaced('vxsuite/metadata.json', b'"Version": "1.0.0", ', b''),
            'vxsuite/metadata.json: cvr refuses it: E3 /castVoteRecordReportMetadata/Version 2')
+    yield ('records in metadata', everywhere('vxsuite/metadata.json', b'"Election": ', b'"CVR": [{}], "Election": '),
+           'vxsuite/metadata.json: it has records itself, beside those in the folders of ballots')
     yield ('a contest that is not there', everywhere(VX, b'"council"', b'"nosuch"'),
            VX + ': /CVR/0: cvr refuses it: E4 /CVRSnapshot/0/CVRContest/0/ContestId A text of it has to be the id of something in the '
            'file, and is not: /CVRSnapshot/0/CVRContest/0/ContestId.')
