@@ -15,7 +15,7 @@ import make
 Fault = namedtuple('Fault', 'name export change log status words', defaults=(1, ()))
 FIRST = 'vxsuite/2e251cd0-3350-5d62-babe-c97e89f72c31/'
 VX = FIRST + 'cast-vote-record-report.json'
-HART = 'hart/4057b1ff-4e4d-53fa-9cfb-9d6724c76d81.xml'
+HART, LAST = 'hart/4057b1ff-4e4d-53fa-9cfb-9d6724c76d81.xml', 'hart/f41a25eb-c6ff-5405-b03b-22e3dee6e0c6.xml'
 LOST = ('this record has no %s. The standard leaves it optional; here it is part of the name by which records are told apart, '
         'and nothing can stand in for it. Ask the maker of the system to export each record with a CreatingDeviceId and a UniqueId')
 UNKNOWN = ('no form of export is recognised here (%s); if it is one of these, name it with --as, and see docs/GATHER.md'
@@ -140,7 +140,7 @@ def dominion():
            'dominion.csv: line 5: a mark is neither 1, 0 nor empty, but \\x1b[2J\\n\\u202ex')
     yield 'the heads again', line_again(path, 3), 'dominion.csv: line 9: the head stands here again: two files in one'
     yield 'another encoding', replaced(path, b'Old Mill', b'Old M\xefll'), 'dominion.csv: line 5: ' + NO_TEXT
-    yield 'a quote that is not closed', replaced(path, b'1,1,1,1,"=', b'"1,1,1,1,"='), None
+    yield 'a quote that is not closed', replaced(path, b'1,1,1,1,"=', b'"1,1,1,1,"='), 'dominion.csv: line 5: it is no row of CSV: ..'
     yield ('semicolons', everywhere(path, b',', b';'),
            'dominion.csv: line 4: the cells are parted by semicolons; this form has commas')
     yield ('an id twice', replaced(path, b'2,1,1,2,', b'2,1,1,1,'),
@@ -201,7 +201,8 @@ def hart():
     yield 'cut', cut(HART, 10), HART + ': line 2: it is no XML, or cut off: ..'
     yield 'an element is missing', everywhere(HART, b'CvrGuid', b'CvrId'), HART + ': the element {http://tempuri.org/CVRDesign.xsd}CvrId in Cvr is not of this form as it is known'
     yield 'no id', lambda: write(HART, read(HART).split(b'<CvrGuid>')[0] + b'</Cvr>'), HART + ': there is no CvrGuid in a Cvr'
-    yield ('an element in another', replaced(HART, b'<SheetNumber>1</SheetNumber>', b'<SheetNumber><Option/></SheetNumber>'), None)
+    yield ('an element in another', replaced(HART, b'<SheetNumber>1</SheetNumber>', b'<SheetNumber><Option/></SheetNumber>'),
+           HART + ': the element SheetNumber has elements of its own')
     yield ('an attribute', lambda: write(HART, read(HART).replace(b'<Value>1<', b'<Value Weight="2">1<', 1)),
            HART + ': the attribute Weight in Option is not of this form as it is known')
     yield ('a text between elements', lambda: write(HART, read(HART).replace(b'<Value>1<', b'void<Value>1<', 1)),
@@ -214,14 +215,14 @@ def hart():
     yield ('an id twice', lambda: shutil.copy(HART, 'hart/zz.xml'),
            'hart/zz.xml: the record "hart" "4057b1ff-4e4d-53fa-9cfb-9d6724c76d81" stands here and in ' + HART + ': ')
     yield 'another value', lambda: write(HART, read(HART).replace(b'<Value>1<', b'<Value>2<', 1)), HART + ': the Value of an Option is neither 1 nor 0, but 2'
-    yield 'another name', replaced('hart/f41a25eb-c6ff-5405-b03b-22e3dee6e0c6.xml', b'County Council', b'City Council'), None
-    yield 'no number', replaced(HART, b'<BatchSequence>1', b'<BatchSequence>one'), None
+    yield 'another name', replaced(LAST, b'County Council', b'City Council'), LAST + ': the Contest c0 is named City Council, and County Council elsewhere'
+    yield 'no number', replaced(HART, b'<BatchSequence>1', b'<BatchSequence>one1'), HART + ': BatchSequence is no number, but one1'
     yield 'a number of many digits', replaced(HART, b'<BatchSequence>1', b'<BatchSequence>' + b'1' * 5000), HART + ': BatchSequence is no number, but 111..'
     yield ('an option twice', lambda: write(HART, read(HART).replace(b'</Options>', read(HART).partition(b'<Options>')[2].partition(b'</Options>')[0] + b'</Options>', 1)),
            HART + ': an Option of c0 is marked twice')
     yield 'an empty file', lambda: write('hart/zz.XML', b''), 'hart/zz.XML: line 1: it is no XML, or cut off: ..'
     yield ('no contest', lambda: [write(it, re.sub(rb'<Contests>.*</Contests>', b'<Contests/>', read(it))) for it in glob.glob('hart/*')], 'hart' + NO_CONTEST)
-    yield 'another root', everywhere(HART, b'Cvr xmlns', b'Log xmlns'), None
+    yield 'another root', lambda: write(HART, re.sub(rb'(</?)Cvr\b', rb'\1Log', read(HART))), HART + ': its root is {http://tempuri.org/CVRDesign.xsd}Log, and not Cvr'
     yield 'another namespace', everywhere(HART, b'CVRDesign', b'Other'), HART + ': its root is {http://tempuri.org/Other.xsd}Cvr, and not Cvr'
 
 
@@ -273,7 +274,7 @@ def cdf():
     yield 'no UniqueId', replaced(path, b'"UniqueId": "1-0003"', b'"x": 1'), path + ': /CVR/2: ' + LOST % 'UniqueId'
     yield ('no device', lambda: write(path, read(path).replace(b'"CreatingDeviceId": "scanner-1",', b'', 1)),
            path + ': /CVR/0: ' + LOST % 'CreatingDeviceId')
-    yield 'cut', cut(path, 4), None
+    yield 'cut', cut(path, 4), path + ': line 147: it is no JSON, or cut off: ..'
     yield 'two texts', replaced(path, b'', b'{}'), path + ': line 148: it is no JSON, or cut off: ..'
     yield 'records twice', replaced(path, b'"CVR": [', b'"CVR": [], "CVR": ['), path + ': the member "CVR" stands twice in an object'
     yield ('two names', replaced(path, b'Omar Field', b'Omar Fields'),
@@ -323,7 +324,7 @@ def dominion_json():
            path + ': /Sessions/0/Original: the PrecinctPortionId 9 is not in PrecinctPortionManifest.json')
     yield ('half a sign', replaced(more + 'CandidateManifest.json', b'Iris Vale', b'Iris \\ud800'),
            more + 'CandidateManifest.json: line 5: ' + HALF % '\\ud800')
-    yield 'cut', cut(path, 9), None
+    yield 'cut', cut(path, 4), path + ': line 351: it is no JSON, or cut off: ..'
     yield 'no sessions', everywhere(path, b'"Sessions"', b'"Session"'), 'dominion-json: ' + UNKNOWN
 
 
@@ -332,7 +333,7 @@ GROUPS = [('dominion.csv', dominion), ('clearballot.csv', clearballot), ('ess.cs
 
 
 def all_faults():
-    """Each fault; where its line isn't said, the line has to begin with its export."""
+    """Each fault. A line that ends with `..` may go on in another way, as that of a library."""
     for export, group in GROUPS:
         for name, change, log in group():
             yield Fault('%s: %s' % (export, name), export, change, log)

@@ -161,8 +161,7 @@ def see_fault(fault, cvr):
         text, log, status = run(['gather', fault.export, '-o', '../out', *fault.words], cvr, folder=os.path.join(folder, 'exports'))
         see(os.listdir(folder) == before and not [it for it in os.listdir(os.path.join(folder, 'exports')) if it.startswith('.')], 'something is left')
     wanted = 'cvr-audit: %s\n' % fault.log
-    begins = fault.log[:-2] if fault.log and fault.log.endswith('..') else fault.export.partition('.')[0]
-    is_right = log == wanted or wanted.endswith(('..\n', 'None\n')) and log.startswith('cvr-audit: ' + begins) and log.count('\n') == 1
+    is_right = log == wanted or wanted.endswith('..\n') and log.startswith(wanted[:-3]) and log.count('\n') == 1
     see(is_right and text == '' and status == fault.status, 'status %d, %r, and not %r' % (status, log, wanted))
 
 
