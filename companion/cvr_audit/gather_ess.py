@@ -1,4 +1,6 @@
 """The CSV of ES&S: a line of heads, then a line for each record, with a choice in each cell."""
+import collections
+
 from .gather_frame import Contest, Frame, position, snapshot
 from .gather_table import Table, begins, rows_of
 
@@ -47,6 +49,13 @@ def plain(cell):
     return cell.lower() if cell.lower() in (UNDERVOTE, OVERVOTE) else cell
 
 
+def see_choice(table, cell):
+    """Stops at a choice that is a number, as in sums, or nearly a word of the form."""
+    letters = ''.join(filter(str.isalpha, cell.lower()))
+    if not letters or letters.startswith((UNDERVOTE, OVERVOTE)):
+        raise table.fault('%s is no choice, but a number, or nearly a word of this form' % cell)
+
+
 def contest_text(table, contest, cells):
     """The text of a contest in a snapshot, by its cells; None where these are empty, as the contest
     isn't on the ballot."""
@@ -55,21 +64,25 @@ def contest_text(table, contest, cells):
     if '' in cells:
         raise table.fault('some cells of %s are empty and others are not' % contest.key)
     chosen = [it for it in cells if it not in (UNDERVOTE, OVERVOTE)]
+    if chosen and OVERVOTE in cells:
+        raise table.fault('%s stands beside a choice in %s' % (OVERVOTE, contest.key))
     for choice in chosen:
+        see_choice(table, choice)
         contest.add(choice, choice)
-    if len(set(chosen)) < len(chosen):
+    marks = collections.Counter(chosen)
+    if any(number > 1 and not contest.selections[it] for it, number in marks.items()):
         raise table.fault('a choice stands twice in %s' % contest.key)
     numbers = {'Overvotes': cells.count(OVERVOTE), 'Undervotes': cells.count(UNDERVOTE),
                'WriteIns': sum(contest.selections[it] for it in chosen)}
     numbers.update({'Status': ['overvoted']} if OVERVOTE in cells else {})
-    return contest.written([(it, [position()]) for it in chosen], numbers)
+    return contest.written([(it, [position()] * number) for it, number in marks.items()], numbers)
 
 
 def read_row(table, heads, frame, cells):
     """The record of a row."""
     held = {name: cells[place] for name, place in heads.fixed.items()}
-    if not held[NUMBER]:
-        raise table.fault('the %s is empty' % NUMBER)
+    if not held[NUMBER] or not held[UNIT]:
+        raise table.fault('the %s or the %s is empty' % (NUMBER, UNIT))
     texts = [contest_text(table, frame.contests[name], [plain(cells[it]) for it in places])
              for name, places in heads.columns.items()]
     header = {'BallotStyleUnitId': frame.unit(held[UNIT]), 'BallotStyleId': held[STYLE]}

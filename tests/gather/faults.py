@@ -193,7 +193,15 @@ def ess():
     yield 'an id twice', replaced(path, b'104002', b'104001'), 'ess.csv: line 3: the record "ess" "104001" stands here and in ess.csv: line 2'
     yield 'a pipe', lambda: (os.remove(path), os.mkfifo(path)), 'ess.csv: it is no regular file: a link may lead out of the folder, and a pipe can be read only once'
     yield 'no contest', first_columns(path, 3), path + NO_CONTEST
-    yield 'no id', replaced(path, b'104002', b''), 'ess.csv: line 3: the Cast Vote Record is empty'
+    yield 'no id', replaced(path, b'104002', b''), 'ess.csv: line 3: the Cast Vote Record or the Precinct is empty'
+    yield 'a line of sums', lambda: write(path, read(path) + b'Total,,,4,4\r\n'), 'ess.csv: line 6: the Cast Vote Record or the Precinct is empty'
+    for name, cell in ('a number', b'1'), ('two words', b'under vote'), ('a sign that is not seen', b'Undervote\xe2\x80\x8b'):
+        yield ('no choice: ' + name, replaced(path, b'Style 0,Iris Vale', b'Style 0,' + cell),
+               'ess.csv: line 2: %s is no choice, but a number, or nearly a word of this form' % ascii(cell.decode())[1:-1])
+    yield ('overvote beside a choice', lambda: write(path, read(path).replace(b'Measure 1: parks', b'County Council').replace(b'Style 0,Iris Vale,Yes', b'Style 0,Iris Vale,overvote')),
+           'ess.csv: line 2: overvote stands beside a choice in County Council')
+    yield ('a choice twice', lambda: write(path, read(path).replace(b'Measure 1: parks', b'County Council').replace(b'Style 0,Iris Vale,Yes', b'Style 0,Iris Vale,Iris Vale')),
+           'ess.csv: line 2: a choice stands twice in County Council')
     yield 'a row too long', replaced(path, b'Style 0,Iris Vale', b'Style 0,Vale, Iris'), 'ess.csv: line 2: it has 6 cells, and the head 5: ' + CUT
 
 

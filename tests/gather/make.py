@@ -139,7 +139,9 @@ def ess_cells(election, k, ballot):
     if len(marks) > contest.allowed:
         return ['overvote'] * contest.allowed
     word = 'Undervote' if ballot.number % 7 == 0 else 'undervote'
-    return [contest.choices[i][0] for i in marks] + [word] * (contest.allowed - len(marks))
+    cells = [contest.choices[i][0] for i in marks]
+    written = ['Write-in'] * ('Write-in' in cells and ballot.number % 2 and len(cells) < contest.allowed)     # a second written name
+    return cells + written + [word] * (contest.allowed - len(cells + written))
 
 
 def ess(election, folder):
