@@ -6,7 +6,7 @@ from .gather_table import Table, begins, marks, rows_of
 
 NEEDED = ['BoxID', 'BoxPosition', 'BallotID', 'PrecinctID', 'BallotStyleID', 'ScanComputerName']
 OPTIONAL = ['RowNumber', 'PrecinctStyleName', 'Status', 'Remade']
-CHOICE = re.compile(r'Choice_\d+_1:(.+):Vote For ([0-9]{1,9}):(.+):([^:]*)', re.S)
+CHOICE = re.compile(r'Choice_\d+_1:(.+):Vote For ([1-9][0-9]{0,8}):(.+):([^:]*)', re.S)
 HEADS = 1
 
 
@@ -40,12 +40,14 @@ class Heads:
                                    % (place + 1, cell))
         name, allowed, choice, party = found.groups()
         held = self.frame.contests.setdefault(name, Contest(name, name, int(allowed)))
-        key = '%s (%s)' % (choice, party) if choice in held.selections else choice
-        if held.allowed != int(allowed) or key in held.selections:
+        key, columns = held.key_of(choice, party), self.columns.setdefault(name, [])
+        if held.allowed != int(allowed) or key is None:
             raise self.table.fault('the choice %s stands twice in %s, or the contest has two numbers '
                                    'of votes' % (choice, name))
+        if columns and columns[-1][0] != place - 1:
+            raise self.table.fault('the contest %s stands in two places' % name)
         held.add(key, choice)
-        self.columns.setdefault(name, []).append((place, key))
+        columns.append((place, key))
 
 
 class Reader:

@@ -6,7 +6,7 @@ from .gather_table import Table, begins, marks, rows_of
 
 NEEDED = 'TabulatorNum', 'BatchId', 'RecordId', 'PrecinctPortion', 'BallotType'
 OPTIONAL = 'CvrNumber', 'ImprintedId', 'CountingGroup', 'UniqueVotingIdentifier'
-CONTEST = re.compile(r'(.*\S)\s*\(Vote For=([0-9]{1,9})\)', re.S)
+CONTEST = re.compile(r'(.*\S)\s*\(Vote For=([1-9][0-9]{0,8})\)', re.S)
 RANKED = re.compile(r'.+\(\d+\)', re.S)       # a choice at a rank, as in rounds
 HEADS, LINES = 4, 'its four lines of heads'
 
@@ -55,9 +55,9 @@ class Heads:
         is_other = self.texts.setdefault(name, contest) != contest
         if is_other or columns and columns[-1][0] != place - 1:
             raise self.table.fault('the contest %s stands in two places, or under two heads' % name)
-        key = '%s (%s)' % (choice, party) if choice in held.selections and party else choice
-        if key in dict((it[::-1] for it in columns)):
-            raise self.table.fault('the choice %s stands twice in %s' % (key, name))
+        key = held.key_of(choice, party)
+        if key is None:
+            raise self.table.fault('the choice %s stands twice in %s' % (choice, name))
         held.add(key, choice)
         columns.append((place, key))
 

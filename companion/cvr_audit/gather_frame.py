@@ -26,7 +26,19 @@ class Contest:
             self.shown['VotesAllowed'] = allowed
         if variation is not None:
             self.shown['VoteVariation'] = variation
-        self.texts = {}
+        self.texts, self.columns = {}, set()
+
+    def key_of(self, choice, party):
+        """The id of the choice in a column: its name, with its party where a choice before has that
+        name, or with its number where it is for written names. None where it stands there already."""
+        is_written, key = is_write_in(choice), choice
+        if choice in self.selections and (is_written or party):
+            more = sum(self.selections.values()) + 1 if is_written else party
+            key = '%s (%s)' % (choice, more)
+        if key in self.selections or (choice, party) in self.columns and not is_written:
+            return None
+        self.columns.add((choice, party))
+        return key
 
     def add(self, key, name, is_written=None):
         """Adds a selection, if it isn't there."""

@@ -132,6 +132,10 @@ def dominion():
            'dominion.csv: line 4: column 12: no (Vote For=N) behind Measure 1: parks')
     yield ('a choice twice', lambda: (replaced(path, b'Omar Field', b'Iris Vale')(), replaced(path, b',LAR,', b',,')()),
            'dominion.csv: line 4: the choice Iris Vale stands twice in County Council')
+    yield ('a choice twice with its party', lambda: (replaced(path, b'Omar Field', b'Iris Vale')(), replaced(path, b',LAR,', b',HER,')()),
+           'dominion.csv: line 4: the choice Iris Vale stands twice in County Council')
+    yield ('no vote allowed', everywhere(path, b'parks (Vote For=1)', b'parks (Vote For=0)'),
+           'dominion.csv: line 4: column 12: no (Vote For=N) behind Measure 1: parks (Vote For=0)')
     yield ('a rank', replaced(path, b'Omar Field', b'Iris Vale(2)'),
            'dominion.csv: line 4: column 10: Iris Vale(2) has a number behind it, as choices with ranks have; ranked contests are not read in this form')
     yield ('a number of many digits', replaced(path, b'County Council (Vote For=1),County', b'County Council (Vote For=1%s),County' % (b'0' * 5000)),
@@ -161,6 +165,10 @@ def clearballot():
     yield ('a choice of no contest', replaced(path, b'Choice_4_1:Measure 1: parks:Vote For 1:Yes:', b'Choice_4_1:Yes:'),
            'clearballot.csv: line 1: column 14 has no contest, `Vote For N` and choice: Choice_4_1:Yes:Non-Partisan')
     yield 'no contest', first_columns(path, 10), path + NO_CONTEST
+    yield ('a choice twice with its party', replaced(path, b'Omar Field:LAR', b'Iris Vale:HER'),
+           'clearballot.csv: line 1: the choice Iris Vale stands twice in County Council, or the contest has two numbers of votes')
+    yield ('a contest in two places', replaced(path, b'Choice_5_1:Measure 1: parks', b'Choice_5_1:County Council'),
+           'clearballot.csv: line 1: the contest County Council stands in two places')
     yield ('two numbers of votes', replaced(path, b'Vote For 1:No:', b'Vote For 2:No:'),
            'clearballot.csv: line 1: the choice No stands twice in Measure 1: parks, or the contest has two numbers of votes')
     yield ('a number of many digits', replaced(path, b'Vote For 1:No:', b'Vote For 1%s:No:' % (b'0' * 5000)),

@@ -290,9 +290,11 @@ def see_contests_missing(kind, cvr):
 
 
 def see_variants(cvr):
-    """Tables with a byte order mark, with other line ends, with choices of one name, and with remade ballots."""
+    """Tables with a byte order mark, with other line ends, with choices of one name, with remade ballots, and with two
+    columns for written names."""
     changes = {'a mark': lambda it: b'\xef\xbb\xbf' + it, 'line ends': lambda it: it.replace(b'\r\n', b'\n'),
-               'names': lambda it: it.replace(b'Omar Field', b'Iris Vale'), 'remade': lambda it: it.replace(b',,0,', b',,1,')}
+               'names': lambda it: it.replace(b'Omar Field', b'Iris Vale'), 'remade': lambda it: it.replace(b',,0,', b',,1,'),
+               'written': lambda it: it.replace(b'Omar Field', b'Write-in')}
     for kind in ('dominion', 'clearballot', 'ess'):
         for name, change in changes.items():
             with tempfile.TemporaryDirectory() as folder:
