@@ -1,3 +1,4 @@
 pub mod Cutting
 pub mod Giving
+pub mod Holding
 pub mod Responding

@@ -1,4 +1,5 @@
 pub mod Given
+pub mod Held
 pub mod Pieces
 pub mod Responds
 pub mod Told

@@ -41,8 +41,8 @@ fn answer(
 ///
 /// # Errors
 /// `Pieces` where the input isn't words and files: nothing is printed or logged then. `Memory`
-/// where a growth was refused for the words, for the places of the pieces, or for what is printed
-/// or logged; other growths are the run's.
+/// where a growth was refused for the words, for the places of the pieces, for the paths of the
+/// files, or for what is printed or logged; other growths are the run's.
 pub fn answer_input(
     alloc: Global,
     input: &[u8],
@@ -72,7 +72,7 @@ pub fn answer_input(
         return Err(CallFault::Pieces);
     }
     let words = words_in(alloc, words)?;
-    let mut files = GivenFiles { pieces: files };
+    let mut files = GivenFiles::new(alloc, files)?;
     let status = answer(alloc, words.as_slice(), &mut files, out, log);
     if out.failed() || log.failed() {
         return Err(CallFault::Memory);

@@ -34,10 +34,12 @@ returns-clause-answered c given is =
     let words = split_words pieces _ c.in-Some.words.now c.in-Some.files.now given split gives in
     let files = split_files pieces _ c.in-Some.words.now c.in-Some.files.now given split gives in
     answered given (map string_bytes c.as_slice-2.result.now)
-    (files_in (shown c.in-Some.files.now)) (files_in (shown c.answer-status.new.files.pieces.now))
+    (files_in (shown c.in_ok-files.files.pieces.now))
+    (files_in (shown c.answer-status.new.files.pieces.now))
     c.answer-status.result c.args.out.now c.args.log.now c.answer-status.new.out
     c.answer-status.new.log
-    (ap (map string_bytes) c.as_slice-2.ensures.value ∙ (c.in_ok-words.ensures.words ∙ words)) files
+    (ap (map string_bytes) c.as_slice-2.ensures.value ∙ (c.in_ok-words.ensures.words ∙ words))
+    (ap (λ fs. files_in (shown fs)) c.in_ok-files.ensures ∙ files)
     (record { taken = c.requires.empty; working = c.requires.working })
     (record { taken = c.requires.log_empty; working = c.requires.log_working })
     (sym c.failed.ensures ∙ c.if-failed.false)
