@@ -2,7 +2,7 @@
 import itertools
 from collections import namedtuple
 
-from . import bodies, counting, reading
+from . import bodies, counting, notes, reading
 from .bodies import first
 from .program import mismatch
 from .reading import spelled
@@ -64,9 +64,11 @@ def record_lines(name, one, other):
         yield from lines_of(['snapshot'] + parts + [spelled(snapshot)], *sides)
 
 
-def shown_in(volume):
+def shown_in(volume, said):
     """The records of volume 1, which are in byte order of their names."""
-    return (Shown(reading.name_of(value), value, text) for value, text in volume.with_texts())
+    for value, text in volume.with_texts():
+        said.take(value)
+        yield Shown(reading.name_of(value), value, text)
 
 
 def pairs(one, other):
@@ -132,7 +134,8 @@ def run(one, other, words):
     selections, changes, lines = counting.selections_of(one.report), {}, []
     conflicts = [bodies.conflicts_of(side) for side in (one, other)]
     volumes = [side.volume(1) for side in (one, other)]
-    for name, *shown in pairs(*map(shown_in, volumes)):
+    said = [notes.Notes(side) for side in (one, other)]
+    for name, *shown in pairs(*map(shown_in, volumes, said)):
         if not is_same(shown, conflicts):
             a, b = (bodies.record_of(it.value, held) if it else None
                     for it, held in zip(shown, conflicts))
@@ -142,4 +145,7 @@ def run(one, other, words):
     tallies = [counting.rows_in(side.tally()) for side in (one, other)]
     for row in counting.in_order({*tallies[0], *tallies[1]}, selections):
         lines += row_lines(row, tallies, changes.get(row, []), selections)
+    for name, side, held in zip(SIDES, (one, other), said):
+        side.each_report(held.take_file)
+        side.notes = held.text(name + ': ')
     return ''.join(' '.join(it) + '\n' for it in lines), bool(lines)

@@ -191,6 +191,7 @@ def made(words):
         text, is_found = words.run(*files, words)
         for side in files:
             side.see_unchanged()
+            log(side.notes.encode('utf-8', 'surrogateescape'))
     except OSError as fault:
         parts = [str(it) for it in (fault.filename, fault.strerror) if it]
         raise program.ended(program.FAILED, ': '.join(parts)) from None

@@ -8,7 +8,7 @@ class Seen(warnings.Seen):
     records."""
 
     def __init__(self, facts):
-        super().__init__()
+        super().__init__(facts.files)
         self.facts, self.sizes, self.adjudicated = facts, {}, []
 
     def take(self, record):

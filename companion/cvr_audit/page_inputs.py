@@ -6,14 +6,19 @@ import re
 import shlex
 import shutil
 
-from . import page_faults, program, warnings
+from . import page_faults, program
+from .advice import ADVICE
 from .page_tree import code, codes, element, listed, section, table
 from .reading import spelled
 
 SIZE = 1 << 20
 PROVENANCE = '../share/doc/cvr/PROVENANCE'      # beside the folder of an installed program
 KINDS = {
-    'refused': 'File refused', 'definition': 'Records in DEF', 'device': 'Two texts of a device',
+    'refused': 'File refused', 'definition': 'Records in DEF', 'among': 'DEF among the files',
+    'alone': 'No file', 'repeated': 'One record several times in a file',
+    'counted': 'Fewer records than the files have', 'decides': 'A file that decides',
+    'nobody': 'Decided by nobody', 'later': 'Later than its files', 'waiting': 'Waiting',
+    'ranked': 'Ranks or scores', 'device': 'Two texts of a device',
     'header': 'Two headers of a record', 'snapshot': 'Two texts of a snapshot',
     'pending': 'Pending', 'unassigned': 'Unassigned', 'votes': 'Too many votes',
     'sum': 'Sum', 'unstated': 'Not stated', 'contest': 'Contest without a record',
@@ -123,11 +128,11 @@ def shown_warnings(facts):
     """The warnings; on a page for the public only their kinds, always in the same order."""
     if not facts.is_public:
         for kind, parts in facts.warnings:
-            yield KINDS[kind], ' '.join(parts), warnings.ADVICE[kind]
+            yield KINDS[kind], ' '.join(parts), ADVICE[kind]
         return
     found = {kind for kind, _ in facts.warnings}
     for kind in filter(found.__contains__, KINDS):
-        yield KINDS[kind], None, warnings.ADVICE[kind]
+        yield KINDS[kind], None, ADVICE[kind]
 
 
 def warned(facts):

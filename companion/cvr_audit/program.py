@@ -72,7 +72,7 @@ def mark_of(path):
 class Files:
     """A definition and files. `accepted` has the paths of the accepted files, each with the number of
     its records, and `log` the lines of the others; `own_records` is the number of the definition's
-    own records, which are not counted."""
+    own records, which are not counted; `notes` is what a command says of them on standard error."""
 
     def __init__(self, program, definition, files, log):
         self.program, self.definition, self.files = program, definition, files
@@ -86,6 +86,7 @@ class Files:
         if self.status > 1:
             raise Ended(self.status, self.log)
         self.accepted = accepted_in(files, out)
+        self.notes = ''
         self.report = self.report_at(definition)
 
     def run(self, task, words, out=subprocess.PIPE):

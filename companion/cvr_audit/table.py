@@ -6,6 +6,7 @@ HEADER = ['CreatingDeviceId', 'UniqueId', 'BallotStyleUnitId', 'BatchId', 'Ballo
           'BallotAuditId']
 NAMES = HEADER + ['CurrentSnapshotId', 'Type', 'TimeStamp', 'AdjudicatorName', 'files']
 DEVICE, UNIQUE, UNIT, BATCH, _, AUDIT = range(len(HEADER))
+FILES = len(NAMES) - 1
 NUMBERS = counting.COLUMNS[1:]      # of a contest in a line, before the votes of its selections
 MARKS = ',', '"', '\n', '\r'
 

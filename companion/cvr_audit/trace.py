@@ -1,7 +1,7 @@
 """cvr-audit trace: from a number of the tally to the records, files and places that make it up."""
 from collections import namedtuple
 
-from . import counting, reading
+from . import counting, notes, reading
 from .program import WORDS, ended, mismatch
 from .reading import pointer, spelled
 
@@ -27,10 +27,11 @@ def votes_in(contest, words):
     return sum(votes for _, _, votes in counting.places_of(contest, words.selection))
 
 
-def traced(volume, words):
+def traced(volume, words, said):
     """The records of each row that is asked for, by the row and by the record's name."""
     rows = {}
     for record in volume:
+        said.take(record)
         current = reading.current_of(record)
         contest = contest_in(current, words.contest)
         row = counting.row_of(contest, record) if contest else None
@@ -93,9 +94,16 @@ def run(files, words):
     """The text, and whether there is something to look at."""
     selections = counting.selections_of(files.report)
     see_words(words, selections)
-    rows, tally = traced(files.volume(1), words), counting.rows_in(files.tally())
+    said = notes.Notes(files)
+    rows, tally = traced(files.volume(1), words, said), counting.rows_in(files.tally())
     records = {name: record for held in rows.values() for name, record in held.items()}
-    files.each_report(lambda path, report: find(path, report, records, words))
+
+    def take(path, report):
+        said.take_file(path, report)
+        find(path, report, records, words)
+
+    files.each_report(take)
+    files.notes = said.text()
     column = 'ballots' if words.selection is None else spelled(words.selection)
     place, lines = counting.columns_of(words.contest, selections).index(column), []
     for row, numbers in tally.items():

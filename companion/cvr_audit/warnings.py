@@ -1,46 +1,25 @@
 """cvr-audit warnings: a line for each thing that needs a person before the tally is used."""
-from . import bodies, counting, reading
+from . import bodies, counting, notes, reading
+from .advice import line_of
 from .manifest import manifest_in
-from .program import line_of, mismatch
+from .program import line_of as log_line_of
+from .program import mismatch
 from .reading import spelled
-
-ADVICE = {
-    'refused': 'it is left out of every number; have it exported again',
-    'definition': 'the records of DEF are not counted; take the report from before the first '
-                  'ballot, or name it among the files, too',
-    'device': 'ask whether there were two machines with one id, whose records may have been joined',
-    'header': 'find the ballot, decide where it belongs, and have the wrong file exported again; '
-              'text 1 counts',
-    'snapshot': 'look at both in the adjudication log, and have the wrong file exported again; '
-                'text 1 is the one that can count',
-    'pending': 'nobody has decided on these marks, and they are in no selection\'s votes; finish '
-               'the adjudication',
-    'unassigned': 'these votes count for no selection; ask the maker of the files',
-    'votes': 'more votes than the ballots allow; look for a record that was made twice, and ask '
-             'the maker of the files',
-    'sum': 'votes, overvotes, undervotes, pending and unassigned don\'t come to the ballots; '
-           'explain what is short or over',
-    'unstated': 'no file states this number for the contest, so the zeros of its column mean '
-                'nothing; ask the maker of the files',
-    'contest': 'no record has this contest; ask whether a file is missing',
-    'record': 'its current snapshot has no contest, so it stands in no row; look at the ballot',
-    'batch': 'the manifest and the records don\'t agree; look for a file that is missing or a '
-             'batch that was scanned twice',
-    'ballot': 'records of one ballot, or one id that was given twice; look at the ballots',
-}
-
 
 class Seen:
     """What was seen in the records: the number in each batch, the names with each BallotAuditId, the
-    names of records without a contest, which contests have which number stated, and the texts of
-    each name in conflict, each as its value with the paths of the files that have it."""
+    names of records without a contest, which contests have which number stated, the texts of each
+    name in conflict, each as its value with the paths of the files that have it, and what is said by
+    every command."""
 
-    def __init__(self):
+    def __init__(self, files):
+        self.notes = notes.Notes(files)
         self.batches, self.ballots, self.empty, self.stated = {}, {}, [], set()
         self.texts = {}
 
     def take(self, record):
         """Notes a record of volume 1."""
+        self.notes.take(record)
         batch, ballot = record.get('BatchId'), record.get('BallotAuditId')
         self.batches[batch] = self.batches.get(batch, 0) + 1
         if ballot is not None:
@@ -65,6 +44,7 @@ def see(files, seen):
         seen.take(record)
         texts.update(conflicts.of({'ReportingDevice': [], 'CVR': [record]}))
     texts.update(conflicts.of(volume.rest))
+    files.each_report(seen.notes.take_file)
     for (kind, *_), held in texts.items():
         for snapshot in held.values() if kind == 'snapshot' else ():
             seen.take_stated(snapshot)
@@ -78,7 +58,7 @@ def refused_lines(files):
     accepted, place = {path for path, _ in files.accepted}, 0
     for path in files.files:
         if path not in accepted:
-            fault, place = line_of(path, b': ', files.log, place)
+            fault, place = log_line_of(path, b': ', files.log, place)
             if not fault:
                 raise mismatch('the log of `cvr check` is of other files than it was given')
             yield 'refused', [spelled(path), fault.decode('utf-8')]
@@ -141,9 +121,8 @@ def ballot_lines(ballots):
 def found_in(files, manifest, seen):
     """Each warning as its kind and its parts. Notes in `seen` what is seen in the records."""
     yield from refused_lines(files)
-    if files.own_records:
-        yield 'definition', [spelled(files.definition), str(files.own_records)]
     see(files, seen)
+    yield from seen.notes.lines()
     yield from conflict_lines(seen.texts)
     rows, allowed = counting.rows_in(files.tally()), allowed_of(files.report)
     for row, numbers in rows.items():
@@ -156,6 +135,5 @@ def found_in(files, manifest, seen):
 
 def run(files, words):
     """The text, and whether there is a warning."""
-    lines = ['%s %s: %s\n' % (kind, ' '.join(parts), ADVICE[kind])
-             for kind, parts in found_in(files, words.manifest, Seen())]
+    lines = [line_of(*it) for it in found_in(files, words.manifest, Seen(files))]
     return ''.join(lines), bool(lines)

@@ -114,7 +114,7 @@ def digest_of(name, trial, folder):
 
 def filled(text, trial, folder):
     """A text written by hand, with what can't be written by hand: digests, the version, and advice."""
-    advice = trial.package.warnings.ADVICE
+    advice = trial.package.advice.ADVICE
     text = text.replace('{version}', trial.printed(folder, '--version')[0].split('\n')[0])
     text = re.sub(r'\{digest of (.*?)\}', lambda it: digest_of(it.group(1), trial, folder), text)
     return re.sub(r'\{(\w+)\}', lambda it: advice[it.group(1)], text)

@@ -12,9 +12,12 @@ COLUMNS = [it.capitalize() for it in printed.Texts.columns]
 END = len(COLUMNS)
 HIDDEN = '*'
 MAY_LACK = [COLUMNS.index(it) for it in ('Overvotes', 'Undervotes')]    # where no file states them
-WARNINGS = ['File refused', 'Records in DEF', 'Two texts of a device', 'Two headers of a record',
-            'Two texts of a snapshot', 'Pending', 'Unassigned', 'Too many votes', 'Sum', 'Not stated',
-            'Contest without a record', 'Record without a contest', 'Batch', 'One ballot twice']
+WARNINGS = ['File refused', 'Records in DEF', 'DEF among the files', 'No file',
+            'One record several times in a file', 'Fewer records than the files have', 'A file that decides',
+            'Decided by nobody', 'Later than its files', 'Waiting', 'Ranks or scores',
+            'Two texts of a device', 'Two headers of a record', 'Two texts of a snapshot', 'Pending',
+            'Unassigned', 'Too many votes', 'Sum', 'Not stated', 'Contest without a record',
+            'Record without a contest', 'Batch', 'One ballot twice']
 ODD = '\x00\x07\x85\ufffe'      # the characters of page_sets.py that HTML can't have
 
 

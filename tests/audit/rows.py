@@ -45,11 +45,14 @@ def county(name):
 
 
 def selection_of(parts):
-    """A CVRContestSelection of its id or None, HasIndication, IsAllocable or None, NumberVotes."""
-    name, indication, allocable, votes = parts
+    """A CVRContestSelection of its id or None, HasIndication, IsAllocable or None, NumberVotes; then
+    its other members, and those of its position, where it has some."""
+    name, indication, allocable, votes, *more = parts
     position = {'@type': 'CVR.SelectionPosition', 'HasIndication': indication, 'NumberVotes': votes}
     position.update({'IsAllocable': allocable} if allocable else {})
+    position.update(*more[1:])
     selection = {'@type': 'CVR.CVRContestSelection', 'SelectionPosition': [position]}
+    selection.update(*more[:1])
     return dict({'ContestSelectionId': name} if name else {}, **selection)
 
 
@@ -92,6 +95,7 @@ def content(part):
         return text
     report = json.loads(text)
     if is_made:
+        report.update(part.get('members', {}))
         report['CVR'] = list(map(record_of, part['records']))
     else:
         report['CVR'] = [it for it in report['CVR'] if it['UniqueId'] in part['records']]

@@ -24,8 +24,10 @@ import wrong_ways  # noqa: E402 (these stand beside this file and in tests/)
 
 SIDE_BY_SIDE = 4
 FEW = 12            # the sets with which a slip is tried
-SHOWN = ['cvr check: 3 files', 'cvr check: 3 files', 'read 0 of 2 files', 'read 1 of 2 files',
-         'cvr merge: 3 files', 'cvr tally: 3 files']
+SHOWN = ['cvr check: 3 files', 'cvr check: 3 files', 'cvr merge: 3 files', 'read 0 of 2 files',
+         'read 1 of 2 files', 'cvr tally: 3 files']
+SCREEN = ['damaged.json: E3 /CVR/0/UniqueId 2',
+          'cvr-audit: see cvr-audit warnings: counted 1, decides 1', '']
 BROKEN = 'NameError', 'SyntaxError', 'ImportError'
 
 
@@ -40,7 +42,7 @@ def terminal_differences(companion, cvr):
                               stdout=subprocess.PIPE, stderr=log.theirs, timeout=rows.SECONDS)
     screen, before = terminal.screen(log.all())
     found = []
-    if (screen, done.returncode) != (['damaged.json: E3 /CVR/0/UniqueId 2', ''], 1):
+    if (screen, done.returncode) != (SCREEN, 1):
         found.append('terminal: the screen has %r, the status is %d' % (screen, done.returncode))
     if [one for one in before if one] != SHOWN:
         found.append('terminal: the line said %r' % before)
@@ -74,7 +76,7 @@ def way_differences(cvr, seed, held, advice, way):
 def jobs(words, cvr):
     """What is tested, each as a call that answers what is wrong."""
     package = sets.package_in(COMPANION)
-    advice, held = package.warnings.ADVICE, {row['name']: row for row in rows.held()}
+    advice, held = package.advice.ADVICE, {row['name']: row for row in rows.held()}
     yield from ((rows.differences, COMPANION, cvr, row, advice) for row in held.values())
     yield terminal_differences, COMPANION, cvr
     for seed in range(words.seed, words.seed + words.sets):

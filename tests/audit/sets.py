@@ -17,17 +17,20 @@ import tempfile
 from types import SimpleNamespace
 
 TOP = os.path.dirname(os.path.dirname(os.path.dirname(os.path.abspath(__file__))))
-sys.path.insert(0, os.path.join(TOP, 'tests', 'rows'))
+sys.path[:0] = [os.path.dirname(os.path.abspath(__file__)), os.path.join(TOP, 'tests', 'rows')]
 sys.dont_write_bytecode = True
 import members                # noqa: E402
 import printed                # noqa: E402
 import random_files           # noqa: E402
 import rules as format_rules  # noqa: E402 (they stand in rows/)
+import said                   # noqa: E402 (it stands beside this file)
 
 CELL = re.compile(r'("(?:[^"]|"")*"|[^,"\r\n]*)([,\n])')
 WORD = re.compile(r'"(?:[^"\\]|\\.)*"|[^ ]+')
 FIXED = 11          # columns of a record before those of the contests
 KINDS = 'device', 'header', 'snapshot'
+SAID = 'repeated', 'counted', 'decides', 'nobody', 'later', 'waiting', 'ranked'
+WORDS = 'again', 'elsewhere'
 HEADING = '2024-11-06T18:00:00-05:00'
 RULES = format_rules.Rules()
 NAMES = sorted({'@type', '@id', 'x', '', 'BallotAuditId'}.union(*RULES.classes.values()))
@@ -263,6 +266,8 @@ class Set:
                      for words in kinds.get(column, [])}
             held = {row: numbers[column] for row, numbers in rows.items() if numbers[column]}
             see(found == held, column)
+        see(self.said(kinds) == sorted(map(str, said.lines(self.known, self.accepted))),
+            'what is said of files and marks')
         lacking = {json.loads(words[1].rstrip(':')) for words in kinds.get('contest', [])}
         see(lacking == set(self.contests) - {row[0] for row in rows}, 'contests without a row')
 
@@ -290,6 +295,12 @@ class Set:
         see(made['CVR'] == [], 'records in a definition')
 
     @staticmethod
+    def said(kinds):
+        """The lines on files and marks, each as its kind, texts and numbers."""
+        lines = [parts_of(words) for kind in SAID for words in kinds.get(kind, [])]
+        return sorted(str(tuple(it for it in parts if it not in WORDS)) for parts in lines)
+
+    @staticmethod
     def conflicts(kinds):
         """Each conflict in the warnings: its kind, and how many texts it has."""
         return sorted((kind, words[:words.index(':')].count('text'))
@@ -299,6 +310,14 @@ class Set:
         lines = lines_in(self.printed('conflicts', self.paths))[:-1]
         return sorted((words[0] if words[0] == 'device' else words[2], int(words[-1]))
                       for words in lines)
+
+
+def parts_of(words):
+    """The kind of a line of `warnings`, and its texts, numbers and words, without the advice."""
+    end = next(place for place, word in enumerate(words) if word.endswith(':'))
+    last = words[end].rstrip(':')
+    parts = words[:end] + [last] * bool(last)
+    return [json.loads(it) if it[0] in '"-0123456789' and it != '-' else it for it in parts]
 
 
 def package_in(companion):

@@ -1,0 +1,44 @@
+"""Contests whose votes are ranks or scores, of which `cvr` computes no rounds: it adds them up."""
+from . import counting
+from .reading import spelled
+
+VARIATIONS = 'borda', 'range', 'rcv'
+ABSENT = '-'        # in place of a VoteVariation or a Rank that nothing states
+
+
+def positions_of(contest):
+    """Each position of a contest: the id of its selection or None, its Rank or None, and itself."""
+    for chosen in contest.get('CVRContestSelection', []):
+        for position in chosen['SelectionPosition']:
+            rank = position.get('Rank', chosen.get('Rank'))
+            yield chosen.get('ContestSelectionId'), rank, position
+
+
+class Ranks:
+    """For each contest the greatest Rank, and the votes by selection and Rank."""
+
+    def __init__(self, definition):
+        contests = definition['Election'][0]['Contest']
+        self.variations = {it['@id']: it.get('VoteVariation') for it in contests}
+        self.greatest, self.votes = {}, {}
+
+    def take(self, snapshot):
+        """Notes a current snapshot."""
+        for contest in snapshot.get('CVRContest', []):
+            key = contest['ContestId']
+            for selection, rank, position in positions_of(contest):
+                if rank is not None:
+                    self.greatest[key] = max(rank, self.greatest.get(key, rank))
+                if counting.counts(position):
+                    place = key, selection, rank
+                    self.votes[place] = self.votes.get(place, 0) + position['NumberVotes']
+
+    def is_ranked(self, contest):
+        return self.variations[contest] in VARIATIONS or self.greatest.get(contest, 0) > 1
+
+    def lines(self):
+        """A line for each such contest: its VoteVariation, and the greatest Rank."""
+        for contest, variation in self.variations.items():
+            if self.is_ranked(contest):
+                rank = self.greatest.get(contest, ABSENT)
+                yield 'ranked', [spelled(contest), variation or ABSENT, str(rank)]
