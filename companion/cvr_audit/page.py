@@ -1,10 +1,10 @@
 """cvr-audit page: the tally as a page for a browser, with all else that a canvass looks at."""
 import hashlib
 
-from . import page_contests, page_inputs, page_records
+from . import page_contests, page_inputs, page_records, page_summary, page_warnings
 from .page_facts import Facts
-from .page_style import STYLE
-from .page_tree import code, element, section, text_of
+from .page_style import style_of
+from .page_tree import code, element, section, shown, text_of
 
 # no scripts, and nothing is fetched
 POLICY = 'default-src \'none\'; style-src \'unsafe-inline\''
@@ -26,7 +26,7 @@ def sections(facts):
     """The sections of the page, in their order."""
     contests = page_contests.contests_of(facts)
     yield page_inputs.inputs(facts)
-    yield page_inputs.warned(facts)
+    yield page_warnings.warned(facts)
     yield page_contests.totals(facts, contests)
     yield page_contests.details(facts, contests)
     yield page_records.reconciliation(facts)
@@ -49,8 +49,8 @@ def document(facts):
                    element('meta', http_equiv='Content-Security-Policy', content=POLICY),
                    element('meta', name='viewport', content='width=device-width, initial-scale=1'),
                    element('title', 'UNOFFICIAL: ' + facts.names.election),
-                   element('style', STYLE))
-    body = element('body', page_inputs.head(facts), contents(parts), element('main', *parts))
+                   element('style', style_of(shown(facts.names.election))))
+    body = element('body', page_summary.head(facts), contents(parts), element('main', *parts))
     return element('html', head, body, lang='en')
 
 

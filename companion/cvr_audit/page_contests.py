@@ -1,6 +1,7 @@
 """The numbers of the page: of each contest, in all, by unit and by batch."""
 from . import counting, page_masking, page_names
 from .page_tree import element, folded, listed, section, table
+from .program import mismatch
 
 MANY = 12           # a table with more rows is folded; with more contests every table is
 COLUMNS = 6         # columns of numbers in one table, as a sheet of paper has room for
@@ -9,6 +10,8 @@ UNKNOWN = ('The definition does not say how many votes a ballot has (VotesAllowe
            'said of whether they come to the ballots.')
 ALLOWED = 'Votes and unassigned come to {:,}, and the ballots have {:,}: {}.'
 SUMS = 'Votes, overvotes, undervotes, pending and unassigned come to {:,}, the ballots to {:,}: {}.'
+RANKED = ('The votes of this contest are ranks or scores. They are added up over all ranks, and no '
+          'rounds are computed.')
 NOTE = ('* stands for a number that is withheld: it is below ten, or one below ten would follow '
         'from it.')
 HEADS = [it.capitalize() for it in counting.COLUMNS]
@@ -36,6 +39,7 @@ class Contest:
         held, self.votes = counting.parts(self.numbers)
         self.ballots = held['ballots']
         self.allowed, self.is_whole = facts.allowed.get(key), not facts.is_public
+        self.plain, self.is_ranked = facts.names.plain_contest(key), facts.is_ranked(key)
         self.stated = [it not in counting.WANTED or (key, counting.STATED[it]) in facts.seen.stated
                        for it in counting.COLUMNS]
         self.hidden = set()
@@ -63,21 +67,42 @@ def share(votes, counted):
     return '%d.%d' % divmod(tenths, 10)
 
 
-def bar(votes, most):
-    """A bar for these votes, in proportion to the most votes in the contest."""
+def barred(votes, most):
+    """A cell with votes, beside a bar in proportion to the most votes in the contest."""
     width = '%.1f%%' % (100 * votes / most) if most else '0'
-    return element('span', '\u00a0', class_='bar', style='width: ' + width, aria_hidden='true')
+    bar = element('span', '\u00a0', class_='bar', style='width: ' + width, aria_hidden='true')
+    return element('td', element('span', bar, class_='track'), votes, class_='number')
 
 
 def selection_rows(facts, contest):
-    """The selections: bar, votes and, where none of them is withheld, per cent."""
+    """The selections: votes and, where none of them is withheld, per cent; of ranks the votes alone."""
     most, counted = max(contest.votes, default=0), sum(contest.votes)
     for place, (key, votes) in enumerate(zip(contest.selections, contest.votes)):
         name = facts.names.selection(contest.key, key)
-        if place in contest.hidden:
-            yield [name, '', WITHHELD]
+        if place in contest.hidden or contest.is_ranked:
+            yield [name, WITHHELD if place in contest.hidden else votes]
         else:
-            yield [name, bar(votes, most), votes] + [share(votes, counted)] * (not contest.hidden)
+            yield [name, barred(votes, most)] + [share(votes, counted)] * (not contest.hidden)
+
+
+def selections(facts, contest):
+    """The table of the selections."""
+    is_shared = not contest.hidden and not contest.is_ranked
+    heads = ['Selection', 'Votes'] + ['Per cent'] * is_shared
+    foot = None if contest.hidden else ['Votes counted', sum(contest.votes)] + [''] * is_shared
+    return table('Selections', heads, selection_rows(facts, contest), foot, contest.plain)
+
+
+def rank_tables(facts, contest):
+    """The votes of each selection by rank, in parts that a sheet has room for."""
+    held = facts.seen.notes.ranks.by_rank(contest.key, contest.selections)
+    if [sum(votes) for votes in zip([0] * len(contest.votes), *held.values())] != contest.votes:
+        raise mismatch('the votes by rank don\'t come to those of `cvr tally`')
+    for ranks in chunks(list(held)):
+        heads = ['Selection'] + ['No rank' if it is None else 'Rank %d' % it for it in ranks]
+        rows = [[facts.names.selection(contest.key, key)] + [held[it][place] for it in ranks]
+                for place, key in enumerate(contest.selections)]
+        yield table('Selections by rank', heads, rows, None, contest.plain)
 
 
 def sums_of(contest):
@@ -105,10 +130,11 @@ def contest_parts(facts, contest):
         yield element('p', 'Fewer than ten ballots: its numbers are withheld.')
         return
     yield listed([('Ballots', contest.ballots)])
-    heads = ['Selection', 'Bar', 'Votes'] + ['Per cent'] * (not contest.hidden)
-    foot = None if contest.hidden else ['Votes counted', '', sum(contest.votes), '']
-    yield table('Selections', heads, selection_rows(facts, contest), foot)
+    yield selections(facts, contest)
+    if contest.is_ranked:
+        yield element('p', RANKED)
     if contest.is_whole:
+        yield from rank_tables(facts, contest) if contest.is_ranked else ()
         yield listed(others_of(contest))
         yield element('p', sums_of(contest))
 
@@ -155,7 +181,7 @@ def tables(facts, contest, what, held, name):
         caption = 'By ' + what.lower()
         is_many = max(len(lines), len(facts.selections)) > MANY
         yield folded(is_many, '{}: {:,} lines'.format(caption, len(lines)),
-                     table(caption, heads, lines, sums))
+                     table(caption, heads, lines, sums, contest.plain))
 
 
 def parts_of(facts, contest):

@@ -36,6 +36,9 @@ class Facts:
         self.rows = counting.rows_in(self.tally)
         self.currents = '\n' + files.text('currents') if self.seen.texts else ''
 
+    def is_ranked(self, contest):
+        return self.seen.notes.ranks.is_ranked(contest)
+
 
 def faults_in(files):
     """The fault of each refused file, by its path as a JSON string."""

@@ -63,6 +63,10 @@ class Names:
     def contest(self, key):
         return named(self.contests[key], key)
 
+    def plain_contest(self, key):
+        """The name of a contest for a line of text."""
+        return self.contests[key] or key
+
     def selection(self, contest, key):
         title, parties = self.selections[contest, key]
         return named(title, key, parties)

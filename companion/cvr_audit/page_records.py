@@ -3,7 +3,9 @@ from . import counting, page_names, reading
 from .page_tree import code, codes, element, folded, section, table
 
 MANY = 40           # a table with more rows is folded
-ADJUDICATED = 'modified'
+FEW = 3             # conflicts of one kind; more are folded
+TITLES = {'device': 'Device', 'header': 'Header', 'snapshot': 'Snapshot'}
+GROUPS = {'device': 'devices', 'header': 'headers of records', 'snapshot': 'snapshots'}
 SAID = {'overvotes': 'overvoted', 'undervotes': 'undervoted', 'pending': 'pending',
         'unassigned': 'unassigned'}     # of a contest with a number in the column
 TAKEN = {
@@ -88,15 +90,19 @@ def conflict(facts, key, texts):
     heads = ['Member'] + ['Text %d' % number for number in range(1, len(texts) + 1)]
     rows = [['Files'] + list(map(codes, paths))] + list(text_rows(values))
     rule = 'other' if kind == 'snapshot' and not is_current(facts, names) else kind
-    title = element('h3', {'device': 'Device', 'header': 'Header', 'snapshot': 'Snapshot'}[kind],
-                    ' ', codes(names))
+    title = element('h3', TITLES[kind], ' ', codes(names))
     return element('div', title, element('p', rule_of(rule, values)),
                    folded(len(rows) > MANY, '{:,} members'.format(len(rows) - 1),
-                          table('Texts side by side', heads, rows)))
+                          table('Texts side by side', heads, rows, None, ' '.join(names))))
 
 
 def conflicts(facts):
-    parts = [conflict(facts, key, texts) for key, texts in facts.seen.texts.items()]
+    """The conflicts of each kind, folded where they are many."""
+    groups = {}
+    for key, texts in facts.seen.texts.items():
+        groups.setdefault(key[0], []).append(conflict(facts, key, texts))
+    parts = [folded(len(held) > FEW, '{:,} {}'.format(len(held), GROUPS[kind]), *held)
+             for kind, held in groups.items()]
     return section('conflicts', 'Conflicts', *(parts or [element('p', 'None.')]))
 
 
@@ -127,13 +133,15 @@ def changed(facts, before, after):
 
 
 def is_adjudication(snapshot):
+    """Whether a person or a moment stands with it. A machine's own snapshot has neither, whatever its
+    Type."""
     notes = snapshot.get('Annotation', [])
-    return snapshot['Type'] == ADJUDICATED or any(it.get('AdjudicatorName') for it in notes)
+    return any(it.get('AdjudicatorName') or 'TimeStamp' in it for it in notes)
 
 
 def scan_of(snapshots):
     """The snapshot before the adjudications; None where there is none, or more than one."""
-    for kind in ('interpreted', 'original'):
+    for kind in ('modified', 'interpreted', 'original'):
         found = [it for it in snapshots if it['Type'] == kind and not is_adjudication(it)]
         if found:
             return found[0] if len(found) == 1 else None
@@ -152,10 +160,12 @@ def adjudicated_in(facts, record):
 
 
 def adjudication_rows(facts):
+    """Who decided, and what."""
     for names, snapshot, who, when, changes, is_current in facts.seen.adjudicated:
-        yield [codes(names), code(snapshot), element('bdi', ', '.join(who)) if who else '',
-               codes(when), *(marks_cell(facts, changes, side) for side in (1, 2)),
-               'yes' if is_current else 'no']
+        who = ', '.join(who)
+        yield who, [codes(names), code(snapshot), element('bdi', who) if who else '', codes(when),
+                    *(marks_cell(facts, changes, side) for side in (1, 2)),
+                    'yes' if is_current else 'no']
 
 
 def marks_cell(facts, changes, side):
@@ -166,8 +176,14 @@ def marks_cell(facts, changes, side):
 
 
 def adjudications(facts):
+    """The adjudicated snapshots; where they are many, folded by who decided."""
     heads = ['Record', 'Snapshot', 'Who', 'When', 'Before', 'After', 'In the tally']
-    rows = list(adjudication_rows(facts))
-    said = table('Adjudicated snapshots', heads, rows) if rows else element('p', 'None.')
-    return section('adjudications', 'Adjudications',
-                   folded(len(rows) > MANY, '{:,} snapshots'.format(len(rows)), said))
+    every, groups = list(adjudication_rows(facts)), {}
+    for who, row in every:
+        groups.setdefault(who if len(every) > MANY else None, []).append(row)
+    parts = []
+    for who in sorted(groups, key=counting.nothing_first):
+        made = table('Adjudicated snapshots', heads, groups[who], None, who)
+        summary = '{:,} snapshots: {}'.format(len(groups[who]), who or 'no name')
+        parts.append(folded(len(every) > MANY, summary, made))
+    return section('adjudications', 'Adjudications', *(parts or [element('p', 'None.')]))

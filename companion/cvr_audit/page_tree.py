@@ -64,7 +64,9 @@ def listed(pairs):
 
 
 def cell(part):
-    """A cell of a table: numbers are right-aligned."""
+    """A cell of a table, which may be made already: numbers are right-aligned."""
+    if ET.iselement(part) and part.tag == 'td':
+        return part
     is_number = isinstance(part, int) or isinstance(part, str) and NUMBER.fullmatch(part)
     return element('td', part, class_='number' if is_number else None)
 
@@ -74,15 +76,16 @@ def row_of(cells, tag='tr'):
     return element(tag, element('th', cells[0], scope='row'), *map(cell, cells[1:]))
 
 
-def table(caption, heads, rows, foot=None):
-    """A table with the heads of its columns and its rows; a narrow window scrolls it sideways."""
+def table(caption, heads, rows, foot=None, of=None):
+    """A table with the heads of its columns and its rows; a narrow window scrolls it sideways. What it
+    is of, as a contest, stands in the name of that region."""
     head = element('tr', *(element('th', it, scope='col') for it in heads))
     parts = [element('caption', caption), element('thead', head)]
     parts.append(element('tbody', *map(row_of, rows)))
     if foot:
         parts.append(element('tfoot', row_of(foot)))
     return element('div', element('table', *parts), class_='wide', role='region', tabindex='0',
-                   aria_label=caption)
+                   aria_label=caption if of is None else '%s: %s' % (of, caption))
 
 
 def folded(is_many, summary, *parts):

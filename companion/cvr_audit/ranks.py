@@ -36,6 +36,13 @@ class Ranks:
     def is_ranked(self, contest):
         return self.variations[contest] in VARIATIONS or self.greatest.get(contest, 0) > 1
 
+    def by_rank(self, contest, selections):
+        """The votes of these selections by each Rank, None first."""
+        ranks = {rank for key, _, rank in self.votes if key == contest}
+        order = sorted(ranks, key=lambda it: (it is not None, it or 0))
+        return {rank: [self.votes.get((contest, it, rank), 0) for it in selections]
+                for rank in order}
+
     def lines(self):
         """A line for each such contest: its VoteVariation, and the greatest Rank."""
         for contest, variation in self.variations.items():

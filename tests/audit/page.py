@@ -53,6 +53,18 @@ FILES = ['scan.json', 'adjudicated.json', 'corrected.json', 'damaged.json']
 REFUSED = 'damaged.json: E3 /CVR/0/UniqueId 2\n'
 PROVENANCE = 'cvr 1.0.0 was built of\n\ncommit   a\nsources  b\nkit      kit-1 logic 2\nprogram  '
 MADE = '1730930400'         # 2024-11-06T22:00:00Z
+RANKS = """table: Selections by rank
+Selection | Rank 1 | Rank 2 | Rank 3
+Ada ada | 10 | 10 | 0
+Bob bob | 10 | 0 | 10
+Cyd cyd | 10 | 10 | 0
+"""                         # of page_sets.ranked()
+SCORES = """table: Selections by rank
+Selection | No rank
+Low low | 0
+High high | 30
+"""
+NO_ROUNDS = 'They are added up over all ranks, and no rounds are computed.'
 SECONDS = 600
 SIDE_BY_SIDE = 4
 FEW = 8             # the sets with which a slip is tried
@@ -156,6 +168,20 @@ def see_kit(trial, folder):
         trial.see('the kit of %s' % program, list(differences(said, [wanted])))
 
 
+def see_lines(trial, what, made, wanted, absent=()):
+    """Tests that the page of a set has these lines, and none of the others."""
+    held = page_sets.texts_of(made)
+    with tempfile.TemporaryDirectory() as folder:
+        for path, data in held.items():
+            with open(os.path.join(folder, path), 'wb') as file:
+                file.write(data)
+        text, log, status = trial.page(folder, 'def.json', [it for it in held if it != 'def.json'])
+    lines = ''.join(it + '\n' for it in page_text.lines(page_text.read(text)))
+    wrong = ['status %d: %s' % (status, log)] * bool(status)
+    wrong += ['%r is not there' % it for it in wanted if it not in lines]
+    trial.see(what, wrong + ['%r is there' % it for it in absent if it in lines])
+
+
 def picture(trial, folder, to):
     """Writes the picture of the county's page, without what is wrong in the county."""
     words = FILES[:2] + ['--manifest', 'manifest.csv', '-o', 'picture.html']
@@ -179,6 +205,7 @@ def sets(trial, words):
         yield '300 contests', page_sets.texts_of(page_sets.many_contests())
         yield '2,000 units', page_sets.texts_of(page_sets.many_units())
     yield 'odd names', page_sets.texts_of(page_sets.odd())
+    yield 'ranks', page_sets.texts_of(page_sets.ranked())
     yield '60 units', page_sets.texts_of(page_sets.many_units(60))
     definition = page_sets.many_contests(2)[0]
     yield 'no record', page_sets.texts_of((definition, {}))
@@ -261,6 +288,8 @@ def pages(trial, words):
     held, possible = page_sets.one_each()
     yield see_set, 'one ballot a file', held, True, possible
     yield see_own, words
+    yield see_lines, 'ranks', page_sets.ranked(), [RANKS, SCORES, NO_ROUNDS]
+    yield see_lines, 'machines', page_sets.machines(9), ['## Adjudications\nNone.\n']
     for name, held in sets(trial, words):
         yield see_set, name, held, False
         yield see_set, name, held, True
@@ -270,7 +299,7 @@ def see_all(trial, words):
     """Tests everything but the slips: pages of the companion side by side, since most of the time
     is the browsers'; those of a copy in turn, up to the first that finds its slip."""
     trial.see('masks', list(page_masks.judged()))
-    trial.see('style', list(page_form.style_wrong(trial.package.page_style.STYLE)))
+    trial.see('style', list(page_form.style_wrong(trial.package.page_style.style_of('Election'))))
     trial.see('faults', list(page_form.faults_wrong(trial.package.page_faults)))
     with ThreadPoolExecutor(page_views.BROWSERS) as pool:
         each = pool.map if trial.is_seen else map

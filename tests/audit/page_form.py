@@ -11,6 +11,7 @@ SECTIONS = ['inputs', 'warnings', 'contests', 'units', 'batches', 'conflicts', '
 TAGS = set('html head meta title style body header nav main section h1 h2 h3 p ul li dl dt dd div '
            'span strong small code pre bdi mark a table caption thead tbody tfoot tr th td details '
            'summary'.split())
+NAMED = re.compile(r'--(\w+): (#[0-9a-f]{6})')
 COLOUR = r'(?<![\w-])(color|background): (#[0-9a-f]{6})'
 LEAST = 4.5         # the contrast that WCAG 2 requires of text at level AA
 BARS = 3            # and of what isn't text
@@ -36,6 +37,9 @@ def wrong_of(page, text):
     style = next(page.all('style')).text()
     if 'url(' in style or '@import' in style:
         yield 'the style fetches something'
+    if not re.search(r"@bottom-center \{ content: '[^']+' \}", style):
+        yield 'no election in the margins'
+    yield from regions_wrong(page)
     if UNSHOWN.search(text):
         yield 'the sign %r' % UNSHOWN.search(text).group()
     yield from tidied(text)
@@ -59,6 +63,15 @@ def heads_wrong(page):
         yield 'sections %s' % ids
     if ['#' + it for it in ids] != [it.attributes['href'] for it in page.all('a')]:
         yield 'links %s' % [it.attributes['href'] for it in page.all('a')]
+
+
+def regions_wrong(page):
+    """Regions of contests whose names don't say of which."""
+    parts = {next(it.all('h2')).attributes['id']: it for it in page.all('section')}
+    for part in (it for key in ('contests', 'units') for it in parts[key].all('div')):
+        label = part.attributes.get('aria-label')
+        if label and not label.endswith(': ' + next(part.all('caption')).text()):
+            yield 'the region %s' % label
 
 
 def table_wrong(table):
@@ -100,6 +113,17 @@ def contrast(one, other):
 
 
 def style_wrong(style):
+    """What is wrong with a style on a light and on a dark ground."""
+    light_text, dark_text = style.split('@media screen and (prefers-color-scheme: dark)')
+    dark_text, rest = dark_text.split('\n}', 1)
+    held = [dict(NAMED.findall(it)) for it in (light_text, dark_text)]
+    if held[0].keys() != held[1].keys() or held[0]['ground'] == held[1]['ground']:
+        yield 'colours of one ground alone'
+    for named in held:
+        yield from colours_wrong(re.sub(r'var\(--(\w+)\)', lambda it: named[it.group(1)], rest))
+
+
+def colours_wrong(style):
     """Colours of text too near to a ground: that of the same rule or, where a rule has a colour but no
     ground, any that a rule has alone, or the page's. And bars too near to the page's ground."""
     rules = {}

@@ -11,6 +11,7 @@ WORD = re.compile(r'"(?:[^"\\]|\\.)*"|[^ ]+')
 COLUMNS = [it.capitalize() for it in printed.Texts.columns]
 END = len(COLUMNS)
 HIDDEN = '*'
+RANKED = 'borda', 'range', 'rcv'
 MAY_LACK = [COLUMNS.index(it) for it in ('Overvotes', 'Undervotes')]    # where no file states them
 WARNINGS = ['File refused', 'Records in DEF', 'DEF among the files', 'No file',
             'One record several times in a file', 'Fewer records than the files have', 'A file that decides',
@@ -28,6 +29,7 @@ class Tally:
         contests = definition['Election'][0]['Contest']
         self.contests = {it['@id']: it.get('ContestSelection', []) for it in contests}
         self.allowed = {it['@id']: it.get('VotesAllowed') for it in contests}
+        self.ranked = {it['@id'] for it in contests if it.get('VoteVariation') in RANKED}
         self.rows = {key: [] for key in self.contests}
         for line in text.split('\n')[:-1]:
             words = WORD.findall(line)
@@ -88,25 +90,44 @@ class Held:
             if is_stated or place not in MAY_LACK or numbers[place]:
                 self.see('%s %s' % (key, column), terms[column], numbers[place])
         self.see_votes(tables[0], key, numbers[0], numbers[END:])
+        if key in self.tally.ranked and not self.is_public:
+            self.see_ranks(tables[1:], key, numbers[END:])
+        elif tables[1:]:
+            self.wrong.append('%s: a table of ranks' % key)
         if not self.is_public:
             self.see_sums(list(part.all('p'))[-1].text(), key, numbers)
 
     def see_votes(self, table, key, ballots, votes):
+        """The votes, beside bars and with per cents, unless they are ranks or some are withheld."""
         head, *rows = page_text.rows(table)
-        shown, most = 0, max(votes, default=0)
-        hidden = [place for place, row in enumerate(rows[:len(votes)]) if row[2].text() == HIDDEN]
+        shown, most, is_ranked = 0, max(votes, default=0), key in self.tally.ranked
+        hidden = [place for place, row in enumerate(rows[:len(votes)]) if row[1].text() == HIDDEN]
         for place, (row, number) in enumerate(zip(rows, votes)):
             name = (key, place)
-            if self.see('%s votes' % (name,), row[2], number, True):
+            if self.see('%s votes' % (name,), row[1], number, True):
                 shown += number
-                self.see_bar(name, row[1], number, most)
+                self.see_bar(name, row[1], number, most, is_ranked)
             elif list(row[1].all('span')):
                 self.wrong.append('%s: a bar of votes that are withheld' % (name,))
-            if len(head) > 3:
-                self.see_share(name, row[3], number, sum(votes), hidden)
+            if len(head) > 2:
+                self.see_share(name, row[2], number, sum(votes), hidden)
+        if (len(head) > 2) == (is_ranked or bool(hidden)):
+            self.wrong.append('%s: columns %s' % (key, [it.text() for it in head]))
         if not hidden:
-            self.see('%s counted' % key, rows[len(votes)][2], sum(votes))
+            self.see('%s counted' % key, rows[len(votes)][1], sum(votes))
         self.spare(key, hidden, votes, ballots * (self.tally.allowed[key] or 1) - shown)
+
+    def see_ranks(self, tables, key, votes):
+        """The votes of each selection by rank come to its votes."""
+        sums = [0] * len(votes)
+        for table in tables:
+            head, *rows = page_text.rows(table)
+            for place, row in enumerate(rows):
+                self.seen |= set(map(id, row))
+                sums[place] += sum(int(it.text().replace(',', '')) for it in row[1:])
+        if sums != votes or any(not re.match('Rank -?[0-9]|No rank', it.text()) for table in tables
+                                for it in page_text.rows(table)[0][1:]):
+            self.wrong.append('%s: by rank %s, not %s' % (key, sums, votes))
 
     def see_sums(self, text, key, numbers):
         """The sentence on whether the numbers add up to the ballots."""
@@ -125,10 +146,11 @@ class Held:
         if found != wanted or not is_well:
             self.wrong.append('%s: %s' % (key, text))
 
-    def see_bar(self, name, cell, number, most):
-        style = next(cell.all('span')).attributes['style']
-        if style != ('width: %.1f%%' % (100 * number / most) if most else 'width: 0'):
-            self.wrong.append('%s: a bar with %s' % (name, style))
+    def see_bar(self, name, cell, number, most, is_ranked):
+        bars = [it.attributes for it in cell.all('span') if it.attributes['class'] == 'bar']
+        width = 'width: %.1f%%' % (100 * number / most) if most else 'width: 0'
+        if [it['style'] for it in bars] != [width] * (not is_ranked):
+            self.wrong.append('%s: a bar with %s' % (name, bars))
 
     def see_share(self, name, cell, number, counted, hidden):
         text = cell.text()
@@ -220,7 +242,7 @@ class Held:
     def see_inputs(self, records):
         """The records of DEF and of each file in order; None for a refused one."""
         if self.is_public:
-            self.see_counts(records[0], records[1:])
+            self.see_counts(records[0])
             return
         table = next(self.sections['inputs'].all('table'))
         rows = page_text.rows(table)[1:]
@@ -230,24 +252,37 @@ class Held:
             self.seen.add(id(row[2]))
             self.see('records', row[3], '' if number is None else number)
 
-    def see_counts(self, own, records):
-        """On a page for the public: DEF, by its SHA-256 only if it has no records, and the number of
-        the files."""
-        refused = records.count(None)
-        counts = len(records), len(records) - refused, refused
+    def see_counts(self, own):
+        """On a page for the public: DEF, by its SHA-256 only if it has no records."""
         digest = '#' if own == '0' else 'withheld, since DEF has records'
-        wanted = ['## Inputs', 'DEF: SHA-256 ' + digest,
-                  'Files: {:,} given, {:,} accepted, {:,} refused'.format(*counts),
-                  'The records of DEF are not counted.']
+        wanted = ['## Inputs', 'DEF: SHA-256 ' + digest, 'The records of DEF are not counted.']
         lines = [re.sub('[0-9a-f]{64}', '#', it) for it in page_text.lines(self.sections['inputs'])]
         if lines != wanted:
             self.wrong.append('inputs: %s' % lines[:4])
 
+    def see_head(self, records):
+        """The files and, except for the public, the records; the kinds of the warnings."""
+        head = next(self.page.all('header'))
+        said = dict(it.split(': ', 1) for it in page_text.lines(head) if ': ' in it)
+        refused = records[1:].count(None)
+        counts = len(records) - 1, len(records) - 1 - refused, refused
+        if said['Files'] != '{:,} given, {:,} accepted, {:,} refused'.format(*counts):
+            self.wrong.append('files: ' + said['Files'])
+        found = sum(int(it) for it in records[1:] if it)
+        records = said.get('Records', '').split(' counted, ')
+        if self.is_public != (records == ['']) or \
+                records[1:] not in ([], ['{:,} in the files'.format(found)]):
+            self.wrong.append('records: %s' % records)
+        strong = [it.text() for it in self.sections['warnings'].all('strong')]
+        kinds = [it if self.is_public else it.rsplit(' ', 1)[0] for it in said['Warnings'].split(', ')]
+        if kinds != strong and (strong or said['Warnings'] != 'None'):
+            self.wrong.append('warnings: %s' % said['Warnings'])
+
     def see_warnings(self):
-        """On a page for the public each kind of the warnings stands once, and always at the same place
-        among the others, so that their order says nothing."""
+        """Each kind of the warnings stands once, and always at the same place among the others, so that
+        their order says nothing."""
         kinds = [it.text() for it in self.sections['warnings'].all('strong')]
-        if self.is_public and kinds != [it for it in WARNINGS if it in kinds]:
+        if kinds != [it for it in WARNINGS if it in kinds]:
             self.wrong.append('warnings: %s' % kinds)
 
     def see_batches(self, sizes):
@@ -283,6 +318,7 @@ def wrong_of(text, tally, records, is_public=False, sizes=None):
     """What is wrong with the numbers of a page, as lines; and what it withholds."""
     held = Held(text, tally, is_public)
     held.see_inputs(records)
+    held.see_head(records)
     held.see_warnings()
     held.see_contests()
     held.see_units()

@@ -6,6 +6,7 @@ MOMENT = '2024-11-05T20:00:00Z'
 LONG = 'Long name ' * 30                                # 300 characters
 WIDE = 'Breit' * 60                                     # 300 characters without a space
 MARKUP = '<script>alert("1")</script> & <b class=\'x\'>'
+STYLED = MARKUP + '\'} body { background: url(x) } </style>\\'     # a name that ends a text of a style
 ARABIC = 'مجلس المدينة ١٢'
 TURNED = '\u202eabc\u0000\u0007\u0085\ufffe'            # another direction, and characters that HTML can't have
 ODD = [MARKUP, ARABIC, LONG, WIDE, TURNED, '']
@@ -61,8 +62,8 @@ def odd():
     units = list(zip(ids + ['none'], ODD))
     records = [record(number, units[number % 6][0], ODD[number % 6],
                       {contests[number % 5][0]: selections[number % 4][0]}) for number in range(60)]
-    files = {'<b>.json': report(contests, units, records, MARKUP)}
-    return report(contests, units, name=MARKUP), files
+    files = {'<b>.json': report(contests, units, records, STYLED)}
+    return report(contests, units, name=STYLED), files
 
 
 def many_contests(count=300):
@@ -124,6 +125,62 @@ def uneven(chance, units=7):
                      for key, _, _, chosen in contests if chance.random() < 0.9}
             records.append(record(len(records), unit, 'batch', votes))
     return report(contests, places), {'records.json': report(contests, places, records)}
+
+
+def ranked(count=30):
+    """A contest of ranks and one of scores, and one whose votes are neither, of `count` ballots."""
+    contests = [('mayor', 'Mayor', None, [('ada', 'Ada'), ('bob', 'Bob'), ('cyd', 'Cyd')]),
+                ('score', 'Score', None, [('low', 'Low'), ('high', 'High')]),
+                ('tax', 'Tax', 1, [('yes', 'Yes'), ('no', 'No')])]
+    held = [report(contests, [('u', 'Unit')]), report(contests, [('u', 'Unit')])]
+    for made in held:
+        for place, variation in enumerate(['rcv', 'range']):
+            made['Election'][0]['Contest'][place]['VoteVariation'] = variation
+    held[1]['CVR'] = [record(number, 'u', 'batch', {'mayor': None, 'score': ('high', 'yes'), 'tax': 'yes'})
+                      for number in range(count)]
+    for number, made in enumerate(held[1]['CVR']):
+        order = [(number + place) % 3 for place in range(1 + number % 3)]
+        made['CVRSnapshot'][0]['CVRContest'][0] = {
+            '@type': 'CVR.CVRContest', 'ContestId': 'mayor',
+            'CVRContestSelection': [rank_of(contests[0][3][it][0], rank) for rank, it in enumerate(order, 1)]}
+    return held[0], {'ranked.json': held[1]}
+
+
+def rank_of(selection, rank):
+    """A vote with a Rank of its position, which goes before that of the selection."""
+    position = {'@type': 'CVR.SelectionPosition', 'HasIndication': 'yes', 'NumberVotes': 1, 'Rank': rank}
+    return {'@type': 'CVR.CVRContestSelection', 'ContestSelectionId': selection, 'Rank': 9,
+            'SelectionPosition': [position]}
+
+
+def machines(count, contests=12, units=30):
+    """A county of `count` ballots as VxSuite writes them: each has a second snapshot, of Type `modified`, in
+    which no person had a part. One in forty has a write-in that waits for a person."""
+    held = [('c%02d' % place, 'Contest %d' % place, 1,
+             [('c%02d-%d' % (place, one), 'Candidate %d' % one) for one in range(4)])
+            for place in range(contests)]
+    places = [('u%02d' % place, 'Precinct %d' % place) for place in range(units)]
+    records = []
+    for number in range(count):
+        votes = {key: None if (number + place) % 200 == 7 else chosen[(number * (place + 3)) // 5 % 4][0]
+                 for place, (key, _, _, chosen) in enumerate(held)}
+        made = record(number, places[number % units][0], 'batch-%02d' % (number // 100), votes)
+        for one in made['CVRSnapshot'][0]['CVRContest']:
+            one.update({'Overvotes': 0, 'WriteIns': 0}, Undervotes=one.get('Undervotes', 0))
+        if number % 40 == 11:
+            wait(made['CVRSnapshot'][0]['CVRContest'][0])
+        machine = dict(made['CVRSnapshot'][0], **{'@id': 'b', 'Type': 'modified'})
+        records.append(dict(made, CurrentSnapshotId='b', CVRSnapshot=[*made['CVRSnapshot'], machine]))
+    return report(held, places), {'records.json': report(held, places, records)}
+
+
+def wait(contest):
+    """Makes the vote of a contest a write-in that nobody has decided on."""
+    for chosen in contest.get('CVRContestSelection', []):
+        chosen['Status'] = ['needs-adjudication']
+        chosen['SelectionPosition'][0].update(IsAllocable='unknown', CVRWriteIn={
+            '@type': 'CVR.CVRWriteIn', 'Text': 'Someone'})
+        contest['WriteIns'] = 1
 
 
 def text_of(value):
