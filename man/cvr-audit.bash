@@ -3,25 +3,31 @@ _cvr_audit() {
     COMPREPLY=()
     if [ "$COMP_CWORD" -eq 1 ]; then
         compopt +o default
-        COMPREPLY=($(compgen -W 'records compare trace page warnings definition gather -h --help --version' -- "$2"))
+        COMPREPLY=($(compgen -W 'records compare trace page warnings totals lines writeins definition gather -h --help --version' -- "$2"))
         return
     fi
     case $3 in
-    --columns) compopt +o default; COMPREPLY=($(compgen -W 'manifest batches cvrs' -- "$2")); return ;;
+    --columns) compopt +o default; COMPREPLY=($(compgen -W 'manifest batches cvrs ranks arlo raire' -- "$2")); return ;;
     --contest) compopt +o default; return ;;
     --unit) compopt +o default; return ;;
     --batch) compopt +o default; return ;;
     --selection) compopt +o default; return ;;
+    --by) compopt +o default; COMPREPLY=($(compgen -W 'unit batch device style' -- "$2")); return ;;
+    --format) compopt +o default; COMPREPLY=($(compgen -W 'text csv json' -- "$2")); return ;;
+    --format) compopt +o default; COMPREPLY=($(compgen -W 'json' -- "$2")); return ;;
     --as) compopt +o default; COMPREPLY=($(compgen -W 'vxsuite cdf dominion dominion-json ess hart clearballot' -- "$2")); return ;;
     esac
     case ${COMP_WORDS[1]}:$2 in
-    records:-*) COMPREPLY=($(compgen -W '-o --columns -h --help' -- "$2")) ;;
-    compare:-*) COMPREPLY=($(compgen -W '--one --other -h --help' -- "$2")) ;;
-    trace:-*) COMPREPLY=($(compgen -W '--contest --unit --batch --selection -h --help' -- "$2")) ;;
-    page:-*) COMPREPLY=($(compgen -W '--manifest --public -o -h --help' -- "$2")) ;;
-    warnings:-*) COMPREPLY=($(compgen -W '--manifest -h --help' -- "$2")) ;;
-    definition:-*) COMPREPLY=($(compgen -W '-o -h --help' -- "$2")) ;;
-    gather:-*) COMPREPLY=($(compgen -W '-o --as -h --help' -- "$2")) ;;
+    records:-*) COMPREPLY=($(compgen -W '-o --columns --files-from --null -h --help' -- "$2")) ;;
+    compare:-*) COMPREPLY=($(compgen -W '--one --other --one-from --other-from --null -h --help' -- "$2")) ;;
+    trace:-*) COMPREPLY=($(compgen -W '--contest --unit --batch --selection --files-from --null -h --help' -- "$2")) ;;
+    page:-*) COMPREPLY=($(compgen -W '--manifest --public -o --files-from --null -h --help' -- "$2")) ;;
+    warnings:-*) COMPREPLY=($(compgen -W '--manifest --files-from --null -h --help' -- "$2")) ;;
+    totals:-*) COMPREPLY=($(compgen -W '--by --format -o --files-from --null -h --help' -- "$2")) ;;
+    lines:-*) COMPREPLY=($(compgen -W '--format -o --files-from --null -h --help' -- "$2")) ;;
+    writeins:-*) COMPREPLY=($(compgen -W '--files-from --null -h --help' -- "$2")) ;;
+    definition:-*) COMPREPLY=($(compgen -W '-o --files-from --null -h --help' -- "$2")) ;;
+    gather:-*) COMPREPLY=($(compgen -W '-o --as --files-from --null -h --help' -- "$2")) ;;
     esac
 }
 complete -o default -F _cvr_audit cvr-audit

@@ -38,7 +38,8 @@ ADVICE = {
     'contest': 'no record has this contest; ask whether a file is missing',
     'record': 'its current snapshot has no contest, so it stands in no row; look at the ballot',
     'batch': 'the manifest and the records don\'t agree; look for a file that is missing or a '
-             'batch that was scanned twice',
+             'batch that was scanned twice. Of ballots of several sheets, which BallotSheetId '
+             'numbers, each is counted once',
     'ballot': 'records of one ballot, or one id that was given twice; look at the ballots',
 }
 

@@ -2,8 +2,8 @@
 import argparse
 import sys
 
-from . import (VERSION, compare, definition, gather, page, program, records, table, trace,
-               warnings)
+from . import (VERSION, compare, definition, gather, lines, page, paths, program, records, totals,
+               trace, warnings, writeins)
 
 ABOUT = ('Print cast vote records one by one, compare two sets of files, trace a number of the '
          'tally, warn of what needs a person, and make what a voting system exports into files '
@@ -31,6 +31,11 @@ COMMANDS = {
                        'and adjudications, and lines to sign.'),
     'warnings': (warnings.run, 'Print a line for each thing that needs a person before the tally '
                                'is used.'),
+    'totals': (totals.run, 'Print the sums of each contest and selection, by name and id.'),
+    'lines': (lines.run, 'Print the lines of a command of cvr (tally, currents, conflicts or check) '
+                         'as JSON, with names.'),
+    'writeins': (writeins.run, 'Print the texts that were written in, with their votes and '
+                               'records.'),
     'definition': (definition.run, 'Print a definition made of reports: their election, and all '
                                    'their units, parties and devices.'),
     'gather': (gather.run, 'Write a folder with a definition and reports, made of what a voting '
@@ -39,19 +44,45 @@ COMMANDS = {
 # what a command takes beside its options: a definition, and what stands for its files
 TAKEN = {'compare': ('DEF', None), 'definition': (None, 'FILE'), 'gather': (None, 'FROM')}
 MEANT = {'DEF': 'a report of the election; its own records are not counted',
-         'FILE': 'reports of cast vote records', 'FROM': 'the folders, ZIPs or files of an export'}
+         'FILE': 'reports of cast vote records, or folders with them below, named .json',
+         'FROM': 'the folders, ZIPs or files of an export'}
+MANIFEST = 'a file of lines `batch,ballots` or `device,batch,ballots`'
+# the options that take the paths of files from a list
+LISTS = {'files_from': 'files', 'one_from': 'one', 'other_from': 'other'}
+TASK = 'TASK'       # the first word of `lines`: a command of cvr
+FROM = (('--files-from',), 'LIST', {'help': 'a list of the paths of files, one a line, in place of '
+                                            'the files; - is standard input'})
+NULL = (('--null',), None, {'action': 'store_true', 'help': 'paths in lists end with a NUL byte'})
 # each command's options, with what stands for their values
 OPTIONS = {
     'records': [
         (('-o',), 'CSV', {'dest': 'output',
                           'help': 'the file to write to, in place of standard output'}),
-        (('--columns',), 'FORM', {'choices': list(table.FORMS),
-                                  'help': 'another form: `manifest`, `batches` or `cvrs`'}),
+        (('--columns',), 'FORM', {'choices': list(records.FORMS),
+                                  'help': 'another form: `manifest`, `batches`, `cvrs`, `ranks`, '
+                                          '`arlo` or `raire`'}),
     ],
+    'totals': [
+        (('--by',), 'GROUP', {'choices': list(totals.GROUPS), 'dest': 'group',
+                              'help': 'the sums of each `unit`, `batch`, `device` or `style`'}),
+        (('--format',), 'FORM', {'choices': list(totals.FORMS), 'default': 'text', 'dest': 'form',
+                                 'help': '`text`, `csv` or `json`'}),
+        (('-o',), 'OUT', {'dest': 'output',
+                          'help': 'the file to write to, in place of standard output'}),
+    ],
+    'lines': [
+        (('--format',), 'FORM', {'choices': ['json'], 'default': 'json', 'dest': 'form',
+                                 'help': '`json`'}),
+        (('-o',), 'JSON', {'dest': 'output',
+                           'help': 'the file to write to, in place of standard output'}),
+    ],
+    'writeins': [],
     'compare': [
-        (('--one',), 'FILE', {'nargs': '*', 'required': True, 'help': 'the files of one side'}),
-        (('--other',), 'FILE', {'nargs': '*', 'required': True,
-                                'help': 'the files of the other side'}),
+        (('--one',), 'FILE', {'nargs': '*', 'help': 'the files of one side'}),
+        (('--other',), 'FILE', {'nargs': '*', 'help': 'the files of the other side'}),
+        (('--one-from',), 'LIST', {'help': 'a list of paths in place of the files of one side'}),
+        (('--other-from',), 'LIST', {'help': 'the same for the other side'}),
+        NULL,
     ],
     'trace': [
         (('--contest',), 'ID', {'required': True, 'help': 'the @id of a contest'}),
@@ -61,14 +92,14 @@ OPTIONS = {
                                           'place of the ballots'}),
     ],
     'page': [
-        (('--manifest',), 'CSV', {'help': 'a file of lines `batch,ballots`'}),
+        (('--manifest',), 'CSV', {'help': MANIFEST}),
         (('--public',), None, {'action': 'store_true', 'help': 'a page for the public: no path, no '
                                'record, and no number from which one below ten follows'}),
         (('-o',), 'HTML', {'dest': 'output',
                            'help': 'the file to write to, in place of standard output'}),
     ],
     'warnings': [
-        (('--manifest',), 'CSV', {'help': 'a file of lines `batch,ballots`'}),
+        (('--manifest',), 'CSV', {'help': MANIFEST}),
     ],
     'definition': [
         (('-o',), 'JSON', {'dest': 'output',
@@ -83,6 +114,10 @@ OPTIONS = {
 }
 
 
+for name in COMMANDS.keys() - {'compare'}:
+    OPTIONS[name] += [FROM, NULL]
+
+
 def taken_of(name):
     return TAKEN.get(name, ('DEF', 'FILE'))
 
@@ -91,7 +126,7 @@ def usage_of(name):
     """The words of a command, as help shows them."""
     definition, files = taken_of(name)
     many = '[%s ...]' if definition else '%s ...'
-    parts = ['cvr-audit', name] + [definition] * bool(definition) + [many % files] * bool(files)
+    parts = ['cvr-audit', name] + [TASK] * (name == 'lines') + [definition] * bool(definition) + [many % files] * bool(files)
     for words, value, more in OPTIONS[name]:
         value = '[%s ...]' % value if 'nargs' in more else value
         option = ' '.join(filter(None, [words[0], value]))
@@ -111,6 +146,10 @@ class Command:
         self.parser = commands.add_parser(name, parents=[self.options], help=about, epilog=EPILOG,
                                           description=about, usage=usage_of(name))
         self.definition, self.files = taken_of(name)
+        self.has_task = name == 'lines'
+        if self.has_task:
+            self.parser.add_argument('task', metavar=TASK, choices=list(lines.TASKS),
+                                     help='`tally`, `currents`, `conflicts` or `check`')
         if self.definition:
             self.parser.add_argument('definition', metavar='DEF', help=MEANT['DEF'])
         if self.files:
@@ -129,13 +168,30 @@ class Command:
         unknown = unknown or ([] if self.files else paths[1:])
         if unknown:
             self.parser.error('unrecognized arguments: ' + ' '.join(unknown))
-        if not paths:
+        if self.has_task:
+            values.task = paths.pop(0) if paths else None
+            if values.task not in lines.TASKS:
+                self.parser.error('%s has to be one of %s' % (TASK, ', '.join(lines.TASKS)))
+        is_listed = not self.definition and values.files_from is not None
+        if not paths and not is_listed:
             needed = self.definition or self.files
             self.parser.error('the following arguments are required: ' + needed)
         values.definition = paths.pop(0) if self.definition else None
-        values.run, values.files = self.run, paths
+        values.run, values.files = self.run, paths if self.files else None
         values.output = getattr(values, 'output', None)
+        self.see_lists(values)
         return values
+
+    def see_lists(self, values):
+        """Stops where files are given twice, or those of a side not at all."""
+        for list_of, place in LISTS.items():
+            if not hasattr(values, list_of):
+                continue
+            held, given = getattr(values, list_of), getattr(values, place)
+            if held is not None and given:
+                self.parser.error('--%s stands in place of files' % list_of.replace('_', '-'))
+            if held is None and given is None:
+                self.parser.error('the following arguments are required: --' + place)
 
 
 class Version(argparse.Action):
@@ -184,9 +240,20 @@ def sides(words):
     return held
 
 
+def find_files(words):
+    """Puts the paths of lists and those below folders in the place of these."""
+    for list_of, place in LISTS.items():
+        path = getattr(words, list_of, None)
+        if path is not None:
+            setattr(words, place, paths.listed(path, words.null))
+        if getattr(words, place, None) and words.run is not gather.run:
+            setattr(words, place, paths.files_of(getattr(words, place), words.definition))
+
+
 def made(words):
     """The text that the words ask for, and the status of a run that prints it."""
     try:
+        find_files(words)
         files = sides(words) if words.definition is not None else []
         text, is_found = words.run(*files, words)
         for side in files:

@@ -19,6 +19,11 @@ def use_lines(files):
         yield 'alone', [spelled(files.definition)]
 
 
+def use_text(files, side=''):
+    """The lines on DEF, for standard error."""
+    return ''.join('cvr-audit: %s%s' % (side, line_of(*it)) for it in use_lines(files))
+
+
 def is_unknown(position):
     """Whether it isn't known if there is a mark, nor decided whether it counts."""
     return position['HasIndication'] == 'unknown' and \
@@ -67,13 +72,9 @@ class Notes:
 
     def text(self, side=''):
         """The lines on DEF, and one that counts the others."""
-        lines, counts = [], {}
-        for kind, parts in self.lines():
-            if kind in USE:
-                lines.append('cvr-audit: %s%s' % (side, line_of(kind, parts)))
-            else:
-                counts[kind] = counts.get(kind, 0) + 1
-        if counts:
-            said = ', '.join('%s %d' % it for it in counts.items())
-            lines.append('cvr-audit: %ssee cvr-audit warnings: %s\n' % (side, said))
-        return ''.join(lines)
+        counts = {}
+        for kind, _ in self.lines():
+            counts[kind] = counts.get(kind, 0) + (kind not in USE)
+        said = ', '.join('%s %d' % it for it in counts.items() if it[1])
+        line = 'cvr-audit: %ssee cvr-audit warnings: %s\n' % (side, said)
+        return use_text(self.files, side) + line * bool(said)

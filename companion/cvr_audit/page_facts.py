@@ -4,18 +4,15 @@ from .page_records import adjudicated_in
 
 
 class Seen(warnings.Seen):
-    """What was seen in the records; also the devices of batches, and what adjudication changed in
-    records."""
+    """What was seen in the records; also what adjudication changed in them."""
 
     def __init__(self, facts):
         super().__init__(facts.files)
-        self.facts, self.sizes, self.adjudicated = facts, {}, []
+        self.facts, self.adjudicated = facts, []
 
     def take(self, record):
         """Notes a record of volume 1."""
         super().take(record)
-        sizes, device = self.sizes.setdefault(record.get('BatchId'), {}), record['CreatingDeviceId']
-        sizes[device] = sizes.get(device, 0) + 1
         self.adjudicated += adjudicated_in(self.facts, record)
 
 

@@ -1,5 +1,6 @@
 """What the page says about records: batches beside a manifest, conflicts, and adjudications."""
 from . import counting, page_names, reading
+from .manifest import has_devices
 from .page_tree import code, codes, element, folded, section, table
 
 MANY = 40           # a table with more rows is folded
@@ -19,23 +20,31 @@ TAKEN = {
 
 # ---- batches
 
+def batch_rows(facts):
+    """Each batch: its devices, the ballots of the manifest, the ballots and the records found."""
+    expected, sizes = facts.manifest, facts.seen.sizes
+    found, is_whole, devices = sizes.by(expected), has_devices(expected), {}
+    for device, batch in sizes.sheets:
+        devices.setdefault((device if is_whole else None, batch), []).append(device)
+    for name in sorted({*expected, *found}, key=lambda it: list(map(counting.nothing_first, it))):
+        wanted, (ballots, records) = expected.get(name), found.get(name, (0, 0))
+        beside = ['', ballots, ''] if wanted is None else [wanted, ballots, ballots - wanted]
+        yield [page_names.batch(name[1]), codes(sorted(devices.get(name, [it for it in name[:1] if it])))] \
+            + beside + [records]
+
+
 def batches(facts):
-    """The records of each batch by device and, from the manifest, the ballots of the batch."""
-    expected = facts.manifest
+    """The ballots of each batch by device and, from the manifest, those counted by hand."""
     if facts.is_public:
         return element('p', 'The batches stand on the whole page alone.')
-    if expected is None:
+    if facts.manifest is None:
         return element('p', 'No manifest was given.')
-    rows = []
-    for batch in sorted({*expected, *facts.seen.sizes}, key=counting.nothing_first):
-        sizes = facts.seen.sizes.get(batch, {})
-        found = sum(sizes.values())
-        ballots = expected.get(batch)
-        beside = ['', found, ''] if ballots is None else [ballots, found, found - ballots]
-        rows.append([page_names.batch(batch), codes(sizes)] + beside)
-    heads = ['Batch', 'Device', 'Manifest', 'Records', 'Difference']
-    sums = ['Sum', '', sum(expected.values()), sum(row[3] for row in rows), '']
-    return table('Batches of the manifest and of the records', heads, rows, sums)
+    rows = list(batch_rows(facts))
+    heads = ['Batch', 'Device', 'Manifest', 'Ballots', 'Difference', 'Records']
+    sums = ['Sum', '', sum(facts.manifest.values()), sum(row[3] for row in rows), '',
+            sum(row[5] for row in rows)]
+    return folded(len(rows) > MANY, '{:,} batches'.format(len(rows)),
+                  table('Batches of the manifest and of the records', heads, rows, sums))
 
 
 def reconciliation(facts):

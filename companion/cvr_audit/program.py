@@ -12,6 +12,7 @@ from . import reading
 from .progress import Progress
 
 DATE = '1970-01-01T00:00:00Z'       # of the heading of a volume, which nothing here reads
+MOST = 100000                       # characters of paths that are given as words
 WORDS = 2                           # the status for words that can't be carried out
 FAILED = 3                          # the status where a file can't be read or written
 MEMORY = 4
@@ -78,27 +79,35 @@ class Files:
         self.program, self.definition, self.files = program, definition, files
         self.progress = Progress(log, len(files))
         self.marks = {path: mark_of(path) for path in [definition] + files}
-        status, out, log = self.run('check', [definition, definition])
+        status, out, log = self.run('check', [definition], [definition])
         if status:
             raise Ended(status, log)
         self.own_records = accepted_in([definition], out)[0][1]
-        self.status, out, self.log = self.run('check', [definition] + files)
+        self.status, out, self.log = self.run('check', [definition], files)
         if self.status > 1:
             raise Ended(self.status, self.log)
         self.accepted = accepted_in(files, out)
         self.notes = ''
         self.report = self.report_at(definition)
 
-    def run(self, task, words, out=subprocess.PIPE):
-        """(status, output, log) of a command of the program."""
+    def run(self, task, words, files, out=subprocess.PIPE):
+        """(status, output, log) of a command of the program; more paths than a system may take as words
+        stand in a list."""
         self.progress.show('cvr %s: %d files' % (task, len(self.files)))
-        done = started([self.program, task, '--'] + words, out)
+        if sum(map(len, files)) <= MOST or words[0].startswith('-'):
+            done = started([self.program, task, '--'] + words + files, out)
+        else:
+            with tempfile.NamedTemporaryFile() as paths:
+                paths.write(b''.join(os.fsencode(it) + b'\0' for it in files))
+                paths.flush()
+                listed = ['--files-from', paths.name, '--null']
+                done = started([self.program, task] + words + listed, out)
         self.progress.end()
         return done.returncode, done.stdout, done.stderr
 
     def text(self, task):
         """The text that a command prints of the accepted files."""
-        status, out, log = self.run(task, [self.definition] + self.files)
+        status, out, log = self.run(task, [self.definition], self.files)
         self.see_same(status, log)
         return out.decode('utf-8')
 
@@ -124,8 +133,8 @@ class Files:
         if not devices:
             raise ended(1, 'DEF has no ReportingDevice, and `cvr merge` needs one of its own')
         file = tempfile.TemporaryFile()
-        words = [self.definition, DATE, devices[0]['@id'], str(number)] + self.files
-        status, _, log = self.run('merge', words, file)
+        words = [self.definition, DATE, devices[0]['@id'], str(number)]
+        status, _, log = self.run('merge', words, self.files, file)
         self.see_same(status, log)
         file.seek(0)
         return reading.Volume(file)

@@ -14,6 +14,14 @@ def positions_of(contest):
             yield chosen.get('ContestSelectionId'), rank, position
 
 
+def marks_in(snapshot):
+    """Each position that counts: its contest, its Rank or None, its selection or None, its votes."""
+    for contest in snapshot.get('CVRContest', []):
+        for selection, rank, position in positions_of(contest):
+            if counting.counts(position):
+                yield contest['ContestId'], rank, selection, position['NumberVotes']
+
+
 class Ranks:
     """For each contest the greatest Rank, and the votes by selection and Rank."""
 
@@ -26,12 +34,12 @@ class Ranks:
         """Notes a current snapshot."""
         for contest in snapshot.get('CVRContest', []):
             key = contest['ContestId']
-            for selection, rank, position in positions_of(contest):
+            for _, rank, _ in positions_of(contest):
                 if rank is not None:
                     self.greatest[key] = max(rank, self.greatest.get(key, rank))
-                if counting.counts(position):
-                    place = key, selection, rank
-                    self.votes[place] = self.votes.get(place, 0) + position['NumberVotes']
+        for key, rank, selection, votes in marks_in(snapshot):
+            place = key, selection, rank
+            self.votes[place] = self.votes.get(place, 0) + votes
 
     def is_ranked(self, contest):
         return self.variations[contest] in VARIATIONS or self.greatest.get(contest, 0) > 1

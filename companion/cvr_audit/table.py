@@ -4,9 +4,11 @@ from . import counting
 
 HEADER = ['CreatingDeviceId', 'UniqueId', 'BallotStyleUnitId', 'BatchId', 'BallotStyleId',
           'BallotAuditId']
-NAMES = HEADER + ['CurrentSnapshotId', 'Type', 'TimeStamp', 'AdjudicatorName', 'files']
-DEVICE, UNIQUE, UNIT, BATCH, _, AUDIT = range(len(HEADER))
-FILES = len(NAMES) - 1
+PILE = ['BatchSequenceId', 'BallotSheetId', 'BallotPrePrintedId']      # where the paper lies
+NAMES = HEADER + ['CurrentSnapshotId', 'Type', 'TimeStamp', 'AdjudicatorName', 'files'] + PILE
+NAMES += ['device']
+DEVICE, UNIQUE, UNIT, BATCH, STYLE, AUDIT = range(len(HEADER))
+FILES, SEQUENCE, _, _, MACHINE = range(len(NAMES) - 5, len(NAMES))
 NUMBERS = counting.COLUMNS[1:]      # of a contest in a line, before the votes of its selections
 MARKS = ',', '"', '\n', '\r'
 
@@ -58,20 +60,29 @@ def sizes_of(lines):
     return sorted(sizes.items(), key=lambda it: list(map(counting.nothing_first, it[0])))
 
 
-def whole(lines, selections):
+def in_pile(cells):
+    """The key that sorts records as their paper lies: by device, batch and place in the batch, then by
+    UniqueId; those without a batch or a place come first."""
+    place = cells[SEQUENCE]
+    return (cells[DEVICE], counting.nothing_first(cells[BATCH]), place is not None, place or 0,
+            cells[UNIQUE])
+
+
+def whole(lines, about):
     """Each record with all its columns."""
-    yield NAMES + heads_of(selections, NUMBERS)
+    yield NAMES + heads_of(about.selections, NUMBERS)
     yield from lines
 
 
-def manifest(lines, selections):
+def manifest(lines, about):
     """Each batch of a device, with the number of its records."""
     yield ['CreatingDeviceId', 'BatchId', 'ballots']
     yield from ([*name, size] for name, size in sizes_of(lines))
 
 
-def batches(lines, selections):
+def batches(lines, about):
     """Each batch of a device, with the number of its records and the sums of each contest."""
+    selections = about.selections
     rows = added(lines, selections, device_and_batch)
     absent = {it: [None] * len(counting.columns_of(it, selections)) for it in selections}
     yield ['CreatingDeviceId', 'BatchId', 'ballots'] + heads_of(selections, counting.COLUMNS)
@@ -80,17 +91,15 @@ def batches(lines, selections):
         yield [*name, size] + [number for numbers in sums for number in numbers]
 
 
-def cvrs(lines, selections):
+def cvrs(lines, about):
     """Each record, with the votes of each selection alone."""
+    selections = about.selections
     kept = DEVICE, BATCH, UNIQUE, AUDIT, UNIT
     yield [NAMES[place] for place in kept] + heads_of(selections, [])
     for cells in lines:
         votes = [vote for _, numbers in contests_in(cells, selections)
                  for vote in numbers[len(NUMBERS):]]
         yield [cells[place] for place in kept] + votes
-
-
-FORMS = {'manifest': manifest, 'batches': batches, 'cvrs': cvrs}
 
 
 def cell(value):

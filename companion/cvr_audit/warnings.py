@@ -1,27 +1,27 @@
 """cvr-audit warnings: a line for each thing that needs a person before the tally is used."""
 from . import bodies, counting, notes, reading
 from .advice import line_of
-from .manifest import manifest_in
+from .manifest import Sizes, has_devices, manifest_in
 from .program import line_of as log_line_of
 from .program import mismatch
 from .reading import spelled
 
 class Seen:
-    """What was seen in the records: the number in each batch, the names with each BallotAuditId, the
+    """What was seen in the records: the sizes of batches, the names with each BallotAuditId, the
     names of records without a contest, which contests have which number stated, the texts of each
     name in conflict, each as its value with the paths of the files that have it, and what is said by
     every command."""
 
     def __init__(self, files):
         self.notes = notes.Notes(files)
-        self.batches, self.ballots, self.empty, self.stated = {}, {}, [], set()
+        self.sizes, self.ballots, self.empty, self.stated = Sizes(), {}, [], set()
         self.texts = {}
 
     def take(self, record):
         """Notes a record of volume 1."""
         self.notes.take(record)
-        batch, ballot = record.get('BatchId'), record.get('BallotAuditId')
-        self.batches[batch] = self.batches.get(batch, 0) + 1
+        self.sizes.take(record)
+        ballot = record.get('BallotAuditId')
         if ballot is not None:
             self.ballots.setdefault(ballot, []).append(reading.name_of(record))
         if not reading.current_of(record).get('CVRContest'):
@@ -104,12 +104,16 @@ def contest_lines(selections, rows, stated):
                 yield 'unstated', [spelled(contest), name]
 
 
-def manifest_lines(path, batches):
+def manifest_lines(path, sizes):
+    """A line for each batch that has another number of ballots in the manifest; where there are more
+    sheets than ballots, with their number."""
     expected = manifest_in(path)
-    for batch in sorted({*expected, *batches}, key=counting.nothing_first):
-        numbers = expected.get(batch, '-'), batches.get(batch, 0)
-        if numbers[0] != numbers[1]:
-            yield 'batch', [spelled(batch), *map(str, numbers)]
+    found, is_whole = sizes.by(expected), has_devices(expected)
+    for name in sorted({*expected, *found}, key=lambda it: list(map(counting.nothing_first, it))):
+        wanted, (ballots, records) = expected.get(name, '-'), found.get(name, (0, 0))
+        if wanted != ballots:
+            numbers = [wanted, ballots] + ['records', records] * (records != ballots)
+            yield 'batch', [*map(spelled, name[not is_whole:]), *map(str, numbers)]
 
 
 def ballot_lines(ballots):
@@ -129,7 +133,7 @@ def found_in(files, manifest, seen):
         yield from row_lines(row, numbers, allowed)
     yield from contest_lines(counting.selections_of(files.report), rows, seen.stated)
     yield from (('record', list(map(spelled, name))) for name in seen.empty)
-    yield from manifest_lines(manifest, seen.batches) if manifest else ()
+    yield from manifest_lines(manifest, seen.sizes) if manifest else ()
     yield from ballot_lines(seen.ballots)
 
 

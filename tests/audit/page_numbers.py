@@ -293,7 +293,7 @@ class Held:
                 key = row[0].text()
                 self.see('batch ' + key, row[3], sizes.get(key, 0))
             self.see('batches', rows[-1][3], sum(sizes.values()))
-            self.seen |= {id(row[place]) for row in rows for place in (1, 2, 4)}
+            self.seen |= {id(row[place]) for row in rows for place in (1, 2, 4, 5)}
 
     def left(self):
         """The numbers that were compared with nothing."""

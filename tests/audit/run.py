@@ -49,6 +49,13 @@ def terminal_differences(companion, cvr):
     return found
 
 
+def number_differences(package):
+    """What is wrong with the JSON of numbers that not every reader keeps whole."""
+    text = package.written.text_of({'a': 2 ** 53, 'b': [2 ** 53 + 1, None, True]})
+    wanted = '{"a":9007199254740992,"b":["9007199254740993",null,true]}'
+    return [] if ''.join(text.split()) == wanted else ['numbers: ' + text]
+
+
 def set_differences(companion, cvr, seed):
     """What a few sets find wrong with a copy of the companion, which has a process of its own."""
     words = [companion, cvr, str(seed), str(FEW)]
@@ -79,6 +86,7 @@ def jobs(words, cvr):
     advice, held = package.advice.ADVICE, {row['name']: row for row in rows.held()}
     yield from ((rows.differences, COMPANION, cvr, row, advice) for row in held.values())
     yield terminal_differences, COMPANION, cvr
+    yield number_differences, package
     for seed in range(words.seed, words.seed + words.sets):
         yield sets.differences, package, cvr, seed
     for way in wrong_ways.WAYS:

@@ -27,7 +27,7 @@ import said                   # noqa: E402 (it stands beside this file)
 
 CELL = re.compile(r'("(?:[^"]|"")*"|[^,"\r\n]*)([,\n])')
 WORD = re.compile(r'"(?:[^"\\]|\\.)*"|[^ ]+')
-FIXED = 11          # columns of a record before those of the contests
+FIXED = 15          # columns of a record before those of the contests
 KINDS = 'device', 'header', 'snapshot'
 SAID = 'repeated', 'counted', 'decides', 'nobody', 'later', 'waiting', 'ranked'
 WORDS = 'again', 'elsewhere'
@@ -138,7 +138,8 @@ class Set:
         currents = [list(map(json.loads, words[:3])) + words[3:]
                     for words in lines_in(self.printed('currents', self.paths))]
         found = [[it[0], it[1], it[6], it[7]] for it in lines[1:]]
-        see(found == currents, 'records are not those of currents')
+        see(sorted(found) == currents, 'records are not those of currents')
+        see(lines[1:] == sorted(lines[1:], key=in_pile), 'records are in another order')
         for cells in lines[1:]:
             held = [path for path, value in self.accepted.items() if self.has(value, cells[:2])]
             see(cells[10] == '; '.join(held), 'the files of a record are others')
@@ -310,6 +311,12 @@ class Set:
         lines = lines_in(self.printed('conflicts', self.paths))[:-1]
         return sorted((words[0] if words[0] == 'device' else words[2], int(words[-1]))
                       for words in lines)
+
+
+def in_pile(cells):
+    """A line's device, batch, place in the batch and UniqueId; what is empty comes first."""
+    return cells[0], cells[3] is not None, cells[3] or '', cells[11] is not None, \
+        int(cells[11] or 0), cells[1]
 
 
 def parts_of(words):
