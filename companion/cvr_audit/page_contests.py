@@ -4,7 +4,7 @@ from .page_tree import element, folded, listed, section, table
 from .program import mismatch
 
 MANY = 12           # a table with more rows is folded; with more contests every table is
-COLUMNS = 6         # columns of numbers in one table, as a sheet of paper has room for
+COLUMNS = 10        # columns of numbers in one table, as a sheet of paper has room for
 WITHHELD = '*'
 UNKNOWN = ('The definition does not say how many votes a ballot has (VotesAllowed), so nothing is '
            'said of whether they come to the ballots.')
@@ -157,7 +157,7 @@ def columns_of(facts, contest):
     votes = [(facts.names.short_selection(contest.key, key), len(HEADS) + place)
              for place, key in enumerate(contest.selections) if place not in contest.hidden]
     numbers = [(head, place) for place, head in enumerate(HEADS) if contest.stated[place]]
-    return chunks(numbers) * contest.is_whole + chunks(votes)
+    return chunks(numbers * contest.is_whole + votes)
 
 
 def masked(held, contest):

@@ -6,7 +6,6 @@ from .page_tree import code, codes, element, folded, listed, section, table
 from .reading import spelled
 
 SIZE = 1 << 20
-MANY = 12           # with more files their table is folded
 
 
 def digest_of(path):
@@ -55,8 +54,7 @@ def public_inputs(facts):
 def inputs(facts):
     """The definition and the files."""
     heads = ['File', 'SHA-256', 'Bytes', 'Records', 'Device', 'State']
-    count = len(facts.files.files)
     said = public_inputs(facts) if facts.is_public else \
-        folded(count > MANY, 'DEF and {:,} files'.format(count),
+        folded(True, 'DEF and {:,} files'.format(len(facts.files.files)),
                table('DEF and the files', heads, input_rows(facts)))
     return section('inputs', 'Inputs', said, element('p', 'The records of DEF are not counted.'))

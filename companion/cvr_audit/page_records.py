@@ -29,8 +29,8 @@ def batch_rows(facts):
     for name in sorted({*expected, *found}, key=lambda it: list(map(counting.nothing_first, it))):
         wanted, (ballots, records) = expected.get(name), found.get(name, (0, 0))
         beside = ['', ballots, ''] if wanted is None else [wanted, ballots, ballots - wanted]
-        yield [page_names.batch(name[1]), codes(sorted(devices.get(name, [it for it in name[:1] if it])))] \
-            + beside + [records]
+        own = devices.get(name) or ([] if name[0] is None else name[:1])
+        yield [page_names.batch(name[1]), codes(sorted(own)), *beside, records]
 
 
 def batches(facts):

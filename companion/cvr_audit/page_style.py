@@ -17,7 +17,7 @@ body { margin: 0 auto; max-width: 70rem; padding: 1rem }
 h1, h2, h3, p, li, dt, dd, caption, summary, code, bdi { overflow-wrap: anywhere }
 h1 { font-size: 1.7rem; line-height: 1.2; margin: .3rem 0 }
 h2 { border-bottom: 2px solid var(--head); color: var(--head); font-size: 1.3rem;
-  margin: 2rem 0 .6rem }
+  margin: 1.4rem 0 .4rem }
 h3 { font-size: 1.05rem; margin: 1.4rem 0 .4rem }
 small, code { color: var(--faint); font-size: .82rem }
 code { font-family: ui-monospace, monospace }
@@ -35,7 +35,7 @@ pre { background: var(--box); margin: .3rem 0; padding: .5rem; white-space: pre-
 .warnings > li { background: var(--warn); border-left: 4px solid var(--edge); list-style: none;
   margin: .4rem 0; padding: .4rem .7rem }
 .warnings { padding: 0 }
-.places { columns: 20rem; margin: .2rem 0; padding-left: 1.2rem }
+.places { columns: 15rem; margin: .2rem 0; padding-left: 1.2rem }
 .wide { overflow-x: auto; margin: .6rem 0 }
 table { border-collapse: collapse; width: 100% }
 caption { font-weight: bold; padding: .3rem 0; text-align: left }
@@ -47,22 +47,26 @@ td ul { list-style: none; margin: 0; padding: 0 }
 tbody th { font-weight: normal; min-width: 8rem }
 td:has(code) { min-width: 7rem }
 tfoot th, tfoot td { background: var(--box); font-weight: bold }
-.number { font-variant-numeric: tabular-nums; text-align: right; white-space: nowrap;
+.number, .numbers td { font-variant-numeric: tabular-nums; text-align: right; white-space: nowrap;
   width: 6rem }
 .number:has(.bar) { width: 45% }
 .track { float: left; padding-top: .2rem; width: calc(100% - 5rem) }
 .bar { background: var(--bar); border: 1px solid var(--bar); display: block; height: 1rem }
 mark { background: var(--found); color: var(--ink) }
-details { margin: .6rem 0 }
+details { margin: .3rem 0 }
 summary { cursor: pointer; font-weight: bold }
 .sign { display: grid; gap: 2rem 1rem; grid-template-columns: repeat(auto-fit, minmax(14rem, 1fr));
   margin: 2.5rem 0 1rem }
 .sign p { border-top: 1px solid var(--ink); margin: 0; padding-top: .2rem }
 @media print {
-  html { font-size: 9pt; line-height: 1.3 }
+  html { font-size: 9pt; line-height: 1.25 }
+  table { font-size: 8pt; line-height: 1.15 }
   body { max-width: none; padding: 0 }
   nav { display: none }
-  th, td { padding: .1rem .35rem }
+  th, td { min-width: 0; padding: .05rem .3rem }
+  tbody th { min-width: 7rem }
+  thead th { min-width: 3.8rem }
+  .number, .numbers td { width: auto }
   .wide { overflow: visible }
   thead { display: table-header-group }
   tfoot { display: table-row-group }
@@ -73,7 +77,7 @@ summary { cursor: pointer; font-weight: bold }
   details::details-content { content-visibility: visible; block-size: auto }
 }
 '''
-MARGINS = '''@page { margin: 15mm 15mm 18mm; font: 8pt system-ui, sans-serif;
+MARGINS = '''@page { margin: 12mm 14mm 15mm; font: 8pt system-ui, sans-serif;
   @bottom-left { content: 'UNOFFICIAL'; font-weight: bold }
   @bottom-center { content: '%s' }
   @bottom-right { content: counter(page) ' / ' counter(pages) } }

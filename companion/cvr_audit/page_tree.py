@@ -63,28 +63,36 @@ def listed(pairs):
     return element('dl', *(part for pair in parts for part in pair))
 
 
-def cell(part):
-    """A cell of a table, which may be made already: numbers are right-aligned."""
+def is_number(part):
+    return isinstance(part, int) or isinstance(part, str) and NUMBER.fullmatch(part) is not None
+
+
+def cell(part, name='number'):
+    """A cell of a table, which may be made already: numbers have a class, and are right-aligned."""
     if ET.iselement(part) and part.tag == 'td':
         return part
-    is_number = isinstance(part, int) or isinstance(part, str) and NUMBER.fullmatch(part)
-    return element('td', part, class_='number' if is_number else None)
+    return element('td', part, class_=name if is_number(part) else None)
 
 
-def row_of(cells, tag='tr'):
+def row_of(cells, name='number'):
     """A row. Its first cell is its head."""
-    return element(tag, element('th', cells[0], scope='row'), *map(cell, cells[1:]))
+    return element('tr', element('th', cells[0], scope='row'),
+                   *(cell(it, name) for it in cells[1:]))
 
 
 def table(caption, heads, rows, foot=None, of=None):
     """A table with the heads of its columns and its rows; a narrow window scrolls it sideways. What it
     is of, as a contest, stands in the name of that region."""
-    head = element('tr', *(element('th', it, scope='col') for it in heads))
+    head, rows = element('tr', *(element('th', it, scope='col') for it in heads)), list(rows)
+    # a table of numbers alone has the class in their place, as it may have thousands
+    is_plain = all(is_number(it) for row in rows for it in row[1:])
+    name = None if is_plain else 'number'
     parts = [element('caption', caption), element('thead', head)]
-    parts.append(element('tbody', *map(row_of, rows)))
+    parts.append(element('tbody', *(row_of(it, name) for it in rows)))
     if foot:
-        parts.append(element('tfoot', row_of(foot)))
-    return element('div', element('table', *parts), class_='wide', role='region', tabindex='0',
+        parts.append(element('tfoot', row_of(foot, name)))
+    made = element('table', *parts, class_='numbers' if is_plain else None)
+    return element('div', made, class_='wide', role='region', tabindex='0',
                    aria_label=caption if of is None else '%s: %s' % (of, caption))
 
 

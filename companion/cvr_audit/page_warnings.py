@@ -13,7 +13,7 @@ KINDS = {
     'sum': 'Sum', 'unstated': 'Not stated', 'contest': 'Contest without a record',
     'record': 'Record without a contest', 'batch': 'Batch', 'ballot': 'One ballot twice',
 }
-FEW, MOST = 6, 500      # more places of one kind are folded; more than the most are left to `warnings`
+FEW, MOST = 6, 200      # more places of one kind are folded, and more than the most left out
 LEFT = 'The first {:,} of {:,}: cvr-audit warnings prints all.'
 
 
@@ -27,7 +27,7 @@ def by_kind(facts):
 
 def kinds_of(facts):
     """The kinds of warnings there are; with their numbers, except for the public."""
-    said = [KINDS[kind] if facts.is_public else '{} {:,}'.format(KINDS[kind], len(places))
+    said = [KINDS[kind] if facts.is_public else '{} ({:,})'.format(KINDS[kind], len(places))
             for kind, places in by_kind(facts).items()]
     return ', '.join(said) or 'None'
 

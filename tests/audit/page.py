@@ -64,6 +64,7 @@ Selection | No rank
 Low low | 0
 High high | 30
 """
+LARGE, BYTES = 3000, 250000     # ballots, and the bytes that their page may have
 NO_ROUNDS = 'They are added up over all ranks, and no rounds are computed.'
 SECONDS = 600
 SIDE_BY_SIDE = 4
@@ -182,6 +183,21 @@ def see_lines(trial, what, made, wanted, absent=()):
     trial.see(what, wrong + ['%r is there' % it for it in absent if it in lines])
 
 
+def see_large(trial, count):
+    """Tests that the page of a county of thousands of ballots is small, and begins with its votes."""
+    held, what = page_sets.texts_of(page_sets.machines(count)), '{:,} ballots'.format(count)
+    see_set(trial, what, held, False)
+    with tempfile.TemporaryDirectory() as folder:
+        for path, data in held.items():
+            with open(os.path.join(folder, path), 'wb') as file:
+                file.write(data)
+        path = os.path.join(folder, 'page.html')
+        trial.page(folder, 'def.json', [it for it in held if it != 'def.json'], '-o', path)
+        size = os.path.getsize(path)
+        trial.see(what + ': bytes', ['%d bytes' % size] * (size > BYTES))
+        page_views.see_large(trial, path, what)
+
+
 def picture(trial, folder, to):
     """Writes the picture of the county's page, without what is wrong in the county."""
     words = FILES[:2] + ['--manifest', 'manifest.csv', '-o', 'picture.html']
@@ -288,6 +304,8 @@ def pages(trial, words):
     held, possible = page_sets.one_each()
     yield see_set, 'one ballot a file', held, True, possible
     yield see_own, words
+    if not words.companion:
+        yield see_large, LARGE
     yield see_lines, 'ranks', page_sets.ranked(), [RANKS, SCORES, NO_ROUNDS]
     yield see_lines, 'machines', page_sets.machines(9), ['## Adjudications\nNone.\n']
     for name, held in sets(trial, words):

@@ -297,8 +297,8 @@ class Held:
 
     def left(self):
         """The numbers that were compared with nothing."""
-        cells = [it for it in self.page.all('td') if it.attributes.get('class') == 'number']
-        return [it.text() for it in cells if id(it) not in self.seen and it.text()]
+        cells = [it for it in self.page.all('td') if re.fullmatch(r'[0-9][0-9,.]*', it.text())]
+        return [it.text() for it in cells if id(it) not in self.seen and not list(it.all('code'))]
 
 
 def tenths(text):

@@ -153,8 +153,8 @@ def rank_of(selection, rank):
             'SelectionPosition': [position]}
 
 
-def machines(count, contests=12, units=30):
-    """A county of `count` ballots as VxSuite writes them: each has a second snapshot, of Type `modified`, in
+def machines(count, contests=12, units=30, most=3000):
+    """A county of `count` ballots as VxSuite writes them, `most` in a file: each has a second snapshot, of Type `modified`, in
     which no person had a part. One in forty has a write-in that waits for a person."""
     held = [('c%02d' % place, 'Contest %d' % place, 1,
              [('c%02d-%d' % (place, one), 'Candidate %d' % one) for one in range(4)])
@@ -171,7 +171,8 @@ def machines(count, contests=12, units=30):
             wait(made['CVRSnapshot'][0]['CVRContest'][0])
         machine = dict(made['CVRSnapshot'][0], **{'@id': 'b', 'Type': 'modified'})
         records.append(dict(made, CurrentSnapshotId='b', CVRSnapshot=[*made['CVRSnapshot'], machine]))
-    return report(held, places), {'records.json': report(held, places, records)}
+    return report(held, places), {'%02d.json' % part: report(held, places, records[part * most:][:most])
+                                  for part in range((count + most - 1) // most)}
 
 
 def wait(contest):

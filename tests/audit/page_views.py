@@ -22,6 +22,9 @@ OVER = '''[document.documentElement.scrollWidth - innerWidth,
     .filter(it => it.getBoundingClientRect().right > innerWidth + 1 &&
       (matchMedia('print').matches || !it.closest('.wide')))
     .map(it => it.tagName + ' ' + it.textContent.slice(0, 40)).slice(0, 3)]'''
+FIRST = 'document.querySelector(".contest td.number").getBoundingClientRect().top'
+SCREEN = 1000       # pixels from the top of the page of a large county to its first votes
+SHEETS = 30         # of A4, for such a county
 BROWSERS = 3        # that run side by side
 OWN = threading.local()
 LACKING = set()     # the tools that a line `skipped` has named
@@ -72,6 +75,23 @@ def look(trial, path, what, browser):
         trial.see('%s on %s' % (what, paper), list(print_wrong(browser, path, paper)))
 
 
+def see_large(trial, path, what):
+    """Tests where the first votes of a page stand, and how many sheets it has."""
+    if page_browser.program() is None or 'an answer of chromium' in LACKING:
+        return
+    try:
+        browser = shown()
+        browser.open(path, WIDTHS[0])
+        top = browser.value(FIRST)
+        trial.see(what + ': the first votes', ['%s pixels down' % top] * (not 0 < top < SCREEN))
+        if not lacks('pdftotext', shutil.which('pdftotext')):
+            count = len(sheets_of(browser, path, 'A4')) - 1
+            trial.see(what + ': sheets', ['%d sheets' % count] * (not 2 < count < SHEETS))
+    except OSError as fault:
+        LACKING.add('an answer of chromium')
+        print('skipped chromium from %s on: %s' % (what, fault))
+
+
 def over_wrong(browser):
     """What reaches beyond the window; on a screen, except tables, which scroll."""
     over, parts = browser.value(OVER)
@@ -83,13 +103,21 @@ def bare(text):
     return re.sub(r'[^!-~]', '', text)
 
 
-def print_wrong(browser, path, paper):
-    """Rows of tables that no sheet has whole."""
+def sheets_of(browser, path, paper):
+    """The text of each sheet of the page that is open, and a last one that is empty."""
     with tempfile.TemporaryDirectory() as folder:
         pdf = os.path.join(folder, 'page.pdf')
         browser.printed(pdf, paper)
         done = subprocess.run(['pdftotext', '-raw', pdf, '-'], stdout=subprocess.PIPE, check=True)
-    sheets = [bare(it) for it in done.stdout.decode('utf-8', 'replace').split('\f')]
+    return [bare(it) for it in done.stdout.decode('utf-8', 'replace').split('\f')]
+
+
+def print_wrong(browser, path, paper):
+    """Rows of tables that no sheet has whole, and sheets that don't say what they belong to."""
+    sheets = sheets_of(browser, path, paper)
+    for number, sheet in enumerate(sheets[:-1], 1):
+        if 'UNOFFICIAL' not in sheet or '%d/%d' % (number, len(sheets) - 1) not in sheet:
+            yield 'sheet %d has no %d/%d' % (number, number, len(sheets) - 1)
     with open(path, encoding='utf-8') as file:
         page = file.read()
     rows = list(map(words_of, page_text.read(page).all('tr')))
