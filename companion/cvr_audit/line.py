@@ -126,7 +126,8 @@ def usage_of(name):
     """The words of a command, as help shows them."""
     definition, files = taken_of(name)
     many = '[%s ...]' if definition else '%s ...'
-    parts = ['cvr-audit', name] + [TASK] * (name == 'lines') + [definition] * bool(definition) + [many % files] * bool(files)
+    parts = ['cvr-audit', name] + [TASK] * (name == 'lines') + [definition] * bool(definition)
+    parts += [many % files] * bool(files)
     for words, value, more in OPTIONS[name]:
         value = '[%s ...]' % value if 'nargs' in more else value
         option = ' '.join(filter(None, [words[0], value]))

@@ -36,7 +36,8 @@ def conflicts(files):
 
 def check(files):
     """The files, each with the number of its records, or its fault."""
-    records, faults = iter(files.accepted), dict(parts for _, parts in warnings.refused_lines(files))
+    records = iter(files.accepted)
+    faults = dict(parts for _, parts in warnings.refused_lines(files))
     for path in files.files:
         fault = faults.get(reading.spelled(path))
         yield {'path': path, 'records': None if fault else next(records)[1], 'fault': fault}

@@ -3,7 +3,8 @@ import csv
 
 from .program import WORDS, ended
 
-FORM = '%s: line %d is no `batch,ballots` or `device,batch,ballots` as the others, or names a batch again'
+FORM = ('%s: line %d is no `batch,ballots` or `device,batch,ballots` as the others, or names a batch '
+        'again')
 MARKED = '%s: line %d: write the number %s with digits alone'
 
 

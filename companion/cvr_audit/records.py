@@ -15,7 +15,8 @@ class About:
     name."""
 
     def __init__(self, files, form):
-        self.selections, self.names = counting.selections_of(files.report), page_names.Names(files.report)
+        self.selections = counting.selections_of(files.report)
+        self.names = page_names.Names(files.report)
         self.allowed, self.notes = allowed_of(files.report), notes.Notes(files)
         self.marks, self.has_marks = {}, form in MARKED
 

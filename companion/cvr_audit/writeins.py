@@ -42,7 +42,8 @@ def run(files, words):
     """The text, and whether there is something to look at."""
     said, order = notes.Notes(files), list(counting.selections_of(files.report))
     held, lines = texts_in(files, said), []
-    for key in sorted(held, key=lambda it: (order.index(it[0]), *map(counting.nothing_first, it[1:]))):
+    for key in sorted(held, key=lambda it: (order.index(it[0]),
+                                            *map(counting.nothing_first, it[1:]))):
         text = held[key]
         lines.append('writein %s %d %d %d\n' % (' '.join(map(spelled, key)), text.votes,
                                                 text.pending, len(text.records)))
