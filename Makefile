@@ -1,4 +1,5 @@
-# Installs and packs the program that `make` builds. You can set PREFIX, DESTDIR, CVR (another built program) and ZSH.
+# Installs and packs the program that `make` builds. Of what is installed you can set PREFIX, DESTDIR, CVR (another built
+# program) and ZSH.
 PREFIX = /usr/local
 DESTDIR =
 CVR = crates/cvr/out/cvr
@@ -38,4 +39,4 @@ uninstall:
 		! -path './usr/local/share/man' -print0 | (cd / && xargs -0 rmdir 2>/dev/null || :)
 
 package: all
-	tools/package --cvr "$(CVR)"
+	tools/package

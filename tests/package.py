@@ -7,9 +7,11 @@ documents are run with its programs, but for those that read the sources, and in
 README and of AUDITING, each time in a folder with a copy of its examples, made as the guide says. Each link of a
 document leads to something there. `make uninstall` leaves all that was there before `make install`, also what a package
 adds, and nothing else. `man` finds and reads the pages of the package, and the packed program needs no library. The
-object file beside it can be linked again. SHA256SUMS has the sums of all files, each PROVENANCE those of its program and
-of the sources, as the commands in it print them. A second packing gives the same bytes, and a program that was not
-tried isn't packed. Programs for other systems may be missing here (tests/targets.py makes them): something else stands
+object file beside it can be linked again. SHA256SUMS has the sums of all files, also that in each package, and each
+PROVENANCE those of its program and of the sources, as the commands in it print them; those to sign it and to check that
+are tried with right and wrong keys and texts, where there is `ssh-keygen`. The bill of materials names what is linked
+in and what is imported. A second packing gives the same bytes, and neither a program that was not tried is packed, nor
+one that isn't noted as built. Programs for other systems may be missing here (tests/targets.py makes them): something else stands
 in for them then. Where lintian is installed, it finds no error. Where git finds no commit at the top, as in an unpacked
 archive, a commit made of its files takes its place.
 
@@ -18,6 +20,7 @@ import argparse
 import hashlib
 import importlib.machinery
 import importlib.util
+import json
 import os
 import re
 import runpy
@@ -65,6 +68,11 @@ def stand_in_a_commit(folder):
 def held(path):
     with open(path, 'rb') as file:
         return file.read()
+
+
+def write(path, text):
+    with open(path, 'w', encoding='utf-8') as file:
+        file.write(text)
 
 
 def sum_of(path):
@@ -178,9 +186,16 @@ def targets(folder):
     return folder
 
 
-def packed(cvr, made, out, **more):
-    """The paths of what tools/package makes, by their names."""
-    status, told = done(sys.executable, 'tools/package', '--cvr', cvr, '--targets', made, '--out', out, **more)
+def pack(made, out, noted, **more):
+    """(status, both outputs) of tools/package, with what a note of tools/build would have."""
+    note = os.path.join(os.path.dirname(out), 'a note')
+    write(note, noted)
+    return done(sys.executable, 'tools/package', '--built', note, '--targets', made, '--out', out, **more)
+
+
+def packed(made, out, **more):
+    """The paths of what tools/package makes, by their names. The program counts as built: `rt ci` may still prove it."""
+    status, told = pack(made, out, done('tools/sum', os.path.relpath(PROGRAM, TOP))[1], **more)
     if status:
         sys.exit(told + 'package: 0 right, 1 wrong')
     return {name: os.path.join(out, name) for name in os.listdir(out)}
@@ -230,6 +245,7 @@ def held_in(place, program, made):
     yield from first_runs(place, ['README.md', 'docs/AUDITING.md'])
     yield 'the program in ' + place, held(os.path.join(place, 'bin/cvr')) == held(program)
     yield 'PROVENANCE in ' + place, held(os.path.join(told, 'PROVENANCE')) == held(made['PROVENANCE-' + NAMES[0]])
+    yield 'the bill in ' + place, held(os.path.join(told, 'cvr.spdx.json')) == held(one(made, NAMES[0] + '.spdx.json'))
     yield 'the page names the kit in ' + place, names_kit(place)
     text = held(os.path.join(told, 'copyright'))
     yield 'copyright in ' + place, held(os.path.join(TOP, 'LICENSE')).strip() in text and b'GNU LESSER GENERAL PUBLIC LICENSE' in text
@@ -242,8 +258,11 @@ def zipped(path, program):
         texts = {it.partition('/')[2]: file.read(it) for it in file.namelist()}
     yield 'the program in the ZIP', texts['cvr.exe'] == held(program)
     yield 'one of each name in the ZIP, in whatever case', len({it.lower() for it in names}) == len(names)
-    wanted = {'cvr-audit', 'cvr_audit/line.py', 'PROVENANCE', 'copyright', 'README.md', 'docs/FORMAT.md', 'examples/county/scan.json'}
+    wanted = {'cvr-audit', 'cvr_audit/line.py', 'PROVENANCE', 'cvr.spdx.json', 'copyright', 'README.md', 'docs/FORMAT.md', 'examples/county/scan.json'}
     yield 'what stands in the ZIP: %s' % (wanted - set(names)), wanted <= set(names)
+    listed = [line.split('  ') for line in texts['SHA256SUMS'].decode('utf-8').splitlines()]
+    yield 'the sums in the ZIP', {it: total for total, it in listed} == {
+        it: hashlib.sha256(text).hexdigest() for it, text in texts.items() if it != 'SHA256SUMS'}
     yield 'PROVENANCE of the ZIP', b'\nprogram  %s\n' % sum_of(program).encode() in texts['PROVENANCE']
 
 
@@ -255,15 +274,72 @@ def wheels(found, made):
         text = held(os.path.join(made, target, library))
         yield 'the library in the wheel ' + end, texts[library] == text
         yield 'README names the wheel ' + end, os.path.basename(one(found, end)) in held(os.path.join(TOP, 'README.md')).decode('utf-8')
+        yield 'the bill in the wheel ' + end, texts['cvr.spdx.json'] == held(one(found, target + '.spdx.json'))
         yield 'PROVENANCE in the wheel ' + end, texts['PROVENANCE'] == held(found['PROVENANCE-' + target])
         yield 'the sum of the library ' + end, b'\nlibrary  %s\n' % hashlib.sha256(text).hexdigest().encode() in texts['PROVENANCE']
         yield 'the licences in the wheel ' + end, held(os.path.join(TOP, 'LICENSE')).strip() in texts['LICENSE'] and b'of the Rattle kit' in texts['LICENSE']
 
 
-def sums(found, out):
-    """Yields whether SHA256SUMS has every other file, with its sum."""
-    status, text = done('sh', '-c', 'cd "$0" && sha256sum -c SHA256SUMS', out)
-    yield 'the sums of SHA256SUMS', status == 0 and len(text.splitlines()) == len(found) - 1
+def sums(folder, list_of='SHA256SUMS'):
+    """Yields whether SHA256SUMS has every other file of a folder but links, with its sum."""
+    status, text = done('sh', '-c', 'cd "$0" && sha256sum -c "$1"', folder, list_of)
+    files = [path for path in everything(folder) if os.path.isfile(path) and not os.path.islink(path)]
+    others = {os.path.relpath(path, folder) for path in files} - {list_of}
+    yield 'the sums of SHA256SUMS in ' + folder, status == 0 and {line.rpartition(': ')[0] for line in text.splitlines()} == others
+
+
+def bill(text, library, program):
+    """Yields what the bill of materials has to have, and whether it does."""
+    told = json.loads(text)
+    named = {it['name']: it for it in told['packages']}
+    names, ids = set(named), [it['SPDXID'] for it in told['packages']]
+    ends = [it[end] for it in told['relationships'] for end in ('spdxElementId', 'relatedSpdxElement')]
+    yield 'the form of SPDX', told['spdxVersion'] == 'SPDX-2.3' and len(set(ids)) == len(ids) and set(ends) <= {*ids, told['SPDXID']}
+    yield 'each part stands in a relation', set(ids) <= set(ends)
+    lines = held(os.path.join(TOP, 'crates.txt')).decode('utf-8')
+    crates = re.findall(r'^(\w+)[^:\n]*:', lines, re.M)
+    used = {word for line in re.findall(r'^(?!#|cvr_example|cvr_calls)[^:\n]*:(.*)', lines, re.M) for word in line.split()} - set(crates)
+    yield 'the libraries of the kit', used == {it['name'] for it in told['packages'] if it['versionInfo'] == kit()} - {'rattle kit'}
+    yield 'what is linked in', {tuple(it.split()) for it in held(os.path.join(os.path.dirname(program), 'linked')).decode().splitlines()} <= {
+        (name, it['versionInfo']) for name, it in named.items()}
+    for path in program, library:
+        yield 'the sum of ' + path, named[os.path.basename(path)]['checksums'][0]['checksumValue'] == sum_of(path)
+    folders, env = [os.path.join(TOP, it) for it in ('companion', 'python')], dict(os.environ, LIBCVR=library)
+    status, loaded = done(sys.executable, '-c', LOADED, *folders, env=env)
+    yield 'the modules of Python: ' + loaded, status == 0 and {it.partition(':')[2] for it in names if it.startswith('python:')} == set(loaded.split())
+
+
+# The modules that any file of these two packages names, once all are loaded.
+LOADED = '''import importlib, pkgutil, sys, types
+sys.dont_write_bytecode, sys.path[:0] = True, sys.argv[1:]
+found = {'sys', 'os', 'gc', 'signal'}       # of the script itself
+for package in 'cvr_audit', 'cvr':
+    top = importlib.import_module(package)
+    for it in [top] + [importlib.import_module(package + '.' + it.name) for it in pkgutil.iter_modules(top.__path__)]:
+        for value in vars(it).values():
+            name = value.__name__ if isinstance(value, types.ModuleType) else getattr(value, '__module__', None) or ''
+            found.add(name.lstrip('_').split('.')[0])
+print(' '.join(sorted(found - {'', 'cvr', 'cvr_audit', 'builtins', 'frozen_importlib', 'frozen_importlib_external'})))'''
+
+
+def signed(path, folder):
+    """Yields whether the commands in a PROVENANCE sign it, and find that; and no other text, key or name."""
+    room = os.path.join(folder, 'signed')
+    os.mkdir(room)
+    shutil.copy(path, os.path.join(room, 'PROVENANCE'))
+    sign, verify = re.findall(r'^ +(ssh-keygen .*)$', held(path).decode('utf-8'), re.M)
+    words = {'KEYFILE': 'builder', 'KEYS': 'keys', 'NAME': 'second@builder'}
+    sign, verify = (re.sub(r'\bKEYFILE\b|\bKEYS\b|\bNAME\b', lambda word: words[word.group()], it) for it in (sign, verify))
+    for name in 'builder', 'other':
+        done('ssh-keygen', '-q', '-t', 'ed25519', '-N', '', '-C', '', '-f', os.path.join(room, name))
+    key = {name: held(os.path.join(room, name + '.pub')).decode('utf-8') for name in ('builder', 'other')}
+    checks = lambda who, name='second@builder': write(os.path.join(room, 'keys'), name + ' ' + key[who]) or done('sh', '-c', 'cd "$0" && ' + verify, room)[0] == 0
+    yield 'a builder signs PROVENANCE', done('sh', '-c', 'cd "$0" && ' + sign, room)[0] == 0
+    yield 'the signature of a builder is found', checks('builder')
+    yield 'that of another key is not', not checks('other')
+    yield 'that under another name is not', not checks('builder', 'first@builder')
+    write(os.path.join(room, 'PROVENANCE'), held(path).decode('utf-8').replace('program  ', 'program  0', 1))
+    yield 'that of another text is not', not checks('builder')
 
 
 def again(made, found, folder):
@@ -274,9 +350,19 @@ def again(made, found, folder):
     for name, note in (NAMES[0], 'tried_library'), (NAMES[1], 'tried'), (NAMES[2], 'native'):
         with open(os.path.join(made, name, note), 'w') as file:
             file.write('another sum')
-    left = packed(PROGRAM, made, os.path.join(folder, 'fewer'))
+    left = packed(made, os.path.join(folder, 'fewer'))
     wanted = [it for it in found if not re.search('aarch64|arm64|win|whl', it)]
     yield 'what was not tried is not packed', sorted(left) == sorted(wanted)
+
+
+def unbuilt(made, folder):
+    """Yields whether nothing is packed where the note of what was built has another program or no line."""
+    script = os.path.join(folder, 'cvr')
+    write(script, '#!/bin/sh\necho cvr 1.0.0\n')
+    for noted in done('tools/sum', script)[1], '':
+        out = os.path.join(folder, 'unbuilt')
+        status, told = pack(made, out, noted)
+        yield 'what is not noted as built is not packed: ' + told, status == 1 and told.startswith('nothing is packed') and not os.path.exists(out)
 
 
 def tried(cvr, folder):
@@ -287,7 +373,7 @@ def tried(cvr, folder):
     yield from first_runs(prefix, commands.FILES)
     yield from uninstalls(cvr, folder)
     made = targets(os.path.join(folder, 'targets'))
-    found, other = packed(cvr, made, out), packed(cvr, made, os.path.join(folder, 'other'), **elsewhere(folder))
+    found, other = packed(made, out), packed(made, os.path.join(folder, 'other'), **elsewhere(folder))
     yield 'packed twice', {name: held(path) for name, path in found.items()} == {name: held(path) for name, path in other.items()}
     yield from unpacked(found, folder)
     program, place = os.path.join(made, NAMES[0], 'cvr'), os.path.join(folder, 'unpacked/usr')
@@ -295,7 +381,14 @@ def tried(cvr, folder):
         yield from held_in(it, program, found)
     yield from zipped(one(found, '.zip'), os.path.join(made, NAMES[2], 'cvr.exe'))
     yield from wheels(found, made)
-    yield from sums(found, out)
+    yield from sums(out)
+    for it in place, os.path.join(folder, 'local'):
+        yield from sums(it, 'share/doc/cvr/SHA256SUMS')
+    yield from bill(held(one(found, 'linux-x86_64.spdx.json')), os.path.join(made, *(NAMES[0], FILES[NAMES[0]][1])), program)
+    if shutil.which('ssh-keygen'):
+        yield from signed(found['PROVENANCE-' + NAMES[0]], folder)
+    else:
+        print('skipped: ssh-keygen is missing, so no PROVENANCE is signed')
     yield from provenance(held(found['PROVENANCE-' + NAMES[0]]).decode('utf-8'), program)
     yield 'no library', libraries(os.path.join(place, 'bin/cvr')) == []
     for architecture in 'amd64', 'arm64':
@@ -308,6 +401,7 @@ def tried(cvr, folder):
     if shutil.which('lintian'):
         status, text = done('lintian', '--allow-root', '--fail-on', 'error', one(found, '_amd64.deb'))
         yield 'lintian: ' + text, status == 0
+    yield from unbuilt(made, folder)
     yield from again(made, found, folder)
 
 
