@@ -1,6 +1,6 @@
-/* cvr as a library: the whole program as one call, over words and files in memory.
+/* cvr as a library: the whole program as one call, over words and files in memory; and offices that live between calls.
 
-   The call is proved to answer what the program answers: see docs/LIBRARY.md, which also has an example. */
+   The calls are proved to answer what the program answers: see docs/LIBRARY.md, which also has examples. */
 #ifndef CVR_H
 #define CVR_H
 
@@ -11,7 +11,7 @@
 extern "C" {
 #endif
 
-/* The statuses of the program, and two of the call. */
+/* The statuses of the program, and those of the calls. */
 enum {
     CVR_DONE = 0,           /* everything was accepted and printed */
     CVR_REFUSED = 1,        /* something was refused; the rest was done and printed */
@@ -19,7 +19,9 @@ enum {
     CVR_DEVICE = 3,         /* a word names a file that isn't among those given */
     CVR_MEMORY = 4,         /* out of memory */
     CVR_NO_INPUT = 5,       /* the input isn't words and files; nothing was done */
-    CVR_NO_ROOM = 6         /* the text or the log is longer than its room: `sizes` says how long they are */
+    CVR_NO_ROOM = 6,        /* the text or the log is longer than its room: `sizes` or `size` says how long it is */
+    CVR_NO_OFFICE = 7,      /* a handle has no office */
+    CVR_OTHER_DEFINITION = 8    /* the offices have different definitions */
 };
 
 /* How many bytes a text and a log have. */
@@ -47,6 +49,59 @@ typedef struct {
    file, and never prints or ends the process. */
 uint8_t cvr_call(const uint8_t *input, size_t input_len, const size_t *ends, size_t ends_len, size_t words,
                  uint8_t *text, size_t text_len, uint8_t *log, size_t log_len, CvrSizes *sizes);
+
+/* ---- offices
+
+   An office collects files beside one definition: it holds facts, each once, whatever the order in which they come. C
+   holds a handle, which begins as CVR_NO_HANDLE and has an office from `cvr_office_new` to `cvr_office_free`. In between, C
+   neither writes nor copies what is in the handle, and passes it to one call at a time, on the thread that made the office;
+   `cvr_office_join` takes two different handles. Several threads may have offices of their own. A call on a handle without
+   an office answers CVR_NO_OFFICE, and does nothing. What else is passed is the caller's, as above: no pointer is NULL, and
+   what is written overlaps nothing else. An office keeps no pointer to it. Where memory ran out, the status is
+   CVR_MEMORY. */
+typedef struct {
+    void *office;
+} CvrOffice;
+
+#define CVR_NO_HANDLE {0}
+
+/* Why a definition or a file was refused: the numbers of its code in docs/FAULTS.md (1 for E1) and of the rule that it
+   breaks (0 of a code without rules), and how many bytes the path of the place in the file has. */
+typedef struct {
+    uint8_t code;
+    uint8_t rule;
+    size_t path;
+} CvrRefusal;
+
+/* What an import brought: the cast vote records of the file, and the facts that were new. */
+typedef struct {
+    size_t cvrs;
+    size_t new_facts;
+} CvrReceipt;
+
+/* Makes an office, in a handle that has none or another, which is freed. Its definition is any file that has no fault by
+   itself; its records aren't taken. Where it is refused, the status is CVR_REFUSED, `refusal` says why, the path stands in
+   `path` as far as it fits, and the handle stays as it was. */
+uint8_t cvr_office_new(CvrOffice *office, const uint8_t *definition, size_t definition_len, uint8_t *path, size_t path_len,
+                       CvrRefusal *refusal);
+
+/* Has the office take in a file. Where it is refused, the status is CVR_REFUSED, with `refusal` and `path` as above, and
+   the office stays as it was. `receipt` is written where the status is CVR_DONE, `refusal` and `path` where it isn't. */
+uint8_t cvr_office_import(CvrOffice *office, const uint8_t *file, size_t file_len, CvrReceipt *receipt, uint8_t *path,
+                          size_t path_len, CvrRefusal *refusal);
+
+/* Has the office take in what the other holds, which stays as it is. `new_facts` says how many facts were new. Where the
+   definitions differ (devices aside), the status is CVR_OTHER_DEFINITION, and the office stays as it was. */
+uint8_t cvr_office_join(CvrOffice *office, CvrOffice *other, size_t *new_facts);
+
+/* What the commands `tally`, `currents` and `conflicts` print of all that the office holds. The text stands in `text` as
+   far as it fits, and `size` says how long it is: where it is longer, the status is CVR_NO_ROOM. */
+uint8_t cvr_office_tally(CvrOffice *office, uint8_t *text, size_t text_len, size_t *size);
+uint8_t cvr_office_currents(CvrOffice *office, uint8_t *text, size_t text_len, size_t *size);
+uint8_t cvr_office_conflicts(CvrOffice *office, uint8_t *text, size_t text_len, size_t *size);
+
+/* Frees the office of a handle, if it has one. The handle can then be given to `cvr_office_new` again. */
+void cvr_office_free(CvrOffice *office);
 
 #ifdef __cplusplus
 }

@@ -14,7 +14,7 @@ more). So under Wine a trial that differs is tried once more, alone. How many ar
 differed at first; where more than SECOND differ, none is tried again, and all are wrong.
 
 Where a target has the library, it is tried, too: that of Linux by tests/library/run.py, with the rows of `tally`; that of
-Windows by its driver.c, with one row of EACH, and by calls.c.
+Windows by its driver.c, with one row of EACH, and by calls.c and offices.c.
 
 Of a target that passes, out/targets/NAME/tried has the sum of the program, and tried_library that of the library, so
 that tools/package packs them. A target whose tools, qemu or Wine are missing is left out, and that is said.
@@ -245,27 +245,28 @@ def library_trials(target, folder):
 
 
 def dll_trials(target, folder):
-    """Yields those of a DLL, called by driver.c and calls.c, which stand beside it, and of its wheel."""
+    """Yields those of a DLL, called by driver.c, calls.c and offices.c, which stand beside it, and of its wheel."""
     room, source = os.path.join(folder, 'dll'), os.path.join(HERE, 'library/%s.c')
     os.mkdir(room)
     shutil.copy(target.library, room)
-    for name in 'driver', 'calls':
+    for name in 'driver', 'calls', 'offices':
         words = [*COMPILED, '-I', os.path.dirname(target.library), '-o', '%s/%s.exe' % (room, name), source % name, target.library]
         ran = subprocess.run(words, stdout=subprocess.PIPE, stderr=subprocess.STDOUT, text=True)
         if ran.returncode:
             yield partial(str, '%s.c: %s' % (name, ran.stdout))
             return
     yield partial(needed_fault, target.library)
-    yield partial(calls_fault, target.script(room, room + '/calls.exe'))
+    for name in 'calls', 'offices':
+        yield partial(calls_fault, name, target.script(room, '%s/%s.exe' % (room, name)))
     yield from driven_trials(target, target.script(room, room + '/driver.exe'))
     yield partial(told_fault, 'library/wheel.py', target.library)
 
 
-def calls_fault(calls):
-    """What calls.c finds wrong, or None."""
-    words = [calls, 'definition.json', 'scan.json', 'adjudicated.json']
+def calls_fault(name, program):
+    """What calls.c or offices.c finds wrong, or None."""
+    words = [program, 'definition.json', 'scan.json', 'adjudicated.json']
     ran = subprocess.run(words, cwd=os.path.join(TOP, 'examples/county'), stdout=subprocess.PIPE, text=True)
-    return None if re.fullmatch(r'calls: [1-9]\d* right, 0 wrong', ran.stdout.strip()) and not ran.returncode else 'calls.c: %r' % ran
+    return None if re.fullmatch(name + r': [1-9]\d* right, 0 wrong', ran.stdout.strip()) and not ran.returncode else '%s.c: %r' % (name, ran)
 
 
 def driven_trials(target, driver):

@@ -6,15 +6,21 @@
 
 A definition, and each file, is a path, or a pair of a name and its bytes. What a command refuses is raised, with its
 code, path and rule; `run` raises nothing of the kind, and gives text, log and status as the program does. Calls may run
-in several threads. The words that are used here are those of the program's glossary."""
+in several threads. An `Office` holds what it took in, for as long as it is needed. The words that are used here are those
+of the program's glossary."""
+import ctypes
+import functools
 import json
 import os
+import threading
 from dataclasses import dataclass, fields
-from typing import Dict, Iterable, List, Optional, Sequence, Tuple, Union
+from typing import Callable, Dict, Iterable, List, Optional, Sequence, Tuple, Union
 
-from ._library import NO_INPUT, Result, call
+from ._library import (DONE, LIBRARY, NO_INPUT, NO_OFFICE, OTHER_DEFINITION, REFUSED, Brought, Handle, Result, call, reading,
+                       text_of)
 
-__all__ = ['Conflict', 'Conflicts', 'Current', 'Fault', 'File', 'Result', 'Row', 'check', 'conflicts', 'currents', 'merge', 'run', 'tally']
+__all__ = ['Conflict', 'Conflicts', 'Current', 'Fault', 'File', 'Office', 'Receipt', 'Result', 'Row', 'check', 'conflicts',
+           'currents', 'merge', 'run', 'tally']
 
 File = Union[str, 'os.PathLike[str]', Tuple[str, bytes]]
 DECODER = json.JSONDecoder()
@@ -149,8 +155,12 @@ def _lines(text: str) -> List[List[str]]:
 
 def tally(definition: File, files: Iterable[File]) -> List[Row]:
     """The rows of the tally, in the order in which they are printed. Raises `Fault` where anything is refused."""
+    return _rows(_printed('tally', definition, files))
+
+
+def _rows(text: str) -> List[Row]:
     rows = []
-    for contest, unit, batch, *numbers in _lines(_printed('tally', definition, files)):
+    for contest, unit, batch, *numbers in _lines(text):
         counts, votes = map(int, numbers[:len(COLUMNS)]), numbers[len(COLUMNS):]
         rows.append(Row(contest, unit, batch, *counts, dict(zip(votes[::2], map(int, votes[1::2])))))
     return rows
@@ -158,12 +168,20 @@ def tally(definition: File, files: Iterable[File]) -> List[Row]:
 
 def currents(definition: File, files: Iterable[File]) -> List[Current]:
     """The current snapshot of each record, by name. Raises `Fault` where anything is refused."""
-    return [Current(*parts) for parts in _lines(_printed('currents', definition, files))]
+    return _currents(_printed('currents', definition, files))
+
+
+def _currents(text: str) -> List[Current]:
+    return [Current(*parts) for parts in _lines(text)]
 
 
 def conflicts(definition: File, files: Iterable[File]) -> Conflicts:
     """The names with several bodies, and how many volumes show them. Raises `Fault` where anything is refused."""
-    *lines, last = _lines(_printed('conflicts', definition, files))
+    return _conflicts(_printed('conflicts', definition, files))
+
+
+def _conflicts(text: str) -> Conflicts:
+    *lines, last = _lines(text)
     return Conflicts([_conflict(parts) for parts in lines], int(last[1]))
 
 
@@ -188,3 +206,103 @@ def merge(definition: File, date: str, device: str, volume: int, files: Iterable
     """The volume with this number of what the files hold, under a date and a device: the bytes of a report. Raises `Fault`
     where anything is refused."""
     return _printed('merge', definition, files, [date, device, str(volume)]).encode()
+
+
+@dataclass(frozen=True)
+class Receipt:
+    """What an import brought: the cast vote records of the file, and how many facts were new."""
+    cvrs: int
+    new_facts: int
+
+
+class Office:
+    """An office, which holds what it took in beside one definition, until it is closed.
+
+        with cvr.Office('definition.json') as office:
+            office.import_file('scan.json')
+            print(office.tally())
+
+    The order of the files makes no difference, and a file that comes twice counts once. `tally`, `currents` and `conflicts`
+    answer what the functions with these names answer for all files. What is refused is raised as `Fault`, and changes
+    nothing. Only the thread that made an office may use it."""
+
+    def __init__(self, definition: File):
+        self._handle, self._thread = Handle(), threading.get_ident()
+        self._read(LIBRARY.cvr_office_new, definition)
+
+    def import_file(self, file: File) -> Receipt:
+        """Takes in a file."""
+        brought = Brought()
+        self._read(LIBRARY.cvr_office_import, file, ctypes.byref(brought))
+        return Receipt(brought.cvrs, brought.new_facts)
+
+    def join(self, other: 'Office') -> int:
+        """Takes in what another office holds, which stays as it is, and answers how many facts were new. `ValueError` where
+        the definitions differ, devices aside."""
+        if other is self:
+            return 0
+        found = ctypes.c_size_t()
+        self._done(LIBRARY.cvr_office_join(self._given(), other._given(), ctypes.byref(found)))
+        return found.value
+
+    def tally(self) -> List[Row]:
+        """The rows of the tally."""
+        return _rows(self._text(LIBRARY.cvr_office_tally))
+
+    def currents(self) -> List[Current]:
+        """The current snapshot of each record, by name."""
+        return _currents(self._text(LIBRARY.cvr_office_currents))
+
+    def conflicts(self) -> Conflicts:
+        """The names with several bodies, and how many volumes show them."""
+        return _conflicts(self._text(LIBRARY.cvr_office_conflicts))
+
+    def close(self) -> None:
+        """Frees what the office holds. It can't be used afterwards."""
+        LIBRARY.cvr_office_free(self._given())
+
+    def __enter__(self) -> 'Office':
+        return self
+
+    def __exit__(self, *_: object) -> None:
+        self.close()
+
+    def __del__(self) -> None:
+        if getattr(self, '_thread', None) == threading.get_ident():
+            self.close()
+
+    def _given(self) -> object:
+        if self._thread != threading.get_ident():
+            raise RuntimeError('another thread made this office')
+        return ctypes.byref(self._handle)
+
+    def _read(self, function: Callable[..., int], file: File, *more: object) -> None:
+        name, data = _given(file)
+        status, path, refusal = reading(functools.partial(function, self._given()), data, *more)
+        if status == REFUSED:
+            raise Fault(Result(b'', _fault_line(name, refusal.code, path, refusal.rule).encode(), status))
+        self._done(status)
+
+    def _text(self, function: Callable[..., int]) -> str:
+        self._given()
+        status, text = text_of(function, self._handle)
+        self._done(status)
+        return text.decode()
+
+    @staticmethod
+    def _done(status: int) -> None:
+        """Raises what the status of a call means, where it wasn't done."""
+        if status == OTHER_DEFINITION:
+            raise ValueError('the offices have different definitions')
+        if status == NO_OFFICE:
+            raise ValueError('the office is closed')
+        if status != DONE:
+            raise MemoryError('out of memory')
+
+
+def _fault_line(name: str, code: int, path: bytes, rule: int) -> str:
+    """The line that the program logs for a file."""
+    line = '%s: E%d' % (name, code)
+    if path or code == 3:
+        line += ' ' + json.dumps(path.decode(), ensure_ascii=False)[1:-1]
+    return line + (' %d\n' % rule if rule else '\n')

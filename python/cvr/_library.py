@@ -1,17 +1,33 @@
-"""The call of the library, by ctypes."""
+"""The calls of the library, by ctypes."""
 import ctypes
 import ctypes.util
 import os
-from typing import Iterable, List, NamedTuple, Tuple
+from typing import Callable, Iterable, List, NamedTuple, Tuple
 
 HERE = os.path.dirname(os.path.abspath(__file__))
 NAMES = 'libcvr.so', 'cvr.dll'
-NO_INPUT, NO_ROOM = 5, 6
+DONE, REFUSED, MEMORY, NO_INPUT, NO_ROOM, NO_OFFICE, OTHER_DEFINITION = 0, 1, 4, 5, 6, 7, 8
+PATH = 1 << 10      # the room for a path at first
 
 
 class Sizes(ctypes.Structure):
     """CvrSizes of cvr.h."""
     _fields_ = [('text', ctypes.c_size_t), ('log', ctypes.c_size_t)]
+
+
+class Handle(ctypes.Structure):
+    """CvrOffice of cvr.h."""
+    _fields_ = [('office', ctypes.c_void_p)]
+
+
+class Refusal(ctypes.Structure):
+    """CvrRefusal of cvr.h."""
+    _fields_ = [('code', ctypes.c_uint8), ('rule', ctypes.c_uint8), ('path', ctypes.c_size_t)]
+
+
+class Brought(ctypes.Structure):
+    """CvrReceipt of cvr.h."""
+    _fields_ = [('cvrs', ctypes.c_size_t), ('new_facts', ctypes.c_size_t)]
 
 
 class Result(NamedTuple):
@@ -31,12 +47,25 @@ def find() -> str:
     return found
 
 
+BYTES, OFFICE, SIZE = [ctypes.c_void_p, ctypes.c_size_t], ctypes.POINTER(Handle), ctypes.POINTER(ctypes.c_size_t)
+TYPES = {
+    'call': [*BYTES, *BYTES, ctypes.c_size_t, *BYTES, *BYTES, ctypes.POINTER(Sizes)],
+    'office_new': [OFFICE, *BYTES, *BYTES, ctypes.POINTER(Refusal)],
+    'office_import': [OFFICE, *BYTES, ctypes.POINTER(Brought), *BYTES, ctypes.POINTER(Refusal)],
+    'office_join': [OFFICE, OFFICE, SIZE],
+    'office_tally': [OFFICE, *BYTES, SIZE],
+    'office_currents': [OFFICE, *BYTES, SIZE],
+    'office_conflicts': [OFFICE, *BYTES, SIZE],
+    'office_free': [OFFICE],
+}
+
+
 def load() -> ctypes.CDLL:
-    """The library, with the types of its call."""
+    """The library, with the types of its calls."""
     library = ctypes.CDLL(find())
-    library.cvr_call.restype = ctypes.c_uint8
-    library.cvr_call.argtypes = [ctypes.c_void_p, ctypes.c_size_t, ctypes.c_void_p, ctypes.c_size_t, ctypes.c_size_t,
-                                 ctypes.c_void_p, ctypes.c_size_t, ctypes.c_void_p, ctypes.c_size_t, ctypes.POINTER(Sizes)]
+    for name, types in TYPES.items():
+        function = getattr(library, 'cvr_' + name)
+        function.argtypes, function.restype = types, None if name == 'office_free' else ctypes.c_uint8
     return library
 
 
@@ -64,3 +93,26 @@ def call(words: List[bytes], files: Iterable[Tuple[bytes, bytes]]) -> Result:
         if status != NO_ROOM:
             return Result(memoryview(text)[:sizes.text].tobytes(), memoryview(log)[:sizes.log].tobytes(), status)
         rooms = [max(1, sizes.text), max(1, sizes.log)]
+
+
+def reading(function: Callable[..., int], given: bytes, *more: object) -> Tuple[int, bytes, Refusal]:
+    """The status of a call that reads a file, and where it is refused the path and the refusal; the path is asked for once
+    more where its room is too short."""
+    room, refusal = PATH, Refusal()
+    while True:
+        path = ctypes.create_string_buffer(room)
+        status = function(given, len(given), *more, path, room, ctypes.byref(refusal))
+        if status != REFUSED or refusal.path <= room:
+            return status, path.raw[:refusal.path], refusal
+        room = refusal.path
+
+
+def text_of(function: Callable[..., int], handle: Handle) -> Tuple[int, bytes]:
+    """The status of a call that prints what an office holds, and the text."""
+    room, size = PATH, ctypes.c_size_t()
+    while True:
+        text = ctypes.create_string_buffer(room)
+        status = function(ctypes.byref(handle), text, room, ctypes.byref(size))
+        if status != NO_ROOM:
+            return status, memoryview(text)[:size.value].tobytes() if status == DONE else b''
+        room = size.value

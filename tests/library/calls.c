@@ -4,41 +4,13 @@
 
    calls DEFINITION FILE ..  */
 #include "cvr.h"
-#include <malloc.h>
+#include "memory.h"
 #include <pthread.h>
 #include <stdio.h>
 #include <stdlib.h>
 #include <string.h>
 
 enum { MOST = 64, THREADS = 8, CALLS = 1000, UNTOUCHED = 0xa5 };
-
-#ifndef _WIN32
-/* ---- memory
-
-   What the library takes and gives back goes through these: run.py has the linker put them in the place of malloc, realloc
-   and free. */
-void *__real_malloc(size_t size), *__real_realloc(void *held, size_t size);
-void __real_free(void *held);
-static _Atomic long long live, taken, refused;      /* bytes that are held; growths so far; which of them is refused */
-
-void *__wrap_malloc(size_t size) {
-    void *found = ++taken == refused ? NULL : __real_malloc(size);
-    live += found ? (long long)malloc_usable_size(found) : 0;
-    return found;
-}
-
-void *__wrap_realloc(void *held, size_t size) {
-    long long before = held ? (long long)malloc_usable_size(held) : 0;
-    void *found = ++taken == refused ? NULL : __real_realloc(held, size);
-    live += found ? (long long)malloc_usable_size(found) - before : 0;
-    return found;
-}
-
-void __wrap_free(void *held) {
-    live -= held ? (long long)malloc_usable_size(held) : 0;
-    __real_free(held);
-}
-#endif
 
 /* An input, and what a call answered. */
 typedef struct {

@@ -22,7 +22,7 @@ def refused(call, *words):
     """What a call raises."""
     try:
         call(*words)
-    except (cvr.Fault, ValueError, OSError) as fault:
+    except (cvr.Fault, ValueError, OSError, RuntimeError) as fault:
         return fault
     return None
 
@@ -88,8 +88,37 @@ def of_run():
     yield 'eight threads get the same', found == [wanted] * 8
 
 
+def of_offices():
+    """Whether an office holds what it took in, and refuses what the commands refuse."""
+    with cvr.Office(DEFINITION) as office:
+        first, again = office.import_file(SCAN), office.import_file(SCAN)
+        yield 'a receipt has the records', first.cvrs == again.cvrs == cvr.check(DEFINITION, [SCAN])[SCAN]
+        yield 'a file once more brings nothing', first.new_facts > 0 == again.new_facts
+        yield 'an office tallies', office.tally() == cvr.tally(DEFINITION, [SCAN])
+        fault, line = refused(office.import_file, DAMAGED), refused(cvr.tally, DEFINITION, [DAMAGED])
+        yield 'a damaged file is refused with the same line', isinstance(fault, cvr.Fault) and fault.log == line.log
+        with cvr.Office(DEFINITION) as other:
+            other.import_file(ADJUDICATED)
+            joined, again = other.join(office), other.join(office)
+            yield 'it joins another', 0 < joined <= first.new_facts and again == 0
+            yield 'and then has its currents', other.currents() == cvr.currents(DEFINITION, [SCAN, ADJUDICATED])
+            other.import_file(CORRECTED)
+            yield 'and conflicts', other.conflicts() == cvr.conflicts(DEFINITION, [SCAN, ADJUDICATED, CORRECTED])
+        yield 'the other stays', office.tally() == cvr.tally(DEFINITION, [SCAN])
+        yield 'an office joins itself', office.join(office) == 0
+        yield 'a closed one has no tally', isinstance(refused(other.tally), ValueError)
+        yield 'nor can it be joined', isinstance(refused(office.join, other), ValueError)
+        found = []
+        thread = threading.Thread(target=lambda: found.append(refused(office.tally)))
+        thread.start()
+        thread.join()
+        yield 'another thread may not use it', isinstance(found[0], RuntimeError)
+    fault = refused(cvr.Office, ('empty', b'{}'))
+    yield 'a definition is refused with its rule', (fault.file, fault.code, fault.path, fault.rule) == ('empty', 'E3', '/@type', 2)
+
+
 def main():
-    tries = [it for part in (of_rows, of_commands, of_faults, of_run) for it in part()]
+    tries = [it for part in (of_rows, of_commands, of_faults, of_run, of_offices) for it in part()]
     for name, is_right in tries:
         if not is_right:
             print('WRONG: not so: ' + name)

@@ -1,11 +1,11 @@
 #!/usr/bin/env python3
 """run.py [--library FOLDER] [--only NAME]
 
-Tries the library that tools/library makes, or that it made in FOLDER: calls.c, which calls it from C; the package for
-Python, also as a wheel (wheel.py); the commands in docs/LIBRARY.md, which show an example in each language; and all rows
-of tests/rows, through driver.c, which is the command line of the program over the library. Rows that it can't answer as
-the program does stand in elsewhere.txt, each with the reason: one that is answered rightly all the same is wrong, and so
-is one that is no row.
+Tries the library that tools/library makes, or that it made in FOLDER: calls.c and offices.c, which call it from C; the
+package for Python, also as a wheel (wheel.py); the commands in docs/LIBRARY.md, which show an example in each language;
+and all rows of tests/rows, through driver.c, which is the command line of the program over the library. Rows that it
+can't answer as the program does stand in elsewhere.txt, each with the reason: one that is answered rightly all the same
+is wrong, and so is one that is no row.
 
 It needs a C compiler, `cc`. The last line is `library: N right, M wrong`; the status is 0 only where M is 0 and N is
 not."""
@@ -79,12 +79,12 @@ def rows(driver, only):
     return len(good - apart), len(wrong)
 
 
-def calls(folder, library):
-    """(right, wrong) of the calls from C."""
-    program = os.path.join(folder, 'calls')
-    told = compiled(os.path.join(HERE, 'calls.c'), library, program, *COUNTED) or printed([program] + FILES, cwd=COUNTY)[1]
+def calls(folder, library, name):
+    """(right, wrong) of a program in C that counts what it finds."""
+    program = os.path.join(folder, name)
+    told = compiled(os.path.join(HERE, name + '.c'), library, program, *COUNTED) or printed([program] + FILES, cwd=COUNTY)[1]
     print(told.strip(), flush=True)
-    return sums(told, 'calls')
+    return sums(told, name)
 
 
 def examples(folder, library):
@@ -123,7 +123,8 @@ def main():
         told = compiled(os.path.join(HERE, 'driver.c'), library, driver)
         if told:
             sys.exit('WRONG: driver.c: %s\nlibrary: 0 right, 1 wrong' % told)
-        found = [calls(folder, library), examples(folder, library), package(library), wheel(library), rows(driver, words.only)]
+        found = [calls(folder, library, 'calls'), calls(folder, library, 'offices'), examples(folder, library), package(library), wheel(library),
+                 rows(driver, words.only)]
     right, wrong = map(sum, zip(*found))
     print('library: %d right, %d wrong' % (right, wrong))
     sys.exit(1 if wrong or not right else 0)

@@ -1,4 +1,6 @@
 pub mod Cutting
 pub mod Giving
+pub mod Handling
 pub mod Holding
+pub mod Loosening
 pub mod Responding

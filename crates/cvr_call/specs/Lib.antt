@@ -1,5 +1,7 @@
 pub mod Given
+pub mod Handle
 pub mod Held
+pub mod Offices
 pub mod Pieces
 pub mod Responds
 pub mod Told

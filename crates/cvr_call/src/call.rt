@@ -22,8 +22,8 @@ pub struct CvrSizes {
     pub log: usize,
 }
 
-// Puts bytes into a room, as many as fit, and answers whether that is all of them.
-fn put(bytes: &[u8], room: &mut [u8]) -> bool
+/// Puts bytes into a room, as many as fit, and answers whether that is all of them.
+pub fn put(bytes: &[u8], room: &mut [u8]) -> bool
     ensures room { room.new ≡ put_into room.old bytes.now }
     ensures fits { result ≡ nat_le (length bytes.now) (length room.old) }
 {
@@ -32,8 +32,8 @@ fn put(bytes: &[u8], room: &mut [u8]) -> bool
     bytes.len() <= room.len()
 }
 
-// The status of a call that the program answered.
-fn code_told(status: Status, text_fits: bool, log_fits: bool) -> u8
+/// The status of a call that the program answered.
+pub fn code_told(status: Status, text_fits: bool, log_fits: bool) -> u8
     ensures { result ≡ (if text_fits && log_fits then code_of status else no_room) }
 {
     if text_fits && log_fits {

@@ -1,4 +1,5 @@
-//! The program as one call of C: words and files in memory in, a text, a log and a status out.
+//! The program as one call of C: words and files in memory in, a text, a log and a status out; and
+//! offices that live between calls.
 #![tactic(auto)]
 
 mod answer;
@@ -6,7 +7,17 @@ mod call;
 pub mod examples;
 mod fault;
 mod files;
+mod loose;
+mod office;
+mod offices;
 mod pieces;
+mod refusal;
 mod words;
 
 pub use call::{CvrSizes, cvr_call};
+pub use office::CvrOffice;
+pub use offices::{
+    CvrReceipt, cvr_office_conflicts, cvr_office_currents, cvr_office_free, cvr_office_import,
+    cvr_office_join, cvr_office_new, cvr_office_tally,
+};
+pub use refusal::CvrRefusal;
