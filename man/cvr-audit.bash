@@ -3,7 +3,7 @@ _cvr_audit() {
     COMPREPLY=()
     if [ "$COMP_CWORD" -eq 1 ]; then
         compopt +o default
-        COMPREPLY=($(compgen -W 'records compare trace page warnings totals lines writeins definition gather -h --help --version' -- "$2"))
+        COMPREPLY=($(compgen -W 'records compare trace without page warnings totals lines writeins definition gather -h --help --version' -- "$2"))
         return
     fi
     case $3 in
@@ -21,6 +21,7 @@ _cvr_audit() {
     records:-*) COMPREPLY=($(compgen -W '-o --columns --files-from --null -h --help' -- "$2")) ;;
     compare:-*) COMPREPLY=($(compgen -W '--one --other --one-from --other-from --null -h --help' -- "$2")) ;;
     trace:-*) COMPREPLY=($(compgen -W '--contest --unit --batch --selection --files-from --null -h --help' -- "$2")) ;;
+    without:-*) COMPREPLY=($(compgen -W '--files-from --null -h --help' -- "$2")) ;;
     page:-*) COMPREPLY=($(compgen -W '--manifest --public -o --files-from --null -h --help' -- "$2")) ;;
     warnings:-*) COMPREPLY=($(compgen -W '--manifest --files-from --null -h --help' -- "$2")) ;;
     totals:-*) COMPREPLY=($(compgen -W '--by --format -o --files-from --null -h --help' -- "$2")) ;;

@@ -3,7 +3,7 @@ import argparse
 import sys
 
 from . import (VERSION, compare, definition, gather, lines, page, paths, program, records, totals,
-               trace, warnings, writeins)
+               trace, warnings, without, writeins)
 
 ABOUT = ('Print cast vote records one by one, compare two sets of files, trace a number of the '
          'tally, warn of what needs a person, and make what a voting system exports into files '
@@ -27,6 +27,8 @@ COMMANDS = {
                              'tallies.'),
     'trace': (trace.run, 'Print the records, the places in files and the votes that make up a '
                          'number of the tally.'),
+    'without': (without.run, 'Print what each file does to the tally: the numbers that are others '
+                             'without it.'),
     'page': (page.run, 'Print a page for a browser: the tally by name, with warnings, conflicts '
                        'and adjudications, and lines to sign.'),
     'warnings': (warnings.run, 'Print a line for each thing that needs a person before the tally '
@@ -77,6 +79,7 @@ OPTIONS = {
                            'help': 'the file to write to, in place of standard output'}),
     ],
     'writeins': [],
+    'without': [],
     'compare': [
         (('--one',), 'FILE', {'nargs': '*', 'help': 'the files of one side'}),
         (('--other',), 'FILE', {'nargs': '*', 'help': 'the files of the other side'}),

@@ -1,4 +1,4 @@
-"""rows.py: the rows of rows.json. Each is run in a folder of its own with the files of
+"""rows.py: the rows of rows.json, and those of hostile.json, where someone or something does harm. Each is run in a folder of its own with the files of
 examples/county and its own files; its output, log and status are compared.
 
 A log of argparse isn't compared, as it differs between versions of Python. A line that ends with
@@ -24,13 +24,15 @@ ALLOWED = ['"VoteVariation": "plurality"', '"VoteVariation": "plurality", "Votes
 COLUMNS = printed.Texts.columns[1:]     # of a contest in a line of CSV
 ANY = '\0'          # stands for any number
 SECONDS = 300
-with open(os.path.join(HERE, 'rows.json'), encoding='utf-8') as rows_file:
-    TEXT = rows_file.read()
-UNNAMED = [it for it in COLUMNS if not re.search('[{ ]%s [0-9]' % it, TEXT)]
+TEXTS = []
+for rows_name in 'rows.json', 'hostile.json':
+    with open(os.path.join(HERE, rows_name), encoding='utf-8') as rows_file:
+        TEXTS.append(rows_file.read())
+UNNAMED = [it for it in COLUMNS if not re.search('[{ ]%s [0-9]' % it, ''.join(TEXTS))]
 
 
 def held():
-    rows = json.loads(TEXT)['rows']
+    rows = [row for text in TEXTS for row in json.loads(text)['rows']]
     lacking = [row for row in rows if not os.path.exists(row.get('needs', HERE))]
     for row in lacking:
         print('skipped row %s: %s is not there' % (row['name'], row['needs']))

@@ -329,6 +329,16 @@ WAYS = [
         'what several records have written in, in several ways'),
     Way('names_a_record_twice', 'writeins.py', 'if name not in self.records[-1:]:', 'if True:',
         'a record with one text twice'),
+    # ---- what a file does
+    Way('leaves_out_no_file', 'without.py', ' if it != path]', ']',
+        'a file of snapshots dated 9999 that takes a contest'),
+    Way('adds_up_rows_of_units_alone', 'without.py', "lines_of('row', both, selections)", '[]',
+        'a header with greater bytes that moves a record to another unit'),
+    Way('looks_at_rows_with_the_file_alone', 'without.py', '{*both[0], *both[1]}', 'both[0]',
+        'a header with greater bytes that moves a record to another unit'),
+    Way('leaves_out_refused_files_too', 'without.py', 'for path, count in files.accepted:',
+        'for path, count in [(it, 0) for it in files.files]:',
+        'a refused file, which does nothing, and a file that stands twice'),
     # ---- files, folders and lists
     Way('takes_nul_for_a_sign', 'paths.py', "b'\\0' if is_null else b'\\n'", "b'\\n'",
         'a list of files that end with NUL bytes'),
