@@ -42,19 +42,26 @@ class Contest:
         self.plain, self.is_ranked = facts.names.plain_contest(key), facts.is_ranked(key)
         self.stated = [it not in counting.WANTED or (key, counting.STATED[it]) in facts.seen.stated
                        for it in counting.COLUMNS]
-        self.hidden = set()
-        if facts.is_public:
-            self.hidden = page_masking.totals_withheld(self.ballots, self.votes, self.allowed or 1)
+        self.mask = page_masking.NOTHING
 
     def title(self, facts):
         return element('h3', facts.names.contest(self.key))
+
+    def units(self):
+        """The ballots and the votes of each unit."""
+        return {unit: numbers[:1] + numbers[len(HEADS):] for unit, numbers in by(self.rows, 1).items()}
 
 
 def contests_of(facts):
     rows = {key: {} for key in facts.selections}
     for row, numbers in facts.rows.items():
         rows[row[0]][row] = numbers
-    return [Contest(facts, key, held) for key, held in rows.items()]
+    contests = [Contest(facts, key, held) for key, held in rows.items()]
+    if facts.is_public:
+        masks = page_masking.masks([it.units() for it in contests])
+        for contest, mask in zip(contests, masks):
+            contest.mask = mask
+    return contests
 
 
 # ---- by contest
@@ -76,20 +83,22 @@ def barred(votes, most):
 
 def selection_rows(facts, contest):
     """The selections: votes and, where none of them is withheld, per cent; of ranks the votes alone."""
-    most, counted = max(contest.votes, default=0), sum(contest.votes)
+    hidden, counted = contest.mask.selections, sum(contest.votes)
+    most = max([it for place, it in enumerate(contest.votes) if place not in hidden], default=0)
     for place, (key, votes) in enumerate(zip(contest.selections, contest.votes)):
         name = facts.names.selection(contest.key, key)
-        if place in contest.hidden or contest.is_ranked:
-            yield [name, WITHHELD if place in contest.hidden else votes]
+        if place in hidden or contest.is_ranked:
+            yield [name, WITHHELD if place in hidden else votes]
         else:
-            yield [name, barred(votes, most)] + [share(votes, counted)] * (not contest.hidden)
+            yield [name, barred(votes, most)] + [share(votes, counted)] * (not hidden)
 
 
 def selections(facts, contest):
     """The table of the selections."""
-    is_shared = not contest.hidden and not contest.is_ranked
+    hidden = contest.mask.selections
+    is_shared = not hidden and not contest.is_ranked
     heads = ['Selection', 'Votes'] + ['Per cent'] * is_shared
-    foot = None if contest.hidden else ['Votes counted', sum(contest.votes)] + [''] * is_shared
+    foot = None if hidden else ['Votes counted', sum(contest.votes)] + [''] * is_shared
     return table('Selections', heads, selection_rows(facts, contest), foot, contest.plain)
 
 
@@ -126,10 +135,10 @@ def others_of(contest):
 def contest_parts(facts, contest):
     """What the page has about a contest."""
     yield contest.title(facts)
-    if contest.hidden is None:
-        yield element('p', 'Fewer than ten ballots: its numbers are withheld.')
+    if contest.mask.is_whole:
+        yield element('p', 'Its numbers are withheld.')
         return
-    yield listed([('Ballots', contest.ballots)])
+    yield listed([('Ballots', WITHHELD if contest.mask.is_loose else contest.ballots)])
     yield selections(facts, contest)
     if contest.is_ranked:
         yield element('p', RANKED)
@@ -155,19 +164,15 @@ def chunks(columns):
 def columns_of(facts, contest):
     """The heads of the columns with their indices in a row, in parts that a sheet has room for."""
     votes = [(facts.names.short_selection(contest.key, key), len(HEADS) + place)
-             for place, key in enumerate(contest.selections) if place not in contest.hidden]
+             for place, key in enumerate(contest.selections) if place not in contest.mask.apart]
     numbers = [(head, place) for place, head in enumerate(HEADS) if contest.stated[place]]
     return chunks(numbers * contest.is_whole + votes)
 
 
 def masked(held, contest):
-    """The numbers of each row, without those that are withheld."""
-    rows = {key: list(numbers) for key, numbers in held.items()}
-    for place in range(len(contest.numbers)) if not contest.is_whole else ():
-        column = [numbers[place] for numbers in held.values()]
-        for hidden in page_masking.withheld(column):
-            rows[list(rows)[hidden]][place] = WITHHELD
-    return rows
+    """The numbers of each row; those of a unit that is withheld are marks."""
+    return {key: [WITHHELD] * len(numbers) if key in contest.mask.units else numbers
+            for key, numbers in held.items()}
 
 
 def tables(facts, contest, what, held, name):
@@ -187,7 +192,7 @@ def tables(facts, contest, what, held, name):
 def parts_of(facts, contest):
     """What the page has about a contest by unit and by batch."""
     yield contest.title(facts)
-    if not contest.rows or contest.hidden is None:
+    if not contest.rows or len(contest.mask.apart) == len(contest.votes) and not contest.is_whole:
         yield element('p', 'No record has this contest.' if contest.is_whole else 'Withheld.')
         return
     yield from tables(facts, contest, 'Unit', by(contest.rows, 1), facts.names.unit)

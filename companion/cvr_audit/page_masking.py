@@ -1,26 +1,126 @@
-"""What a page for the public withholds, so that no number below ten follows from what it shows.
-docs/PAGE.md has the rule and its reason."""
+"""What a page for the public withholds, so that no number below ten follows from what it shows. All
+contests and units are looked at together. docs/PAGE.md has the rule and its reason.
+
+A contest is its numbers by unit: the ballots, then the votes of each selection."""
+from collections import namedtuple
 
 LEAST = 10          # the least number that may be shown, or follow
+EACH = 20           # a selection with fewer votes a unit is shown by unit of no unit
+
+# What is withheld of a contest: everything; its ballots and its sum; the places of its selections;
+# those of which nothing is shown by unit; and units.
+Mask = namedtuple('Mask', 'is_whole is_loose selections apart units')
+NOTHING = Mask(False, False, frozenset(), frozenset(), frozenset())
 
 
-def withheld(numbers, spare=0):
-    """The places of the numbers that are withheld, where a reader knows the sum of all numbers and of
-    `spare`, which is never shown: those below ten and, as long as these and `spare` add up to less
-    than ten, the next smallest."""
-    order = sorted(range(len(numbers)), key=lambda place: numbers[place])
-    count = sum(number < LEAST for number in numbers)
-    hidden = spare + sum(numbers[place] for place in order[:count])
-    while 0 < count < len(order) and hidden < LEAST:
-        hidden += numbers[order[count]]
-        count += 1
-    return {*order[:count]}
+def is_enough(rows):
+    """Whether rows hide each other: two at least, in each column with ten more than there are rows."""
+    return len(rows) > 1 and all(sum(column) >= LEAST + len(rows) for column in zip(*rows))
 
 
-def totals_withheld(ballots, votes, allowed):
-    """The places of a contest's selections whose votes are withheld; None where the contest has fewer
-    than ten ballots, as nothing of it is shown then. A reader knows the ballots, and how many votes
-    each may have, but not how many votes weren't given."""
-    if ballots < LEAST:
-        return None
-    return withheld(votes, max(0, ballots * allowed - sum(votes)))
+def covered(rows, small):
+    """The places of rows that are withheld: the small ones, the first, and more by their place, never
+    by their size, until they hide each other; or all."""
+    hidden = {*small}
+    for place in range(len(rows) if small else 0):
+        if 0 in hidden and is_enough([rows[it] for it in hidden]):
+            break
+        hidden.add(place)
+    return hidden
+
+
+def grouped(styles):
+    """The units by their contests."""
+    held = {}
+    for unit, style in styles.items():
+        held.setdefault(style, []).append(unit)
+    return held
+
+
+def ballots_of(contests, style, units):
+    """The ballots of each of these units, in each contest of their style."""
+    return [[contests[place][unit][0] for place in style] for unit in units]
+
+
+def is_known(contests, styles):
+    """Whether somewhere the sums of contests leave few ballots between them."""
+    return any(style and not is_many(ballots_of(contests, style, units))
+               for style, units in grouped(styles).items())
+
+
+def is_many(rows):
+    return all(sum(column) >= LEAST + len(rows) for column in zip(*rows))
+
+
+def styles_of(contests):
+    """The contests of each unit whose sums are shown: each, in its turn, with which no few ballots are
+    known."""
+    styles = {}
+    for place, held in enumerate(contests):
+        tried = {unit: styles.get(unit, ()) + (place,) * (unit in held) for unit in {**styles, **held}}
+        if held and not is_known(contests, tried):
+            styles = tried
+    return styles
+
+
+def joined(contests, styles):
+    """The units that are withheld in every contest, in groups: those of few ballots, with others that
+    have the same contests."""
+    for style, units in grouped(styles).items():
+        rows = ballots_of(contests, style, units) if style else []
+        hidden = covered(rows, [place for place, row in enumerate(rows) if min(row) < LEAST])
+        if hidden:
+            yield [units[place] for place in sorted(hidden)]
+
+
+def selections_withheld(votes, is_loose):
+    """The places of a contest's selections whose votes are withheld; None where that is not enough."""
+    small = [place for place, number in enumerate(votes) if number < LEAST]
+    hidden = covered([[it] for it in votes], small or [0] * is_loose)
+    return None if hidden and not is_enough([[votes[it]] for it in hidden]) else hidden
+
+
+def apart_of(votes, hidden, count):
+    """The places of the selections of which nothing is shown by unit: those that are withheld, and those
+    whose votes, which are shown, are few for so many units; never one alone."""
+    few = EACH * count if count > 1 else 0      # the votes of one unit are those of the contest
+    apart = {*hidden} | {place for place, it in enumerate(votes) if it < few}
+    others = [place for place in range(len(votes)) if place not in apart]
+    return apart | {*others[:1]} if len(apart) == 1 else apart
+
+
+def units_withheld(held, apart, groups):
+    """The units of a contest that are withheld: those of the groups, and those with a small number."""
+    inside = [group for group in groups if group[0] in held]
+    names = {unit for group in inside for unit in group}
+    parts = inside + [[unit] for unit in held if unit not in names]
+    rows = [columns_of([held[unit][1:] for unit in part], apart) for part in parts]
+    small = [place for place, row in enumerate(rows) if place < len(inside) or min(row) < LEAST]
+    return {unit for place in covered(rows, small) for unit in parts[place]}
+
+
+def columns_of(rows, apart):
+    """The sums of rows of votes: of each selection that is shown by unit, and of all others together."""
+    votes = list(map(sum, zip(*rows)))
+    shown = [it for place, it in enumerate(votes) if place not in apart]
+    return shown + [sum(votes[place] for place in apart)] * bool(apart)
+
+
+def mask_of(place, held, styles, groups):
+    votes = list(map(sum, zip(*held.values())))[1:]
+    is_loose = not any(place in style for style in styles.values())
+    hidden = selections_withheld(votes, is_loose) if votes else None
+    if hidden is None or sum(numbers[0] for numbers in held.values()) < LEAST:
+        every = {*range(len(votes))}
+        return Mask(True, True, every, every, {*held})
+    if is_loose:
+        return Mask(False, True, hidden, {*range(len(votes))}, {*held})
+    apart = apart_of(votes, hidden, len(held))
+    return Mask(False, False, hidden, apart, units_withheld(held, apart, groups))
+
+
+def masks(contests):
+    """What is withheld of each contest."""
+    styles = styles_of(contests)
+    groups = list(joined(contests, styles))
+    return [mask_of(place, held, styles, groups) for place, held in enumerate(contests)]

@@ -10,6 +10,8 @@ the public, it tests
 - every number, compared with what `cvr` prints (page_numbers.py);
 - what a reader can work out of the numbers that are withheld, also by trying what each file could be
   (page_masks.py);
+- that a page for the public withholds what the rule does, and what follows from the rule: by a solver
+  (page_ranges.py), and by trying all tables of small counties (page_tables.py);
 - the tree of heads, the heads of tables, that nothing is fetched or run, and that `tidy` reads the
   page as HTML5 (page_form.py);
 - how Chromium shows it in a wide and a narrow window, and prints it (page_views.py).
@@ -42,7 +44,9 @@ sys.path[:0] = [HERE, os.path.join(TOP, 'tests', 'rows')]
 import page_form     # noqa: E402
 import page_masks    # noqa: E402
 import page_numbers  # noqa: E402 (it needs printed of rows/)
+import page_ranges   # noqa: E402
 import page_sets     # noqa: E402
+import page_tables   # noqa: E402
 import page_text     # noqa: E402
 import page_views    # noqa: E402
 import page_ways     # noqa: E402 (all of them stand beside this file)
@@ -223,6 +227,7 @@ def sets(trial, words):
     yield 'odd names', page_sets.texts_of(page_sets.odd())
     yield 'ranks', page_sets.texts_of(page_sets.ranked())
     yield '60 units', page_sets.texts_of(page_sets.many_units(60))
+    yield 'small units', page_sets.texts_of(page_sets.small_units())
     definition = page_sets.many_contests(2)[0]
     yield 'no record', page_sets.texts_of((definition, {}))
     refused = page_sets.texts_of((definition, {'a.json': dict(definition, Version='2.0.0')}))
@@ -252,25 +257,44 @@ def see_set(trial, name, held, is_public, possible=()):
         what, path = name + ' for the public' * is_public, os.path.join(folder, 'page.html')
         text, log, got = trial.page(folder, 'def.json', files, *['--public'] * is_public)
         wrong = ['status %d: %s' % (got, log)] * (got != status)
-        trial.see(what, wrong + list(set_wrong(text, tally, counts, is_public, possible)))
+        trial.see(what, wrong + list(set_wrong(trial, text, tally, counts, is_public, possible)))
         with open(path, 'w', encoding='utf-8') as file:
             file.write(text)
         if trial.is_seen and not name.startswith('set '):
             page_views.see(trial, path, what)
 
 
-def set_wrong(text, tally, counts, is_public, possible):
+def set_wrong(trial, text, tally, counts, is_public, possible):
     """What is wrong with a page of a set, as lines."""
     yield from page_form.wrong_of(page_text.read(text), text)
     try:
-        wrong, equations, votes = page_numbers.wrong_of(text, tally, counts, is_public)
+        wrong, equations, votes, masks = page_numbers.wrong_of(text, tally, counts, is_public)
     except (IndexError, KeyError, StopIteration, ValueError) as fault:
         yield 'the numbers can\'t be read: %s' % fault
         return
     yield from page_masks.wrong_of(equations, votes, page_masks.tried(text, possible))
     yield from wrong
+    yield from mask_wrong(trial, tally, masks)
     if votes and not is_public:
         yield 'a number is withheld'
+
+
+def mask_wrong(trial, tally, masks):
+    """Whether a page for the public withholds what the rule withholds, as lines. What follows from
+    it is tested by page_tables.py and page_ranges.py."""
+    end = page_numbers.END
+    contests = [{unit: numbers[:1] + numbers[end:] for unit, numbers in tally.sums(key, 0).items()}
+                for key in tally.contests]
+    for held, mask, wanted in zip(contests, masks, trial.package.page_masking.masks(contests)):
+        *mask, units = map(plain, mask)
+        *wanted, wanted_units = map(plain, wanted)
+        has_table = any(len(wanted[3]) < len(numbers) - 1 for numbers in held.values())
+        if held and (mask != wanted or has_table and units != wanted_units):
+            yield '%s, %s withheld, not %s, %s' % (mask, units, wanted, wanted_units)
+
+
+def plain(part):
+    return part if isinstance(part, bool) else set(part)
 
 
 # ---- slips
@@ -313,6 +337,16 @@ def pages(trial, words):
         yield see_set, name, held, True
 
 
+def see_masks(trial, words):
+    """Tests what follows from what the rule withholds."""
+    trial.see('tables', list(page_tables.wrong_of(trial.package.page_masking, trial.is_seen)))
+    ranges = page_ranges.wrong_of(trial.package.page_masking, words.counties)
+    if ranges is None:
+        print('skipped the ranges of withheld numbers: glpsol is not there')
+    else:
+        trial.see('ranges', ranges)
+
+
 def see_all(trial, words):
     """Tests everything but the slips: pages of the companion side by side, since most of the time
     is the browsers'; those of a copy in turn, up to the first that finds its slip."""
@@ -323,6 +357,7 @@ def see_all(trial, words):
         each = pool.map if trial.is_seen else map
         for _ in each(lambda it: it[0](trial, *it[1:]), pages(trial, words)):
             pass
+    see_masks(trial, words)
 
 
 def main():
@@ -330,6 +365,7 @@ def main():
     words.add_argument('--cvr', required=True, help='the program to try it with')
     words.add_argument('--sets', type=int, default=40)
     words.add_argument('--seed', type=int, default=1)
+    words.add_argument('--counties', type=int, default=8, help='how many the solver looks at')
     words.add_argument('--companion', help='a folder with a copy of the companion')
     words.add_argument('--picture', help='write the picture of the county that README shows')
     words = words.parse_args()

@@ -56,6 +56,7 @@ class Held:
         self.page, self.tally, self.is_public = page_text.read(text), tally, is_public
         self.sections, self.wrong, self.seen = page_text.sections(self.page), [], set()
         self.equations, self.votes = [], {}     # of what is withheld, for page_masks.py
+        self.masks = {}         # of each contest, as the page shows it, for page_masking.py
 
     def see(self, what, cell, number, may_hide=False):
         """Compares a cell with a number; answers whether the number is shown."""
@@ -80,15 +81,18 @@ class Held:
     def see_contest(self, part, key):
         numbers = self.tally.total(key)
         tables = list(part.all('table'))
-        if self.is_public and numbers[0] < 10:
-            if tables or list(part.all('dl')):
-                self.wrong.append('%s: numbers of fewer than ten ballots' % key)
+        if self.is_public and not tables and not list(part.all('dl')):
+            every = {*range(len(numbers) - END)}
+            self.masks[key] = True, True, every, every, {*self.tally.sums(key, 0)}
             return
+        if self.is_public and numbers[0] < 10:
+            self.wrong.append('%s: numbers of fewer than ten ballots' % key)
         terms = dict(zip((it.text() for it in part.all('dt')), part.all('dd')))
         for place, column in enumerate(COLUMNS if not self.is_public else COLUMNS[:1]):
             is_stated = terms[column].text() != 'not stated'
             if is_stated or place not in MAY_LACK or numbers[place]:
-                self.see('%s %s' % (key, column), terms[column], numbers[place])
+                is_loose = not self.see('%s %s' % (key, column), terms[column], numbers[place], True)
+        self.masks[key] = [False, is_loose, set(), {*range(len(numbers) - END)}, set()]
         self.see_votes(tables[0], key, numbers[0], numbers[END:])
         if key in self.tally.ranked and not self.is_public:
             self.see_ranks(tables[1:], key, numbers[END:])
@@ -100,8 +104,10 @@ class Held:
     def see_votes(self, table, key, ballots, votes):
         """The votes, beside bars and with per cents, unless they are ranks or some are withheld."""
         head, *rows = page_text.rows(table)
-        shown, most, is_ranked = 0, max(votes, default=0), key in self.tally.ranked
+        shown, is_ranked = 0, key in self.tally.ranked
         hidden = [place for place, row in enumerate(rows[:len(votes)]) if row[1].text() == HIDDEN]
+        most = max([it for place, it in enumerate(votes) if place not in hidden], default=0)
+        self.masks[key][2].update(hidden)
         for place, (row, number) in enumerate(zip(rows, votes)):
             name = (key, place)
             if self.see('%s votes' % (name,), row[1], number, True):
@@ -164,21 +170,10 @@ class Held:
 
     def spare(self, key, hidden, votes, left):
         """Notes the equation of a contest's withheld votes and what its ballots leave open."""
-        if hidden:
+        if hidden and not self.masks[key][1]:
             names = [(key, place) for place in hidden]
-            self.see_needed(key, [votes[place] for place in hidden],
-                            [it for place, it in enumerate(votes) if place not in hidden],
-                            max(left - sum(votes[place] for place in hidden), 0))
             self.votes.update((name, votes[name[1]]) for name in names)
             self.equations.append((dict.fromkeys(names + [(key, 'open')], 1), max(left, 0)))
-
-    def see_needed(self, what, hidden, shown, spare=0):
-        """Compares what is withheld with the rule: the smallest numbers, and none without need."""
-        *others, last = sorted(hidden)
-        if shown and last > min(shown):
-            self.wrong.append('%s: %d is withheld, and %d shown' % (what, last, min(shown)))
-        if last >= 10 and sum(others) + spare >= 10:
-            self.wrong.append('%s: %d is withheld without need' % (what, last))
 
     # ---- by unit and by batch
 
@@ -205,9 +200,10 @@ class Held:
         """Every column has to be there once; on a page for the public, those of the votes that are shown."""
         numbers = self.tally.total(key)
         if self.is_public:
-            hidden = {name[1] for name in self.votes if name[0] == key}
-            wanted = [] if numbers[0] < 10 or place else \
-                [it for it in range(END, len(numbers)) if it - END not in hidden]
+            self.masks[key][3].difference_update(it - END for it in columns)
+            hidden = self.masks[key][2]
+            wanted = [] if place else \
+                [it for it in range(END, len(numbers)) if it in columns and it - END not in hidden]
         else:
             wanted = [it for it in range(len(numbers) if self.tally.rows[key] else 0)
                       if it not in MAY_LACK or it in columns or numbers[it]]
@@ -231,9 +227,7 @@ class Held:
             self.see('%s sum' % key, rows[-1][place], total)
             if hidden:
                 self.votes.update(hidden)
-                self.see_needed(key, list(hidden.values()),
-                                [it[column] for name, it in sums.items()
-                                 if (key, name, column) not in hidden])
+                self.masks[key][4].update(name for _, name, _ in hidden)
                 shown = total - sum(hidden.values())
                 self.equations.append((dict.fromkeys(hidden, 1), total - shown))
 
@@ -315,7 +309,7 @@ def clean(text):
 
 
 def wrong_of(text, tally, records, is_public=False, sizes=None):
-    """What is wrong with the numbers of a page, as lines; and what it withholds."""
+    """What is wrong with the numbers of a page, as lines; and what it withholds, also as masks."""
     held = Held(text, tally, is_public)
     held.see_inputs(records)
     held.see_head(records)
@@ -324,4 +318,5 @@ def wrong_of(text, tally, records, is_public=False, sizes=None):
     held.see_units()
     held.see_batches(sizes or {})
     held.wrong += ['%s stands in no text of cvr' % it for it in held.left()]
-    return held.wrong, held.equations, held.votes
+    masks = [tuple(held.masks[key]) for key in tally.contests] if is_public else []
+    return held.wrong, held.equations, held.votes, masks

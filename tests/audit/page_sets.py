@@ -88,6 +88,17 @@ def many_units(count=2000):
     return report(contests, units), {'records.json': report(contests, units, records)}
 
 
+def small_units():
+    """One contest in six units, of which some have few votes for a selection."""
+    votes, units = [(30, 30), (25, 35), (12, 1), (40, 30), (2, 12), (45, 45)], []
+    contests, records = [('bond', 'School bond', 1, [('yes', 'Yes'), ('no', 'No')])], []
+    for place, numbers in enumerate(votes):
+        units.append(('u%d' % place, 'Unit %d' % place))
+        for key, number in zip(('yes', 'no'), numbers):
+            records += [record(len(records) + it, 'u%d' % place, 'batch', {'bond': key}) for it in range(number)]
+    return report(contests, units), {'records.json': report(contests, units, records)}
+
+
 def one_each(is_in_definition=False):
     """The files of a set with one ballot each, of which four have a vote with a longer id, and what each
     file could be: its bytes by the vote. DEF may have the first ballot, too. No ballot has the contest

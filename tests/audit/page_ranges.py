@@ -1,0 +1,145 @@
+"""page_ranges.py: the least and the greatest value that each withheld number of a page for the public can
+have, by a solver (`glpsol` of Debian's glpk-utils) over all that a page shows together.
+
+A reader knows the ballots that are shown, and that the contests of a unit are over the same ballots. One
+reader knows that every ballot has all its votes; another one only that it has no more. Where the solver
+is missing, a line `skipped` says so."""
+import os
+import random
+import re
+import shutil
+import subprocess
+import tempfile
+
+LEAST = 10
+SECONDS = 120
+
+
+# a contest of all units, and one of all but the smallest: together they show its ballots
+SMALLEST = [{'u0': [50, 30, 20], 'u1': [60, 35, 25], 'u2': [4, 3, 1]},
+            {'u0': [50, 30, 20], 'u1': [60, 25, 35]}]
+
+
+def county(chance):
+    """A random county of contests over the ballots of their units, and whether every ballot has all its
+    votes: of each contest the ballots and the votes of each unit."""
+    units = ['u%d' % place for place in range(chance.randint(1, 5))]
+    ballots = {it: chance.choice([1, 3, 9, 15, 30, 60, 120, 400]) for it in units}
+    is_full, contests = chance.random() < 0.5, []
+    for place in range(chance.randint(1, 4)):
+        inside = units if place == 0 or chance.random() < 0.6 else \
+            [it for it in units if chance.random() < 0.6]
+        weights = [chance.choice([0, 0.02, 0.3, 1, 1]) for _ in range(chance.randint(2, 4))]
+        weights[chance.randrange(len(weights))] = 1
+        held = {it: votes_of(chance, ballots[it], weights, is_full) for it in inside}
+        if held:
+            contests.append(held)
+    return contests, is_full
+
+
+def votes_of(chance, ballots, weights, is_full):
+    """The ballots of a unit, and its votes: by the weights and, where a ballot may have none, fewer."""
+    votes = [0] * len(weights)
+    for _ in range(ballots):
+        if is_full or chance.random() < 0.95:
+            votes[chance.choices(range(len(weights)), weights)[0]] += 1
+    return [ballots, *votes]
+
+
+# ---- what a reader knows
+
+def name_of(*parts):
+    return '_'.join(map(str, parts))
+
+
+def known(contests, masks, is_full):
+    """The lines of what is known, in the solver's form; and each withheld number: its name in words, the
+    number, and a sum of unknowns that comes to it."""
+    lines, hidden = [], []
+    for place, (held, mask) in enumerate(zip(contests, masks)):
+        for unit, numbers in held.items():
+            votes = ' + '.join(name_of('x', place, unit, one) for one in range(len(numbers) - 1))
+            lines.append('%s - b_%s %s 0' % (votes, unit, '=' if is_full else '<='))
+        if not mask.is_loose:
+            lines.append('%s = %d' % (' + '.join('b_' + it for it in held),
+                                      sum(it[0] for it in held.values())))
+        for one in range(len(next(iter(held.values()))) - 1):
+            see_votes(place, one, held, mask, lines, hidden)
+    return lines, hidden
+
+
+def see_votes(place, one, held, mask, lines, hidden):
+    """Notes what is known of a selection's votes, and which are withheld."""
+    names = {unit: name_of('x', place, unit, one) for unit in held}
+    votes = {unit: numbers[1 + one] for unit, numbers in held.items()}
+    total = ' + '.join(names.values())
+    if mask.is_whole or one in mask.selections:
+        hidden.append(('contest %d, selection %d' % (place, one), sum(votes.values()), total))
+    else:
+        lines.append('%s = %d' % (total, sum(votes.values())))
+    for unit, name in names.items() if not mask.is_whole else ():
+        if one in mask.apart or unit in mask.units:
+            what = 'contest %d, selection %d, unit %s' % (place, one, unit)
+            hidden.append((what, votes[unit], name))
+        else:
+            lines.append('%s = %d' % (name, votes[unit]))
+
+
+def program_of(lines, term, is_most, units):
+    """What the solver reads (CPLEX LP)."""
+    text = ['Maximize' if is_most else 'Minimize', ' goal: ' + term, 'Subject To']
+    text += [' c%d: %s' % pair for pair in enumerate(lines)]
+    names = sorted(set(re.findall(r'\b[xb]_\w+', ' '.join(lines))))
+    return '\n'.join(text + ['Bounds'] + [' b_%s >= 1' % it for it in units]
+                     + ['General'] + [' ' + it for it in names] + ['End', ''])
+
+
+def bound(solver, lines, term, is_most, units):
+    """The least or the greatest value of a sum; None where there is no greatest."""
+    with tempfile.TemporaryDirectory() as folder:
+        path = os.path.join(folder, 'p.lp')
+        with open(path, 'w', encoding='ascii') as file:
+            file.write(program_of(lines, term, is_most, units))
+        done = subprocess.run([solver, '--lp', path, '-o', path + '.out'], stdin=subprocess.DEVNULL,
+                              stdout=subprocess.PIPE, stderr=subprocess.STDOUT, timeout=SECONDS)
+        text = done.stdout.decode('ascii', 'replace')
+        if is_most and re.search('UNBOUNDED|NO DUAL FEASIBLE|unbounded', text):
+            return None
+        with open(path + '.out', encoding='ascii') as file:
+            text = file.read()
+    if 'Status:     INTEGER OPTIMAL' not in text:
+        raise ValueError('no answer of the solver: ' + text[:300])
+    return round(float(re.search(r'Objective: +goal = (\S+)', text).group(1)))
+
+
+def is_safe(least, most):
+    """Whether a number has ten values at least, or all from 0 to 9."""
+    return most is None or most - least + 1 >= LEAST
+
+
+def ranges(solver, contests, masks, is_full):
+    """Each withheld number with the least and the greatest value that it may have."""
+    lines, hidden = known(contests, masks, is_full)
+    units = sorted({unit for held in contests for unit in held})
+    for what, number, term in hidden:
+        ends = [bound(solver, lines, term, it, units) for it in (False, True)]
+        if ends[0] > number or ends[1] is not None and ends[1] < number:
+            raise ValueError('%s is %d, and the solver says %s' % (what, number, ends))
+        yield what, number, ends
+
+
+def wrong_of(masking, counties, seed=1):
+    """What a reader finds in random counties, as lines; None where there is no solver."""
+    solver = shutil.which('glpsol')
+    if not solver:
+        return None
+    return list(county_wrong(solver, masking, seed, counties))
+
+
+def county_wrong(solver, masking, seed, counties):
+    tried = [('smallest', SMALLEST, True)]
+    tried += [(it, *county(random.Random(it))) for it in range(seed, seed + counties)]
+    for number, contests, is_full in tried:
+        for what, votes, ends in ranges(solver, contests, masking.masks(contests), is_full):
+            if not is_safe(*ends):
+                yield 'county %s: %s is %d, and is seen to be from %d to %s' % (number, what, votes, *ends)

@@ -1,0 +1,99 @@
+"""page_tables.py: all tables of small counties that give the same page for the public.
+
+A reader who knows the rule can make each county that there could be, and see which ones give the page.
+In small counties this is tried out, with a lower bound in place of ten, and where every ballot has all
+its votes, so that the contests of a unit have one sum. Every withheld number has to take as many values
+as the bound says, or all below it, in the counties that give the page."""
+import itertools
+
+LEAST = 2
+# the units of each contest, with two selections or as many as are named; and the greatest sum of ballots
+COUNTIES = [
+    ('two contests', [(2, (0, 1)), (2, (0, 1))], 10),
+    ('three units', [(2, (0, 1, 2))], 13),
+    ('three selections', [(3, (0, 1))], 12),
+    ('a contest of two units of three', [(2, (0, 1, 2)), (2, (0, 1))], 8),
+    ('a contest of each unit', [(2, (0, 1)), (2, (0,)), (2, (1,))], 9),
+]
+
+
+def splits(total, count):
+    """Each way in which a total is the sum of so many numbers."""
+    if count == 1:
+        yield (total,)
+        return
+    for first in range(total + 1):
+        for rest in splits(total - first, count - 1):
+            yield (first, *rest)
+
+
+def unit_tables(contests, unit, ballots):
+    """Each table of a unit: the votes in each of its contests."""
+    inside = [count for count, units in contests if unit in units]
+    return itertools.product(*(list(splits(ballots, count)) for count in inside))
+
+
+def tables(contests, most):
+    """Each county: of each contest its units with ballots and votes."""
+    units = sorted({unit for _, held in contests for unit in held})
+    for ballots in itertools.product(range(1, most), repeat=len(units)):
+        if sum(ballots) > most:
+            continue
+        each = [list(unit_tables(contests, unit, ballots[unit])) for unit in units]
+        for votes in itertools.product(*each):
+            left = [iter(it) for it in votes]
+            yield [{unit: [ballots[unit], *next(left[unit])] for unit in held}
+                   for _, held in contests]
+
+
+def numbers_of(masks, county):
+    """The numbers of a county by name, and whether each is shown."""
+    for place, (mask, held) in enumerate(zip(masks, county)):
+        sums = list(map(sum, zip(*held.values())))
+        yield (place, 'ballots'), sums[0], not mask.is_loose
+        for one, number in enumerate(sums[1:]):
+            yield (place, one), number, not mask.is_whole and one not in mask.selections
+            for unit, votes in held.items():
+                is_shown = not mask.is_whole and one not in mask.apart and unit not in mask.units
+                yield (place, one, unit), votes[1 + one], is_shown
+
+
+def pages(masking, contests, most):
+    """For each page the counties that give it: of each withheld number, by name, its values; and the
+    least sum of ballots."""
+    held = {}
+    for county in tables(contests, most):
+        masks = masking.masks(county)
+        shown, hidden = [], []
+        for name, number, is_shown in numbers_of(masks, county):
+            (shown if is_shown else hidden).append((name, number))
+        key = str(masks), tuple(shown)
+        values, ballots = held.get(key, ({}, most))
+        for name, number in hidden:
+            values.setdefault(name, set()).add(number)
+        held[key] = values, min(ballots, sum({unit: votes[0] for it in county
+                                              for unit, votes in it.items()}.values()))
+    return held
+
+
+def is_safe(values, least):
+    return len(values) >= least or values >= set(range(least))
+
+
+def wrong_of(masking, is_all=True, bound=LEAST):
+    """What a reader finds in small counties, or in some still smaller ones, as lines."""
+    masking.LEAST, masking.EACH, old = bound, bound // 2, (masking.LEAST, masking.EACH)
+    try:
+        for what, contests, most in COUNTIES:
+            yield from county_wrong(masking, what, contests, most - 2 * (not is_all), bound)
+    finally:
+        masking.LEAST, masking.EACH = old
+
+
+def county_wrong(masking, what, contests, most, bound):
+    for (masks, shown), (values, ballots) in pages(masking, contests, most).items():
+        # where a page doesn't show all ballots, a county with more than were tried could give it, too
+        is_tried = ballots + 2 * bound <= most or ((0, 'ballots'), ballots) in shown
+        for name, held in values.items():
+            if is_tried and name[1] != 'ballots' and not is_safe(held, bound):
+                yield '%s: %s is one of %s on the page %s %s' % (what, name, sorted(held), masks, shown)
