@@ -18,13 +18,13 @@ _cvr_audit() {
     --as) compopt +o default; COMPREPLY=($(compgen -W 'vxsuite cdf dominion dominion-json ess hart clearballot' -- "$2")); return ;;
     esac
     case ${COMP_WORDS[1]}:$2 in
-    records:-*) COMPREPLY=($(compgen -W '-o --columns --files-from --null -h --help' -- "$2")) ;;
+    records:-*) COMPREPLY=($(compgen -W '-o --columns --spreadsheet --files-from --null -h --help' -- "$2")) ;;
     compare:-*) COMPREPLY=($(compgen -W '--one --other --one-from --other-from --null -h --help' -- "$2")) ;;
     trace:-*) COMPREPLY=($(compgen -W '--contest --unit --batch --selection --files-from --null -h --help' -- "$2")) ;;
     without:-*) COMPREPLY=($(compgen -W '--files-from --null -h --help' -- "$2")) ;;
     page:-*) COMPREPLY=($(compgen -W '--manifest --public -o --files-from --null -h --help' -- "$2")) ;;
     warnings:-*) COMPREPLY=($(compgen -W '--manifest --files-from --null -h --help' -- "$2")) ;;
-    totals:-*) COMPREPLY=($(compgen -W '--by --format -o --files-from --null -h --help' -- "$2")) ;;
+    totals:-*) COMPREPLY=($(compgen -W '--by --format --spreadsheet -o --files-from --null -h --help' -- "$2")) ;;
     lines:-*) COMPREPLY=($(compgen -W '--format -o --files-from --null -h --help' -- "$2")) ;;
     writeins:-*) COMPREPLY=($(compgen -W '--files-from --null -h --help' -- "$2")) ;;
     definition:-*) COMPREPLY=($(compgen -W '-o --files-from --null -h --help' -- "$2")) ;;

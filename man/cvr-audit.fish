@@ -16,6 +16,7 @@ complete -c cvr-audit -n __fish_use_subcommand -a gather -d 'Write a folder with
 complete -c cvr-audit -n '__fish_seen_subcommand_from records compare trace without page warnings totals lines writeins definition gather' -F
 complete -c cvr-audit -n '__fish_seen_subcommand_from records' -s o -r -F -d 'the file to write to, in place of standard output'
 complete -c cvr-audit -n '__fish_seen_subcommand_from records' -l columns -x -a 'manifest batches cvrs ranks arlo raire' -d 'another form: `manifest`, `batches`, `cvrs`, `ranks`, `arlo` or `raire`'
+complete -c cvr-audit -n '__fish_seen_subcommand_from records' -l spreadsheet -d 'an apostrophe before each cell of CSV that a spreadsheet would take for a formula'
 complete -c cvr-audit -n '__fish_seen_subcommand_from records' -l files-from -r -F -d 'a list of the paths of files, one a line, in place of the files; - is standard input'
 complete -c cvr-audit -n '__fish_seen_subcommand_from records' -l null -d 'paths in lists end with a NUL byte'
 complete -c cvr-audit -n '__fish_seen_subcommand_from compare' -l one -d 'the files of one side'
@@ -41,6 +42,7 @@ complete -c cvr-audit -n '__fish_seen_subcommand_from warnings' -l files-from -r
 complete -c cvr-audit -n '__fish_seen_subcommand_from warnings' -l null -d 'paths in lists end with a NUL byte'
 complete -c cvr-audit -n '__fish_seen_subcommand_from totals' -l by -x -a 'unit batch device style' -d 'the sums of each `unit`, `batch`, `device` or `style`'
 complete -c cvr-audit -n '__fish_seen_subcommand_from totals' -l format -x -a 'text csv json' -d '`text`, `csv` or `json`'
+complete -c cvr-audit -n '__fish_seen_subcommand_from totals' -l spreadsheet -d 'an apostrophe before each cell of CSV that a spreadsheet would take for a formula'
 complete -c cvr-audit -n '__fish_seen_subcommand_from totals' -s o -r -F -d 'the file to write to, in place of standard output'
 complete -c cvr-audit -n '__fish_seen_subcommand_from totals' -l files-from -r -F -d 'a list of the paths of files, one a line, in place of the files; - is standard input'
 complete -c cvr-audit -n '__fish_seen_subcommand_from totals' -l null -d 'paths in lists end with a NUL byte'

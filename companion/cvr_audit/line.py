@@ -2,7 +2,7 @@
 import argparse
 import sys
 
-from . import (VERSION, compare, definition, gather, lines, page, paths, program, records, totals,
+from . import (VERSION, compare, definition, gather, lines, output, page, paths, program, records, totals,
                trace, warnings, without, writeins)
 
 ABOUT = ('Print cast vote records one by one, compare two sets of files, trace a number of the '
@@ -15,9 +15,9 @@ STATUSES = [
           'or the manifest has another form; nothing is printed'),
     ('3', 'a file could not be read or written'),
     ('4', 'out of memory; nothing is printed'),
-    ('69', 'there is no `cvr` of version 1; nothing is printed'),
-    ('70', 'the numbers don\'t come to those of `cvr`, or a file was changed during the run; '
-           'nothing is printed'),
+    ('69', 'there is no `cvr` of version 1, or something killed it; nothing is printed'),
+    ('70', 'the numbers don\'t come to those of `cvr`, a file was changed during the run, or '
+           '`cvr-audit` has a fault; nothing is printed'),
 ]
 EPILOG = 'Statuses: ' + '. '.join('%s: %s' % it for it in STATUSES) + '.'
 COMMANDS = {
@@ -55,6 +55,8 @@ TASK = 'TASK'       # the first word of `lines`: a command of cvr
 FROM = (('--files-from',), 'LIST', {'help': 'a list of the paths of files, one a line, in place of '
                                             'the files; - is standard input'})
 NULL = (('--null',), None, {'action': 'store_true', 'help': 'paths in lists end with a NUL byte'})
+PLAIN = (('--spreadsheet',), None, {'action': 'store_true', 'help': 'an apostrophe before each cell of CSV '
+                                    'that a spreadsheet would take for a formula'})
 # each command's options, with what stands for their values
 OPTIONS = {
     'records': [
@@ -63,12 +65,14 @@ OPTIONS = {
         (('--columns',), 'FORM', {'choices': list(records.FORMS),
                                   'help': 'another form: `manifest`, `batches`, `cvrs`, `ranks`, '
                                           '`arlo` or `raire`'}),
+        PLAIN,
     ],
     'totals': [
         (('--by',), 'GROUP', {'choices': list(totals.GROUPS), 'dest': 'group',
                               'help': 'the sums of each `unit`, `batch`, `device` or `style`'}),
         (('--format',), 'FORM', {'choices': list(totals.FORMS), 'default': 'text', 'dest': 'form',
                                  'help': '`text`, `csv` or `json`'}),
+        PLAIN,
         (('-o',), 'OUT', {'dest': 'output',
                           'help': 'the file to write to, in place of standard output'}),
     ],
@@ -202,7 +206,7 @@ class Version(argparse.Action):
     """Prints the version, in the place of a command."""
 
     def __call__(self, parser, *_):
-        write('cvr-audit %s\n' % VERSION, None)
+        output.write('cvr-audit %s\n' % VERSION, None)
         parser.exit()
 
 
@@ -258,6 +262,8 @@ def made(words):
     """The text that the words ask for, and the status of a run that prints it."""
     try:
         find_files(words)
+        if words.output:
+            output.see_apart(words.output, inputs_of(words))
         files = sides(words) if words.definition is not None else []
         text, is_found = words.run(*files, words)
         for side in files:
@@ -269,15 +275,18 @@ def made(words):
     return text, 1 if is_found or any(side.status for side in files) else 0
 
 
-def write(text, path):
-    """Writes the text to the file at the path, or to standard output."""
-    try:
-        if not path and sys.stdout is None:
-            raise OSError('standard output is closed')
-        with open(path or sys.stdout.fileno(), 'wb', closefd=bool(path)) as file:
-            file.write(text.encode('utf-8', 'surrogateescape'))
-    except OSError:
-        raise program.Ended(program.FAILED, b'out: X1\n') from None
+def inputs_of(words):
+    """The paths that the words name beside the output."""
+    held = [words.definition, getattr(words, 'manifest', None)]
+    held += [getattr(words, it, None) for it in LISTS]
+    for name in LISTS.values():
+        held += getattr(words, name, None) or []
+    return [it for it in held if it not in (None, paths.STANDARD)]
+
+
+def is_secret(words):
+    """Whether what is printed shows how ballots were voted."""
+    return not getattr(words, 'public', False) and words.run is not definition.run
 
 
 def main(words):
@@ -285,7 +294,7 @@ def main(words):
     try:
         words = read(words)
         text, status = made(words)
-        write(text, words.output)
+        output.write(text, words.output, is_secret(words))
         return status
     except program.Ended as end:
         log(end.log)
@@ -293,3 +302,6 @@ def main(words):
     except MemoryError:
         log(b'memory\n')
         return program.MEMORY
+    except Exception as fault:      # a fault of this program; what a traceback says is no status
+        log(program.mismatch('a fault of cvr-audit: %s: %s' % (type(fault).__name__, fault)).log)
+        return program.MISMATCH

@@ -4,7 +4,7 @@ import hashlib
 from . import page_contests, page_inputs, page_records, page_summary, page_warnings
 from .page_facts import Facts
 from .page_style import style_of
-from .page_tree import code, element, section, shown, text_of
+from .page_tree import code, cut, element, section, shown, text_of
 
 # no scripts, and nothing is fetched
 POLICY = 'default-src \'none\'; style-src \'unsafe-inline\''
@@ -49,7 +49,7 @@ def document(facts):
                    element('meta', http_equiv='Content-Security-Policy', content=POLICY),
                    element('meta', name='viewport', content='width=device-width, initial-scale=1'),
                    element('title', 'UNOFFICIAL: ' + facts.names.election),
-                   element('style', style_of(shown(facts.names.election))))
+                   element('style', style_of(shown(cut(facts.names.election)))))
     body = element('body', page_summary.head(facts), contents(parts), element('main', *parts))
     return element('html', head, body, lang='en')
 

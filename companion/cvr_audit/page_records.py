@@ -5,6 +5,8 @@ from .page_tree import code, codes, element, folded, section, table
 
 MANY = 40           # a table with more rows is folded
 FEW = 3             # conflicts of one kind; more are folded
+MOST = 500          # members of a conflict; of more the first ones that differ are shown
+LEFT = 'The first {:,} members that differ, of {:,}; cvr-audit compare prints all.'
 TITLES = {'device': 'Device', 'header': 'Header', 'snapshot': 'Snapshot'}
 GROUPS = {'device': 'devices', 'header': 'headers of records', 'snapshot': 'snapshots'}
 SAID = {'overvotes': 'overvoted', 'undervotes': 'undervoted', 'pending': 'pending',
@@ -67,11 +69,18 @@ def leaves(value, path=''):
     return held
 
 
-def text_rows(texts):
-    """The members of the texts side by side; differences are marked."""
+def members_of(texts):
+    """The members of the texts side by side; of many those that differ."""
     held = [leaves(value) for value in texts]
-    for path in dict.fromkeys(path for it in held for path in it):
-        parts = [it.get(path) for it in held]
+    rows = [(path, [it.get(path) for it in held])
+            for path in dict.fromkeys(path for it in held for path in it)]
+    differ = [it for it in rows if len({*it[1]}) > 1]
+    return rows if len(rows) <= MOST else differ
+
+
+def text_rows(members):
+    """A row for each member; differences are marked."""
+    for path, parts in members[:MOST]:
         is_same = len({*parts}) == 1
         yield [code(path)] + ['' if part is None else code(part) if is_same else
                               element('mark', code(part)) for part in parts]
@@ -97,11 +106,13 @@ def conflict(facts, key, texts):
     paths = [paths for _, paths in texts]
     values = [value for value, _ in texts]
     heads = ['Member'] + ['Text %d' % number for number in range(1, len(texts) + 1)]
-    rows = [['Files'] + list(map(codes, paths))] + list(text_rows(values))
+    members = members_of(values)
+    rows = [['Files'] + list(map(codes, paths))] + list(text_rows(members))
+    left = LEFT.format(MOST, len(members)) if len(members) > MOST else None
     rule = 'other' if kind == 'snapshot' and not is_current(facts, names) else kind
     title = element('h3', TITLES[kind], ' ', codes(names))
-    return element('div', title, element('p', rule_of(rule, values)),
-                   folded(len(rows) > MANY, '{:,} members'.format(len(rows) - 1),
+    return element('div', title, element('p', rule_of(rule, values)), left and element('p', left),
+                   folded(len(rows) > MANY, '{:,} members'.format(len(members)),
                           table('Texts side by side', heads, rows, None, ' '.join(names))))
 
 

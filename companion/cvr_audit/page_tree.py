@@ -1,4 +1,5 @@
 """Elements of HTML as a tree, so that no text of a file can become markup."""
+import hashlib
 import re
 import xml.etree.ElementTree as ET
 
@@ -9,6 +10,20 @@ UNSHOWN = re.compile('[\x00-\x08\x0b-\x1f\x7f-\x9f\ud800-\udfff\ufdd0-\ufdef%s]'
 NUMBER = re.compile(r'\*?|–|[0-9]+\.[0-9]')        # spelled already, or in place of a number
 
 
+LONG, KEPT = 2000, 500      # a longer text of a file is cut to so many characters
+CUT = '{}… (cut: {:,} characters, SHA-256 {})'
+OF_FILES = 'bdi', 'summary', 'title'        # the elements with texts of files
+
+
+def cut(text):
+    """A text of a file: a long one stands on a page many times, so that it is cut, and told apart from
+    others by its SHA-256."""
+    if len(text) <= LONG:
+        return text
+    digest = hashlib.sha256(text.encode('utf-8', 'surrogatepass')).hexdigest()
+    return CUT.format(text[:KEPT], len(text), digest)
+
+
 def shown(text):
     """A text in which each character that HTML can't have is spelled as an escape of JSON."""
     return UNSHOWN.sub(lambda found: '\\u%04x' % ord(found.group()), text)
@@ -16,11 +31,11 @@ def shown(text):
 
 def element(tag, *parts, **attributes):
     """An element of these parts: elements, texts and numbers. None is left out."""
-    held = {name.rstrip('_').replace('_', '-'): shown(str(value))
+    held = {name.rstrip('_').replace('_', '-'): shown(cut(str(value)))
             for name, value in attributes.items() if value is not None}
     made = ET.Element(tag, held)
     for part in parts:
-        append(made, part)
+        append(made, cut(part) if tag in OF_FILES and isinstance(part, str) else part)
     return made
 
 

@@ -16,7 +16,7 @@ MOST = 100000                       # characters of paths that are given as word
 WORDS = 2                           # the status for words that can't be carried out
 FAILED = 3                          # the status where a file can't be read or written
 MEMORY = 4
-UNFIT = 69                          # where there is no `cvr` of this version
+UNFIT = 69                          # where there is no `cvr` of this version, or it was killed
 MISMATCH = 70                       # where a text doesn't agree with what `cvr` prints
 VERSION = re.compile(rb'cvr 1\.[0-9]+\.[0-9]+( [^\n]*)?\n')     # the versions whose texts are known here
 
@@ -49,13 +49,16 @@ def find():
 
 
 def started(words, out=subprocess.PIPE):
-    """A run of the program that has ended."""
+    """A run of the program that has ended, by itself."""
     try:
-        return subprocess.run(words, stdin=subprocess.DEVNULL, stdout=out, stderr=subprocess.PIPE)
+        done = subprocess.run(words, stdin=subprocess.DEVNULL, stdout=out, stderr=subprocess.PIPE)
     except OSError as fault:
         if fault.errno == errno.ENOMEM:
             raise MemoryError from None
         raise ended(UNFIT, '%s: %s' % (words[0], fault.strerror)) from None
+    if done.returncode < 0:
+        raise ended(UNFIT, '%s: killed by signal %d' % (words[0], -done.returncode))
+    return done
 
 
 def mark_of(path):

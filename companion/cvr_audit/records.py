@@ -80,4 +80,4 @@ def run(files, words):
     if counting.text_of(rows, about.selections) != files.tally():
         raise mismatch('the records don\'t add up to what `cvr tally` prints')
     form = FORMS.get(words.columns, table.whole)
-    return table.text_of(form(lines, about)), False
+    return table.text_of(form(lines, about), words.spreadsheet), False

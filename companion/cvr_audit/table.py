@@ -11,6 +11,7 @@ DEVICE, UNIQUE, UNIT, BATCH, STYLE, AUDIT = range(len(HEADER))
 FILES, SEQUENCE, _, _, MACHINE = range(len(NAMES) - 5, len(NAMES))
 NUMBERS = counting.COLUMNS[1:]      # of a contest in a line, before the votes of its selections
 MARKS = ',', '"', '\n', '\r'
+FORMULAS = '=', '+', '-', '@', '\t', '\r'     # what a spreadsheet takes for the beginning of a formula
 
 
 def heads_of(selections, columns):
@@ -111,5 +112,14 @@ def cell(value):
     return '"%s"' % text.replace('"', '""') if is_quoted else text
 
 
-def text_of(lines):
-    return ''.join(','.join(map(cell, cells)) + '\n' for cells in lines)
+def plain(value):
+    """A value that no spreadsheet takes for a formula: a text that might be one has an apostrophe before
+    it."""
+    is_formula = isinstance(value, str) and value.startswith(FORMULAS)
+    return "'" + value if is_formula else value
+
+
+def text_of(lines, is_plain=False):
+    """The lines as CSV; for a spreadsheet without formulas."""
+    held = (map(plain, cells) for cells in lines) if is_plain else lines
+    return ''.join(','.join(map(cell, cells)) + '\n' for cells in held)

@@ -96,7 +96,7 @@ def run(files, words):
     """The text, and whether there is something to look at."""
     made = list(entries(files, words.group))
     if words.form == 'csv':
-        return table.text_of(as_csv(made, words.group)), False
+        return table.text_of(as_csv(made, words.group), words.spreadsheet), False
     if words.form == 'json':
         return written.text_of({'schema': 'cvr-audit totals 1', 'by': words.group,
                                 'totals': made}), False

@@ -1,10 +1,11 @@
 #!/usr/bin/env python3
 """run.py --cvr PATH [--sets N] [--seed N]
 
-Tests companion/cvr-audit with the given program: the rows of rows.json, what a terminal shows, and
-random sets of files (sets.py). Then the slips of wrong_ways.py: each is made in a copy, and the row
-that it names, the terminal or the sets have to find it. The last line is `audit: N right, M
-wrong`; the status is 0 only where M is 0 and N is not."""
+Tests companion/cvr-audit with the given program: the rows of rows.json and hostile.json, what a
+terminal shows, random sets of files (sets.py), and what a run leaves beside what it prints
+(outputs.py). Then the slips of wrong_ways.py: each is made in a copy, and the row that it names, the
+terminal or the sets have to find it. The last line is `audit: N right, M wrong`; the status is 0 only
+where M is 0 and N is not."""
 import argparse
 import os
 import subprocess
@@ -17,6 +18,7 @@ HERE = os.path.dirname(os.path.abspath(__file__))
 TOP = os.path.dirname(os.path.dirname(HERE))
 COMPANION = os.path.join(TOP, 'companion')
 sys.path[:0] = [HERE, os.path.dirname(HERE), os.path.join(TOP, 'tests', 'rows')]
+import outputs     # noqa: E402
 import rows        # noqa: E402
 import sets        # noqa: E402
 import terminal    # noqa: E402
@@ -87,6 +89,7 @@ def jobs(words, cvr):
     yield from ((rows.differences, COMPANION, cvr, row, advice) for row in held.values())
     yield terminal_differences, COMPANION, cvr
     yield number_differences, package
+    yield from ((outputs.differences, COMPANION, cvr, see) for see in outputs.SEEN)
     for seed in range(words.seed, words.seed + words.sets):
         yield sets.differences, package, cvr, seed
     for way in wrong_ways.WAYS:
