@@ -267,6 +267,8 @@ def made(words):
         files = sides(words) if words.definition is not None else []
         text, is_found = words.run(*files, words)
         for side in files:
+            if side.recount:
+                side.recount.see()
             side.see_unchanged()
             log(side.notes.encode('utf-8', 'surrogateescape'))
     except OSError as fault:

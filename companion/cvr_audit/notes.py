@@ -1,6 +1,6 @@
 """What each command says of the records that it counts: `warnings` and `page` with what to do, the
 others in a line of standard error that counts them."""
-from . import origins, ranks, reading
+from . import origins, ranks, reading, recount
 from .advice import line_of
 from .reading import spelled
 
@@ -46,11 +46,13 @@ class Notes:
 
     def __init__(self, files):
         self.files, self.waiting = files, []
+        files.recount = recount.Recount(files)
         self.origins, self.ranks = origins.Origins(), ranks.Ranks(files.report)
 
     def take(self, record):
         """Notes a record of volume 1."""
         current = reading.current_of(record)
+        self.files.recount.take(record)
         self.origins.take_record(record)
         self.ranks.take(current)
         contests = waiting_in(current)

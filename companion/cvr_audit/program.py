@@ -76,7 +76,8 @@ def mark_of(path):
 class Files:
     """A definition and files. `accepted` has the paths of the accepted files, each with the number of
     its records, and `log` the lines of the others; `own_records` is the number of the definition's
-    own records, which are not counted; `notes` is what a command says of them on standard error."""
+    own records, which are not counted; `notes` is what a command says of them on standard error, and
+    `recount` its own count of the records that it reads."""
 
     def __init__(self, program, definition, files, log):
         self.program, self.definition, self.files = program, definition, files
@@ -90,7 +91,7 @@ class Files:
         if self.status > 1:
             raise Ended(self.status, self.log)
         self.accepted = accepted_in(files, out)
-        self.notes = ''
+        self.notes, self.recount, self.tallied = '', None, None
         self.report = self.report_at(definition)
 
     def run(self, task, words, files, out=subprocess.PIPE):
@@ -128,7 +129,9 @@ class Files:
                 raise mismatch('%s was changed while it was read' % path)
 
     def tally(self):
-        return self.text('tally')
+        if self.tallied is None:
+            self.tallied = self.text('tally')
+        return self.tallied
 
     def volume(self, number):
         """A volume of the files, in a file that has no name and disappears with this process."""

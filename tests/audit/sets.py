@@ -131,7 +131,7 @@ class Set:
         return rows
 
     def see_records(self):
-        words = SimpleNamespace(columns=None)
+        words = SimpleNamespace(columns=None, spreadsheet=False)
         lines = csv_lines(self.package.records.run(self.files(self.paths), words)[0])
         tally = tally_rows(self.printed('tally', self.paths))
         see(self.added_up(lines) == tally, 'records don\'t add up to the tally')

@@ -96,9 +96,6 @@ WAYS = [
         'of a conflict the greater text counts'),
     Way('shows_zeros_for_a_contest_that_is_absent', 'records.py', '[None] * (', '[0] * (',
         'signs of CSV, an empty text, and a contest that a snapshot lacks'),
-    Way('forgets_to_hold_records_against_the_tally', 'records.py',
-        'if counting.text_of(rows, about.selections) != files.tally():', 'if False:',
-        'records that do not add up to the tally'),
     Way('shows_no_batch_as_an_empty_one', 'table.py', "text == '' or any(", 'any(',
         'an empty batch and no batch are two'),
     Way('leaves_quotes_as_they_are', 'table.py', ".replace('\"', '\"\"')", '',
@@ -340,6 +337,8 @@ WAYS = [
         'output == path', 'an output that is an input by another name'),
     Way('gives_spreadsheets_formulas', 'table.py', "FORMULAS = '=', '+',", "FORMULAS = '=',",
         'cells that a spreadsheet takes for formulas'),
+    Way('counts_nothing_again', 'line.py', 'if side.recount:', 'if False:',
+        'nine votes of one ballot, in page'),
     # ---- what a file does
     Way('leaves_out_no_file', 'without.py', ' if it != path]', ']',
         'a file of snapshots dated 9999 that takes a contest'),
