@@ -22,7 +22,7 @@ _cvr_audit() {
     compare:-*) COMPREPLY=($(compgen -W '--one --other --one-from --other-from --null -h --help' -- "$2")) ;;
     trace:-*) COMPREPLY=($(compgen -W '--contest --unit --batch --selection --files-from --null -h --help' -- "$2")) ;;
     without:-*) COMPREPLY=($(compgen -W '--files-from --null -h --help' -- "$2")) ;;
-    page:-*) COMPREPLY=($(compgen -W '--manifest --public -o --files-from --null -h --help' -- "$2")) ;;
+    page:-*) COMPREPLY=($(compgen -W '--manifest --public --second -o --files-from --null -h --help' -- "$2")) ;;
     warnings:-*) COMPREPLY=($(compgen -W '--manifest --files-from --null -h --help' -- "$2")) ;;
     totals:-*) COMPREPLY=($(compgen -W '--by --format --spreadsheet -o --files-from --null -h --help' -- "$2")) ;;
     lines:-*) COMPREPLY=($(compgen -W '--format -o --files-from --null -h --help' -- "$2")) ;;

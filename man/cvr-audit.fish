@@ -34,6 +34,7 @@ complete -c cvr-audit -n '__fish_seen_subcommand_from without' -l files-from -r 
 complete -c cvr-audit -n '__fish_seen_subcommand_from without' -l null -d 'paths in lists end with a NUL byte'
 complete -c cvr-audit -n '__fish_seen_subcommand_from page' -l manifest -r -F -d 'a file of lines `batch,ballots` or `device,batch,ballots`'
 complete -c cvr-audit -n '__fish_seen_subcommand_from page' -l public -d 'a page for the public: no path, no record, and no number from which one below ten follows'
+complete -c cvr-audit -n '__fish_seen_subcommand_from page' -l second -r -F -d 'a second program, whose `tally` has to print the same'
 complete -c cvr-audit -n '__fish_seen_subcommand_from page' -s o -r -F -d 'the file to write to, in place of standard output'
 complete -c cvr-audit -n '__fish_seen_subcommand_from page' -l files-from -r -F -d 'a list of the paths of files, one a line, in place of the files; - is standard input'
 complete -c cvr-audit -n '__fish_seen_subcommand_from page' -l null -d 'paths in lists end with a NUL byte'

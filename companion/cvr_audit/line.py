@@ -102,6 +102,7 @@ OPTIONS = {
         (('--manifest',), 'CSV', {'help': MANIFEST}),
         (('--public',), None, {'action': 'store_true', 'help': 'a page for the public: no path, no '
                                'record, and no number from which one below ten follows'}),
+        (('--second',), 'PROGRAM', {'help': 'a second program, whose `tally` has to print the same'}),
         (('-o',), 'HTML', {'dest': 'output',
                            'help': 'the file to write to, in place of standard output'}),
     ],

@@ -20,7 +20,7 @@ class Facts:
     """What a page is made from."""
 
     def __init__(self, files, words):
-        self.files, self.is_public = files, words.public
+        self.files, self.is_public, self.second = files, words.public, words.second
         self.names = page_names.Names(files.report)
         self.selections = counting.selections_of(files.report)
         self.allowed = warnings.allowed_of(files.report)

@@ -339,6 +339,8 @@ WAYS = [
         'cells that a spreadsheet takes for formulas'),
     Way('counts_nothing_again', 'line.py', 'if side.recount:', 'if False:',
         'nine votes of one ballot, in page'),
+    Way('trusts_a_second_program', 'page.py', 'if status > 1 or text', 'if status > 1 and text',
+        'a second program that counts otherwise'),
     # ---- what a file does
     Way('leaves_out_no_file', 'without.py', ' if it != path]', ']',
         'a file of snapshots dated 9999 that takes a contest'),
