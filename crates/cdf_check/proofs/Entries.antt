@@ -38,7 +38,7 @@ from_among (y ∷ ys) x (inr a) = let c = from_among ys x a in (suc c.0, omega (
 abbrev pub AreAlone : List IdText → Type 0
 AreAlone es = IsDistinct bytes_eq (ids_of es)
 
-alone_by_id : (es : List IdText) → AreAlone (by_id es)
+pub alone_by_id : (es : List IdText) → AreAlone (by_id es)
 alone_by_id es =
     subst (λ eq. IsDistinct eq (ids_of (by_id es))) (λ i k l. is_eq-slice_cmp k l i)
     (IsDistinct-from_sorted (slice_cmp nat_cmp) (ids_of (by_id es)) (by_id_law es).rises)

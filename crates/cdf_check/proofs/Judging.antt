@@ -306,6 +306,11 @@ module _ {T : Type 0} (keeps : List Cvr → T → Type 0) (frame : Frame) (text 
     abbrev p : Parts keeps frame text left seen
     p = parts_at there (beside records h.0 h.4)
 
+    -- what is left has no records
+    pub emptied_left : array_at records left ≡ []
+    emptied_left = subst (λ x. array_at records x ≡ []) (sym p.left_is)
+        (subst (λ xs. array_at records (object xs) ≡ []) p.emptied (records_there [] p.ms p.some))
+
     abbrev fault : Option Fault
     fault = option_map fault_of seen.form
 

@@ -1,6 +1,7 @@
 pub mod SameElection
 pub mod Entries
 pub mod Listing
+pub mod Listed
 pub mod SameDefinition
 pub mod Ascii
 pub mod NoDefault

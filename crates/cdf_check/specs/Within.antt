@@ -5,6 +5,9 @@ use Rattle.serde_json.specs.Data.{Data}
 use Rattle.serde_json.specs.Find.{as_str}
 use Rattle.cdf_parts.specs.Parts.{array_at, ids_at, text_in}
 use Rattle.cdf_parts.specs.Places.{Texts}
+use Rattle.cdf_definition.specs.Frame.{Frame}
+use Rattle.cdf_definition.specs.Lists.{HasRest}
+use Rattle.cdf_definition.specs.Named.{ids_of}
 use Rattle.cdf_check.specs.declared.record_names.RecordNames.{RecordNames}
 
 -- the device, the unit and the parties that a record names
@@ -36,3 +39,11 @@ pub record ListsNamed (left : Data) (names : RecordNames) : Type 0 where
   pub devices : lists (ids_at (codes "ReportingDevice") left) names.devices ≡ true
   pub units : lists (ids_at (codes "GpUnit") left) names.units ≡ true
   pub parties : lists (ids_at (codes "Party") left) names.parties ≡ true
+
+-- what is left of a file that has the lists of its definition: its rest is that of a report, and
+-- the devices that records name are listed in it, the units and parties in the definition
+pub record RestSettles (frame : Frame) (left : Data) (names : RecordNames) : Type 0 where
+  pub rest : HasRest left
+  pub devices : lists (ids_at (codes "ReportingDevice") left) names.devices ≡ true
+  pub units : lists (ids_of frame.units) names.units ≡ true
+  pub parties : lists (ids_of frame.parties) names.parties ≡ true

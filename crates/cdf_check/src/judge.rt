@@ -11,19 +11,24 @@ ghost use Rattle.cdf_parts.specs.Parts.{array_at};
 ghost use Rattle.cdf_typed.specs.Typed.{report_of};
 ghost use Rattle.cdf_definition.specs.Agreement.{disagreements};
 ghost use Rattle.cdf_definition.specs.Sound.{IsSound};
+ghost use Rattle.cdf_definition.specs.Lists.{HasLists};
 ghost use Rattle.cdf_check.specs.Seen.{IsSeen, first_of_file, form_refusal, is_array, Accepts};
 ghost use Rattle.cdf_check.specs.Seen.{IsJudged};
+ghost use Rattle.cdf_check.specs.Within.{RestSettles};
 
 use crate::fractions::file_fraction;
+use crate::record_names::RecordNames;
 use crate::seen::Seen;
 use crate::unnamed::reference_fault;
-use cdf_definition::{Definition, Keep, check_value, told_fault};
+use cdf_definition::{Definition, Keep, check_value, has_rest, told_fault};
 use cdf_form::float::find_float;
 use cdf_form::found::{Found, Step, Stop};
 use cdf_form::leaf::class_of;
 use cdf_form::read::document_fault;
 use cdf_form::table::Group;
 use cdf_node::Node;
+use cdf_parts::ids::Ids;
+use cdf_parts::items_at;
 use cdf_typed::read_report;
 use cdf_types::{Body, Memory, ReadFault, ReportingDevice, Rule, Seq};
 use std::alloc::Global;
@@ -99,6 +104,27 @@ fn stands(alloc: Global, definition: &Definition, left: &Node<'_>) -> Result<boo
     }
 }
 
+// Whether that holds, and it lists what the records name, where it has the definition's lists.
+// Nothing is wrong with these, so the rest alone is looked at.
+fn rest_settles(
+    alloc: Global,
+    definition: &Definition,
+    left: &Node<'_>,
+    names: &RecordNames,
+) -> Result<bool, Memory>
+    requires lists { HasLists definition.now (view left.now) }
+    requires none { array_at (codes "CVR") (view left.now) ≡ [] }
+    ensures { IfOk result (λ is. IsTrue is ↔ RestSettles definition.now (view left.now) names.now) }
+{
+    let devices = Ids::of_items(alloc, items_at("ReportingDevice", left))?;
+    Ok(
+        has_rest(alloc, &devices, left)?
+            && names.devices.are_among(&devices)
+            && names.units.are_among(definition.unit_ids())
+            && names.parties.are_among(definition.party_ids()),
+    )
+}
+
 // Whether a file is accepted, by what was seen of its records. What is left is checked once, and
 // not for its first fault, which is of interest only where the file is refused.
 fn is_accepted<T>(
@@ -107,10 +133,14 @@ fn is_accepted<T>(
     left: &Node<'_>,
     seen: &Seen<T>,
 ) -> Result<bool, Memory>
+    requires { array_at (codes "CVR") (view left.now) ≡ [] }
     ensures { IfOk result (λ is. IsTrue is ↔ Accepts definition.now (view left.now) seen.now) }
 {
     if seen.fraction.is_some() || seen.form.is_some() || !seen.kept.settled {
         return Ok(false);
+    }
+    if definition.has_lists(left) {
+        return rest_settles(alloc, definition, left, &seen.kept.names);
     }
     if !seen.kept.names.are_listed(alloc, left)? {
         return Ok(false);

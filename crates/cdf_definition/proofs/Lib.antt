@@ -1,4 +1,5 @@
 pub mod Empty
+pub mod Trees
 pub mod Resolving
 pub mod Agreeing
 pub mod Sounding
@@ -7,6 +8,8 @@ pub mod Reports
 pub mod ById
 pub mod Gathered
 pub mod OneElection
+pub mod Resting
+pub mod Rows
 pub mod Items
 pub mod Depths
 pub mod Texts

@@ -1,9 +1,9 @@
 -- What a sound report has: one Election, and no fractional number in an array.
 use Rattle.std.proofs.Common.{◌≡◌, ℕ, List, [], ◌∷◌, length, get_or, map, false, ap, ◌∙◌, refl}
-use Rattle.std.proofs.Common.{arith}
+use Rattle.std.proofs.Common.{arith, sym}
 use Rattle.std.specs.List.{list_any}
 use Rattle.std.specs.Coded.{Coded-set, coded_ℕ}
-use Rattle.std.proofs.Math.Logic.{∥∥₁_elim}
+use Rattle.std.proofs.Math.Logic.{∥∥₁_elim, ∥∥₁_map}
 use Rattle.serde_json.specs.Data.{Data}
 use Rattle.serde_json.specs.Written.{has_float}
 use Rattle.cdf_parts.specs.Parts.{array_at}
@@ -15,6 +15,8 @@ use Rattle.cdf_parts.proofs.Laws.{whole_array}
 use Rattle.cdf_definition.specs.Named.{id_and_text, by_id, texts_of}
 use Rattle.cdf_definition.specs.Frame.{Frame, frame_of}
 use Rattle.cdf_definition.specs.Sound.{IsSound, IsFrame}
+use Rattle.cdf_definition.specs.Lists.{AreOfOne, AreListsOf, HasLists}
+use Rattle.cdf_definition.specs.declared.lists.Lists.{Lists}
 use Rattle.cdf_definition.proofs.ById.{by_id-put}
 use Rattle.cdf_definition.proofs.Sounding.{sound}
 use Rattle.cdf_definition.proofs.Reports.{one_election}
@@ -38,3 +40,22 @@ pub only_text : (texts : Texts) (d : List ℕ) → length texts ≡ 1 → texts 
 only_text [] d e = absurd (omega arith)
 only_text (t ∷ []) d e = refl
 only_text (t ∷ (u ∷ texts)) d e = absurd (omega arith)
+
+-- ---- what a definition is made with
+
+pub is_frame : (f : Frame) (lists : Lists) → AreOfOne f lists → IsFrame f
+is_frame f lists h = ∥∥₁_map h (λ q. (q.0, q.1, q.2, q.3))
+
+-- a value in which its lists stand has those of the report
+pub has_lists : (f : Frame) (lists : Lists) (d : Data) → AreOfOne f lists → AreListsOf lists d
+    → HasLists f d
+has_lists f lists d h a = ∥∥₁_map h (λ q. (
+  q.0,
+  q.2,
+  q.3,
+  record {
+    elections = sym q.4.elections ∙ a.elections;
+    units = sym q.4.units ∙ a.units;
+    parties = sym q.4.parties ∙ a.parties;
+  },
+))

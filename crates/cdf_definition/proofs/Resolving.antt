@@ -44,7 +44,7 @@ one_law : (ids : Texts) (name : List ℕ) (d : Data) → (one ids name d ≡ [])
 one_law ids name d =
     inner (at_member name) (unknown ids (text_in name d)) (all_known ids (text_in name d))
 
-many_law : (ids : Texts) (name : List ℕ) (d : Data) → (many ids name d ≡ []) ↔ AllName ids name d
+pub many_law : (ids : Texts) (name : List ℕ) (d : Data) → (many ids name d ≡ []) ↔ AllName ids name d
 many_law ids name d =
     let h = all_items (λ e. unknown ids (as_str e))
     (λ e. (s : List ℕ) → as_str e ≡ Some s → Contains ids s) (λ e. all_known ids (as_str e))

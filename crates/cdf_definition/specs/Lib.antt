@@ -9,6 +9,8 @@ pub mod Sound
 pub mod Acceptance
 pub mod Bodies
 pub mod Depths
+pub mod Tree
+pub mod Lists
 pub mod Naming
 pub mod Laws
 pub mod Sample

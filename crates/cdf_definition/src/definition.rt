@@ -1,10 +1,13 @@
+use crate::lists::Lists;
 use crate::named::Named;
 use cdf_node::Node;
 use cdf_parts::contests::Contests;
+use cdf_parts::ids::Ids;
 use cdf_parts::{election_items, items_at};
 use cdf_types::{Body, Memory};
 use std::alloc::Global;
 use std::marker::Model;
+use std::rc::Rc;
 
 /// An election definition: what is kept of a sound report. Two reports have the same definition
 /// where the texts of their Election, GpUnits and Parties are the same; which members make a
@@ -15,6 +18,7 @@ pub struct Definition {
     parties: Named,
     devices: Named,
     contests: Contests,
+    lists: Rc<Lists>,
 }
 
 // By hand: what holds one has shorter proofs than with a derived `Drop`.
@@ -26,13 +30,14 @@ impl Drop for Definition {
             parties: _,
             devices: _,
             contests: _,
+            lists: _,
         } = self;
     }
 }
 
 impl Model for Definition {
     ghost use Rattle.cdf_definition.specs.Frame.{Frame};
-    ghost use Rattle.cdf_definition.specs.Sound.{IsFrame};
+    ghost use Rattle.cdf_definition.specs.Lists.{AreOfOne};
 
     ghost Value = { Frame };
 
@@ -44,24 +49,26 @@ impl Model for Definition {
       contests = a.contests;
     } };
 
-    ghost invariant = { λ a. IsFrame (record {
+    ghost invariant = { λ a. AreOfOne (record {
       elections = a.elections;
       units = a.units;
       parties = a.parties;
       devices = a.devices;
       contests = a.contests;
-    }) };
+    }) a.lists.value };
 }
 
 impl Definition {
     ghost use Rattle.std.specs.Prelude.{◌≡◌, ◌<◌, length, slice_index_or, IfOk, [], ◌∷◌, bytes_eq};
     ghost use Rattle.std.specs.Prelude.{IsTrue, ◌↔◌};
+    ghost use Rattle.std.specs.Bool.{OnTrue};
     ghost use Rattle.std.specs.List.{list_any};
     ghost use Rattle.cdf_node.specs.View.{view};
     ghost use Rattle.cdf_parts.specs.Places.{place_in, contest_ids, selections_at};
     ghost use Rattle.cdf_definition.specs.Named.{ids_of, texts_of};
     ghost use Rattle.cdf_definition.specs.Frame.{frame_of, IsSame};
     ghost use Rattle.cdf_definition.specs.Sound.{IsSound, WasRead, IsFrame};
+    ghost use Rattle.cdf_definition.specs.Lists.{HasLists};
 
     /// What is kept of a report.
     ///
@@ -78,6 +85,7 @@ impl Definition {
             parties: Named::of_items(alloc, items_at("Party", report))?,
             devices: Named::of_items(alloc, items_at("ReportingDevice", report))?,
             contests: Contests::of_items(alloc, election_items("Contest", report))?,
+            lists: Lists::of_report(alloc, report)?,
         })
     }
 
@@ -94,6 +102,7 @@ impl Definition {
             parties: self.parties.copy(alloc)?,
             devices: self.devices.copy(alloc)?,
             contests: self.contests.copy(alloc)?,
+            lists: self.lists.clone()?,
         })
     }
 
@@ -204,6 +213,28 @@ impl Definition {
         ensures { result ≡ list_any (bytes_eq id.now) (ids_of self.now.devices) }
     {
         self.devices.ids().contains(id)
+    }
+
+    /// Whether a value has the lists that the definition was made with: the same Election, GpUnits
+    /// and Parties, in the same order. Takes no memory.
+    pub fn has_lists(&self, value: &Node<'_>) -> bool
+        ensures { OnTrue result (HasLists self.now (view value.now)) }
+    {
+        self.lists.as_ref().are_in(value)
+    }
+
+    /// The ids of the GpUnits, in byte order. Takes no memory.
+    pub fn unit_ids(&self) -> &Ids
+        ensures { result.now ≡ ids_of self.now.units }
+    {
+        self.units.ids()
+    }
+
+    /// The ids of the Parties, in byte order. Takes no memory.
+    pub fn party_ids(&self) -> &Ids
+        ensures { result.now ≡ ids_of self.now.parties }
+    {
+        self.parties.ids()
     }
 
     // The Election by its id.

@@ -3,6 +3,7 @@ ghost use Rattle.cdf_definition.specs.Laws.{SnapshotLaw, AgreementLaw, SoundLaw,
 ghost use Rattle.cdf_definition.specs.Laws.{SoundFileLaw, ValidFileLaw, OneElectionLaw, KeptLaw};
 ghost use Rattle.cdf_definition.specs.Depths.{ReportRowLaw, HasIdLaw, WasReadLaw};
 ghost use Rattle.cdf_definition.specs.Depths.{ReportIsProperLaw, ListedIsProperLaw};
+ghost use Rattle.cdf_definition.specs.Lists.{RestOfReportLaw, RestLaw};
 
 /// Entries by their ids rise strictly by id, and beside each id stands the text of the last entry
 /// that has it. Worked example: two of three entries have one id.
@@ -50,4 +51,10 @@ pub fn bodies_are_shallow()
     ensures value { WasReadLaw }
     ensures report { ReportIsProperLaw }
     ensures listed { ListedIsProperLaw }
+{}
+
+/// What a report is beside its lists, and when a value with the lists of a report is one.
+pub fn rest_of_reports()
+    ensures has_rest { RestOfReportLaw }
+    ensures is_report { RestLaw }
 {}

@@ -120,7 +120,7 @@ impl Look for InCvr<'_> {
 }
 
 // The class that an object has at `@type`, if it is one of the group.
-fn class_in(group: Group, value: &Node<'_>) -> Option<Class>
+pub(crate) fn class_in(group: Group, value: &Node<'_>) -> Option<Class>
     ensures { result ≡ class_in group (view value.now) }
 {
     find_class(classes(group), value.get("@type")?.as_str()?)

@@ -10,4 +10,4 @@ pub mod leaf;
 pub mod path;
 pub mod read;
 pub mod table;
-mod walk;
+pub mod walk;

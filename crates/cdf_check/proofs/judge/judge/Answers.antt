@@ -2,7 +2,7 @@ use Rattle.std.proofs.Common.{true≢false, sym, ◌∙◌, arith}
 use Rattle.cdf_node.specs.View.{view}
 use Rattle.cdf_form.proofs.Laws.{whole_document}
 use Rattle.cdf_check.proofs.Judging.{judged_whole, judged_form, judged_accepted, no_records}
-use Rattle.cdf_check.proofs.Judging.{refused_for_names}
+use Rattle.cdf_check.proofs.Judging.{emptied_left, refused_for_names}
 use Rattle.cdf_check.proofs.judge.judge.Goals as goal
 
 pub judge_whole-requires : goal.judge_whole-requires
@@ -12,6 +12,10 @@ pub returns-then-not-has_records : goal.returns-then-not-has_records
 returns-then-not-has_records g c =
     judged_whole _ c.args.definition.now c.args.text.now (view c.args.left.now) c.args.seen
     c.requires c.judge_whole.result (grind arith) c.judge_whole.ensures
+
+pub is_accepted-requires : goal.is_accepted-requires
+is_accepted-requires g c = emptied_left _ c.args.definition.now c.args.text.now
+    (view c.args.left.now) c.args.seen c.requires (grind arith)
 
 pub devices_in-requires : goal.devices_in-requires
 devices_in-requires g c = whole_document (view c.args.left.now)

@@ -7,4 +7,5 @@ invariant_of-result c = rw (
   c.in_ok-copy-3.ensures,
   c.in_ok-copy-4.ensures,
   c.in_ok-copy-5.ensures,
+  c.in_ok-clone.ensures.cases,
 ) c.self.invariant
