@@ -7,17 +7,15 @@ goes from office to office. `stack`: the least stack, to 4 KiB, with which each 
 8 MiB, over a file as deep as one may be and over one of many items, with few words and no environment, which stand on
 the stack, too. Without a word all four. The figures of the others are of one run each. With --keep they are appended to
 runs/DATE-NAME.md. The status is 1 where a command fails."""
-import argparse
 import json
 import os
 import resource
 import subprocess
-import sys
 import tempfile
 
-from bench import TOP, Failed, Report, commit, keep, machine
+from bench import Failed
 from gen import write
-from running import objects, record, report
+from running import measure, objects, record, report
 
 TRIES = 3
 DEEP = 127          # as deep as JSON may be nested
@@ -142,27 +140,5 @@ class Measuring:
         return high
 
 
-def main():
-    words = argparse.ArgumentParser(description=__doc__, formatter_class=argparse.RawDescriptionHelpFormatter)
-    words.add_argument('what', nargs='*', metavar='rows|tree|drill|stack')
-    words.add_argument('--cvr', default=os.path.join(TOP, 'crates', 'cvr', 'out', 'cvr'))
-    words.add_argument('--keep', metavar='NAME')
-    said = words.parse_args()
-    kinds = ['rows', 'tree', 'drill', 'stack']
-    if set(said.what) - set(kinds):
-        words.error('rows, tree, drill or stack')
-    told = Report()
-    told.say('%s, commit %s' % (machine(), commit()))
-    with tempfile.TemporaryDirectory() as folder:
-        measuring = Measuring(os.path.abspath(said.cvr), folder, told)
-        for what in said.what or kinds:
-            getattr(measuring, what)()
-    if said.keep:
-        keep(told, said.keep)
-
-
 if __name__ == '__main__':
-    try:
-        main()
-    except Failed as why:
-        sys.exit('chosen: %s' % why)
+    measure(__doc__, ['rows', 'tree', 'drill', 'stack'], Measuring)

@@ -43,7 +43,7 @@ use Rattle.cvr_cached.proofs.Moving.{headed}
 use Rattle.cvr_cached.proofs.Pairs.{pairs_are}
 use Rattle.cvr_cached.proofs.Passing.{laid_none}
 use Rattle.cvr_cached.proofs.Reading.{header_read, current_read}
-use Rattle.cvr_cached.proofs.Searched.{AreThere, put_none}
+use Rattle.cvr_lists.proofs.Lemmas.{AreThere, put_none}
 use Rattle.cvr_cached.proofs.Taken.{own_runs, plain_after, rise_before}
 
 -- ---- lists and their sets

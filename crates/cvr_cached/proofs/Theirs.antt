@@ -20,7 +20,7 @@ use Rattle.cvr_cached.specs.Contents.{Entries, facts_at}
 use Rattle.cvr_cached.specs.Plans.{IsPassed, IsPlanned, IsStep}
 use Rattle.cvr_cached.proofs.Listed.{at_name, each_of, all_of_each, less_other, turned}
 use Rattle.cvr_cached.proofs.Passing.{planned_none, planned_step}
-use Rattle.cvr_cached.proofs.Searched.{put_nothing}
+use Rattle.cvr_lists.proofs.Lemmas.{put_nothing}
 use Rattle.cvr_cached.proofs.KeyTests.{own_name}
 
 -- the name of the first

@@ -20,7 +20,7 @@ use crate::remembered::{
 use cdf_types::Memory;
 use cvr_facts::{HeaderFact, SnapshotFact};
 use cvr_lists::putting::{copies, put_in};
-use cvr_office::any_fact::AnyFact;
+use cvr_lists::shared::SharedFact;
 use cvr_tally::{RowKey, Totals};
 use std::alloc::Global;
 use std::marker::Model;
@@ -28,7 +28,7 @@ use std::marker::Model;
 // The facts of one record, each once and in order, with the places of its header and its current
 // snapshot, and a key of its rows. Contracts see it as the list of its facts.
 pub(crate) struct RecordContent {
-    facts: Vec<AnyFact>,
+    facts: Vec<SharedFact>,
     header: Option<usize>,
     current: Option<usize>,
     // It has the header's unit and batch; its contest is that of the row that was touched last.
@@ -73,7 +73,7 @@ impl RecordContent {
     }
 
     // Its facts with more put in.
-    pub(crate) fn with(&self, alloc: Global, more: Vec<AnyFact>) -> Result<RecordContent, Memory>
+    pub(crate) fn with(&self, alloc: Global, more: Vec<SharedFact>) -> Result<RecordContent, Memory>
         ensures { IfOk result (λ c. IsPut self.now more.items c) }
     {
         let mut facts = copies(alloc, &self.facts)?;
@@ -90,7 +90,7 @@ impl RecordContent {
     }
 
     // Its facts, in order. Takes no memory.
-    pub(crate) fn facts(&self) -> &[AnyFact]
+    pub(crate) fn facts(&self) -> &[SharedFact]
         ensures is { result.now ≡ self.now }
         ensures rises { IsStrictlySortedBy any_cmp self.now }
     {

@@ -13,8 +13,8 @@ use crate::content::RecordContent;
 use cdf_types::{Memory, Seq};
 use cvr_facts::RecordName;
 use cvr_lists::conflicts::{conflicts_in, greatest_count_in};
+use cvr_lists::shared::SharedFact;
 use cvr_office::ConflictList;
-use cvr_office::any_fact::AnyFact;
 use std::alloc::Global;
 use std::collections::BTreeMap;
 use std::ops::Bound;
@@ -63,7 +63,7 @@ fn least_name(records: &BTreeMap<RecordName, RecordContent>) -> Option<&RecordNa
 // The names with two bodies or more: those of devices, then record by record.
 pub(crate) fn conflicts_over(
     alloc: Global,
-    devices: &[AnyFact],
+    devices: &[SharedFact],
     records: &BTreeMap<RecordName, RecordContent>,
 ) -> Result<ConflictList, Memory>
     requires { IsStrictlySortedBy any_cmp devices.now }
@@ -80,7 +80,7 @@ pub(crate) fn conflicts_over(
 
 // The greatest number of bodies under one name, 0 where there is none. Takes no memory.
 pub(crate) fn greatest_count_over(
-    devices: &[AnyFact],
+    devices: &[SharedFact],
     records: &BTreeMap<RecordName, RecordContent>,
 ) -> usize
     requires { IsStrictlySortedBy any_cmp devices.now }

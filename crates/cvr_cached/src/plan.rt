@@ -18,7 +18,7 @@ use cdf_types::Memory;
 use cvr_facts::RecordName;
 use cvr_lists::putting::copies;
 use cvr_lists::records::{first_record, take_run};
-use cvr_office::any_fact::AnyFact;
+use cvr_lists::shared::SharedFact;
 use std::alloc::Global;
 use std::collections::{BTreeMap, VecDeque};
 
@@ -34,7 +34,7 @@ pub(crate) struct Plan {
 pub(crate) fn plan_of(
     alloc: Global,
     records: &BTreeMap<RecordName, RecordContent>,
-    more: Vec<AnyFact>,
+    more: Vec<SharedFact>,
 ) -> Result<Plan, Memory>
     requires more { IsStrictlySortedBy any_cmp more.items }
     requires named { (f : AnyFact) → Contains more.items f
@@ -83,7 +83,7 @@ fn add_change(
     plan: &mut Plan,
     records: &BTreeMap<RecordName, RecordContent>,
     name: RecordName,
-    group: Vec<AnyFact>,
+    group: Vec<SharedFact>,
 ) -> Result<(), Memory>
     ensures { OnOk result (IsStep (facts_at (get name_cmp records.now name))
         group.items name plan.old plan.new) }
@@ -122,7 +122,7 @@ fn push_change(
     plan: &mut Plan,
     name: RecordName,
     old: &RecordContent,
-    more: Vec<AnyFact>,
+    more: Vec<SharedFact>,
 ) -> Result<(), Memory>
     requires { (x : AnyFact) × Contains more.items x
         × (contains (set_of old.now) (fact_of x) ≡ false) }
@@ -140,7 +140,7 @@ fn push_change(
 }
 
 // Whether all of a group are among the facts.
-pub(crate) fn has_all(facts: &[AnyFact], group: &[AnyFact]) -> bool
+pub(crate) fn has_all(facts: &[SharedFact], group: &[SharedFact]) -> bool
     requires { IsStrictlySortedBy any_cmp facts.now }
     ensures all { IsTrue result → IsPut facts.now group.now facts.now }
     ensures some { result ≡ false → (x : AnyFact)

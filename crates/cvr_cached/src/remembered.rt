@@ -7,16 +7,17 @@ ghost use Rattle.cvr_cached.specs.Contents.{IsKeyOf};
 
 use cdf_types::Memory;
 use cvr_facts::{HeaderFact, SnapshotFact, VoteSums, choice_cmp};
+use cvr_lists::shared::SharedFact;
 use cvr_office::any_fact::AnyFact;
 use cvr_tally::RowKey;
 
 // The place of the last header.
-pub(crate) fn header_place(facts: &[AnyFact]) -> Option<usize>
+pub(crate) fn header_place(facts: &[SharedFact]) -> Option<usize>
     ensures { header_at facts.now result ≡ header_in facts.now }
 {
     let mut last = None;
     for (place, fact) in facts.iter().enumerate() {
-        if let AnyFact::Header(_) = fact {
+        if let AnyFact::Header(_) = fact.fact() {
             last = Some(place);
         }
     }
@@ -24,7 +25,7 @@ pub(crate) fn header_place(facts: &[AnyFact]) -> Option<usize>
 }
 
 // The place of the greatest snapshot by the order of choosing.
-pub(crate) fn current_place(facts: &[AnyFact]) -> Option<usize>
+pub(crate) fn current_place(facts: &[SharedFact]) -> Option<usize>
     ensures { current_at facts.now result ≡ current_in facts.now }
 {
     let mut greatest = None;
@@ -37,12 +38,12 @@ pub(crate) fn current_place(facts: &[AnyFact]) -> Option<usize>
 }
 
 // The place of the greatest snapshot from a place on, given that of those after it.
-fn greater_place(facts: &[AnyFact], place: usize, behind: Option<usize>) -> Option<usize>
+fn greater_place(facts: &[SharedFact], place: usize, behind: Option<usize>) -> Option<usize>
     requires within { place < length facts.now }
     requires behind { current_at facts.now behind ≡ current_in (drop (place + 1) facts.now) }
     ensures { current_at facts.now result ≡ current_in (drop place facts.now) }
 {
-    let AnyFact::Snapshot(snapshot) = &facts[place] else {
+    let AnyFact::Snapshot(snapshot) = facts[place].fact() else {
         return behind;
     };
     match snapshot_at(facts, behind) {
@@ -52,20 +53,20 @@ fn greater_place(facts: &[AnyFact], place: usize, behind: Option<usize>) -> Opti
 }
 
 // The header at a place.
-pub(crate) fn header_fact_at(facts: &[AnyFact], place: Option<usize>) -> Option<&HeaderFact>
+pub(crate) fn header_fact_at(facts: &[SharedFact], place: Option<usize>) -> Option<&HeaderFact>
     ensures { option_map (λ h. h.now) result ≡ header_at facts.now place }
 {
-    match facts.get(place?)? {
+    match facts.get(place?)?.fact() {
         AnyFact::Header(header) => Some(header),
         _ => None,
     }
 }
 
 // The snapshot at a place.
-pub(crate) fn snapshot_at(facts: &[AnyFact], place: Option<usize>) -> Option<&SnapshotFact>
+pub(crate) fn snapshot_at(facts: &[SharedFact], place: Option<usize>) -> Option<&SnapshotFact>
     ensures { option_map (λ s. s.now) result ≡ current_at facts.now place }
 {
-    match facts.get(place?)? {
+    match facts.get(place?)?.fact() {
         AnyFact::Snapshot(snapshot) => Some(snapshot),
         _ => None,
     }
@@ -83,7 +84,7 @@ pub(crate) fn no_key() -> RowKey
 }
 
 // A key of the unit and the batch of the header at a place.
-pub(crate) fn key_at(facts: &[AnyFact], place: Option<usize>) -> Result<RowKey, Memory>
+pub(crate) fn key_at(facts: &[SharedFact], place: Option<usize>) -> Result<RowKey, Memory>
     requires { header_at facts.now place ≡ header_in facts.now }
     ensures { IfOk result (IsKeyOf facts.now) }
 {
@@ -95,7 +96,7 @@ pub(crate) fn key_at(facts: &[AnyFact], place: Option<usize>) -> Result<RowKey, 
 
 // The sums that a content adds to the tally, by the places of its header and its current snapshot.
 pub(crate) fn votes_at(
-    facts: &[AnyFact],
+    facts: &[SharedFact],
     header: Option<usize>,
     current: Option<usize>,
 ) -> &[VoteSums]

@@ -5,7 +5,7 @@ use cdf_definition::Definition;
 use cdf_types::Memory;
 use cvr_facts::RecordName;
 use cvr_lists::putting;
-use cvr_office::any_fact::AnyFact;
+use cvr_lists::shared::SharedFact;
 use cvr_tally::Totals;
 use std::alloc::Global;
 use std::collections::BTreeMap;
@@ -14,7 +14,7 @@ use std::marker::Model;
 // What an office keeps: the facts of devices, the contents of records, and the running totals.
 #[derive(Drop)]
 pub(crate) struct Store {
-    pub(crate) devices: Vec<AnyFact>,
+    pub(crate) devices: Vec<SharedFact>,
     pub(crate) records: BTreeMap<RecordName, RecordContent>,
     pub(crate) totals: Totals,
     // How many facts there are.
@@ -74,8 +74,8 @@ impl Store {
     // many were new.
     pub(crate) fn take_in(
         &mut self,
-        devices: &[AnyFact],
-        more: Vec<AnyFact>,
+        devices: &[SharedFact],
+        more: Vec<SharedFact>,
     ) -> Result<usize, Memory>
         requires devices { (f : AnyFact) → Contains devices.now f → record_of (fact_of f) ≡ None }
         requires named { (f : AnyFact) → Contains more.items f
@@ -102,7 +102,7 @@ impl Store {
     }
 
     // Puts in facts of devices and what was planned: all of it, or nothing.
-    fn settle(&mut self, devices: &[AnyFact], plan: Plan) -> Result<usize, Memory>
+    fn settle(&mut self, devices: &[SharedFact], plan: Plan) -> Result<usize, Memory>
         requires { (more : List AnyFact) × IsPlanOf self.old more devices.now plan }
         ensures taken { (more : List AnyFact) → IsPlanOf self.old more devices.now plan
             → IfOk result (IsTaken self.old more self.new) }

@@ -21,7 +21,7 @@ use crate::rows::{add_rows, close_rows, open_rows};
 use cdf_types::Memory;
 use cvr_facts::RecordName;
 use cvr_lists::putting::{copies, put_copies};
-use cvr_office::any_fact::AnyFact;
+use cvr_lists::shared::SharedFact;
 use cvr_tally::Totals;
 use std::alloc::Global;
 use std::collections::BTreeMap;
@@ -30,9 +30,9 @@ use std::collections::BTreeMap;
 // longer.
 pub(crate) fn devices_with(
     alloc: Global,
-    devices: &[AnyFact],
-    theirs: &[AnyFact],
-) -> Result<(Option<Vec<AnyFact>>, usize), Memory>
+    devices: &[SharedFact],
+    theirs: &[SharedFact],
+) -> Result<(Option<Vec<SharedFact>>, usize), Memory>
     requires { IsStrictlySortedBy any_cmp devices.now }
     ensures put { IfOk result (λ r.
         IsPut devices.now theirs.now (option_map_or (λ v. v.items) r.0 devices.now)) }
@@ -49,7 +49,7 @@ pub(crate) fn devices_with(
 }
 
 // Puts a copy, if there is one, in the place of the devices. Takes no memory.
-pub(crate) fn replace(devices: &mut Vec<AnyFact>, aside: Option<Vec<AnyFact>>)
+pub(crate) fn replace(devices: &mut Vec<SharedFact>, aside: Option<Vec<SharedFact>>)
     ensures { devices.new.items ≡ option_map_or (λ v. v.items) aside devices.old.items }
 {
     if let Some(aside) = aside {

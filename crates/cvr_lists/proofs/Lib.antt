@@ -1,4 +1,5 @@
 pub mod Orderings
+pub mod Insertions
 pub mod Puts
 pub mod PlainLists
 pub mod SameFacts

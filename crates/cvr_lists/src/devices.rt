@@ -9,11 +9,12 @@ ghost use Rattle.cvr_office.specs.Readers.{next, nth_from_one, device_list};
 ghost use Rattle.cvr_office.specs.Place.{fact_of, any_cmp};
 ghost use Rattle.cvr_office.specs.Plain.{set_of};
 
+use crate::shared::SharedFact;
 use cdf_types::Body;
 use cvr_office::any_fact::AnyFact;
 
 // The least device id above the given one, or the least of all. Takes no memory.
-pub fn next_device_in<'a>(facts: &'a [AnyFact], after: Option<&str>) -> Option<&'a str>
+pub fn next_device_in<'a>(facts: &'a [SharedFact], after: Option<&str>) -> Option<&'a str>
     requires { IsStrictlySortedBy any_cmp facts.now }
     ensures { option_map (λ i. i.now) result
         ≡ next text_cmp (devices (set_of facts.now)) (option_map (λ i. i.now) after.entry) }
@@ -23,7 +24,7 @@ pub fn next_device_in<'a>(facts: &'a [AnyFact], after: Option<&str>) -> Option<&
 }
 
 // How many bodies the device with this id has. Takes no memory.
-pub fn device_count_in(facts: &[AnyFact], id: &str) -> usize
+pub fn device_count_in(facts: &[SharedFact], id: &str) -> usize
     requires { IsStrictlySortedBy any_cmp facts.now }
     ensures { result ≡ count_under (set_of facts.now) (name.Device id.now) }
 {
@@ -31,7 +32,7 @@ pub fn device_count_in(facts: &[AnyFact], id: &str) -> usize
 }
 
 // Body number `k` of the device with this id, from 1, greatest first. Takes no memory.
-pub fn device_body_in<'a>(facts: &'a [AnyFact], id: &str, k: usize) -> Option<&'a Body>
+pub fn device_body_in<'a>(facts: &'a [SharedFact], id: &str, k: usize) -> Option<&'a Body>
     requires { IsStrictlySortedBy any_cmp facts.now }
     ensures { option_map (λ b. b.now) result
         ≡ nth_from_one (device_list (set_of facts.now) id.now) k }
@@ -42,7 +43,7 @@ pub fn device_body_in<'a>(facts: &'a [AnyFact], id: &str, k: usize) -> Option<&'
 }
 
 // The facts of a device, which stand side by side.
-fn devices_under<'a>(facts: &'a [AnyFact], id: &str) -> &'a [AnyFact]
+fn devices_under<'a>(facts: &'a [SharedFact], id: &str) -> &'a [SharedFact]
     requires { IsStrictlySortedBy any_cmp facts.now }
     ensures { map (λ f. body_of (fact_of f)) result.now
         ≡ bodies_under (set_of facts.now) (name.Device id.now) }
@@ -54,43 +55,43 @@ fn devices_under<'a>(facts: &'a [AnyFact], id: &str) -> &'a [AnyFact]
 }
 
 // The id of a device, if the fact is one.
-fn device_id(fact: &AnyFact) -> Option<&str>
+fn device_id(fact: &SharedFact) -> Option<&str>
     ensures { option_map (λ i. i.now) result ≡ device_in (fact_of fact.now) }
 {
-    match fact {
+    match fact.fact() {
         AnyFact::Device(device) => Some(device.id.as_str()),
         AnyFact::Header(_) | AnyFact::Snapshot(_) => None,
     }
 }
 
 // Whether the fact is a device with an id below this one.
-fn is_below(fact: &AnyFact, id: &str) -> bool
+fn is_below(fact: &SharedFact, id: &str) -> bool
     ensures { result ≡ option_map_or (λ i. is_lt (text_cmp i id.now))
         (device_in (fact_of fact.now)) false }
 {
-    match fact {
+    match fact.fact() {
         AnyFact::Device(device) => device.id.as_str() < id,
         AnyFact::Header(_) | AnyFact::Snapshot(_) => false,
     }
 }
 
 // Whether the fact is a device with an id that is not above the given one.
-fn is_up_to(fact: &AnyFact, id: Option<&str>) -> bool
+fn is_up_to(fact: &SharedFact, id: Option<&str>) -> bool
     ensures { result ≡ option_map_or
         (λ i. is_le (option_cmp text_cmp (Some i) (option_map (λ i. i.now) id.entry)))
         (device_in (fact_of fact.now)) false }
 {
-    match fact {
+    match fact.fact() {
         AnyFact::Device(device) => Some(device.id.as_str()) <= id,
         AnyFact::Header(_) | AnyFact::Snapshot(_) => false,
     }
 }
 
 // The body of a fact.
-fn body(fact: &AnyFact) -> &Body
+fn body(fact: &SharedFact) -> &Body
     ensures { result.now ≡ body_of (fact_of fact.now) }
 {
-    match fact {
+    match fact.fact() {
         AnyFact::Device(device) => &device.body,
         AnyFact::Header(header) => &header.body,
         AnyFact::Snapshot(snapshot) => &snapshot.body,

@@ -9,5 +9,6 @@ pub mod putting;
 pub mod reading;
 pub mod record_lists;
 pub mod records;
+pub mod shared;
 
 pub use reading::read_facts;

@@ -1,4 +1,5 @@
-ghost use Rattle.std.specs.Prelude.{◌≡◌, ◌++◌, map, IfOk, OnOk, OnErr};
+ghost use Rattle.std.specs.Prelude.{◌≡◌, ◌<◌, ◌≤◌, ◌+◌, ◌++◌, [], ◌∷◌, map, IfOk, OnOk, OnErr};
+ghost use Rattle.std.specs.Vec.{vec_len, vec_capacity};
 ghost use Rattle.std.specs.List.Sorted.{IsStrictlySortedBy};
 ghost use Rattle.cvr_fact_types.specs.Facts.{Device};
 ghost use Rattle.cvr_office.specs.Readers.{growth};
@@ -6,19 +7,45 @@ ghost use Rattle.cvr_office.specs.declared.any_fact.AnyFact.TheVariants as any;
 ghost use Rattle.cvr_office.specs.Place.{fact_of, any_cmp};
 ghost use Rattle.cvr_office.specs.Plain.{set_of, all_of, IsPut};
 
+use crate::shared::SharedFact;
 use cdf_check::Definition;
 use cdf_types::{Body, Memory, Seq};
 use cvr_facts::{DeviceFact, FactList, HeaderFact, SnapshotFact};
 use cvr_office::any_fact::AnyFact;
 use std::alloc::Global;
+use std::collections::VecDeque;
 use std::mem::swap;
 
-// Puts more facts into a list in order, each once, and answers how many are new. A list of a few
-// rising stretches is sorted in linear time.
-pub fn put_in(facts: &mut Vec<AnyFact>, more: Vec<AnyFact>) -> Result<usize, Memory>
+// At most so many facts are put in one by one. More cost less by a sort.
+const FEW: usize = 32;
+
+// Puts more facts into a list in order, each once, and answers how many are new.
+pub fn put_in(facts: &mut Vec<SharedFact>, more: Vec<SharedFact>) -> Result<usize, Memory>
     requires { IsStrictlySortedBy any_cmp facts.old.items }
     ensures put { OnOk result (IsPut facts.old.items more.items facts.new.items) }
     ensures new { IfOk result (λ n. n ≡ growth (set_of facts.old.items) (set_of more.items)) }
+    ensures unchanged { OnErr result (facts.new.items ≡ facts.old.items) }
+{
+    let before = facts.len();
+    put_all(facts, more)?;
+    Ok(facts.len() - before)
+}
+
+// Puts more facts in, by a sort or one by one.
+fn put_all(facts: &mut Vec<SharedFact>, more: Vec<SharedFact>) -> Result<(), Memory>
+    requires { IsStrictlySortedBy any_cmp facts.old.items }
+    ensures put { OnOk result (IsPut facts.old.items more.items facts.new.items) }
+    ensures unchanged { OnErr result (facts.new.items ≡ facts.old.items) }
+{
+    if more.len() > FEW || facts.is_empty() {
+        return sort_in(facts, more);
+    }
+    insert_each(facts, more)
+}
+
+// Puts more facts in by one sort. A list of a few rising stretches is sorted in linear time.
+fn sort_in(facts: &mut Vec<SharedFact>, more: Vec<SharedFact>) -> Result<(), Memory>
+    ensures put { OnOk result (IsPut facts.old.items more.items facts.new.items) }
     ensures unchanged { OnErr result (facts.new.items ≡ facts.old.items) }
 {
     let before = facts.len();
@@ -28,12 +55,42 @@ pub fn put_in(facts: &mut Vec<AnyFact>, more: Vec<AnyFact>) -> Result<usize, Mem
         return Err(refused.into());
     }
     facts.dedup();
-    Ok(facts.len() - before)
+    Ok(())
+}
+
+// Puts more facts in one by one, each where it belongs.
+fn insert_each(facts: &mut Vec<SharedFact>, more: Vec<SharedFact>) -> Result<(), Memory>
+    requires { IsStrictlySortedBy any_cmp facts.old.items }
+    ensures put { OnOk result (IsPut facts.old.items more.items facts.new.items) }
+    ensures unchanged { OnErr result (facts.new.items ≡ facts.old.items) }
+{
+    facts.reserve(more.len())?;
+    let mut rest = VecDeque::from(more);
+    while let Some(fact) = rest.pop_front() {
+        insert_one(facts, fact);
+    }
+    Ok(())
+}
+
+// Puts a fact where it belongs, unless it is there. Takes no memory.
+fn insert_one(facts: &mut Vec<SharedFact>, fact: SharedFact)
+    requires rises { IsStrictlySortedBy any_cmp facts.old.items }
+    requires room { vec_len facts.old < vec_capacity facts.old }
+    ensures put { IsPut facts.old.items (fact ∷ []) facts.new.items }
+    ensures few { vec_len facts.new ≤ vec_len facts.old + 1 }
+    ensures room { vec_capacity facts.old ≤ vec_capacity facts.new }
+{
+    let place = match facts.binary_search(&fact) {
+        Ok(_) => return,
+        Err(place) => place,
+    };
+    // There is room, so this takes no memory.
+    let _ = facts.insert(place, fact);
 }
 
 // Puts facts behind those of a list. An empty list becomes theirs, with no more room than they
 // have: most records come once, so that room for others would mostly stay unused.
-fn put_behind(facts: &mut Vec<AnyFact>, mut more: Vec<AnyFact>) -> Result<(), Memory>
+fn put_behind(facts: &mut Vec<SharedFact>, mut more: Vec<SharedFact>) -> Result<(), Memory>
     ensures items { OnOk result (facts.new.items ≡ facts.old.items ++ more.items) }
     ensures unchanged { OnErr result (facts.new.items ≡ facts.old.items) }
 {
@@ -46,7 +103,7 @@ fn put_behind(facts: &mut Vec<AnyFact>, mut more: Vec<AnyFact>) -> Result<(), Me
 }
 
 // The devices of a definition.
-pub fn own_devices(alloc: Global, definition: &Definition) -> Result<Vec<AnyFact>, Memory>
+pub fn own_devices(alloc: Global, definition: &Definition) -> Result<Vec<SharedFact>, Memory>
     ensures { IfOk result
         (λ facts. map fact_of facts.items ≡ map (λ e. Device e.0 e.1) definition.now.devices) }
 {
@@ -54,16 +111,17 @@ pub fn own_devices(alloc: Global, definition: &Definition) -> Result<Vec<AnyFact
     let mut facts = Vec::with_capacity(alloc, bodies.len())?;
     for (place, body) in bodies.iter().enumerate() {
         let id = String::from_str(alloc, definition.device_id(place))?;
-        facts.push(AnyFact::Device(DeviceFact {
+        let device = DeviceFact {
             id: Body::new(id),
             body: body.copy()?,
-        }))?;
+        };
+        facts.push(SharedFact::new(alloc, AnyFact::Device(device))?)?;
     }
     Ok(facts)
 }
 
 // The facts of all kinds in one list.
-pub fn in_one(alloc: Global, list: FactList) -> Result<Vec<AnyFact>, Memory>
+pub fn in_one(alloc: Global, list: FactList) -> Result<Vec<SharedFact>, Memory>
     ensures { IfOk result (λ facts. facts.items ≡ all_of list) }
 {
     let mut facts = of_devices(alloc, list.devices)?;
@@ -76,7 +134,7 @@ pub fn of_records(
     alloc: Global,
     headers: Seq<HeaderFact>,
     snapshots: Seq<SnapshotFact>,
-) -> Result<Vec<AnyFact>, Memory>
+) -> Result<Vec<SharedFact>, Memory>
     ensures { IfOk result
         (λ facts. facts.items ≡ map any.Header headers ++ map any.Snapshot snapshots) }
 {
@@ -86,43 +144,43 @@ pub fn of_records(
 }
 
 // The devices as facts of any kind.
-pub fn of_devices(alloc: Global, devices: Seq<DeviceFact>) -> Result<Vec<AnyFact>, Memory>
+pub fn of_devices(alloc: Global, devices: Seq<DeviceFact>) -> Result<Vec<SharedFact>, Memory>
     ensures { IfOk result (λ facts. facts.items ≡ map any.Device devices) }
 {
     let devices = devices.into_vec();
     let mut facts = Vec::with_capacity(alloc, devices.len())?;
     for device in devices {
-        facts.push(AnyFact::Device(device))?;
+        facts.push(SharedFact::new(alloc, AnyFact::Device(device))?)?;
     }
     Ok(facts)
 }
 
 // The headers as facts of any kind.
-fn of_headers(alloc: Global, headers: Seq<HeaderFact>) -> Result<Vec<AnyFact>, Memory>
+fn of_headers(alloc: Global, headers: Seq<HeaderFact>) -> Result<Vec<SharedFact>, Memory>
     ensures { IfOk result (λ facts. facts.items ≡ map any.Header headers) }
 {
     let headers = headers.into_vec();
     let mut facts = Vec::with_capacity(alloc, headers.len())?;
     for header in headers {
-        facts.push(AnyFact::Header(header))?;
+        facts.push(SharedFact::new(alloc, AnyFact::Header(header))?)?;
     }
     Ok(facts)
 }
 
 // The snapshots as facts of any kind.
-fn of_snapshots(alloc: Global, snapshots: Seq<SnapshotFact>) -> Result<Vec<AnyFact>, Memory>
+fn of_snapshots(alloc: Global, snapshots: Seq<SnapshotFact>) -> Result<Vec<SharedFact>, Memory>
     ensures { IfOk result (λ facts. facts.items ≡ map any.Snapshot snapshots) }
 {
     let snapshots = snapshots.into_vec();
     let mut facts = Vec::with_capacity(alloc, snapshots.len())?;
     for snapshot in snapshots {
-        facts.push(AnyFact::Snapshot(snapshot))?;
+        facts.push(SharedFact::new(alloc, AnyFact::Snapshot(snapshot))?)?;
     }
     Ok(facts)
 }
 
 // Puts copies of facts into a list in order, as `put_in`.
-pub fn put_copies(facts: &mut Vec<AnyFact>, theirs: &[AnyFact]) -> Result<usize, Memory>
+pub fn put_copies(facts: &mut Vec<SharedFact>, theirs: &[SharedFact]) -> Result<usize, Memory>
     requires { IsStrictlySortedBy any_cmp facts.old.items }
     ensures put { OnOk result (IsPut facts.old.items theirs.now facts.new.items) }
     ensures new { IfOk result (λ n. n ≡ growth (set_of facts.old.items) (set_of theirs.now)) }
@@ -132,13 +190,13 @@ pub fn put_copies(facts: &mut Vec<AnyFact>, theirs: &[AnyFact]) -> Result<usize,
     put_in(facts, more)
 }
 
-// Equal facts, in order.
-pub fn copies(alloc: Global, facts: &[AnyFact]) -> Result<Vec<AnyFact>, Memory>
+// The same facts, in order.
+pub fn copies(alloc: Global, facts: &[SharedFact]) -> Result<Vec<SharedFact>, Memory>
     ensures { IfOk result (λ copies. copies.items ≡ facts.now) }
 {
     let mut copies = Vec::with_capacity(alloc, facts.len())?;
     for fact in facts {
-        copies.push(fact.copy(alloc)?)?;
+        copies.push(fact.share()?)?;
     }
     Ok(copies)
 }

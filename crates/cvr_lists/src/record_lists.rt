@@ -10,6 +10,7 @@ ghost use Rattle.cvr_office.specs.Runs.{headers, snapshots, AreSpelled};
 ghost use Rattle.cvr_lists.specs.Groups.{id_order, with_id, ids, RisesById, IsFalling, AreGrouped};
 
 use crate::records::run_of;
+use crate::shared::SharedFact;
 use cdf_types::Memory;
 use cvr_facts::{HeaderFact, RecordName, SnapshotFact, choice_cmp};
 use cvr_office::any_fact::AnyFact;
@@ -20,7 +21,7 @@ use std::cmp::Ordering;
 // All facts of a record, where there are any.
 pub fn record_facts_in<'a>(
     alloc: Global,
-    facts: &'a [AnyFact],
+    facts: &'a [SharedFact],
     key: &RecordName,
 ) -> Result<Option<RecordFacts<'a>>, Memory>
     requires { IsStrictlySortedBy any_cmp facts.now }
@@ -38,12 +39,12 @@ pub fn record_facts_in<'a>(
 }
 
 // The headers of a run, the last first.
-pub fn headers_down(alloc: Global, run: &[AnyFact]) -> Result<Vec<&HeaderFact>, Memory>
+pub fn headers_down(alloc: Global, run: &[SharedFact]) -> Result<Vec<&HeaderFact>, Memory>
     ensures { IfOk result (λ found. map (λ h. h.now) found.items ≡ reverse (headers run.now)) }
 {
     let mut headers = Vec::new(alloc);
     for fact in run {
-        if let AnyFact::Header(header) = fact {
+        if let AnyFact::Header(header) = fact.fact() {
             headers.push(header)?;
         }
     }
@@ -52,7 +53,7 @@ pub fn headers_down(alloc: Global, run: &[AnyFact]) -> Result<Vec<&HeaderFact>, 
 }
 
 // The ids of a run's snapshots, each with its snapshots.
-pub fn grouped(alloc: Global, run: &[AnyFact]) -> Result<Vec<IdFacts<'_>>, Memory>
+pub fn grouped(alloc: Global, run: &[SharedFact]) -> Result<Vec<IdFacts<'_>>, Memory>
     requires { RisesById run.now }
     ensures { IfOk result (λ groups. AreGrouped run.now groups.items) }
 {
@@ -68,12 +69,12 @@ pub fn grouped(alloc: Global, run: &[AnyFact]) -> Result<Vec<IdFacts<'_>>, Memor
 }
 
 // The ids of a run's snapshots, each once.
-fn ids_in(alloc: Global, run: &[AnyFact]) -> Result<Vec<&str>, Memory>
+fn ids_in(alloc: Global, run: &[SharedFact]) -> Result<Vec<&str>, Memory>
     ensures { IfOk result (λ found. map (λ i. i.now) found.items ≡ dedup bytes_eq (ids run.now)) }
 {
     let mut ids = Vec::new(alloc);
     for fact in run {
-        if let AnyFact::Snapshot(snapshot) = fact {
+        if let AnyFact::Snapshot(snapshot) = fact.fact() {
             ids.push(snapshot.id.as_str())?;
         }
     }
@@ -82,17 +83,17 @@ fn ids_in(alloc: Global, run: &[AnyFact]) -> Result<Vec<&str>, Memory>
 }
 
 // How a fact's snapshot id stands to this one; a header stands before all snapshots.
-fn id_order(fact: &AnyFact, id: &str) -> Ordering
+fn id_order(fact: &SharedFact, id: &str) -> Ordering
     ensures { result ≡ id_order id.now fact.now }
 {
-    match fact {
+    match fact.fact() {
         AnyFact::Snapshot(snapshot) => snapshot.id.as_str().cmp(id),
         _ => Ordering::Less,
     }
 }
 
 // The snapshots of a run that have this id.
-fn with_id<'a>(run: &'a [AnyFact], id: &str) -> &'a [AnyFact]
+fn with_id<'a>(run: &'a [SharedFact], id: &str) -> &'a [SharedFact]
     requires { RisesById run.now }
     ensures { result.now ≡ with_id id.now run.now }
 {
@@ -103,7 +104,7 @@ fn with_id<'a>(run: &'a [AnyFact], id: &str) -> &'a [AnyFact]
 }
 
 // The snapshots among these facts, the greatest first by the order of choosing.
-fn falling(alloc: Global, facts: &[AnyFact]) -> Result<Vec<&SnapshotFact>, Memory>
+fn falling(alloc: Global, facts: &[SharedFact]) -> Result<Vec<&SnapshotFact>, Memory>
     ensures { IfOk result
         (λ found. IsFalling (snapshots facts.now) (map (λ s. s.now) found.items)) }
 {
@@ -113,12 +114,12 @@ fn falling(alloc: Global, facts: &[AnyFact]) -> Result<Vec<&SnapshotFact>, Memor
     Ok(snapshots)
 }
 
-fn snapshots_in(alloc: Global, facts: &[AnyFact]) -> Result<Vec<&SnapshotFact>, Memory>
+fn snapshots_in(alloc: Global, facts: &[SharedFact]) -> Result<Vec<&SnapshotFact>, Memory>
     ensures { IfOk result (λ found. map (λ s. s.now) found.items ≡ snapshots facts.now) }
 {
     let mut snapshots = Vec::new(alloc);
     for fact in facts {
-        if let AnyFact::Snapshot(snapshot) = fact {
+        if let AnyFact::Snapshot(snapshot) = fact.fact() {
             snapshots.push(snapshot)?;
         }
     }

@@ -15,6 +15,7 @@ ghost use Rattle.cvr_office.specs.Readers.{next, IsHeader, IsCurrent};
 ghost use Rattle.cvr_office.specs.Runs.{record_order, is_of, first_record, run, headers, snapshots};
 ghost use Rattle.cvr_office.specs.Runs.{chosen_snapshot, IsChosen, AreSpelled};
 
+use crate::shared::SharedFact;
 use cdf_types::Memory;
 use cvr_facts::{HeaderFact, RecordName, SnapshotFact, choice_cmp};
 use cvr_office::any_fact::AnyFact;
@@ -24,7 +25,7 @@ use std::collections::VecDeque;
 
 // The least record name above the given one, or the least of all. Takes no memory.
 pub fn next_record_in<'a>(
-    facts: &'a [AnyFact],
+    facts: &'a [SharedFact],
     after: Option<&RecordName>,
 ) -> Option<&'a RecordName>
     requires { IsStrictlySortedBy any_cmp facts.now }
@@ -36,7 +37,7 @@ pub fn next_record_in<'a>(
 }
 
 // How many records there are. Takes no memory.
-pub fn record_count_in(facts: &[AnyFact]) -> usize
+pub fn record_count_in(facts: &[SharedFact]) -> usize
     requires { IsStrictlySortedBy any_cmp facts.now }
     ensures { result ≡ length (records (set_of facts.now)) }
 {
@@ -53,10 +54,10 @@ pub fn record_count_in(facts: &[AnyFact]) -> usize
 }
 
 // The record that a fact is of, if it is of one.
-fn record_name(fact: &AnyFact) -> Option<&RecordName>
+fn record_name(fact: &SharedFact) -> Option<&RecordName>
     ensures { option_map (λ k. k.now) result ≡ record_of (fact_of fact.now) }
 {
-    match fact {
+    match fact.fact() {
         AnyFact::Device(_) => None,
         AnyFact::Header(header) => Some(&header.key),
         AnyFact::Snapshot(snapshot) => Some(&snapshot.key),
@@ -64,10 +65,10 @@ fn record_name(fact: &AnyFact) -> Option<&RecordName>
 }
 
 // How a fact's record stands to this one; a device stands before all records.
-fn record_order(fact: &AnyFact, key: &RecordName) -> Ordering
+fn record_order(fact: &SharedFact, key: &RecordName) -> Ordering
     ensures { result ≡ record_order key.now fact.now }
 {
-    match fact {
+    match fact.fact() {
         AnyFact::Device(_) => Ordering::Less,
         AnyFact::Header(header) => header.key.cmp(key),
         AnyFact::Snapshot(snapshot) => snapshot.key.cmp(key),
@@ -75,7 +76,7 @@ fn record_order(fact: &AnyFact, key: &RecordName) -> Ordering
 }
 
 // The facts of a record: its headers, then its snapshots by id.
-pub(crate) fn run_of<'a>(facts: &'a [AnyFact], key: &RecordName) -> &'a [AnyFact]
+pub(crate) fn run_of<'a>(facts: &'a [SharedFact], key: &RecordName) -> &'a [SharedFact]
     requires { IsStrictlySortedBy any_cmp facts.now }
     ensures { result.now ≡ run key.now facts.now }
 {
@@ -86,7 +87,7 @@ pub(crate) fn run_of<'a>(facts: &'a [AnyFact], key: &RecordName) -> &'a [AnyFact
 }
 
 // The record of the first fact, if it is of one. Takes no memory.
-pub fn first_record(facts: &VecDeque<AnyFact>) -> Option<&RecordName>
+pub fn first_record(facts: &VecDeque<SharedFact>) -> Option<&RecordName>
     ensures { option_map (λ k. k.now) result ≡ first_record facts.now.items }
 {
     record_name(facts.front()?)
@@ -95,9 +96,9 @@ pub fn first_record(facts: &VecDeque<AnyFact>) -> Option<&RecordName>
 // Takes the facts of a record out of facts in order, of which none is of a lesser record.
 pub fn take_run(
     alloc: Global,
-    facts: &mut VecDeque<AnyFact>,
+    facts: &mut VecDeque<SharedFact>,
     key: &RecordName,
-) -> Result<Vec<AnyFact>, Memory>
+) -> Result<Vec<SharedFact>, Memory>
     requires rises { IsStrictlySortedBy any_cmp facts.old.items }
     requires least { (x : AnyFact) → Contains facts.old.items x → is_lt (record_order key.now x)
         ≡ false }
@@ -112,9 +113,9 @@ pub fn take_run(
 // Takes so many facts from the front.
 fn take_front(
     alloc: Global,
-    facts: &mut VecDeque<AnyFact>,
+    facts: &mut VecDeque<SharedFact>,
     count: usize,
-) -> Result<Vec<AnyFact>, Memory>
+) -> Result<Vec<SharedFact>, Memory>
     ensures front { IfOk result (λ taken. taken.items ≡ take count facts.old.items) }
     ensures rest { OnOk result (facts.new.items ≡ drop count facts.old.items) }
 {
@@ -128,7 +129,7 @@ fn take_front(
 }
 
 // The header of a record: the last of its run.
-pub fn header_in<'a>(facts: &'a [AnyFact], key: &RecordName) -> Option<&'a HeaderFact>
+pub fn header_in<'a>(facts: &'a [SharedFact], key: &RecordName) -> Option<&'a HeaderFact>
     requires rises { IsStrictlySortedBy any_cmp facts.now }
     requires spelled { (h : HeaderFact) → Contains facts.now (any.Header h) → IsSpelledHeader h }
     ensures { IsHeader (set_of facts.now) key.now (option_map (λ h. h.now) result) }
@@ -136,12 +137,12 @@ pub fn header_in<'a>(facts: &'a [AnyFact], key: &RecordName) -> Option<&'a Heade
     last_header(run_of(facts, key))
 }
 
-fn last_header(run: &[AnyFact]) -> Option<&HeaderFact>
+fn last_header(run: &[SharedFact]) -> Option<&HeaderFact>
     ensures { option_map (λ h. h.now) result ≡ last_or None (headers run.now) }
 {
     let mut last = None;
     for fact in run {
-        if let AnyFact::Header(header) = fact {
+        if let AnyFact::Header(header) = fact.fact() {
             last = Some(header);
         }
     }
@@ -149,7 +150,7 @@ fn last_header(run: &[AnyFact]) -> Option<&HeaderFact>
 }
 
 // The current snapshot of a record: the greatest of its run by the order of choosing.
-pub fn current_in<'a>(facts: &'a [AnyFact], key: &RecordName) -> Option<&'a SnapshotFact>
+pub fn current_in<'a>(facts: &'a [SharedFact], key: &RecordName) -> Option<&'a SnapshotFact>
     requires { IsStrictlySortedBy any_cmp facts.now }
     ensures { (contests : List Contest) → AreSpelled contests facts.now
         → IsCurrent contests (set_of facts.now) key.now (option_map (λ s. s.now) result) }
@@ -157,12 +158,12 @@ pub fn current_in<'a>(facts: &'a [AnyFact], key: &RecordName) -> Option<&'a Snap
     greatest_snapshot(run_of(facts, key))
 }
 
-fn greatest_snapshot(run: &[AnyFact]) -> Option<&SnapshotFact>
+fn greatest_snapshot(run: &[SharedFact]) -> Option<&SnapshotFact>
     ensures { IsChosen (snapshots run.now) (option_map (λ s. s.now) result) }
 {
     let mut greatest = None;
     for fact in run {
-        if let AnyFact::Snapshot(snapshot) = fact {
+        if let AnyFact::Snapshot(snapshot) = fact.fact() {
             greatest = Some(greater(greatest, snapshot));
         }
     }

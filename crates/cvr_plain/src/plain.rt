@@ -8,7 +8,7 @@ use cvr_lists::putting::{in_one, own_devices, put_copies, put_in};
 use cvr_lists::reading::read_facts;
 use cvr_lists::record_lists::record_facts_in;
 use cvr_lists::records::{current_in, header_in, next_record_in, record_count_in};
-use cvr_office::any_fact::AnyFact;
+use cvr_lists::shared::SharedFact;
 use cvr_office::{ConflictList, JoinFault, Office, Receipt, RecordFacts};
 use cvr_tally::{Row, RowKey, Totals};
 use std::alloc::Global;
@@ -17,7 +17,7 @@ use std::marker::Model;
 /// An office that keeps its facts in one list, and computes each answer anew from it.
 pub struct PlainOffice {
     definition: Definition,
-    facts: Vec<AnyFact>,
+    facts: Vec<SharedFact>,
 }
 
 // By hand: what holds one has shorter proofs than with a derived `Drop`.

@@ -14,7 +14,7 @@ use cdf_check::Definition;
 use cdf_types::Memory;
 use cvr_facts::{HeaderFact, RecordName, VoteSums};
 use cvr_lists::records::{current_in, header_in, next_record_in};
-use cvr_office::any_fact::AnyFact;
+use cvr_lists::shared::SharedFact;
 use cvr_tally::{Row, RowKey, Totals, tally_text};
 use std::alloc::Global;
 
@@ -22,7 +22,7 @@ use std::alloc::Global;
 pub(crate) fn totals_in(
     alloc: Global,
     definition: &Definition,
-    facts: &[AnyFact],
+    facts: &[SharedFact],
 ) -> Result<Totals, Memory>
     requires { IsPlain definition.now facts.now }
     ensures rows { IfOk result (λ t. t.rows ≡ rows definition.now.contests (set_of facts.now)) }
@@ -42,7 +42,7 @@ pub(crate) fn totals_in(
 pub(crate) fn tally_in(
     alloc: Global,
     definition: &Definition,
-    facts: &[AnyFact],
+    facts: &[SharedFact],
 ) -> Result<String, Memory>
     requires { IsPlain definition.now facts.now }
     ensures { IfOk result
@@ -56,7 +56,7 @@ pub(crate) fn tally_in(
 pub(crate) fn row_in(
     alloc: Global,
     definition: &Definition,
-    facts: &[AnyFact],
+    facts: &[SharedFact],
     key: &RowKey,
 ) -> Result<Option<Row>, Memory>
     requires { IsPlain definition.now facts.now }
@@ -72,7 +72,7 @@ pub(crate) fn row_in(
 }
 
 // Adds a record to the rows that it stands in, if it has a header and a snapshot.
-fn add_record(totals: &mut Totals, facts: &[AnyFact], name: &RecordName) -> Result<(), Memory>
+fn add_record(totals: &mut Totals, facts: &[SharedFact], name: &RecordName) -> Result<(), Memory>
     requires rises { IsStrictlySortedBy any_cmp facts.now }
     requires spelled { AreSpelled totals.old.contests facts.now }
     requires sums { CurrentsAreSums totals.old.contests (set_of facts.now) }

@@ -10,13 +10,13 @@ pub loop-place-preserved : goal.loop-place-preserved
 loop-place-preserved c =
     elim c.match-fact.branch [
       | in-Header w ↦
+          let was = sym c.fact.ensures ∙ w.in-Header.is in
           ap (header_at c.args.facts.now) w.last-is
-          ∙ (header_here _ _ _ c.loop-place-test.true c.index-facts-place.is _ w.in-Header.is
-          ∙ sym (last_taken _ _ _ c.loop-place-test.true c.index-facts-place.is _
-          w.in-Header.is))
+          ∙ (header_here _ _ _ c.loop-place-test.true c.index-facts-place.is _ was
+          ∙ sym (last_taken _ _ _ c.loop-place-test.true c.index-facts-place.is _ was))
       | in_default w ↦
           ap (header_at c.args.facts.now) w.last-is
           ∙ (c.loop-place.invariant ∙ sym
           (ap (last_or None) (header_passed _ _ _ c.loop-place-test.true c.index-facts-place.is
-          w.in_default.not-Header)))
+          (λ x e. w.in_default.not-Header x (c.fact.ensures ∙ e)))))
     ]

@@ -12,14 +12,16 @@ pub loop-fact-preserved : goal.loop-fact-preserved
 loop-fact-preserved c =
     elim c.match-fact.branch [
       | in-Header+in_ok-push w ↦
-          let more = header_taken _ _ _ c.loop-fact-test.true c.fact-item.is _ w.in-Header.is in
+          let was = sym c.fact.ensures ∙ w.in-Header.is in
+          let more = header_taken _ _ _ c.loop-fact-test.true c.fact-item.is _ was in
           ap (λ v. map (λ h. h.now) v.items) w.headers-is
           ∙ pushed (λ h. h.now) _ _ _ _ _ _ w.in_ok-push.ensures.items refl
           c.loop-fact.invariant more
       | in_default w ↦
           ap (λ v. map (λ h. h.now) v.items) w.headers-is
           ∙ (c.loop-fact.invariant ∙ sym
-          (header_passed _ _ _ c.loop-fact-test.true c.fact-item.is w.in_default.not-Header))
+          (header_passed _ _ _ c.loop-fact-test.true c.fact-item.is
+          (λ x e. w.in_default.not-Header x (c.fact.ensures ∙ e))))
     ]
 
 pub returns : goal.returns

@@ -13,7 +13,8 @@ pub loop-fact-preserved : goal.loop-fact-preserved
 loop-fact-preserved c =
     elim c.match-fact.branch [
       | in-Snapshot+in_ok-push w ↦
-          let more = snapshot_taken _ _ _ c.loop-fact-test.true c.fact-item.is _ w.in-Snapshot.is in
+          let was = sym c.fact.ensures ∙ w.in-Snapshot.is in
+          let more = snapshot_taken _ _ _ c.loop-fact-test.true c.fact-item.is _ was in
           ap (λ v. map (λ i. i.now) v.items) w.ids-is
           ∙ pushed (λ i. i.now) _ _ _ _ _ _ w.in_ok-push.ensures.items w.as_str.ensures
           c.loop-fact.invariant (ap (map (λ s. s.id)) more ∙ map-append (λ s. s.id) _ _)
@@ -21,7 +22,7 @@ loop-fact-preserved c =
           ap (λ v. map (λ i. i.now) v.items) w.ids-is
           ∙ (c.loop-fact.invariant ∙ ap (map (λ s. s.id))
           (sym (snapshot_passed _ _ _ c.loop-fact-test.true c.fact-item.is
-          w.in_default.not-Snapshot)))
+          (λ x e. w.in_default.not-Snapshot x (c.fact.ensures ∙ e)))))
     ]
 
 pub returns : goal.returns

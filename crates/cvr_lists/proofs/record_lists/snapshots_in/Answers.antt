@@ -8,7 +8,8 @@ pub loop-fact-preserved : goal.loop-fact-preserved
 loop-fact-preserved c =
     elim c.match-fact.branch [
       | in-Snapshot+in_ok-push w ↦
-          let more = snapshot_taken _ _ _ c.loop-fact-test.true c.fact-item.is _ w.in-Snapshot.is in
+          let was = sym c.fact.ensures ∙ w.in-Snapshot.is in
+          let more = snapshot_taken _ _ _ c.loop-fact-test.true c.fact-item.is _ was in
           ap (λ v. map (λ s. s.now) v.items) w.snapshots-is
           ∙ pushed (λ s. s.now) _ _ _ _ _ _ w.in_ok-push.ensures.items refl
           c.loop-fact.invariant more
@@ -16,5 +17,5 @@ loop-fact-preserved c =
           ap (λ v. map (λ s. s.now) v.items) w.snapshots-is
           ∙ (c.loop-fact.invariant ∙ sym
           (snapshot_passed _ _ _ c.loop-fact-test.true c.fact-item.is
-          w.in_default.not-Snapshot))
+          (λ x e. w.in_default.not-Snapshot x (c.fact.ensures ∙ e))))
     ]

@@ -9,10 +9,11 @@ loop-fact-preserved c =
     elim c.match-fact.branch [
       | in-Header w ↦
           ap (option_map (λ h. h.now)) w.last-is
-          ∙ sym (last_taken _ _ _ c.loop-fact-test.true c.fact-item.is _ w.in-Header.is)
+          ∙ sym (last_taken _ _ _ c.loop-fact-test.true c.fact-item.is _
+          (sym c.fact.ensures ∙ w.in-Header.is))
       | in_default w ↦
           ap (option_map (λ h. h.now)) w.last-is
           ∙ (c.loop-fact.invariant ∙ sym
           (ap (last_or None) (header_passed _ _ _ c.loop-fact-test.true c.fact-item.is
-          w.in_default.not-Header)))
+          (λ x e. w.in_default.not-Header x (c.fact.ensures ∙ e)))))
     ]
