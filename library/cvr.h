@@ -21,7 +21,10 @@ enum {
     CVR_NO_INPUT = 5,       /* the input isn't words and files; nothing was done */
     CVR_NO_ROOM = 6,        /* the text or the log is longer than its room: `sizes` or `size` says how long it is */
     CVR_NO_OFFICE = 7,      /* a handle has no office */
-    CVR_OTHER_DEFINITION = 8    /* the offices have different definitions */
+    CVR_OTHER_DEFINITION = 8,   /* the offices have different definitions */
+    CVR_NOT_MOMENT = 9,     /* H1: the date of a volume is no moment */
+    CVR_NO_DEVICE = 10,     /* H2: the definition lists no such device */
+    CVR_NO_VOLUME = 11      /* V1: there are fewer volumes */
 };
 
 /* How many bytes a text and a log have. */
@@ -99,6 +102,13 @@ uint8_t cvr_office_join(CvrOffice *office, CvrOffice *other, size_t *new_facts);
 uint8_t cvr_office_tally(CvrOffice *office, uint8_t *text, size_t text_len, size_t *size);
 uint8_t cvr_office_currents(CvrOffice *office, uint8_t *text, size_t text_len, size_t *size);
 uint8_t cvr_office_conflicts(CvrOffice *office, uint8_t *text, size_t text_len, size_t *size);
+
+/* What the command `merge` prints of all that the office holds: volume `number` under a date and a device, with `text` and
+   `size` as above. Date and device are UTF-8, and numbers begin with 1: else the status is CVR_COMMAND_LINE. Where there is
+   no such volume, it is the first that applies of CVR_NOT_MOMENT, CVR_NO_DEVICE and CVR_NO_VOLUME. `text` and `size` are
+   written where the status is CVR_DONE or CVR_NO_ROOM. The last line of the conflicts says how many volumes there are. */
+uint8_t cvr_office_volume(CvrOffice *office, const uint8_t *date, size_t date_len, const uint8_t *device, size_t device_len,
+                          size_t number, uint8_t *text, size_t text_len, size_t *size);
 
 /* Frees the office of a handle, if it has one. The handle can then be given to `cvr_office_new` again. */
 void cvr_office_free(CvrOffice *office);

@@ -16,14 +16,15 @@ import threading
 from dataclasses import dataclass, fields
 from typing import Callable, Dict, Iterable, List, Optional, Sequence, Tuple, Union
 
-from ._library import (DONE, LIBRARY, NO_INPUT, NO_OFFICE, OTHER_DEFINITION, REFUSED, Brought, Handle, Result, call, reading,
-                       text_of)
+from ._library import (DONE, GREATEST, LIBRARY, NO_DEVICE, NO_INPUT, NO_OFFICE, NO_VOLUME, NOT_MOMENT, OTHER_DEFINITION,
+                       REFUSED, Brought, Handle, Result, call, reading, text_of)
 
 __all__ = ['Conflict', 'Conflicts', 'Current', 'Fault', 'File', 'Office', 'Receipt', 'Result', 'Row', 'check', 'conflicts',
            'currents', 'merge', 'run', 'tally']
 
 File = Union[str, 'os.PathLike[str]', Tuple[str, bytes]]
 DECODER = json.JSONDecoder()
+MERGE_CODES = {NOT_MOMENT: 'H1', NO_DEVICE: 'H2', NO_VOLUME: 'V1'}
 
 
 class Fault(Exception):
@@ -223,8 +224,8 @@ class Office:
             print(office.tally())
 
     The order of the files makes no difference, and a file that comes twice counts once. `tally`, `currents` and `conflicts`
-    answer what the functions with these names answer for all files. What is refused is raised as `Fault`, and changes
-    nothing. Only the thread that made an office may use it."""
+    answer what the functions with these names answer for all files, and `volume` what `merge` does. What is refused is
+    raised as `Fault`, and changes nothing. Only the thread that made an office may use it."""
 
     def __init__(self, definition: File):
         self._handle, self._thread = Handle(), threading.get_ident()
@@ -257,6 +258,18 @@ class Office:
         """The names with several bodies, and how many volumes show them."""
         return _conflicts(self._text(LIBRARY.cvr_office_conflicts))
 
+    def volume(self, date: str, device: str, number: int) -> bytes:
+        """The volume with this number, under a date and a device: the bytes of a report."""
+        if number < 1:
+            raise ValueError('volumes are numbered from 1')
+        words = [part for word in (date.encode(), device.encode()) for part in (word, len(word))]
+        status, text = text_of(LIBRARY.cvr_office_volume, self._given(), *words, min(number, GREATEST))
+        if status in MERGE_CODES:
+            there = ' %d' % self.conflicts().volumes if status == NO_VOLUME else ''
+            raise Fault(Result(b'', ('merge: %s%s\n' % (MERGE_CODES[status], there)).encode(), REFUSED))
+        self._done(status)
+        return text
+
     def close(self) -> None:
         """Frees what the office holds. It can't be used afterwards."""
         LIBRARY.cvr_office_free(self._given())
@@ -284,8 +297,7 @@ class Office:
         self._done(status)
 
     def _text(self, function: Callable[..., int]) -> str:
-        self._given()
-        status, text = text_of(function, self._handle)
+        status, text = text_of(function, self._given())
         self._done(status)
         return text.decode()
 

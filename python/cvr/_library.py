@@ -7,6 +7,8 @@ from typing import Callable, Iterable, List, NamedTuple, Tuple
 HERE = os.path.dirname(os.path.abspath(__file__))
 NAMES = 'libcvr.so', 'cvr.dll'
 DONE, REFUSED, MEMORY, NO_INPUT, NO_ROOM, NO_OFFICE, OTHER_DEFINITION = 0, 1, 4, 5, 6, 7, 8
+NOT_MOMENT, NO_DEVICE, NO_VOLUME = 9, 10, 11
+GREATEST = ctypes.c_size_t(-1).value
 PATH = 1 << 10      # the room for a path at first
 
 
@@ -56,6 +58,7 @@ TYPES = {
     'office_tally': [OFFICE, *BYTES, SIZE],
     'office_currents': [OFFICE, *BYTES, SIZE],
     'office_conflicts': [OFFICE, *BYTES, SIZE],
+    'office_volume': [OFFICE, *BYTES, *BYTES, ctypes.c_size_t, *BYTES, SIZE],
     'office_free': [OFFICE],
 }
 
@@ -107,12 +110,12 @@ def reading(function: Callable[..., int], given: bytes, *more: object) -> Tuple[
         room = refusal.path
 
 
-def text_of(function: Callable[..., int], handle: Handle) -> Tuple[int, bytes]:
+def text_of(function: Callable[..., int], *given: object) -> Tuple[int, bytes]:
     """The status of a call that prints what an office holds, and the text."""
     room, size = PATH, ctypes.c_size_t()
     while True:
         text = ctypes.create_string_buffer(room)
-        status = function(ctypes.byref(handle), text, room, ctypes.byref(size))
+        status = function(*given, text, room, ctypes.byref(size))
         if status != NO_ROOM:
             return status, memoryview(text)[:size.value].tobytes() if status == DONE else b''
         room = size.value

@@ -1,6 +1,7 @@
 /* Calls the library and prints what it answers, for run.py: which statuses there are, that sizes and rooms are what
    cvr.h says, that calls side by side answer as one after the other, that no byte stays behind, and what a refused growth
-   does. On Windows the last two are left out, since the linker can't get at the memory of a DLL.
+   does. The last two are left out on Windows, since the linker can't get at the memory of a DLL, and with APART, of a
+   library in another process.
 
    calls DEFINITION FILE ..  */
 #include "cvr.h"
@@ -209,7 +210,7 @@ static void try_threads(char **paths, int many) {
     tell(all && first.status == CVR_DONE, "eight calls at once answer as one does");
 }
 
-#ifndef _WIN32
+#if !defined _WIN32 && !defined APART
 static void try_many(void) {
     long long before = live, calls = taken;
     for (int n = 0; n < CALLS; n++)
@@ -249,7 +250,7 @@ int main(int many, char **paths) {
     try_rooms(paths + 1, many - 1);
     try_log_room(paths + 1, many - 1);
     try_threads(paths + 1, many - 1);
-#ifndef _WIN32
+#if !defined _WIN32 && !defined APART
     try_many();
     try_refusals(over("tally", paths + 1, many - 1, 0));
     try_refusals(over("conflicts", paths + 1, many - 1, 0));

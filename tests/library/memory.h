@@ -1,6 +1,6 @@
-/* Counts what the library takes and gives back, and refuses a growth, for programs that run.py links. On Windows it does
-   nothing, since the linker can't get at the memory of a DLL. */
-#ifndef _WIN32
+/* Counts what the library takes and gives back, and refuses a growth, for programs that run.py links. It does nothing on
+   Windows, since the linker can't get at the memory of a DLL, or with APART, of a library in another process. */
+#if !defined _WIN32 && !defined APART
 #include <malloc.h>
 #include <stdlib.h>
 

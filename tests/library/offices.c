@@ -8,7 +8,10 @@
 #include <stdlib.h>
 #include <string.h>
 
-enum { MOST = 8, ROOM = 1 << 20, CALLS = 100 };
+#define DATE "2024-11-06T08:00:00Z"
+#define DEVICE "scanner-1"
+
+enum { MOST = 8, ROOM = 1 << 20, CALLS = 100, READS = 4 };
 
 typedef struct {
     uint8_t *bytes;
@@ -21,8 +24,6 @@ static int right, wrong;
 static uint8_t room[ROOM], other_room[ROOM], path[ROOM];
 static CvrRefusal refusal;
 static CvrReceipt receipt;
-static Read *reads[] = {cvr_office_tally, cvr_office_currents, cvr_office_conflicts};
-static const char *commands[] = {"tally", "currents", "conflicts"};
 
 static void tell(int is_right, const char *what) {
     *(is_right ? &right : &wrong) += 1;
@@ -43,6 +44,22 @@ static File file_at(const char *name) {
     return found;
 }
 
+/* A file with one text in the place of another of the same length, wherever that stands. */
+static File changed(File file, const char *old, const char *new) {
+    File found = {malloc(file.length), file.length};
+    size_t length = strlen(old), count = 0;
+    if (!found.bytes || strlen(new) != length)
+        exit(98);
+    memcpy(found.bytes, file.bytes, file.length);
+    for (size_t at = 0; at + length <= file.length; at++)
+        if (!memcmp(found.bytes + at, old, length)) {
+            memcpy(found.bytes + at, new, length);
+            count++;
+        }
+    tell(count > 0, "there is what is changed");
+    return found;
+}
+
 static int made(CvrOffice *office, File definition) {
     return cvr_office_new(office, definition.bytes, definition.length, path, ROOM, &refusal);
 }
@@ -51,20 +68,58 @@ static int import(CvrOffice *office, File file) {
     return cvr_office_import(office, file.bytes, file.length, &receipt, path, ROOM, &refusal);
 }
 
+static uint8_t volume(CvrOffice *office, const char *date, const char *device, size_t number, uint8_t *text, size_t text_len,
+                      size_t *size) {
+    return cvr_office_volume(office, (const uint8_t *)date, strlen(date), (const uint8_t *)device, strlen(device), number,
+                             text, text_len, size);
+}
+
+static uint8_t first_volume(CvrOffice *office, uint8_t *text, size_t text_len, size_t *size) {
+    return volume(office, DATE, DEVICE, 1, text, text_len, size);
+}
+
+/* The calls that print, each with its command and the words between the definition and the files. */
+static const struct {
+    Read *read;
+    const char *command, *words[4];
+} reads[READS] = {
+    {cvr_office_tally, "tally", {NULL}},
+    {cvr_office_currents, "currents", {NULL}},
+    {cvr_office_conflicts, "conflicts", {NULL}},
+    {first_volume, "merge", {DATE, DEVICE, "1", NULL}},
+};
+
+static struct {
+    uint8_t bytes[1 << 22];
+    size_t length, count, ends[4 * MOST];
+} input;
+
+static void add(const void *piece, size_t length) {
+    memcpy(input.bytes + input.length, piece, length);
+    input.ends[input.count++] = input.length += length;
+}
+
+static void add_text(const char *piece) {
+    add(piece, strlen(piece));
+}
+
 /* The text that the program prints for a command over files, in the other room; its length. */
-static size_t printed(const char *command, char **paths, const File *files, int many) {
-    static uint8_t input[1 << 22], log[ROOM];
-    size_t length = 0, count = 0, ends[3 * MOST];
+static size_t printed(const char *command, const char *const *words, char **paths, const File *files, int many) {
+    static uint8_t log[ROOM];
     CvrSizes sizes;
-    memcpy(input, command, strlen(command));
-    ends[count++] = length = strlen(command);
-    for (int part = 0; part < 3 * many; part++) {
-        int at = part < many ? part : (part - many) / 2, is_bytes = part >= many && (part - many) % 2;
-        size_t size = is_bytes ? files[at].length : strlen(paths[at]);
-        memcpy(input + length, is_bytes ? (char *)files[at].bytes : paths[at], size);
-        ends[count++] = length += size;
+    input.length = input.count = 0;
+    add_text(command);
+    add_text(paths[0]);
+    for (; *words; words++)
+        add_text(*words);
+    for (int at = 1; at < many; at++)
+        add_text(paths[at]);
+    size_t count = input.count;
+    for (int at = 0; at < many; at++) {
+        add_text(paths[at]);
+        add(files[at].bytes, files[at].length);
     }
-    int status = cvr_call(input, length, ends, count, (size_t)many + 1, other_room, ROOM, log, ROOM, &sizes);
+    int status = cvr_call(input.bytes, input.length, input.ends, input.count, count, other_room, ROOM, log, ROOM, &sizes);
     tell(status == CVR_DONE && sizes.log == 0, "the program does the command");
     return sizes.text;
 }
@@ -72,9 +127,9 @@ static size_t printed(const char *command, char **paths, const File *files, int 
 /* Whether two offices print the same. */
 static int is_same(CvrOffice *one, CvrOffice *other) {
     int same = 1;
-    for (int at = 0; at < 3; at++) {
+    for (int at = 0; at < READS; at++) {
         size_t size = 1, other_size = 2;
-        same &= reads[at](one, room, ROOM, &size) == CVR_DONE && reads[at](other, other_room, ROOM, &other_size) == CVR_DONE
+        same &= reads[at].read(one, room, ROOM, &size) == CVR_DONE && reads[at].read(other, other_room, ROOM, &other_size) == CVR_DONE
             && size == other_size && !memcmp(room, other_room, size);
     }
     return same;
@@ -88,12 +143,13 @@ static void try_texts(char **paths, const File *files, int many) {
         tell(import(&office, files[at]) == CVR_DONE && receipt.cvrs > 0 && receipt.new_facts > 0, "it takes in a file");
         cvrs += receipt.cvrs;
     }
-    for (int at = 0; at < 3; at++) {
-        size_t wanted = printed(commands[at], paths, files, many);
-        tell(reads[at](&office, room, ROOM, &size) == CVR_DONE && size == wanted && !memcmp(room, other_room, size), commands[at]);
-        tell(reads[at](&office, room, wanted, &size) == CVR_DONE, "a room of the text's length is enough");
+    for (int at = 0; at < READS; at++) {
+        Read *read = reads[at].read;
+        size_t wanted = printed(reads[at].command, reads[at].words, paths, files, many);
+        tell(read(&office, room, ROOM, &size) == CVR_DONE && size == wanted && !memcmp(room, other_room, size), reads[at].command);
+        tell(read(&office, room, wanted, &size) == CVR_DONE, "a room of the text's length is enough");
         memset(room, 0xa5, ROOM);
-        tell(reads[at](&office, room, wanted - 1, &size) == CVR_NO_ROOM && size == wanted, "a shorter one isn't");
+        tell(read(&office, room, wanted - 1, &size) == CVR_NO_ROOM && size == wanted, "a shorter one isn't");
         tell(!memcmp(room, other_room, wanted - 1) && room[wanted - 1] == 0xa5, "and has what fits");
     }
     tell(import(&office, files[1]) == CVR_DONE && receipt.cvrs > 0 && receipt.new_facts == 0, "a file once more brings nothing");
@@ -119,6 +175,21 @@ static void try_joins(const File *files, int many) {
     cvr_office_free(&other);
 }
 
+/* What an office of another definition refuses. */
+static void try_others(const File *files) {
+    CvrOffice office = CVR_NO_HANDLE, other = CVR_NO_HANDLE;
+    File definition = changed(files[0], "Alder County", "Elder County");
+    size_t new_facts = 77;
+    tell(made(&other, definition) == CVR_DONE && made(&office, files[0]) == CVR_DONE, "two are made, of different definitions");
+    receipt.cvrs = receipt.new_facts = 77;
+    tell(import(&other, files[1]) == CVR_REFUSED && refusal.code == 5, "a file that disagrees is refused");
+    tell(receipt.cvrs == 77 && receipt.new_facts == 77, "and leaves the receipt");
+    tell(cvr_office_join(&office, &other, &new_facts) == CVR_OTHER_DEFINITION && new_facts == 77, "they aren't joined");
+    cvr_office_free(&office);
+    cvr_office_free(&other);
+    free(definition.bytes);
+}
+
 static void try_refused(const File *files) {
     static const char text[] = "{\"@type\": \"CVR.CastVoteRecordReport\"}", wrong_type[] = "{\"@type\": 7}";
     CvrOffice office = CVR_NO_HANDLE, none = CVR_NO_HANDLE;
@@ -141,6 +212,28 @@ static void try_refused(const File *files) {
     tell(office.office == NULL, "nothing happens where there is none");
 }
 
+/* The status of a volume that isn't there, where room and size stay as they were, or 99. */
+static int untold(CvrOffice *office, const char *date, const char *device, size_t number) {
+    size_t size = 77;
+    room[0] = 0xa5;
+    int status = volume(office, date, device, number, room, ROOM, &size);
+    return size == 77 && room[0] == 0xa5 ? status : 99;
+}
+
+static void try_no_volumes(const File *files) {
+    CvrOffice office = CVR_NO_HANDLE;
+    tell(untold(&office, DATE, DEVICE, 1) == CVR_NO_OFFICE, "no office has no volume");
+    tell(made(&office, files[0]) == CVR_DONE, "an office is made");
+    tell(untold(&office, "\xff", DEVICE, 1) == CVR_COMMAND_LINE, "a date is UTF-8");
+    tell(untold(&office, DATE, "\xff", 1) == CVR_COMMAND_LINE, "and so is a device");
+    tell(untold(&office, "never", "none", 0) == CVR_COMMAND_LINE, "numbers begin with 1");
+    tell(untold(&office, "never", "none", 9) == CVR_NOT_MOMENT, "the date comes first");
+    tell(untold(&office, DATE, "none", 9) == CVR_NO_DEVICE, "then the device");
+    tell(untold(&office, DATE, DEVICE, 2) == CVR_NO_VOLUME, "then the number");
+    tell(untold(&office, DATE, DEVICE, SIZE_MAX) == CVR_NO_VOLUME, "however great");
+    cvr_office_free(&office);
+}
+
 #ifndef _WIN32
 /* An office's life: the statuses of its calls, of which none is wrong where no growth is refused. */
 static int lives(const File *files, int many) {
@@ -150,8 +243,8 @@ static int lives(const File *files, int many) {
     for (int at = 1; done && at < many; at++)
         done = import(&office, files[at]) == CVR_DONE;
     done = done && made(&other, files[0]) == CVR_DONE && cvr_office_join(&other, &office, &size) == CVR_DONE;
-    for (int at = 0; done && at < 3; at++)
-        done = reads[at](&other, room, ROOM, &size) == CVR_DONE;
+    for (int at = 0; done && at < READS; at++)
+        done = reads[at].read(&other, room, ROOM, &size) == CVR_DONE;
     cvr_office_free(&office);
     cvr_office_free(&other);
     return done;
@@ -185,7 +278,9 @@ int main(int many, char **paths) {
         files[at - 1] = file_at(paths[at]);
     try_texts(paths + 1, files, many - 1);
     try_joins(files, many - 1);
+    try_no_volumes(files);
     try_refused(files);
+    try_others(files);
 #ifndef _WIN32
     try_memory(files, many - 1);
 #endif

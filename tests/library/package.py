@@ -27,6 +27,26 @@ def refused(call, *words):
     return None
 
 
+def changed(path, old, new):
+    """A file under a name of its own, with other text in the place of what stands in it."""
+    with open(path, 'rb') as file:
+        before = file.read()
+    after = before.replace(old, new)
+    assert after != before
+    return 'changed', after
+
+
+def faulty():
+    """A file for each code with which a file can be refused."""
+    with open(SCAN, 'rb') as file:
+        scan = file.read()
+    yield 'E1', ('long', b' ' * 67108865)
+    yield 'E2', ('cut', scan[:-20])
+    yield 'E3', changed(SCAN, b'"UniqueId"', b'"Unique"')
+    yield 'E4', changed(SCAN, b'"ContestSelectionId": "council-', b'"ContestSelectionId": "nobody-')
+    yield 'E5', changed(SCAN, b'"Name": "', b'"Name": "Not ')
+
+
 def lines(result):
     return result.text.decode().split('\n')[:-1]
 
@@ -95,8 +115,9 @@ def of_offices():
         yield 'a receipt has the records', first.cvrs == again.cvrs == cvr.check(DEFINITION, [SCAN])[SCAN]
         yield 'a file once more brings nothing', first.new_facts > 0 == again.new_facts
         yield 'an office tallies', office.tally() == cvr.tally(DEFINITION, [SCAN])
-        fault, line = refused(office.import_file, DAMAGED), refused(cvr.tally, DEFINITION, [DAMAGED])
-        yield 'a damaged file is refused with the same line', isinstance(fault, cvr.Fault) and fault.log == line.log
+        for code, file in faulty():
+            fault, line = refused(office.import_file, file), refused(cvr.tally, DEFINITION, [file])
+            yield 'a file is refused with the same line', (fault.code, fault.log) == (code, line.log)
         with cvr.Office(DEFINITION) as other:
             other.import_file(ADJUDICATED)
             joined, again = other.join(office), other.join(office)
@@ -106,8 +127,18 @@ def of_offices():
             yield 'and conflicts', other.conflicts() == cvr.conflicts(DEFINITION, [SCAN, ADJUDICATED, CORRECTED])
         yield 'the other stays', office.tally() == cvr.tally(DEFINITION, [SCAN])
         yield 'an office joins itself', office.join(office) == 0
+        with cvr.Office(changed(DEFINITION, b'"Name": "', b'"Name": "Not ')) as other:
+            yield 'but none of another definition', isinstance(refused(office.join, other), ValueError)
         yield 'a closed one has no tally', isinstance(refused(other.tally), ValueError)
         yield 'nor can it be joined', isinstance(refused(office.join, other), ValueError)
+        moment, device = '2024-11-06T08:00:00Z', 'scanner-1'
+        yield 'an office gives a volume', office.volume(moment, device, 1) == cvr.merge(DEFINITION, moment, device, 1, [SCAN])
+        for words in ('never', 'none', 9), (moment, 'none', 9), (moment, device, 9):
+            fault, line = refused(office.volume, *words), refused(cvr.merge, DEFINITION, *words, [SCAN])
+            yield 'no volume has the same line', isinstance(fault, cvr.Fault) and fault.log == line.log
+        yield 'however great its number', refused(office.volume, moment, device, 2 ** 64 + 1).log == 'merge: V1 1\n'
+        yield 'volumes are numbered from 1', isinstance(refused(office.volume, moment, device, 0), ValueError)
+        yield 'a closed one has no volume', isinstance(refused(other.volume, moment, device, 1), ValueError)
         found = []
         thread = threading.Thread(target=lambda: found.append(refused(office.tally)))
         thread.start()

@@ -69,7 +69,8 @@ cut_none bytes ends = record {
 }
 
 pub cut_one_more : (bytes ends : List ℕ) (pieces : List (List ℕ)) (place end : ℕ)
-    (piece rest more more_ends : List ℕ) → AreCutSoFar bytes ends pieces place rest (end ∷ more_ends)
+    (piece rest more more_ends : List ℕ)
+    → AreCutSoFar bytes ends pieces place rest (end ∷ more_ends)
     → piece ++ more ≡ rest → place + length piece ≡ end
     → AreCutSoFar bytes ends (pieces ++ piece ∷ []) end more more_ends
 cut_one_more bytes ends pieces place end piece rest more more_ends was joined ended = record {

@@ -2,8 +2,8 @@
 use Rattle.std.proofs.Common.{◌≡◌, ◌≢◌, ◌∙◌, ◌%◌, ◌<◌, ◌≤◌, ◌++◌, ℕ, List, [], ◌∷◌, All}
 use Rattle.std.proofs.Common.{IsUtf8, ap, arith, drop, length, map, refl, subst, sym}
 use Rattle.std.proofs.Common.{take}
-use Rattle.std.proofs.lemmas.List.{get_or-map, length-append, length-map, map-append, take-append-drop}
-use Rattle.std.proofs.lemmas.List.{drop-map, take-map}
+use Rattle.std.proofs.lemmas.List.{drop-map, get_or-map, length-append, length-map, map-append}
+use Rattle.std.proofs.lemmas.List.{take-append-drop, take-map}
 use Rattle.std.proofs.Math.Seq.{drop-append_seam, length-take-le, take-append_seam}
 use denote.Bor.{Bor}
 use Rattle.std.specs.List.{IsSplitAt}
@@ -72,7 +72,8 @@ shown pieces = map (λ piece. piece.now) pieces
 pub texts_shown : (pieces : List (Bor (List ℕ))) → All (λ piece. IsUtf8 piece.now) pieces
     → All IsUtf8 (shown pieces)
 texts_shown pieces all k d lt =
-    let n : k < length pieces = omega (arith, lt, length-map pieces (λ (p : Bor (List ℕ)). p.now)) in
+    let n : k < length pieces =
+    omega (arith, lt, length-map pieces (λ (p : Bor (List ℕ)). p.now)) in
     let none : Bor (List ℕ) = record { ref_ptr = (0, 0); now = [] } in
     subst IsUtf8 (sym (get_or-map (λ (p : Bor (List ℕ)). p.now) pieces k none d n)) (all k none n)
 

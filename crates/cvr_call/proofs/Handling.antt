@@ -60,13 +60,13 @@ tested {𝓤 = 𝓤} 𝓛 a p x =
 module _ {M : Type 1} {𝓤 : Ura M} {𝓛 : Logic 𝓤} {K : Type 0} {Γ : List (Item 𝓤)} {G : Goal 𝓤 𝓛.H}
   where
     pub handle_out : K → (d : (handle.the_row).Denot) (vs : List Val)
-        → ((h : Val) → vs ≡ both (ptr_val d.at) h ∷ [] → Good (layout Z) h → Seq K 𝓛 (‵ (owned d.alloc
-        d.at d.office) ∷ ‵ (Z.own_val d.alloc (h ∷ [])) ∷ Γ) G)
+        → ((h : Val) → vs ≡ both (ptr_val d.at) h ∷ [] → Good (layout Z) h
+        → Seq K 𝓛 (‵ (owned d.alloc d.at d.office) ∷ ‵ (Z.own_val d.alloc (h ∷ [])) ∷ Γ) G)
         → Seq K 𝓛 (‵ ((handle.the_row).own_val d vs) ∷ Γ) G
     handle_out t d vs k =
         fsplit t $ fpick t (λ vss. fsplit t $ feq_l t (λ ev. fsplit t $ feq_l t (λ ep. fsplit t $
-        handle_tells (al R Z heap_laws.the_row_laws ghosts) t d.alloc vss.1.0 (λ h ea fits. move t (1
-        ∷ []) $ drop t $ move t (1 ∷ []) $
+        handle_tells (al R Z heap_laws.the_row_laws ghosts) t d.alloc vss.1.0 (λ h ea fits.
+        move t (1 ∷ []) $ drop t $ move t (1 ∷ []) $
         k h (subst (λ (ws : List Val). vs ≡ vstruct (of_list (ptr_val d.at ∷ (ws ++ []))) ∷ []) ea
         (subst (λ (ps : List Val). vs ≡ vstruct (of_list (ps ++ (vss.1.0 ++ []))) ∷ []) ep ev))
         fits))))
@@ -86,13 +86,13 @@ module _ {M : Type 1} {𝓤 : Ura M} {𝓛 : Logic 𝓤} {K : Type 0} {Γ : List
           ),
         ) (v ∷ [])) (ptr_val p ∷ [], (h ∷ [], tt)) $ fjoin t $ s)
 
-    pub either_held : K → (a : Global) (p : Ptr) (m : Option R.Denot) → (p ≡ null_ptr → m ≡ None → Seq
-        K 𝓛 Γ G)
-        → ((b o : ℕ) (x : R.Denot) → p ≡ block_ptr b o → m ≡ Some x → Testable (block_ptr b o) → Seq K
-        𝓛 (‵ (boxed a (block_ptr b o) x) ∷ Γ) G) → Seq K 𝓛 (‵ (owned a p m) ∷ Γ) G
+    pub either_held : K → (a : Global) (p : Ptr) (m : Option R.Denot)
+        → (p ≡ null_ptr → m ≡ None → Seq K 𝓛 Γ G)
+        → ((b o : ℕ) (x : R.Denot) → p ≡ block_ptr b o → m ≡ Some x → Testable (block_ptr b o)
+        → Seq K 𝓛 (‵ (boxed a (block_ptr b o) x) ∷ Γ) G) → Seq K 𝓛 (‵ (owned a p m) ∷ Γ) G
     either_held t a p None none one = feq_l t (λ e. none e refl)
     either_held t a p (Some x) none one =
-        in_a_block t p (λ q. boxed a q x) (fst∗ 𝓤 (never 𝓤) (sem 𝓛 (ghosts.dealloc_token a (bare (lone
-        R.mir)) null_ptr))) (λ b o e.
+        in_a_block t p (λ q. boxed a q x)
+        (fst∗ 𝓤 (never 𝓤) (sem 𝓛 (ghosts.dealloc_token a (bare (lone R.mir)) null_ptr))) (λ b o e.
         use1 𝓛 (given (Testable (block_ptr b o)) (‵ (boxed a (block_ptr b o) x))) (tested 𝓛 a
         (block_ptr b o) x) $ learn t (λ can. one b o x e refl can))

@@ -4,3 +4,4 @@ pub mod Handling
 pub mod Holding
 pub mod Loosening
 pub mod Responding
+pub mod Volumes

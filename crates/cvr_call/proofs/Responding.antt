@@ -79,7 +79,8 @@ devices_of files out log = record {
 
 same_opener : (files more : List File) → SaysTheSame (opener_over files) (opener_over more)
     → opener_over more ≡ opener_over files
-same_opener files more says = ap (λ (at : List ℕ → At). record (opener_over files) { at = at }) says.at
+same_opener files more says =
+    ap (λ (at : List ℕ → At). record (opener_over files) { at = at }) says.at
 
 -- a sink that has taken this, and hasn't failed
 pub record Took (sink : SinkState) (bytes : List ℕ) : Type 0 where

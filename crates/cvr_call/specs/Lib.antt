@@ -5,3 +5,4 @@ pub mod Offices
 pub mod Pieces
 pub mod Responds
 pub mod Told
+pub mod Volume

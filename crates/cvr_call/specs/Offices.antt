@@ -29,6 +29,10 @@ refused = 1
 abbrev pub other_definition : ℕ
 other_definition = 8
 
+-- an answer is one of those that are documented: done, the call's own refusal, or out of memory
+abbrev pub IsAnswered : ℕ → ℕ → Type 0
+IsAnswered refusal status = (status ≡ done) ⊎ (status ≡ refusal) ⊎ (status ≡ no_memory)
+
 -- ---- a text
 
 -- a text stands in a room as far as it fits, with its length beside it

@@ -12,6 +12,7 @@ mod office;
 mod offices;
 mod pieces;
 mod refusal;
+mod volume;
 mod words;
 
 pub use call::{CvrSizes, cvr_call};
@@ -21,3 +22,4 @@ pub use offices::{
     cvr_office_join, cvr_office_new, cvr_office_tally,
 };
 pub use refusal::CvrRefusal;
+pub use volume::cvr_office_volume;

@@ -1,4 +1,4 @@
-ghost use Rattle.std.specs.Prelude.{◌≡◌, ◌≢◌, IfOk, IfErr, IfSome, None, string_bytes};
+ghost use Rattle.std.specs.Prelude.{◌≡◌, ◌≢◌, ◌⊎◌, IfOk, IfErr, IfSome, None, string_bytes};
 ghost use Rattle.std.specs.Prelude.{MatchResult};
 ghost use Rattle.cdf_form.specs.Reading.{IsMemory};
 ghost use Rattle.cdf_definition.specs.Acceptance.{first_refusal, first_unsound};
@@ -6,8 +6,9 @@ ghost use Rattle.cdf_definition.specs.Frame.{IsSame};
 ghost use Rattle.cvr_office.specs.Names.{conflicts};
 ghost use Rattle.cvr_office.specs.Tallied.{tally};
 ghost use Rattle.cvr_run.specs.Currents.{conflict_text, currents};
-ghost use Rattle.cvr_call.specs.Handle.{Beside, Does};
-ghost use Rattle.cvr_call.specs.Offices.{IsNew, Joined, Shows, ShowsUnless, TellsFirst, TookIn};
+ghost use Rattle.cvr_call.specs.Handle.{Beside, Does, no_office};
+ghost use Rattle.cvr_call.specs.Offices.{IsAnswered, IsNew, Joined, Shows, ShowsUnless};
+ghost use Rattle.cvr_call.specs.Offices.{TellsFirst, TookIn};
 ghost use Rattle.cvr_call.specs.Offices.{done, other_definition, refused};
 ghost use Rattle.cvr_call.specs.Told.{no_memory};
 
@@ -22,7 +23,7 @@ use cvr_office::{JoinFault, Office};
 use std::alloc::Global;
 
 // The status of a call on a handle without an office.
-const NO_OFFICE: u8 = 7;
+pub const NO_OFFICE: u8 = 7;
 
 // The status of a join of offices whose definitions differ.
 const OTHER_DEFINITION: u8 = 8;
@@ -62,6 +63,8 @@ pub extern "C" fn cvr_office_new(
     ensures fault { result ≡ refused
         → TellsFirst (first_unsound definition.now) path.old path.new refusal.new }
     ensures unchanged { result ≢ done → office.new.office ≡ office.old.office }
+    ensures quiet { result ≡ done → (path.new ≡ path.old) × (refusal.new ≡ refusal.old) }
+    ensures answered { IsAnswered refused result }
 {
     match new_office(alloc, definition) {
         Ok(held) => {
@@ -85,6 +88,9 @@ fn import_into(
         (first_refusal office.old.content.frame file.now) path.old path.new refusal.new }
     ensures unchanged { result ≢ done → office.new.content.facts ≡ office.old.content.facts }
     ensures definition { office.new.content.frame ≡ office.old.content.frame }
+    ensures kept { result ≢ done → receipt.new ≡ receipt.old }
+    ensures quiet { result ≡ done → (path.new ≡ path.old) × (refusal.new ≡ refusal.old) }
+    ensures answered { IsAnswered refused result }
 {
     match office.import(file) {
         Ok(found) => {
@@ -116,6 +122,11 @@ pub extern "C" fn cvr_office_import(
         (λ old new. result ≢ done → new.content.facts ≡ old.content.facts) }
     ensures definition { Does office.old.office office.new.office result
         (λ old new. new.content.frame ≡ old.content.frame) }
+    ensures kept { result ≢ done → receipt.new ≡ receipt.old }
+    ensures quiet { (result ≡ done) ⊎ (result ≡ no_office)
+        → (path.new ≡ path.old) × (refusal.new ≡ refusal.old) }
+    ensures answered { Does office.old.office office.new.office result
+        (λ old new. IsAnswered refused result) }
 {
     let Some(mut held) = office.take(alloc) else {
         return NO_OFFICE;
@@ -132,6 +143,8 @@ fn join_into(office: &mut CachedOffice, other: &CachedOffice, new_facts: &mut us
         → ¬ IsSame office.old.content.frame other.now.content.frame }
     ensures unchanged { result ≢ done → office.new.content.facts ≡ office.old.content.facts }
     ensures definition { office.new.content.frame ≡ office.old.content.frame }
+    ensures kept { result ≢ done → new_facts.new ≡ new_facts.old }
+    ensures answered { IsAnswered other_definition result }
 {
     match office.join(other) {
         Ok(found) => {
@@ -164,6 +177,9 @@ pub extern "C" fn cvr_office_join(
     ensures definition { Does office.old.office office.new.office result
         (λ old new. new.content.frame ≡ old.content.frame) }
     ensures other { other.new.office ≡ other.old.office }
+    ensures kept { result ≢ done → new_facts.new ≡ new_facts.old }
+    ensures answered { Does office.old.office office.new.office result (λ old new.
+        Beside other.old.office result (λ theirs. IsAnswered other_definition result)) }
 {
     let Some(mut held) = office.take(alloc) else {
         return NO_OFFICE;
@@ -178,6 +194,14 @@ pub extern "C" fn cvr_office_join(
     status
 }
 
+/// Puts bytes into a room, with their length, and answers the status of the call.
+pub fn tell_bytes(bytes: &[u8], room: &mut [u8], size: &mut usize) -> u8
+    ensures { Shows bytes.now room.old room.new size.new result }
+{
+    *size = bytes.len();
+    code_told(Status::Done, put(bytes, room), true)
+}
+
 // Puts a text into a room, with its length, and answers the status of the call.
 fn tell_text(told: Result<String, Memory>, room: &mut [u8], size: &mut usize) -> u8
     ensures { MatchResult told
@@ -185,10 +209,7 @@ fn tell_text(told: Result<String, Memory>, room: &mut [u8], size: &mut usize) ->
         (λ _. result ≡ no_memory) }
 {
     match told {
-        Ok(text) => {
-            *size = text.len();
-            code_told(Status::Done, put(text.as_bytes(), room), true)
-        }
+        Ok(text) => tell_bytes(text.as_bytes(), room, size),
         Err(Memory) => Status::Memory.code(),
     }
 }
@@ -205,6 +226,7 @@ pub extern "C" fn cvr_office_tally(
         (λ old new. ShowsUnless (tally old.content.frame.contests old.content.facts)
         text.old text.new size.new result) }
     ensures unchanged { office.new.office ≡ office.old.office }
+    ensures quiet { result ≡ no_office → (text.new ≡ text.old) × (size.new ≡ size.old) }
 {
     let Some(held) = office.take(alloc) else {
         return NO_OFFICE;
@@ -225,6 +247,7 @@ pub extern "C" fn cvr_office_currents(
     ensures text { Does office.old.office office.new.office result
         (λ old new. ShowsUnless (currents old.content.facts) text.old text.new size.new result) }
     ensures unchanged { office.new.office ≡ office.old.office }
+    ensures quiet { result ≡ no_office → (text.new ≡ text.old) × (size.new ≡ size.old) }
 {
     let Some(held) = office.take(alloc) else {
         return NO_OFFICE;
@@ -255,6 +278,7 @@ pub extern "C" fn cvr_office_conflicts(
         (λ old new. ShowsUnless (conflict_text (conflicts old.content.facts))
         text.old text.new size.new result) }
     ensures unchanged { office.new.office ≡ office.old.office }
+    ensures quiet { result ≡ no_office → (text.new ≡ text.old) × (size.new ≡ size.old) }
 {
     let Some(held) = office.take(alloc) else {
         return NO_OFFICE;

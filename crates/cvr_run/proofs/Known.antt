@@ -1,24 +1,37 @@
 -- A run over an opener that says what stands at each path.
-use Rattle.std.proofs.Common.{◌≡◌, ℕ, List, [], ◌∷◌, ◌++◌, map, ◌⊎◌, inr, refl, ◌∙◌, subst}
+use Rattle.std.proofs.Common.{◌≡◌, ◌≢◌, ℕ, List, [], ◌∷◌, ◌++◌, map, ◌⊎◌, inl, inr, refl, ◌∙◌, subst}
 use Rattle.std.proofs.Common.{sym, arith}
 use Rattle.cvr_words.specs.declared.request.Request.{Request}
 use Rattle.cvr_run.specs.declared.status.Status.{Status}
-use Rattle.cvr_run.specs.declared.status.Status.TheVariants.{Device, Memory}
+use Rattle.cvr_run.specs.declared.status.Status.TheVariants.{CommandLine, Device, Memory}
+use Rattle.cvr_run.specs.declared.file.FileFault.TheVariants as fault
+use Rattle.cvr_run.specs.Answered.{Does}
 use Rattle.cvr_run.specs.Devices.{Devices, outputs}
 use Rattle.cvr_run.specs.Ends.{Ends, Ran}
 use Rattle.cvr_run.specs.HeldBytes.{held_part}
 use Rattle.cvr_run.specs.Job.{Job}
 use Rattle.cvr_run.specs.Log.{Logs}
-use Rattle.cvr_run.specs.Opening.{At, Has, IsRead, AreRead, AreAt}
+use Rattle.cvr_run.specs.Opening.{At, Opener, Has, IsRead, AreRead, AreAt}
 use Rattle.cvr_run.specs.Outcome.{run_text, run_fault, any_refused, IsWhole}
 use Rattle.cvr_run.specs.Told.{run_lines, last_lines}
-use Rattle.cvr_run.specs.Worked.{Runs}
+use Rattle.cvr_run.specs.Worked.{Runs, Stop, Stops, Unread, NoRoom, stop_status}
 use Rattle.cvr_run.proofs.HeldBytes.{held_text, held_lines, held_fault, held_refused}
 
 -- ---- a run that has printed its text has not failed
 
 pub not_whole : (answer : Status) → (answer ≡ Device) ⊎ (answer ≡ Memory) → IsWhole answer → ⊥
 not_whole answer h h' = grind arith
+
+stop_answer : (stop : Stop) → (stop_status stop ≡ Device) ⊎ (stop_status stop ≡ Memory)
+stop_answer (Unread path fault.Device) = inl refl
+stop_answer (Unread path fault.Memory) = inr refl
+stop_answer NoRoom = inr refl
+
+-- nor has one that stops
+pub stopped : (old new : Opener) (paths : List (List ℕ)) (answer : Status) (line : List ℕ)
+    → Stops old new paths answer line → (answer ≡ Device) ⊎ (answer ≡ Memory)
+stopped old new paths answer line stops =
+    subst (λ s. (s ≡ Device) ⊎ (s ≡ Memory)) (sym stops.status) (stop_answer stops.stop)
 
 -- ---- what was read is what is held of the files
 
@@ -84,7 +97,7 @@ module _ (request : Request) (answer : Status) (old new : Devices)
     cut_short = λ memory. absurd (not_whole answer (inr memory) whole);
   }
 
-pub job_known : (request : Request) (answer : Status) (old new : Devices)
+job_known : (request : Request) (answer : Status) (old new : Devices)
     → Runs request answer old new → (job : Job) → job.request ≡ request
     → AreAt old.opener.at (job.request.def ∷ job.request.paths) (job.def ∷ job.files)
     → IsWhole answer → Ran job answer (outputs old) (outputs new)
@@ -94,3 +107,24 @@ job_known request answer old new run job is there whole =
     (ran_known request answer old new run job.def job.files
     (subst (λ (q : Request). AreAt old.opener.at (q.def ∷ q.paths) (job.def ∷ job.files)) is
     there) whole)
+
+-- a request that was done ended as refused words do not
+pub done_by_words : (request : Request) (answer : Status) (old new : Devices) (unchanged : Type 0)
+    → Does request answer old new unchanged → answer ≢ CommandLine
+done_by_words request answer old new unchanged (inl (same, (line, stops, logs))) =
+    other answer (stopped _ _ _ _ _ stops)
+  where
+    other : (answer : Status) → (answer ≡ Device) ⊎ (answer ≡ Memory) → answer ≢ CommandLine
+    other answer (inl is) = λ e. cc
+    other answer (inr is) = λ e. cc
+done_by_words request answer old new unchanged (inr run) = run.ran.ends.no_words
+
+-- and is known, where it is whole
+pub done_known : (request : Request) (answer : Status) (old new : Devices) (unchanged : Type 0)
+    → Does request answer old new unchanged → (job : Job) → job.request ≡ request
+    → AreAt old.opener.at (job.request.def ∷ job.request.paths) (job.def ∷ job.files)
+    → IsWhole answer → Ran job answer (outputs old) (outputs new)
+done_known request answer old new unchanged (inl (same, (line, stops, logs))) job is there whole =
+    absurd (not_whole answer (stopped _ _ _ _ _ stops) whole)
+done_known request answer old new unchanged (inr run) job is there whole =
+    job_known request answer old new run job is there whole

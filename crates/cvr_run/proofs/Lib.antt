@@ -13,6 +13,7 @@ pub mod Telling
 pub mod ToldRows
 pub mod Collected
 pub mod Printed
+pub mod Beside
 pub mod Merging
 pub mod Last
 pub mod SameOffices
@@ -20,6 +21,7 @@ pub mod HeldFiles
 pub mod HeldSteps
 pub mod HeldBytes
 pub mod Opened
+pub mod Had
 pub mod OpenerExamples
 pub mod SaysTheSame
 pub mod ListedPaths

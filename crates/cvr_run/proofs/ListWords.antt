@@ -29,8 +29,7 @@ use Rattle.cvr_run.specs.Opening.{At, Has, Opener, IsRead, Opens}
 use Rattle.cvr_run.specs.Outcome.{IsWhole}
 use Rattle.cvr_run.specs.OwnWords.{AsksVersion}
 use Rattle.cvr_run.specs.Told.{LogsSome}
-use Rattle.cvr_run.specs.Worked.{Stop, Unread, NoRoom, stop_status}
-use Rattle.cvr_run.proofs.Known.{not_whole}
+use Rattle.cvr_run.proofs.Known.{not_whole, stopped}
 
 -- ---- words are cut in one way
 
@@ -169,17 +168,11 @@ place_other list other = go (bytes_eq list (codes "-")) refl
 
 -- ---- what is done
 
-stop_answer : (stop : Stop) → (stop_status stop ≡ Device) ⊎ (stop_status stop ≡ status.Memory)
-stop_answer (Unread path fault.Device) = inl refl
-stop_answer (Unread path fault.Memory) = inr refl
-stop_answer NoRoom = inr refl
-
 -- where there is no list, not all was said
 pub no_list_ends : (old new : Opener) (path : List ℕ) (answer : Status) (b a : Taken)
     → LogsSome (HasNoList old new path answer) b a → IsWhole answer → ⊥
 no_list_ends old new path answer b a (line, inl stops, logs) whole =
-    not_whole answer (subst (λ s. (s ≡ Device) ⊎ (s ≡ status.Memory)) (sym stops.status)
-    (stop_answer stops.stop)) whole
+    not_whole answer (stopped old new _ answer line stops) whole
 no_list_ends old new path answer b a (line, inr none, logs) (inl done) = let is = none.status in cc
 no_list_ends old new path answer b a (line, inr none, logs) (inr refused) =
     let is = none.status in cc

@@ -1,10 +1,9 @@
 -- What was read over an opener, and a run that stops at a file that was not read.
 use Rattle.std.proofs.Common.{◌≡◌, ◌≢◌, ℕ, ◌<◌, ◌+◌, List, [], ◌∷◌, ◌++◌, length, get_or, take}
 use Rattle.std.proofs.Common.{drop, Bool, true, false, Option, Some, None, Result, Ok, Err, IfSome}
-use Rattle.std.proofs.Common.{IfOk, IfErr, IsErrAnd, refl, sym, ap, ◌∙◌, subst, append-nil}
+use Rattle.std.proofs.Common.{OnOk, IfErr, IsErrAnd, refl, sym, ap, ◌∙◌, subst, append-nil}
 use Rattle.std.proofs.Common.{option_map, true≢false, arith}
-use Rattle.std.specs.Global.{Vec}
-use Rattle.std.proofs.lemmas.List.{take_more, drop_more, take-append-drop, map-append, append_assoc}
+use Rattle.std.proofs.lemmas.List.{take_more, drop_more, take-append-drop, append_assoc}
 use Rattle.cvr_run.specs.declared.file.FileFault.{FileFault}
 use Rattle.cvr_run.specs.declared.file.FileFault.TheVariants.{Device}
 use Rattle.cvr_run.specs.declared.status.Status.{Status}
@@ -13,7 +12,6 @@ use Rattle.cvr_run.specs.File.{held_bytes, is_file_device}
 use Rattle.cvr_run.specs.Log.{memory_line}
 use Rattle.cvr_run.specs.Opening.{At, Unknown, Absent, Has, Opener, has_file, opened_more, IsOpened}
 use Rattle.cvr_run.specs.Opening.{IsRead, AreRead, FailedAt, Opens, SaysTheSame}
-use Rattle.cvr_run.specs.Outcome.{files_of}
 use Rattle.cvr_run.specs.Worked.{unread_status, unread_line, Stop, Unread, NoRoom, CanStop, Stops}
 
 -- ---- one file
@@ -26,11 +24,11 @@ is_read (Has all) left bytes opened given =
     subst (λ o. IfSome o (λ all. bytes ≡ take held_bytes all)) opened given
 
 -- what a source gave is what was read of its file
-pub read_of : (at : At) (left : Option (List ℕ)) (answer : Result (Vec ℕ) FileFault)
-    → IsOpened at left → IfOk answer (λ v. IfSome left (λ all. v.items ≡ take held_bytes all))
-    → IfOk answer (λ v. IsRead at v.items)
-read_of at left (Ok v) opened given = is_read at left v.items opened given
-read_of at left (Err e) opened given = tt
+pub read_of : {T : Type 0} (at : At) (left : Option (List ℕ)) (bytes : List ℕ)
+    (answer : Result T FileFault) → IsOpened at left
+    → OnOk answer (IfSome left (λ all. bytes ≡ take held_bytes all)) → OnOk answer (IsRead at bytes)
+read_of at left bytes (Ok v) opened given = is_read at left bytes opened given
+read_of at left bytes (Err e) opened given = tt
 
 pub failed_to_open : (at : At) (may_fail : Bool) → has_file at ≡ false → FailedAt at may_fail
 failed_to_open at may_fail none = grind (arith, true≢false)
@@ -39,7 +37,8 @@ may_have_failed : (at : At) (may_fail : Bool) → may_fail ≢ false → FailedA
 may_have_failed at may_fail may = grind arith
 
 -- where the reading failed by a device, its source has failed, so that it could
-pub failed_of : (at : At) (may_fail can_fail has_failed : Bool) (answer : Result (Vec ℕ) FileFault)
+pub failed_of : {T : Type 0} (at : At) (may_fail can_fail has_failed : Bool)
+    (answer : Result T FileFault)
     → (may_fail ≡ false → can_fail ≡ false) → (can_fail ≡ false → has_failed ≡ false)
     → IfErr answer (λ e. has_failed ≡ is_file_device e)
     → IfErr answer (λ e. is_file_device e ≡ true → FailedAt at may_fail)
@@ -67,17 +66,14 @@ read_last file_at (p ∷ paths) (f ∷ files) path file before last =
 
 -- one more of them
 pub read_one_more : (file_at : List ℕ → At) (paths : List (List ℕ)) (n : ℕ) (path : List ℕ)
-    (files : List (Vec ℕ)) (file : Vec ℕ) → n < length paths → path ≡ get_or paths n []
-    → AreRead file_at (take n paths) (files_of files) → IsRead (file_at path) file.items
-    → AreRead file_at (take (n + 1) paths) (files_of (files ++ file ∷ []))
+    (files : List (List ℕ)) (file : List ℕ) → n < length paths → path ≡ get_or paths n []
+    → AreRead file_at (take n paths) files → IsRead (file_at path) file
+    → AreRead file_at (take (n + 1) paths) (files ++ file ∷ [])
 read_one_more file_at paths n path files file lt named before last =
     let more : take (n + 1) paths ≡ take n paths ++ path ∷ [] =
     take_more paths n [] lt ∙ ap (λ p. take n paths ++ p ∷ []) (sym named) in
-    let bytes : files_of (files ++ file ∷ []) ≡ files_of files ++ file.items ∷ [] =
-    map-append (λ (f : Vec ℕ). f.items) files (file ∷ []) in
-    subst (λ ps. AreRead file_at ps (files_of (files ++ file ∷ []))) (sym more)
-    (subst (AreRead file_at (take n paths ++ path ∷ [])) (sym bytes)
-    (read_last file_at (take n paths) (files_of files) path file.items before last))
+    subst (λ ps. AreRead file_at ps (files ++ file ∷ [])) (sym more)
+    (read_last file_at (take n paths) files path file before last)
 
 -- ---- what was opened
 
@@ -165,7 +161,7 @@ module _ (old new : Opener) (paths : List (List ℕ)) (answer : Status) where
     said = refl;
   }
 
-  -- where the list has no room for the file at the nth
+  -- where there is no room for the file at the nth
   pub stops_full : (n : ℕ) (path : List ℕ) (files : List (List ℕ)) (file : List ℕ)
       → n < length paths → path ≡ get_or paths n [] → AreRead old.at (take n paths) files
       → IsRead (old.at path) file

@@ -1,10 +1,14 @@
 -- A run that ends after a text was printed, or not printed.
 use Rattle.std.proofs.Common.{◌≡◌, ◌≢◌, ℕ, List, [], ◌∷◌, ◌++◌, length, Bool, true, false, ◌||◌}
 use Rattle.std.proofs.Common.{Option, Some, None, Result, Ok, Err, IfErr, inl, inr, refl, sym, ap}
-use Rattle.std.proofs.Common.{◌∙◌, subst, append-nil, arith}
+use Rattle.std.proofs.Common.{◌∙◌, subst, append-nil, arith, true≢false}
 use Rattle.std.specs.Prelude.{is_some, if◌then◌else◌}
 use Rattle.std.specs.Result.{IsErrAnd}
 use Rattle.cdf_types.specs.Device.{Taken, Appends, taken_with, AppendsPrefix}
+use Rattle.cdf_types.specs.declared.fault.ReadFault.{ReadFault}
+use Rattle.cdf_types.specs.declared.fault.ReadFault.TheVariants.{Memory as OutOfMemory}
+use Rattle.cdf_definition.specs.Acceptance.{first_unsound, frame_in}
+use Rattle.cvr_words.specs.declared.request.Task.{Task}
 use Rattle.cvr_run.specs.declared.merge.MergeFault.{MergeFault}
 use Rattle.cvr_run.specs.declared.printing.PrintFault.{PrintFault}
 use Rattle.cvr_run.specs.declared.printing.PrintFault.TheVariants.{Merge, Device, Memory}
@@ -14,9 +18,11 @@ use Rattle.cvr_run.specs.declared.status.Status.TheVariants as status
 use Rattle.cvr_run.specs.Ends.{Ends}
 use Rattle.cvr_run.specs.Log.{Logs}
 use Rattle.cvr_run.specs.Merge.{merge_fault_line}
+use Rattle.cvr_run.specs.Outcome.{any_refused, run_text, task_refused, task_text}
+use Rattle.cvr_run.specs.Refusals.{is_memory}
 use Rattle.cvr_run.specs.Printing.{Prints, is_output, merge_part, end_line, print_status}
 use Rattle.cvr_run.specs.Printing.{status_after}
-use Rattle.cvr_run.specs.Told.{last_lines, CanEndAfter, Dues, LogsFirst, TellsRun}
+use Rattle.cvr_run.specs.Told.{last_lines, Dues, LogsFirst, TellsRun}
 use Rattle.cvr_run.proofs.Telling.{appended_none, told_whole, wanted, cut_by_memory}
 
 -- out of memory before anything was printed
@@ -153,6 +159,28 @@ ends_after before after (Ok x) fault text r some s (taken, works, none) empty wo
 ends_after before after (Err e) fault text r some s (front, fails, part) empty working same is =
     ends_faulty before after text fault e r.path_unspelled some s front fails part empty is
 
+-- where the definition is refused
+pub ends_unsound : (task : Task) (def : List ℕ) (paths files : List (List ℕ)) (out : Taken)
+    (fault : ReadFault) (none lacking unspelled any : Bool) (s : Status)
+    → out.failed ≡ false → ((fault ≡ OutOfMemory → ⊥) → first_unsound def ≡ Some fault)
+    → none ≡ false → lacking ≡ (none || is_memory fault) → any ≡ true
+    → s ≡ (if lacking || unspelled then status.Memory
+    else (if any then status.Refused else status.Done))
+    → Ends out out (run_text task def paths files) (any_refused task def files) s
+ends_unsound task def paths files out fault none true unspelled any s works first held lack some is =
+    ends_memory out out _ _ s is ([], _, refl, appended_none out.bytes)
+ends_unsound task def paths files out fault none false true any s works first held lack some is =
+    ends_memory out out _ _ s is ([], _, refl, appended_none out.bytes)
+ends_unsound task def paths files out fault none false false false s works first held lack some is =
+    absurd (true≢false (sym some))
+ends_unsound task def paths files out fault none false false true s works first held lack some is =
+    let due = first (λ e. true≢false (sym (ap is_memory e)
+    ∙ sym (lack ∙ ap (λ b. b || is_memory fault) held))) in
+    let empty : run_text task def paths files ≡ [] =
+    ap (λ o. if is_some o then [] else task_text (frame_in def) task paths files) due in
+    ends_refused out out _ _ s is (ap (λ o. is_some o || task_refused (frame_in def) task files) due)
+    (appended_none out.bytes ∙ ap (taken_with out.bytes) (sym empty)) works
+
 -- ---- its log
 
 -- the line of the end is the rest, unless memory ran out
@@ -226,17 +254,17 @@ module _ (of : Dues) (n : ℕ) (r : Refusals) (b m a : Taken) (so_far : LogsFirs
       (subst (Logs m a) (rest_is before after result fault text prints other) logs)
 
   pub tells_after : {T : Type 0} (before after : Taken) (result : Result T PrintFault)
-      (fault : Option MergeFault) (text : List ℕ) (s : Status) → of.by_file ≡ false
+      (fault : Option MergeFault) (text : List ℕ) (s : Status)
       → Prints before after result fault text → s ≡ status_after result r
       → Logs m a (end_line result)
       → TellsRun of fault s (record { out = before; log = b }) (record { out = after; log = a })
-  tells_after {T} before after (Ok x) fault text s whole prints is logs =
+  tells_after {T} before after (Ok x) fault text s prints is logs =
       tells_whole {T = T} before after (Ok x) fault text s prints (λ e. e) is logs
-  tells_after {T} before after (Err (Merge u)) fault text s whole prints is logs =
+  tells_after {T} before after (Err (Merge u)) fault text s prints is logs =
       tells_whole {T = T} before after (Err (Merge u)) fault text s prints (merge_is_not u) is logs
-  tells_after {T} before after (Err Device) fault text s whole prints is logs =
+  tells_after {T} before after (Err Device) fault text s prints is logs =
       tells_whole {T = T} before after (Err Device) fault text s prints device_is_not is logs
-  tells_after {T} before after (Err Memory) fault text s whole (front, works, part) is logs =
+  tells_after {T} before after (Err Memory) fault text s (front, works, part) is logs =
       wanted of fault s before after b a (is ∙ status_in_memory r.path_unspelled)
       (cut_by_memory of n r b m a so_far fault after
-      (subst (λ by. CanEndAfter by n of.dues) (sym whole) (inr all)) working works logs)
+      (inr all) working works logs)

@@ -31,7 +31,7 @@ use Rattle.cvr_run.specs.Laws.{AloneOrEachLaw}
 use Rattle.cvr_run.specs.Told.{Telling, AsDue, Lacking, Unspelled, refusal_line, refusal_lines}
 use Rattle.cvr_run.specs.Told.{told_line, told_lines, can_be, can_all, is_lacking, is_unspelled}
 use Rattle.cvr_run.specs.Told.{is_short, file_dues, task_dues, run_lines, last_lines}
-use Rattle.cvr_run.specs.Told.{Dues, LogsFirst, TellsRun, CanEndAfter, IsCutShort, IsRunCutShort}
+use Rattle.cvr_run.specs.Told.{Dues, LogsFirst, TellsRun, IsCutShort, IsRunCutShort}
 use Rattle.cvr_run.specs.Told.{LogsSome}
 
 -- ---- logs, one after the other
@@ -288,7 +288,7 @@ bool_false false h = refl
 module _ (of : Dues) (n : ℕ) (r : Refusals) (b m a : Taken) (so_far : LogsFirst of n r b m)
     (fault : Option MergeFault) (d : Taken) where
   -- with `memory` after these lines, none lacking
-  pub cut_by_memory : CanEndAfter of.by_file n of.dues → r.file_lacking ≡ false → d.failed ≡ false
+  pub cut_by_memory : (n ≡ 0) ⊎ (n ≡ length of.dues) → r.file_lacking ≡ false → d.failed ≡ false
       → Logs m a memory_line → LogsSome (IsCutShort of fault d.failed) b a
   cut_by_memory can working works logs = (
     told_lines so_far.tellings of.texts of.dues ++ memory_line,
@@ -296,7 +296,7 @@ module _ (of : Dues) (n : ℕ) (r : Refusals) (b m a : Taken) (so_far : LogsFirs
       tellings = so_far.tellings;
       possible = so_far.possible;
       ends = inr (inr (
-        subst (λ k. CanEndAfter of.by_file k of.dues) (sym so_far.count) can,
+        subst (λ k. (k ≡ 0) ⊎ (k ≡ length of.dues)) (sym so_far.count) can,
         sym
             so_far.file_lacking ∙ working,
         works,
@@ -342,19 +342,14 @@ module _ (of : Dues) (n : ℕ) (r : Refusals) (b m a : Taken) (so_far : LogsFirs
   }
 
 -- with `memory` before any line
-pub cut_at_once : (of : Dues) (b a : Taken) (fault : Option MergeFault) → of.by_file ≡ false
+pub cut_at_once : (of : Dues) (b a : Taken) (fault : Option MergeFault)
     → Logs b a memory_line → LogsSome (IsCutShort of fault false) b a
-cut_at_once of b a fault whole logs = (
+cut_at_once of b a fault logs = (
   memory_line,
   record {
     tellings = [];
     possible = refl;
-    ends = inr (inr (
-      subst (λ by. CanEndAfter by 0 of.dues) (sym whole) (inl refl),
-      refl,
-      refl,
-      refl,
-    ));
+    ends = inr (inr (inl refl, refl, refl, refl));
   },
   logs,
 )
@@ -396,7 +391,7 @@ no_tellings : (ts : List Telling) → length ts ≡ 0 → ts ≡ []
 no_tellings [] none = refl
 no_tellings (t ∷ ts) none = absurd (omega (arith, none))
 
--- but for `check`, `memory` alone, or each of them
+-- `memory` alone, or each of them
 pub alone_or_each : AloneOrEachLaw
 alone_or_each texts dues fault failed text cut =
     let ts = cut.tellings in

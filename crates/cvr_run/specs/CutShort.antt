@@ -1,6 +1,6 @@
 -- Worked examples: what the log of a run that ran out of memory may be. (This project's
 -- own.)
-use Rattle.std.specs.Prelude.{List, [], ◌∷◌, ℕ, codes, Bool, true, false, Some, None}
+use Rattle.std.specs.Prelude.{List, [], ◌∷◌, ℕ, codes, false, Some, None}
 use Rattle.cdf_types.specs.declared.fault.ReadFault.TheVariants.{TooLong, NotJson}
 use Rattle.cvr_run.specs.Refusals.{Due, file_due}
 use Rattle.cvr_run.specs.Told.{IsCutShort}
@@ -12,27 +12,19 @@ three_texts = codes "a" ∷ codes "b" ∷ codes "c" ∷ []
 abbrev pub three_dues : List Due
 three_dues = file_due (Some NotJson) ∷ file_due None ∷ file_due (Some TooLong) ∷ []
 
--- the log of a run over them, of `check` or not, may be this text where the output works
-abbrev pub MayTell : Bool → List ℕ → Type 0
-MayTell check text =
-    IsCutShort (record { by_file = check; texts = three_texts; dues = three_dues }) None false text
+-- the log of a run over them may be this text where the output works
+abbrev pub MayTell : List ℕ → Type 0
+MayTell text =
+    IsCutShort (record { texts = three_texts; dues = three_dues }) None false text
 
--- by `memory` before any file: not `check`, which has no line to make for the first
-abbrev pub AtOnce : Type 0
-AtOnce = MayTell false (codes "memory\n") × (¬ MayTell true (codes "memory\n"))
-
--- after the first: `check` alone, which makes the line of the second
-abbrev pub AfterOne : Type 0
-AfterOne = MayTell true (codes "a: E2\nmemory\n") × (¬ MayTell false (codes "a: E2\nmemory\n"))
-
--- after all: any but `check`
-abbrev pub AfterAll : Type 0
-AfterAll = MayTell false (codes "a: E2\nc: E1\nmemory\n")
-    × (¬ MayTell true (codes "a: E2\nc: E1\nmemory\n"))
+-- by `memory` before any file, or after all, and not after the first
+abbrev pub NoneOrAll : Type 0
+NoneOrAll = MayTell (codes "memory\n") × MayTell (codes "a: E2\nc: E1\nmemory\n")
+    × (¬ MayTell (codes "a: E2\nmemory\n"))
 
 -- where memory ran out for the second, the third is logged and nothing else
 abbrev pub AfterLacking : Type 0
 AfterLacking =
-    (check : Bool) → MayTell check (codes "a: E2\nb: E6\nc: E1\n")
-    × (¬ MayTell check (codes "a: E2\nb: E6\nmemory\n"))
-    × (¬ MayTell check (codes "a: E2\nb: E6\nc: E1\nmemory\n"))
+    MayTell (codes "a: E2\nb: E6\nc: E1\n")
+    × (¬ MayTell (codes "a: E2\nb: E6\nmemory\n"))
+    × (¬ MayTell (codes "a: E2\nb: E6\nc: E1\nmemory\n"))

@@ -1,5 +1,6 @@
 -- How a run ends: its status, what its output took, and what its log took. (This project's own.)
-use Rattle.std.specs.Prelude.{◌≡◌, ◌≢◌, ◌⊎◌, ◌++◌, ℕ, List, Bool, true, false}
+use Rattle.std.specs.Prelude.{◌≡◌, ◌≢◌, ◌⊎◌, ◌++◌, ℕ, List, Bool, true, false, Option}
+use Rattle.cdf_definition.specs.Frame.{Frame}
 use Rattle.cdf_types.specs.Device.{Taken, Appends, AppendsPrefix}
 use Rattle.cvr_run.specs.declared.status.Status.{Status}
 use Rattle.cvr_run.specs.declared.status.Status.TheVariants.{Done, Refused, CommandLine, Device}
@@ -8,7 +9,11 @@ use Rattle.cvr_run.specs.Devices.{Outputs}
 use Rattle.cvr_run.specs.Job.{Job}
 use Rattle.cvr_run.specs.Log.{Logs}
 use Rattle.cvr_run.specs.Outcome.{run_text, run_fault, any_refused, IsWhole}
-use Rattle.cvr_run.specs.Told.{run_lines, last_lines, IsRunCutShort, LogsSome}
+use Rattle.cvr_run.specs.Outcome.{task_text, task_refused, task_fault}
+use Rattle.cvr_run.specs.Told.{Dues, task_dues, run_lines, last_lines, IsRunCutShort, LogsSome}
+use Rattle.cvr_run.specs.Told.{TellsRun}
+use Rattle.cvr_run.specs.declared.merge.MergeFault.{MergeFault}
+use Rattle.cvr_words.specs.declared.request.Task.{Task}
 
 -- how a run ends, by its status: what the output took of this text, whether the output failed, and
 -- whether anything was refused
@@ -21,6 +26,20 @@ pub record Ends (old new : Taken) (text : List ℕ) (any_refused : Bool)
   pub device : status ≡ Device → new.failed ≡ true
   pub failed : new.failed ≡ true → (status ≡ Device) ⊎ (status ≡ Memory)
   pub no_words : status ≢ CommandLine
+
+-- a run over files that were had ended with this answer: its text was printed, and what is due to
+-- its files or steps was logged
+pub record RanOver (text : List ℕ) (any_refused : Bool) (dues : Dues) (fault : Option MergeFault)
+    (answer : Status) (old new : Outputs) : Type 0 where
+  pub ends : Ends old.out new.out text any_refused answer
+  pub log : TellsRun dues fault answer old new
+
+-- the same of a task beside a definition
+abbrev pub RanBeside : Frame → Task → List (List ℕ) → List (List ℕ) → Status → Outputs → Outputs
+    → Type 0
+RanBeside definition task paths files answer old new =
+    RanOver (task_text definition task paths files) (task_refused definition task files)
+    (task_dues definition task paths files) (task_fault definition task files) answer old new
 
 -- what is printed of a job
 abbrev pub job_text : Job → List ℕ

@@ -305,13 +305,12 @@ TwoLinesLaw = (definition : Frame) (files : List (List ℕ)) (steps : List Step)
 
 -- ---- out of memory
 
--- but for `check`, a run that runs out of memory logs `memory` alone, or each of its files or
--- steps
+-- a run that runs out of memory logs `memory` alone, or each of its files or steps
 abbrev pub AloneOrEachLaw : Type 0
 AloneOrEachLaw =
     (texts : List (List ℕ)) (dues : List Due) (fault : Option MergeFault) (out_failed : Bool)
     (text : List ℕ)
-    → IsCutShort (record { by_file = false; texts = texts; dues = dues }) fault out_failed text
+    → IsCutShort (record { texts = texts; dues = dues }) fault out_failed text
     → (text ≡ memory_line)
     ⊎ ((tellings : List Telling) × (rest : List ℕ) × (length tellings ≡ length dues)
     × (can_all tellings dues ≡ true) × (text ≡ told_lines tellings texts dues ++ rest))

@@ -10,13 +10,14 @@ pub mod Status
 pub mod Job
 pub mod Told
 pub mod CutShort
-pub mod Given
 pub mod Printing
 pub mod Opening
 pub mod Devices
 pub mod Ends
 pub mod MemoryFiles
 pub mod Worked
+pub mod Given
+pub mod Taken
 pub mod Answered
 pub mod OwnWords
 pub mod ListedPaths
@@ -27,3 +28,4 @@ pub mod HeldBytes
 pub mod Laws
 pub mod Rows
 pub mod Examples
+pub mod Statuses

@@ -1,7 +1,7 @@
 -- What a run logs: a line for each refused file or step, and what stands in its place where memory
 -- ran out. (This project's own.)
-use Rattle.std.specs.Prelude.{◌≡◌, ◌≢◌, ◌⊎◌, ◌&&◌, ◌||◌, ◌<◌, ℕ, List, [], ◌∷◌, ◌++◌, length, map}
-use Rattle.std.specs.Prelude.{slice_index_or, codes, Bool, true, false, if◌then◌else◌, Option, Some}
+use Rattle.std.specs.Prelude.{◌≡◌, ◌≢◌, ◌⊎◌, ◌&&◌, ◌||◌, ℕ, List, [], ◌∷◌, ◌++◌, length, map}
+use Rattle.std.specs.Prelude.{codes, Bool, true, false, if◌then◌else◌, Option, Some}
 use Rattle.std.specs.Prelude.{None}
 use Rattle.std.specs.Prelude.{is_some}
 use Rattle.std.specs.List.{flat_map, list_any, zip}
@@ -15,7 +15,7 @@ use Rattle.cvr_run.specs.declared.status.Status.{Status}
 use Rattle.cvr_run.specs.declared.status.Status.TheVariants.{Memory}
 use Rattle.cvr_words.specs.declared.request.Step.{Step}
 use Rattle.cvr_words.specs.declared.request.Task.{Task}
-use Rattle.cvr_words.specs.declared.request.Task.TheVariants.{Check, Drill}
+use Rattle.cvr_words.specs.declared.request.Task.TheVariants.{Drill}
 use Rattle.cvr_run.specs.Accepted.{is_unsound}
 use Rattle.cvr_run.specs.declared.merge.MergeFault.{MergeFault}
 use Rattle.cvr_run.specs.Devices.{Outputs}
@@ -24,7 +24,7 @@ use Rattle.cvr_run.specs.Job.{Job}
 use Rattle.cvr_run.specs.Log.{cause_line, memory_line, has_path_in, Logs}
 use Rattle.cvr_run.specs.Merge.{merge_lines}
 use Rattle.cvr_run.specs.Outcome.{run_fault}
-use Rattle.cvr_run.specs.Refusals.{Due, no_due, file_due}
+use Rattle.cvr_run.specs.Refusals.{Due, file_due}
 
 -- ---- where memory did not run out
 
@@ -41,27 +41,23 @@ refusal_lines texts dues = flat_map (λ one. refusal_line one.0 one.1.cause) (zi
 abbrev pub file_dues : Frame → List (List ℕ) → List Due
 file_dues definition files = map (λ file. file_due (first_refusal definition file)) files
 
--- the files or steps of a run by the texts of their lines, and what is due to each; and whether it
--- goes file by file, as `check` does
+-- the files or steps of a run by the texts of their lines, and what is due to each
 pub record Dues : Type 0 where
-  pub by_file : Bool
   pub texts : List (List ℕ)
   pub dues : List Due
 
 -- the files of an import, in order
 abbrev pub import_dues : Frame → List (List ℕ) → List (List ℕ) → Dues
 import_dues definition paths files =
-    record { by_file = false; texts = paths; dues = file_dues definition files }
+    record { texts = paths; dues = file_dues definition files }
 
 -- the steps of a drill among so many offices
 abbrev pub drill_dues : Frame → ℕ → List (List ℕ) → List Step → Dues
 drill_dues definition n files steps =
-    record { by_file = false; texts = step_texts steps; dues = step_dues definition n files steps }
+    record { texts = step_texts steps; dues = step_dues definition n files steps }
 
 -- the files or steps of a task
 abbrev pub task_dues : Frame → Task → List (List ℕ) → List (List ℕ) → Dues
-task_dues definition Check paths files =
-    record { by_file = true; texts = paths; dues = file_dues definition files }
 task_dues definition (Drill n steps) paths files = drill_dues definition n files steps
 task_dues definition task paths files = import_dues definition paths files
 
@@ -133,15 +129,9 @@ pub record LogsFirst (of : Dues) (n : ℕ) (refusals : Refusals) (old new : Take
   pub path_unspelled : refusals.path_unspelled ≡ list_any is_unspelled tellings
   pub logs : Logs old new (told_lines tellings of.texts of.dues)
 
--- where a run may end by `memory`, once the lines of so many are in the log: `check` before a file
--- that is accepted, since its line had no room; any other task before all of them, or after all
-abbrev pub CanEndAfter : Bool → ℕ → List Due → Type 0
-CanEndAfter true n dues = (n < length dues) × ((slice_index_or dues n no_due).cause ≡ None)
-CanEndAfter false n dues = (n ≡ 0) ⊎ (n ≡ length dues)
-
 -- what stands in the log of a run that ends since memory ran out: all lines, one of them `Lacking`;
--- all, none `Lacking` but one `Unspelled`, and then the last lines; or as many as `memory` may end
--- it after, none `Lacking`, and then `memory`, where the output has not failed
+-- all, none `Lacking` but one `Unspelled`, and then the last lines; or none or all, none `Lacking`,
+-- and then `memory`, where the output has not failed
 pub record IsCutShort (of : Dues) (fault : Option MergeFault) (out_failed : Bool)
     (text : List ℕ) : Type 0 where
   pub tellings : List Telling
@@ -151,7 +141,8 @@ pub record IsCutShort (of : Dues) (fault : Option MergeFault) (out_failed : Bool
       ⊎ ((length tellings ≡ length of.dues) × (list_any is_lacking tellings ≡ false)
       × (list_any is_unspelled tellings ≡ true)
       × (text ≡ told_lines tellings of.texts of.dues ++ last_lines fault out_failed))
-      ⊎ (CanEndAfter of.by_file (length tellings) of.dues × (list_any is_lacking tellings ≡ false)
+      ⊎ (((length tellings ≡ 0) ⊎ (length tellings ≡ length of.dues))
+      × (list_any is_lacking tellings ≡ false)
       × (out_failed ≡ false)
       × (text ≡ told_lines tellings of.texts of.dues ++ memory_line))
 

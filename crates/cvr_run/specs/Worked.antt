@@ -49,8 +49,7 @@ pub record AreSomeRead (old new : Opener) (paths : List (List ℕ)) : Type 0 whe
   pub read : AreRead old.at (before ++ path ∷ []) files
   pub opened : Opens old new (before ++ path ∷ [])
 
--- why it stops: a file was not read; or, once one was read, the list of the files had no room for
--- it
+-- why it stops: a file was not read; or, once one was read, what is kept of it had no room
 pub data Stop : Type 0 where
   Unread : (path : List ℕ) → (cause : FileFault) → Stop
   NoRoom : Stop

@@ -2,10 +2,13 @@
 ghost use Rattle.std.specs.Prelude.{codes};
 ghost use Rattle.cvr_run.specs.declared.memory_files.MemoryFile.{MemoryFile};
 ghost use Rattle.cvr_run.specs.MemoryFiles.{IsFileAt, FailAsTold};
-ghost use Rattle.cvr_run.specs.CutShort.{AtOnce, AfterOne, AfterAll, AfterLacking};
+ghost use Rattle.cvr_run.specs.CutShort.{NoneOrAll, AfterLacking};
 ghost use Rattle.cvr_run.specs.Listed.{TallyListed};
 ghost use Rattle.cvr_run.specs.Opening.{FourAreShown};
 ghost use Rattle.cvr_run.specs.Worked.{TheMissingIsReported};
+ghost use Rattle.cvr_run.specs.Statuses.{FiveNumbers, PrintedWhole, NotPrinted, StoppedRuns};
+ghost use Rattle.cvr_run.specs.Statuses.{HelpIsPrinted, WordsAreRefused, NoListAtL, E3IsExplained};
+ghost use Rattle.cvr_run.specs.Statuses.{TwoEnds};
 ghost use Rattle.cvr_run.specs.Examples.{CurrentsOfFive, TallyOfFive, ConflictsOfTwo, NoConflict};
 ghost use Rattle.cvr_run.specs.Examples.{LinesOfTen, DateAlone, DateFirst, DeviceAlone};
 ghost use Rattle.cvr_run.specs.Examples.{DeviceBeforeNumber, NumberAlone, LastVolume};
@@ -43,9 +46,7 @@ pub fn files_fail_as_told()
 /// Worked examples of three files, the second one accepted: how the log ends where memory ran out,
 /// and how it doesn't.
 pub fn memory_ends_a_log_as_told()
-    ensures at_once { AtOnce }
-    ensures after_one { AfterOne }
-    ensures after_all { AfterAll }
+    ensures none_or_all { NoneOrAll }
     ensures after_lacking { AfterLacking }
 {}
 
@@ -59,4 +60,19 @@ pub fn openers_show_what_they_were_to_open()
 /// Worked example of words that ask for the tally of the files of a list.
 pub fn words_ask_for_a_list()
     ensures { TallyListed }
+{}
+
+/// Worked examples of how runs end: the numbers of the statuses; runs over their files, one of them
+/// refused or without room; runs that stop before; help, words without meaning, a file that is no
+/// list, and a code that is explained. And where the paths of a list end.
+pub fn runs_end_by_their_status()
+    ensures numbers { FiveNumbers }
+    ensures printed { PrintedWhole }
+    ensures not_printed { NotPrinted }
+    ensures stopped { StoppedRuns }
+    ensures help { HelpIsPrinted }
+    ensures words { WordsAreRefused }
+    ensures no_list { NoListAtL }
+    ensures explained { E3IsExplained }
+    ensures ends { TwoEnds }
 {}

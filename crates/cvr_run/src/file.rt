@@ -1,5 +1,5 @@
-ghost use Rattle.std.specs.Prelude.{◌≡◌, ◌≤◌, false, Some, length, take, drop, vec_len, IfOk};
-ghost use Rattle.std.specs.Prelude.{IfErr, OnOk, IfSome};
+ghost use Rattle.std.specs.Prelude.{◌≡◌, ◌≤◌, false, Some, length, take, drop, vec_len};
+ghost use Rattle.std.specs.Prelude.{IfErr, IfOk, OnOk, IfSome};
 ghost use Rattle.cvr_run.specs.declared.file.FileFault.TheVariants.{Device, Memory as NoMemory};
 ghost use Rattle.cvr_run.specs.File.{is_file_device, held_bytes};
 
@@ -11,7 +11,7 @@ use thiserror::Error;
 pub const HELD: usize = 67_108_865;
 
 // The bytes of one read at most.
-const PIECE: usize = 4096;
+const PIECE: usize = 65_536;
 
 /// Why a file was not read.
 #[derive(Clone, Copy, Debug, PartialEq, Eq, Error)]
@@ -58,15 +58,35 @@ pub fn read_file<R: Source>(alloc: Global, source: &mut R) -> Result<Vec<u8>, Fi
     ensures steady { (R.left source.old).can_fail ≡ false → (R.left source.new).failed ≡ false }
 {
     let mut bytes = Vec::new(alloc);
+    read_into(source, &mut bytes)?;
+    Ok(bytes)
+}
+
+/// The same, in the place of what was in these bytes, whose room stays.
+///
+/// # Errors
+/// As `read_file`. Nothing is then said of the bytes.
+pub fn read_into<R: Source>(source: &mut R, bytes: &mut Vec<u8>) -> Result<(), FileFault>
+    requires { (R.left source.old).failed ≡ false }
+    ensures bytes { OnOk result (IfSome (R.left source.old).bytes
+        (λ left. bytes.new.items ≡ take held_bytes left)) }
+    ensures rest { OnOk result (IfSome (R.left source.old).bytes
+        (λ left. (R.left source.new).bytes ≡ Some (drop held_bytes left))) }
+    ensures fits { OnOk result (vec_len bytes.new ≤ held_bytes) }
+    ensures working { OnOk result ((R.left source.new).failed ≡ false) }
+    ensures fault { IfErr result (λ e. (R.left source.new).failed ≡ is_file_device e) }
+    ensures steady { (R.left source.old).can_fail ≡ false → (R.left source.new).failed ≡ false }
+{
+    bytes.clear();
     let mut piece = [0u8; PIECE];
     'reads: while bytes.len() < HELD {
         let room = (HELD - bytes.len()).min(PIECE);
         let (part, _) = piece.split_at_mut(room);
         let count = source.read(part)?;
         if count == 0 {
-            return Ok(bytes);
+            return Ok(());
         }
         bytes.extend_from_slice(&piece[..count])?;
     }
-    Ok(bytes)
+    Ok(())
 }

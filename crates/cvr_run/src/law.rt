@@ -93,7 +93,7 @@ pub fn offices_of_a_drill_hold_what_a_run_holds()
     ensures two_lines { TwoLinesLaw }
 {}
 
-/// Where memory ends a run of any task but `check`, it logs `memory` alone, or each file or step.
+/// Where memory ends a run, it logs `memory` alone, or each file or step.
 pub fn want_of_memory_is_told_alone_or_after_each_file()
     ensures { AloneOrEachLaw }
 {}

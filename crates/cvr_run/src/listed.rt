@@ -69,7 +69,8 @@ fn paths_at<O: Open, L: Sink>(
         LogsSome (HasNoList (O.state opener.old) (O.state opener.new) path.now status)
         (L.taken log.old) (L.taken log.new)) }
 {
-    let bytes = read_told(alloc, opener, path, log)?;
+    let mut bytes = Vec::new(alloc);
+    read_told(opener, path, &mut bytes, log)?;
     match text_of(bytes.as_slice()) {
         Some(text) => match read_paths(alloc, text, by_null) {
             Ok(paths) => Ok(paths),

@@ -1,20 +1,36 @@
 ghost use Rattle.std.specs.Prelude.{◌≡◌, ℕ, ◌≤◌, List, [], ◌∷◌, ◌++◌, length, false, OnOk, OnErr};
-ghost use Rattle.std.specs.Prelude.{IsOk};
+ghost use Rattle.std.specs.Prelude.{IfSome, IsOk};
 ghost use Rattle.std.specs.List.{flat_map};
 ghost use Rattle.json.specs.Print.{escape};
 ghost use Rattle.cdf_types.specs.declared.fault.ReadFault.TheVariants.{Schema};
 ghost use Rattle.cvr_run.specs.Log.{fault_line, cause_line, memory_line, has_path, has_path_in};
 ghost use Rattle.cvr_run.specs.Log.{Logs};
 
+use arrayvec::ArrayVec;
 use cdf_types::{Body, Memory, ReadFault, Rule, Sink, write_all};
 use cvr_fact_types::text::quoted;
 use cvr_office::{Cause, JoinFault};
 use itoa::Buffer;
 use std::alloc::Global;
 
-/// Writes a line to the log, piece by piece, unless the log has failed. A log that fails gets a
-/// prefix of it. Takes no memory.
-pub fn say<L: Sink>(log: &mut L, pieces: &[&[u8]])
+// The longest line that is written at once.
+const LINE: usize = 4096;
+
+// The pieces as one line, if it isn't longer than that. Takes no memory.
+fn one_line(pieces: &[&[u8]]) -> Option<ArrayVec<u8, LINE>>
+    ensures { IfSome result (λ line. line.items ≡ flat_map (λ p. p.now) pieces.now) }
+{
+    let mut line = ArrayVec::new();
+    for piece in pieces {
+        if line.try_extend_from_slice(piece).is_err() {
+            return None;
+        }
+    }
+    Some(line)
+}
+
+// Writes pieces, one after the other, unless the log has failed.
+fn say_pieces<L: Sink>(log: &mut L, pieces: &[&[u8]])
     ensures { Logs (L.taken log.old) (L.taken log.new) (flat_map (λ p. p.now) pieces.now) }
 {
     if log.failed() {
@@ -24,6 +40,18 @@ pub fn say<L: Sink>(log: &mut L, pieces: &[&[u8]])
         if write_all(log, piece).is_err() {
             return;
         }
+    }
+}
+
+/// Writes a line to the log, unless the log has failed: at once, so that no other program's line
+/// stands in it, or in pieces where it has more than 4,096 bytes. A log that fails gets a prefix of
+/// it. Takes no memory.
+pub fn say<L: Sink>(log: &mut L, pieces: &[&[u8]])
+    ensures { Logs (L.taken log.old) (L.taken log.new) (flat_map (λ p. p.now) pieces.now) }
+{
+    match one_line(pieces) {
+        Some(line) => say_pieces(log, &[line.as_slice()]),
+        None => say_pieces(log, pieces),
     }
 }
 

@@ -59,7 +59,7 @@ pub fn note_refused<A: Argument, L: Sink>(
     ensures any_refusal { result.any_refusal ≡ list_any is_refusal outcomes.now }
     ensures file_lacking { result.file_lacking ≡ list_any is_want outcomes.now }
     ensures log { (dues : List Due) → AreDue dues outcomes.now → LogsFirst
-        (record { by_file = false; texts = map A.spelled arguments.now; dues = dues })
+        (record { texts = map A.spelled arguments.now; dues = dues })
         (length outcomes.now) result (L.taken log.old) (L.taken log.new) }
 {
     let mut refusals = Refusals::none();

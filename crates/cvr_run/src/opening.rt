@@ -1,18 +1,15 @@
-ghost use Rattle.std.specs.Prelude.{◌≡◌, ◌∷◌, [], length, true, false, IfOk, IfErr, OnOk};
+ghost use Rattle.std.specs.Prelude.{◌≡◌, ◌∷◌, [], true, false, IfOk, IfErr, OnOk};
 ghost use Rattle.cvr_run.specs.File.{is_file_device};
 ghost use Rattle.cvr_run.specs.declared.file.FileFault.TheVariants.{Device};
 ghost use Rattle.cvr_run.specs.Log.{Logs};
-ghost use Rattle.cvr_run.specs.Opening.{Absent, Opener, has_file, IsOpened, IsRead, AreRead};
+ghost use Rattle.cvr_run.specs.Opening.{Absent, Opener, has_file, IsOpened, IsRead};
 ghost use Rattle.cvr_run.specs.Opening.{FailedAt, Opens};
-ghost use Rattle.cvr_run.specs.Outcome.{files_of};
-ghost use Rattle.cvr_run.specs.Told.{LogsSome};
-ghost use Rattle.cvr_run.specs.Worked.{unread_status, unread_line, Stops};
+ghost use Rattle.cvr_run.specs.Worked.{unread_status, unread_line};
 
-use crate::file::{FileFault, read_file};
-use crate::log::{say, say_memory};
+use crate::file::{FileFault, read_into};
+use crate::log::say;
 use crate::status::Status;
-use cdf_types::{Body, Sink, Source};
-use std::alloc::Global;
+use cdf_types::{Sink, Source};
 
 /// Where the files of a run are found. Contracts see what it says of each path, if it says
 /// anything, whether the reading of a file may fail, and which paths it was to open, if it shows
@@ -55,16 +52,17 @@ impl From<FileFault> for Status {
     }
 }
 
-// The bytes of the file at a path.
-fn read_at<O: Open>(alloc: Global, opener: &mut O, path: &str) -> Result<Vec<u8>, FileFault>
-    ensures bytes { IfOk result (λ bytes. IsRead ((O.state opener.old).at path.now) bytes.items) }
+// Reads the file at a path.
+fn read_at<O: Open>(opener: &mut O, path: &str, bytes: &mut Vec<u8>) -> Result<(), FileFault>
+    ensures bytes { OnOk result
+        (IsRead ((O.state opener.old).at path.now) bytes.new.items) }
     ensures device { IfErr result (λ e. is_file_device e ≡ true
         → FailedAt ((O.state opener.old).at path.now) ((O.state opener.old).may_fail path.now)) }
     ensures absent { IfErr result (λ e. (O.state opener.old).at path.now ≡ Absent → e ≡ Device) }
     ensures opens { Opens (O.state opener.old) (O.state opener.new) (path.now ∷ []) }
 {
     let mut file = opener.open(path)?;
-    read_file(alloc, &mut file)
+    read_into(&mut file, bytes)
 }
 
 // Reports a file that was not read, by its path as given.
@@ -78,18 +76,20 @@ fn tell_unread<L: Sink>(log: &mut L, path: &str, fault: FileFault)
     }
 }
 
-/// The bytes of the file at a path, as far as a file is held. Where it isn't read, the log says so.
+/// Reads the file at a path into these bytes, as far as a file is held. Where it isn't read, the
+/// log says so.
 ///
 /// # Errors
 /// `Device` where it could not be opened, or its source failed; `Memory` where a growth was
 /// refused.
 pub fn read_told<O: Open, L: Sink>(
-    alloc: Global,
     opener: &mut O,
     path: &str,
+    bytes: &mut Vec<u8>,
     log: &mut L,
-) -> Result<Vec<u8>, FileFault>
-    ensures bytes { IfOk result (λ bytes. IsRead ((O.state opener.old).at path.now) bytes.items) }
+) -> Result<(), FileFault>
+    ensures bytes { OnOk result
+        (IsRead ((O.state opener.old).at path.now) bytes.new.items) }
     ensures quiet { OnOk result (log.new ≡ log.old) }
     ensures device { IfErr result (λ e. is_file_device e ≡ true
         → FailedAt ((O.state opener.old).at path.now) ((O.state opener.old).may_fail path.now)) }
@@ -98,42 +98,11 @@ pub fn read_told<O: Open, L: Sink>(
     ensures told { IfErr result
         (λ e. Logs (L.taken log.old) (L.taken log.new) (unread_line path.now e)) }
 {
-    match read_at(alloc, opener, path) {
-        Ok(bytes) => Ok(bytes),
+    match read_at(opener, path, bytes) {
+        Ok(()) => Ok(()),
         Err(fault) => {
             tell_unread(log, path, fault);
             Err(fault)
         }
     }
-}
-
-/// The bytes of the files at paths, in order. The log names the first that isn't read, and none is
-/// read after it.
-///
-/// # Errors
-/// The status of a run that stops there, or where memory ran out.
-pub fn read_all<O: Open, L: Sink>(
-    alloc: Global,
-    opener: &mut O,
-    paths: &[Body],
-    log: &mut L,
-) -> Result<Vec<Vec<u8>>, Status>
-    ensures read { IfOk result
-        (λ files. AreRead (O.state opener.old).at paths.now (files_of files.items)) }
-    ensures named { IfOk result (λ files. length paths.now ≡ length files.items) }
-    ensures opens { OnOk result (Opens (O.state opener.old) (O.state opener.new) paths.now) }
-    ensures quiet { OnOk result (log.new ≡ log.old) }
-    ensures stops { IfErr result (λ status.
-        LogsSome (Stops (O.state opener.old) (O.state opener.new) paths.now status)
-        (L.taken log.old) (L.taken log.new)) }
-{
-    let mut files = Vec::new(alloc);
-    for path in paths {
-        let file = read_told(alloc, opener, path.as_str(), log)?;
-        if files.push(file).is_err() {
-            say_memory(log);
-            return Err(Status::Memory);
-        }
-    }
-    Ok(files)
 }

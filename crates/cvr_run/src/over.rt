@@ -1,8 +1,8 @@
 ghost use Rattle.std.specs.Prelude.{◌≡◌, ◌<◌, ◌≤◌, length, true, false, None, Some, IfSome};
-ghost use Rattle.std.specs.Prelude.{is_some};
+ghost use Rattle.std.specs.Prelude.{is_some, take};
 ghost use Rattle.std.specs.Option.{option_and};
-ghost use Rattle.std.specs.Io.KnownBytes.{ReadConsumes};
-ghost use Rattle.cdf_types.specs.Device.{count, fails_read};
+ghost use Rattle.std.specs.Io.KnownBytes.{ReadConsumes, WriteAppends};
+ghost use Rattle.cdf_types.specs.Device.{Appends, count, fails_read, fails_write};
 
 use cdf_types::{DeviceFault, Sink, Source};
 use std::io::{Read, Write};
@@ -56,7 +56,16 @@ impl<W: Write + Drop> Sink for OverWrite<W> {
     ///
     /// # Errors
     /// `DeviceFault` where the writer answered an error. The sink has then failed.
-    fn write(&mut self, bytes: &[u8]) -> Result<usize, DeviceFault> {
+    fn write(&mut self, bytes: &[u8]) -> Result<usize, DeviceFault>
+        requires working { self.old.failed ≡ false }
+        requires some { 0 < length bytes.now }
+        ensures within { count result ≤ length bytes.now }
+        ensures failed { self.new.failed ≡ fails_write result }
+        ensures taken { Appends (⟦<OverWrite<W> as Sink>⟧.taken self.old)
+            (⟦<OverWrite<W> as Sink>⟧.taken self.new) (take (count result) bytes.now) }
+        ensures inner { WriteAppends (W.contents self.old.inner) (W.contents self.new.inner)
+            result bytes.now }
+    {
         match self.inner.write(bytes) {
             Ok(count) => {
                 self.failed = count == 0;

@@ -1,226 +1,282 @@
-ghost use Rattle.std.specs.Prelude.{◌≡◌, ◌++◌, ℕ, length, true, false, Option, None, IfOk, IfErr};
-ghost use Rattle.std.specs.Prelude.{OnErr, string_bytes};
+ghost use Rattle.std.specs.Prelude.{◌≡◌, List, ℕ, length, false, Option, Some, IfOk, IfErr, OnErr};
+ghost use Rattle.std.specs.Prelude.{string_bytes};
 ghost use Rattle.std.specs.List.{list_any};
+ghost use Rattle.cdf_definition.specs.Acceptance.{first_unsound};
+ghost use Rattle.cdf_definition.specs.Frame.{Frame};
+ghost use Rattle.cdf_form.specs.Reading.{IsMemory};
+ghost use Rattle.cdf_types.specs.Device.{Taken};
 ghost use Rattle.cvr_run.specs.Accepted.{is_refused};
-ghost use Rattle.cvr_run.specs.Given.{files_bytes};
-ghost use Rattle.cvr_run.specs.Outcome.{content_of_files, check_lines, facts_text, task_text};
-ghost use Rattle.cvr_run.specs.Outcome.{task_fault};
-ghost use Rattle.cvr_run.specs.Outcome.{files_refused, task_refused, files_of};
-ghost use Rattle.cvr_run.specs.declared.status.Status.TheVariants.{Memory as NoMemory};
-ghost use Rattle.cvr_words.specs.declared.request.Task.TheVariants.{Check};
-ghost use Rattle.cvr_run.specs.declared.refusals.Refusals.{Refusals};
+ghost use Rattle.cvr_run.specs.Ends.{Ran, RanBeside, RanOver};
+ghost use Rattle.cvr_run.specs.Given.{AreAsMany, StopsOr};
+ghost use Rattle.cvr_run.specs.Outcome.{content_of_files, check_lines, facts_text, files_of};
+ghost use Rattle.cvr_run.specs.Outcome.{files_refused, task_fault};
+ghost use Rattle.cvr_run.specs.Refusals.{is_want, AreDue};
+ghost use Rattle.cvr_run.specs.Taken.{AreTaken};
+ghost use Rattle.cvr_run.specs.Told.{file_dues, import_dues, IsCutShort, LogsFirst, LogsSome};
 ghost use Rattle.cvr_run.specs.declared.merge.MergeFault.{MergeFault};
-ghost use Rattle.cvr_run.specs.Ends.{Ends, Ran};
-ghost use Rattle.cvr_run.specs.Told.{file_dues, import_dues, task_dues, LogsFirst, TellsRun};
-ghost use Rattle.cvr_run.specs.Told.{CanEndAfter, IsCutShort, LogsSome};
+ghost use Rattle.cvr_run.specs.declared.status.Status.TheVariants.{Memory as NoMemory};
+ghost use Rattle.cvr_words.specs.declared.request.Task.TheVariants.{Check, Drill};
 
-use crate::check::push_count;
-use crate::collecting::collect;
+use crate::collecting::{Collected, Counted, Kept, take_all};
 use crate::drilling::run_drill;
 use crate::ending::{end_in_memory, end_with};
 use crate::given::Files;
+use crate::memory_files::MemoryFiles;
+use crate::noting::note_refused;
+use crate::opening::Open;
 use crate::printing::{print_office, print_text, show_several};
-use crate::reading::count_records;
 use crate::refusals::Refusals;
 use crate::status::Status;
 use cdf_check::Definition;
-use cdf_types::{Body, Memory, Sink};
-use cvr_office::Office;
-use cvr_words::{Request, Task};
+use cdf_types::{Body, ReadFault, Sink};
+use cvr_office::{Office, Outcome};
+use cvr_words::{Request, Step, Task};
 use std::alloc::Global;
 
-// Counts the cast vote records of each accepted file.
-fn count_files<L: Sink>(
+// Reports the refused files in the log. The status of a run for which memory ran out, where it did
+// for one of them.
+fn note_files<L: Sink>(
     alloc: Global,
-    definition: &Definition,
     paths: &[Body],
-    files: &[Vec<u8>],
-    text: &mut String,
+    outcomes: &[Outcome],
     log: &mut L,
-) -> Result<Refusals, Memory>
-    requires { length paths.now ≡ length files.now }
-    ensures any_refusal { IfOk result (λ r. r.file_lacking ≡ false
-        → r.any_refusal ≡ list_any (is_refused definition.now) (files_of files.now)) }
-    ensures text { IfOk result (λ r. r.file_lacking ≡ false → string_bytes text.new
-        ≡ string_bytes text.old ++ check_lines definition.now paths.now (files_of files.now)) }
-    ensures log { IfOk result
-        (λ r. LogsFirst (task_dues definition.now Check paths.now (files_of files.now))
-        (length files.now) r (L.taken log.old) (L.taken log.new)) }
-    ensures cut_short { OnErr result ((n : ℕ) × (r : Refusals) × (r.file_lacking ≡ false)
-        × CanEndAfter true n (file_dues definition.now (files_of files.now))
-        × LogsFirst (task_dues definition.now Check paths.now (files_of files.now)) n r
+) -> Result<Refusals, Status>
+    requires { length paths.now ≡ length outcomes.now }
+    ensures any_refusal { IfOk result (λ r. (definition : Frame) (files : List (List ℕ))
+        → AreDue (file_dues definition files) outcomes.now
+        → r.any_refusal ≡ list_any (is_refused definition) files) }
+    ensures whole { IfOk result (λ r. r.file_lacking ≡ false) }
+    ensures working { IfOk result (λ _. list_any is_want outcomes.now ≡ false) }
+    ensures log { IfOk result (λ r. (definition : Frame) (files : List (List ℕ))
+        → AreDue (file_dues definition files) outcomes.now
+        → LogsFirst (import_dues definition paths.now files) (length files) r
+        (L.taken log.old) (L.taken log.new)) }
+    ensures status { IfErr result (λ s. s ≡ NoMemory) }
+    ensures cut_short { OnErr result ((definition : Frame) (files : List (List ℕ))
+        (fault : Option MergeFault) → AreDue (file_dues definition files) outcomes.now
+        → LogsSome (IsCutShort (import_dues definition paths.now files) fault false)
         (L.taken log.old) (L.taken log.new)) }
 {
-    let mut refusals = Refusals::none();
-    for (place, file) in files.iter().enumerate() {
-        let path = paths[place].as_str();
-        match count_records(alloc, definition, file.as_slice()) {
-            Ok(records) => if !refusals.file_lacking {
-                push_count(text, path, records)?;
-            },
-            Err(fault) => refusals.note_file(alloc, log, path, fault),
-        }
+    let refusals = note_refused(alloc, paths, outcomes, log);
+    if refusals.file_lacking {
+        return Err(Status::Memory);
     }
     Ok(refusals)
 }
 
-// One office with all files that aren't refused, or the status of a run for which memory ran out.
-fn collect_all<O: Office + Drop, L: Sink>(
+// Reports the refused files, and prints the text of the office that took the others.
+fn end_office<C: Office, W: Sink, L: Sink>(
     alloc: Global,
-    definition: Definition,
-    paths: &[Body],
-    files: Files<'_>,
-    log: &mut L,
-) -> Result<(O, Refusals), Status>
-    requires { length paths.now ≡ length (files_bytes files) }
-    ensures definition { IfOk result (λ r. O.defined r.0 ≡ definition) }
-    ensures content { IfOk result
-        (λ r. O.held r.0 ≡ content_of_files definition (files_bytes files.entry)) }
-    ensures any_refusal { IfOk result (λ r.
-        r.1.any_refusal ≡ list_any (is_refused definition) (files_bytes files.entry)) }
-    ensures whole { IfOk result (λ r. r.1.file_lacking ≡ false) }
-    ensures status { IfErr result (λ s. s ≡ NoMemory) }
-    ensures log { IfOk result
-        (λ r. LogsFirst (import_dues definition paths.now (files_bytes files.entry))
-        (length (files_bytes files.entry)) r.1 (L.taken log.old) (L.taken log.new)) }
-    ensures cut_short { OnErr result ((fault : Option MergeFault) → LogsSome
-        (IsCutShort (import_dues definition paths.now (files_bytes files.entry)) fault false)
-        (L.taken log.old) (L.taken log.new)) }
-{
-    let Ok((office, refusals)) = collect::<O, L>(alloc, definition, paths, files, log) else {
-        return Err(end_in_memory(log));
-    };
-    if refusals.file_lacking {
-        return Err(Status::Memory);
-    }
-    Ok((office, refusals))
-}
-
-// Prints the text of one office with all files that aren't refused.
-fn run_office<O: Office + Drop, W: Sink, L: Sink>(
-    alloc: Global,
-    definition: Definition,
+    office: &C,
     task: &Task,
     paths: &[Body],
-    files: Files<'_>,
+    outcomes: &[Outcome],
     out: &mut W,
     log: &mut L,
 ) -> Status
     requires working { (W.taken out.old).failed ≡ false }
-    requires named { length paths.now ≡ length (files_bytes files) }
-    ensures ends { Ends (W.taken out.old) (W.taken out.new)
-        (facts_text definition task.now (content_of_files definition (files_bytes files.entry)))
-        (files_refused definition task.now (files_bytes files.entry)) result }
-    ensures log { TellsRun (import_dues definition paths.now (files_bytes files.entry))
-        (task_fault definition task.now (files_bytes files.entry)) result
+    requires named { length paths.now ≡ length outcomes.now }
+    ensures { (definition : Frame) (files : List (List ℕ)) → C.defined office.now ≡ definition
+        → AreTaken definition paths.now files outcomes.now
+        (C.held office.now ≡ content_of_files definition files)
+        → RanOver (facts_text definition task.now (content_of_files definition files))
+        (files_refused definition task.now files)
+        (import_dues definition paths.now files)
+        (task_fault definition task.now files) result
         (record { out = W.taken out.old; log = L.taken log.old })
         (record { out = W.taken out.new; log = L.taken log.new }) }
 {
-    match collect_all::<O, L>(alloc, definition, paths, files, log) {
-        Ok((office, refusals)) => {
-            show_several(alloc, &office, task, log);
-            let printed = print_office(alloc, &office, task, out);
+    match note_files(alloc, paths, outcomes, log) {
+        Ok(refusals) => {
+            show_several(alloc, office, task, log);
+            let printed = print_office(alloc, office, task, out);
             end_with(printed, refusals, log)
         }
         Err(status) => status,
     }
 }
 
-// Prints the number of cast vote records of each accepted file.
-fn run_check<W: Sink, L: Sink>(
+// Prints the text of one office with all files that aren't refused.
+fn run_office<C: Office + Drop, O: Open, W: Sink, L: Sink>(
     alloc: Global,
-    definition: &Definition,
+    definition: Definition,
+    task: &Task,
     paths: &[Body],
-    files: &[Vec<u8>],
+    from: Files<'_>,
+    opener: &mut O,
     out: &mut W,
     log: &mut L,
 ) -> Status
     requires working { (W.taken out.old).failed ≡ false }
-    requires named { length paths.now ≡ length files.now }
-    ensures ends { Ends (W.taken out.old) (W.taken out.new)
-        (check_lines definition.now paths.now (files_of files.now))
-        (list_any (is_refused definition.now) (files_of files.now)) result }
-    ensures log { TellsRun (task_dues definition.now Check paths.now (files_of files.now)) None
-        result
+    requires many { AreAsMany from paths.now }
+    ensures { StopsOr from.entry paths.now result
+        (record { opener = O.state opener.old; out = W.taken out.old; log = L.taken log.old })
+        (record { opener = O.state opener.new; out = W.taken out.new; log = L.taken log.new })
+        (out.new ≡ out.old)
+        (λ files. RanOver
+        (facts_text definition task.now (content_of_files definition files))
+        (files_refused definition task.now files)
+        (import_dues definition paths.now files)
+        (task_fault definition task.now files) result
         (record { out = W.taken out.old; log = L.taken log.old })
-        (record { out = W.taken out.new; log = L.taken log.new }) }
+        (record { out = W.taken out.new; log = L.taken log.new })) }
 {
-    let mut text = String::new(alloc);
-    match count_files(alloc, definition, paths, files, &mut text, log) {
-        Ok(refusals) => if refusals.file_lacking {
-            Status::Memory
-        } else {
-            end_with(print_text(text.as_str(), out), refusals, log)
-        },
-        Err(Memory) => end_in_memory(log),
+    let Ok(mut taker) = Collected::<C>::new(alloc, definition) else {
+        return end_in_memory(log);
+    };
+    match take_all(alloc, &mut taker, from, opener, paths, log) {
+        Ok(rs) => {
+            let office = &taker.offices[0];
+            end_office(alloc, office, task, paths, rs.as_slice(), out, log)
+        }
+        Err(status) => status,
     }
 }
 
-// Does the task of a request beside its definition.
-fn run_task<O: Office + Drop, W: Sink, L: Sink>(
+// Reports the refused files, and prints the lines of the others.
+fn end_check<W: Sink, L: Sink>(
     alloc: Global,
-    definition: Definition,
-    request: &Request,
-    files: Files<'_>,
+    text: &str,
+    paths: &[Body],
+    outcomes: &[Outcome],
     out: &mut W,
     log: &mut L,
 ) -> Status
     requires working { (W.taken out.old).failed ≡ false }
-    requires named { length request.now.paths ≡ length (files_bytes files) }
-    ensures ends { Ends (W.taken out.old) (W.taken out.new)
-        (task_text definition request.now.task request.now.paths (files_bytes files.entry))
-        (task_refused definition request.now.task (files_bytes files.entry)) result }
-    ensures log { TellsRun
-        (task_dues definition request.now.task request.now.paths (files_bytes files.entry))
-        (task_fault definition request.now.task (files_bytes files.entry)) result
+    requires named { length paths.now ≡ length outcomes.now }
+    ensures { (definition : Frame) (files : List (List ℕ))
+        → AreTaken definition paths.now files outcomes.now
+        (text.now ≡ check_lines definition paths.now files)
+        → RanBeside definition Check paths.now files result
         (record { out = W.taken out.old; log = L.taken log.old })
         (record { out = W.taken out.new; log = L.taken log.new }) }
 {
-    let paths = request.paths.as_slice();
-    let task = &request.task;
+    match note_files(alloc, paths, outcomes, log) {
+        Ok(refusals) => end_with(print_text(text, out), refusals, log),
+        Err(status) => status,
+    }
+}
+
+// Prints the number of cast vote records of each accepted file.
+fn run_check<O: Open, W: Sink, L: Sink>(
+    alloc: Global,
+    definition: Definition,
+    paths: &[Body],
+    from: Files<'_>,
+    opener: &mut O,
+    out: &mut W,
+    log: &mut L,
+) -> Status
+    requires working { (W.taken out.old).failed ≡ false }
+    requires many { AreAsMany from paths.now }
+    ensures { StopsOr from.entry paths.now result
+        (record { opener = O.state opener.old; out = W.taken out.old; log = L.taken log.old })
+        (record { opener = O.state opener.new; out = W.taken out.new; log = L.taken log.new })
+        (out.new ≡ out.old)
+        (λ files. RanBeside definition Check paths.now files result
+        (record { out = W.taken out.old; log = L.taken log.old })
+        (record { out = W.taken out.new; log = L.taken log.new })) }
+{
+    let mut taker = Counted {
+        definition,
+        text: String::new(alloc),
+    };
+    match take_all(alloc, &mut taker, from, opener, paths, log) {
+        Ok(rs) => end_check(alloc, taker.text.as_str(), paths, rs.as_slice(), out, log),
+        Err(status) => status,
+    }
+}
+
+// Plays the steps of a drill once all files are read.
+fn run_steps<C: Office + Drop, O: Open, W: Sink, L: Sink>(
+    alloc: Global,
+    definition: &Definition,
+    paths: &[Body],
+    count: u32,
+    steps: &[Step],
+    from: Files<'_>,
+    opener: &mut O,
+    out: &mut W,
+    log: &mut L,
+) -> Status
+    requires working { (W.taken out.old).failed ≡ false }
+    requires many { AreAsMany from paths.now }
+    ensures { StopsOr from.entry paths.now result
+        (record { opener = O.state opener.old; out = W.taken out.old; log = L.taken log.old })
+        (record { opener = O.state opener.new; out = W.taken out.new; log = L.taken log.new })
+        (out.new ≡ out.old)
+        (λ files. RanBeside definition.now (Drill count steps.now) paths.now files result
+        (record { out = W.taken out.old; log = L.taken log.old })
+        (record { out = W.taken out.new; log = L.taken log.new })) }
+{
+    let mut taker = Kept {
+        files: Vec::new(alloc),
+    };
+    match take_all(alloc, &mut taker, from, opener, paths, log) {
+        Ok(_) => run_drill::<C, W, L>(
+            alloc,
+            definition,
+            count as usize,
+            steps,
+            taker.files.as_slice(),
+            out,
+            log,
+        ),
+        Err(status) => status,
+    }
+}
+
+/// Does a task beside a definition.
+pub fn run_task<C: Office + Drop, O: Open, W: Sink, L: Sink>(
+    alloc: Global,
+    definition: Definition,
+    task: &Task,
+    paths: &[Body],
+    from: Files<'_>,
+    opener: &mut O,
+    out: &mut W,
+    log: &mut L,
+) -> Status
+    requires working { (W.taken out.old).failed ≡ false }
+    requires many { AreAsMany from paths.now }
+    ensures { StopsOr from.entry paths.now result
+        (record { opener = O.state opener.old; out = W.taken out.old; log = L.taken log.old })
+        (record { opener = O.state opener.new; out = W.taken out.new; log = L.taken log.new })
+        (out.new ≡ out.old)
+        (λ files. RanBeside definition task.now paths.now files result
+        (record { out = W.taken out.old; log = L.taken log.old })
+        (record { out = W.taken out.new; log = L.taken log.new })) }
+{
     match task {
         Task::Currents | Task::Conflicts | Task::Tally | Task::Merge { .. } => {
-            run_office::<O, W, L>(alloc, definition, task, paths, files, out, log)
+            run_office::<C, O, W, L>(alloc, definition, task, paths, from, opener, out, log)
         }
-        Task::Check => run_check(alloc, &definition, paths, files.all(), out, log),
-        Task::Drill { offices, steps } => run_drill::<O, W, L>(
+        Task::Check => run_check(alloc, definition, paths, from, opener, out, log),
+        Task::Drill { offices, steps } => run_steps::<C, O, W, L>(
             alloc,
             &definition,
-            *offices as usize,
+            paths,
+            *offices,
             steps.as_slice(),
-            files.all(),
+            from,
+            opener,
             out,
             log,
         ),
     }
 }
 
-/// Runs a request, as `run` does, over files that are lent or given.
-pub fn run_files<O: Office + Drop, W: Sink, L: Sink>(
-    alloc: Global,
-    request: &Request,
-    def: &[u8],
-    files: Files<'_>,
-    out: &mut W,
-    log: &mut L,
-) -> Status
-    requires working { (W.taken out.old).failed ≡ false }
-    requires log_working { (L.taken log.old).failed ≡ false }
-    requires named { length request.now.paths ≡ length (files_bytes files) }
-    ensures ran { Ran
-        (record { request = request.now; def = def.now; files = files_bytes files.entry })
-        result
-        (record { out = W.taken out.old; log = L.taken log.old })
-        (record { out = W.taken out.new; log = L.taken log.new }) }
+/// Reports a definition that is refused. Nothing else is done.
+pub fn refuse<L: Sink>(alloc: Global, request: &Request, fault: ReadFault, log: &mut L) -> Status
+    ensures { (def : List ℕ) (files : List (List ℕ)) (out : Taken) → out.failed ≡ false
+        → (¬ IsMemory fault → first_unsound def ≡ Some fault)
+        → Ran (record { request = request.now; def = def; files = files }) result
+        (record { out = out; log = L.taken log.old })
+        (record { out = out; log = L.taken log.new }) }
 {
-    match Definition::read(alloc, def) {
-        Err(fault) => {
-            let mut refusals = Refusals::none();
-            refusals.note_file(alloc, log, request.def.as_str(), fault);
-            refusals.status()
-        }
-        Ok(definition) => run_task::<O, W, L>(alloc, definition, request, files, out, log),
-    }
+    let mut refusals = Refusals::none();
+    refusals.note_file(alloc, log, request.def.as_str(), fault);
+    refusals.status()
 }
 
 /// Runs a request over the bytes of its definition and of its files, in the order of its paths. A
@@ -228,7 +284,7 @@ pub fn run_files<O: Office + Drop, W: Sink, L: Sink>(
 /// refused nothing else is done. Where memory ran out for a file or a step nothing is printed, and
 /// no fault of a merge is reported. That fault comes after the refused files, and nothing is
 /// printed then either.
-pub fn run<O: Office + Drop, W: Sink, L: Sink>(
+pub fn run<C: Office + Drop, W: Sink, L: Sink>(
     alloc: Global,
     request: &Request,
     def: &[u8],
@@ -244,5 +300,18 @@ pub fn run<O: Office + Drop, W: Sink, L: Sink>(
         (record { out = W.taken out.old; log = L.taken log.old })
         (record { out = W.taken out.new; log = L.taken log.new }) }
 {
-    run_files::<O, W, L>(alloc, request, def, Files::Lent(files), out, log)
+    let mut none = MemoryFiles { files: &[] };
+    match Definition::read(alloc, def) {
+        Err(fault) => refuse(alloc, request, fault, log),
+        Ok(definition) => run_task::<C, MemoryFiles, W, L>(
+            alloc,
+            definition,
+            &request.task,
+            request.paths.as_slice(),
+            Files::Lent(files),
+            &mut none,
+            out,
+            log,
+        ),
+    }
 }

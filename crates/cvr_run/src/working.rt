@@ -1,53 +1,83 @@
-ghost use Rattle.std.specs.Prelude.{◌≡◌, ◌≢◌, ◌∷◌, length, false, IfOk, IfErr, OnOk};
+ghost use Rattle.std.specs.Prelude.{◌≡◌, ◌≢◌, ◌∷◌, ℕ, List, false, Some};
+ghost use Rattle.cdf_definition.specs.Acceptance.{first_unsound};
+ghost use Rattle.cdf_form.specs.Reading.{IsMemory};
+ghost use Rattle.cdf_types.specs.Device.{Taken};
+ghost use Rattle.cvr_run.specs.declared.given.Files.TheVariants.{Opened};
 ghost use Rattle.cvr_run.specs.declared.status.Status.TheVariants.{CommandLine};
 ghost use Rattle.cvr_run.specs.Answered.{Does};
 ghost use Rattle.cvr_run.specs.Ends.{Ran};
+ghost use Rattle.cvr_run.specs.Given.{StopsOr};
 ghost use Rattle.cvr_run.specs.Job.{Job};
-ghost use Rattle.cvr_run.specs.Opening.{AreRead, AreAt, Opens};
-ghost use Rattle.cvr_run.specs.Outcome.{files_of, IsWhole};
-ghost use Rattle.cvr_run.specs.Told.{LogsSome};
-ghost use Rattle.cvr_run.specs.Worked.{Stops};
+ghost use Rattle.cvr_run.specs.Opening.{AreAt};
+ghost use Rattle.cvr_run.specs.Outcome.{IsWhole};
 
+use crate::collecting::{Ignored, take_all};
 use crate::given::Files;
-use crate::opening::{Open, read_all, read_told};
+use crate::opening::{Open, read_told};
 use crate::status::Status;
-use crate::tasks::run_files;
-use cdf_types::Sink;
+use crate::tasks::{refuse, run_task};
+use cdf_check::Definition;
+use cdf_types::{ReadFault, Sink};
 use cvr_office::Office;
 use cvr_words::Request;
 use std::alloc::Global;
 
-// What a run reads.
-#[derive(Drop)]
-struct Inputs {
-    // The bytes of the definition.
-    def: Vec<u8>,
-    // The bytes of each file.
-    files: Vec<Vec<u8>>,
-}
-
-// The bytes of the definition and of the files of a request, in that order.
-fn read_inputs<O: Open, L: Sink>(
+// Reports a definition that is refused, once all files are read: one that isn't read goes before.
+fn refuse_last<O: Open, L: Sink>(
     alloc: Global,
     opener: &mut O,
     request: &Request,
+    fault: ReadFault,
     log: &mut L,
-) -> Result<Inputs, Status>
-    ensures read { IfOk result
-        (λ inputs. AreRead (O.state opener.old).at (request.now.def ∷ request.now.paths)
-        (inputs.def.items ∷ files_of inputs.files.items)) }
-    ensures named { IfOk result (λ inputs. length request.now.paths ≡ length inputs.files.items) }
-    ensures opens { OnOk result
-        (Opens (O.state opener.old) (O.state opener.new) (request.now.def ∷ request.now.paths)) }
-    ensures quiet { OnOk result (log.new ≡ log.old) }
-    ensures stops { IfErr result (λ status. LogsSome
-        (Stops (O.state opener.old) (O.state opener.new) (request.now.def ∷ request.now.paths)
-        status)
-        (L.taken log.old) (L.taken log.new)) }
+) -> Status
+    ensures { (def : List ℕ) (out : Taken) → out.failed ≡ false
+        → (¬ IsMemory fault → first_unsound def ≡ Some fault)
+        → StopsOr Opened request.now.paths result
+        (record { opener = O.state opener.old; out = out; log = L.taken log.old })
+        (record { opener = O.state opener.new; out = out; log = L.taken log.new })
+        (Unit {0})
+        (λ files. Ran (record { request = request.now; def = def; files = files }) result
+        (record { out = out; log = L.taken log.old })
+        (record { out = out; log = L.taken log.new })) }
 {
-    let def = read_told(alloc, opener, request.def.as_str(), log)?;
-    let files = read_all(alloc, opener, request.paths.as_slice(), log)?;
-    Ok(Inputs { def, files })
+    let paths = request.paths.as_slice();
+    match take_all(alloc, &mut Ignored, Files::Opened, opener, paths, log) {
+        Ok(_) => refuse(alloc, request, fault, log),
+        Err(status) => status,
+    }
+}
+
+// Does a request whose definition is read.
+fn run_behind<C: Office + Drop, O: Open, W: Sink, L: Sink>(
+    alloc: Global,
+    opener: &mut O,
+    request: &Request,
+    def: &[u8],
+    out: &mut W,
+    log: &mut L,
+) -> Status
+    requires working { (W.taken out.old).failed ≡ false }
+    ensures { StopsOr Opened request.now.paths result
+        (record { opener = O.state opener.old; out = W.taken out.old; log = L.taken log.old })
+        (record { opener = O.state opener.new; out = W.taken out.new; log = L.taken log.new })
+        (out.new ≡ out.old)
+        (λ files. Ran (record { request = request.now; def = def.now; files = files }) result
+        (record { out = W.taken out.old; log = L.taken log.old })
+        (record { out = W.taken out.new; log = L.taken log.new })) }
+{
+    match Definition::read(alloc, def) {
+        Err(fault) => refuse_last(alloc, opener, request, fault, log),
+        Ok(definition) => run_task::<C, O, W, L>(
+            alloc,
+            definition,
+            &request.task,
+            request.paths.as_slice(),
+            Files::Opened,
+            opener,
+            out,
+            log,
+        ),
+    }
 }
 
 /// Does a request: reads its definition and its files, each at its path and in this order, and runs
@@ -73,15 +103,9 @@ pub fn run_request<C: Office + Drop, O: Open, W: Sink, L: Sink>(
         (record { out = W.taken out.new; log = L.taken log.new }) }
     ensures no_words { result ≢ CommandLine }
 {
-    match read_inputs(alloc, opener, request, log) {
-        Ok(Inputs { def, files }) => run_files::<C, W, L>(
-            alloc,
-            request,
-            def.as_slice(),
-            Files::Given(files),
-            out,
-            log,
-        ),
-        Err(status) => status,
+    let mut bytes = Vec::new(alloc);
+    match read_told(opener, request.def.as_str(), &mut bytes, log) {
+        Ok(()) => run_behind::<C, O, W, L>(alloc, opener, request, bytes.as_slice(), out, log),
+        Err(fault) => Status::from(fault),
     }
 }

@@ -90,24 +90,27 @@ impl<'a, R: Eprint + AllocGlobal> Notes<'a, R> {
         self.code.set(fault.raw_os_error());
     }
 
-    // Whether this is the definition's path.
-    fn is_def(&self, path: &[u8]) -> bool {
+    // Whether this is the line on a definition that is refused, or its path.
+    fn is_def(&self, bytes: &[u8]) -> bool {
         match self.files.try_borrow() {
             Ok(files) => match files.get(self.before) {
-                Some(def) => def.path.as_bytes() == path,
+                Some(def) => match bytes.strip_prefix(def.path.as_bytes()) {
+                    Some(rest) => rest.is_empty() || rest.starts_with(b": E"),
+                    None => false,
+                },
                 None => false,
             },
             Err(_) => false,
         }
     }
 
-    /// Takes note of bytes of the log, which comes path by path and code by code: whether the
-    /// definition was refused, and whether a file was E2.
+    /// Takes note of bytes of the log, which comes line by line, and where a line is long path by
+    /// path and code by code: whether the definition was refused, and whether a file was E2.
     pub fn hear(&self, bytes: &[u8]) {
         if !self.has_log.replace(true) {
             self.is_def_refused.set(self.is_def(bytes));
         }
-        if let b": E2\n" = bytes {
+        if bytes.ends_with(b": E2\n") {
             self.has_e2.set(true);
         }
     }

@@ -1,4 +1,6 @@
-ghost use Rattle.std.specs.Prelude.{◌≡◌, false};
+ghost use Rattle.std.specs.Prelude.{◌≡◌, ◌<◌, ◌≤◌, length, false, take};
+ghost use Rattle.std.specs.Io.KnownBytes.{WriteAppends};
+ghost use Rattle.cdf_types.specs.Device.{Appends, count, fails_write};
 
 use crate::notes::Notes;
 use crate::progress::Progress;
@@ -102,7 +104,16 @@ impl<W: Write + Drop, R: Eprint + AllocGlobal> Sink for Log<'_, W, R> {
     ghost taken = { λ s. ⟦<OverWrite<W> as Sink>⟧.taken s.inner };
 
     /// Hands the bytes on, and nothing else.
-    fn write(&mut self, bytes: &[u8]) -> Result<usize, DeviceFault> {
+    fn write(&mut self, bytes: &[u8]) -> Result<usize, DeviceFault>
+        requires working { self.old.inner.failed ≡ false }
+        requires some { 0 < length bytes.now }
+        ensures within { count result ≤ length bytes.now }
+        ensures failed { self.new.inner.failed ≡ fails_write result }
+        ensures taken { Appends (⟦<OverWrite<W> as Sink>⟧.taken self.old.inner)
+            (⟦<OverWrite<W> as Sink>⟧.taken self.new.inner) (take (count result) bytes.now) }
+        ensures inner { WriteAppends
+            (W.contents self.old.inner.inner) (W.contents self.new.inner.inner) result bytes.now }
+    {
         self.progress.clear();
         self.notes.hear(bytes);
         self.inner.write(bytes)

@@ -1,4 +1,4 @@
-use Rattle.std.proofs.Common.{None, length, refl, sym, rules}
+use Rattle.std.proofs.Common.{None, length, sym, rules}
 use Rattle.std.proofs.lemmas.List.{length-map}
 use Rattle.cvr_run.specs.Drill.{step_due, drill_text, drill_refused}
 use Rattle.cvr_run.specs.Outcome.{files_of}
@@ -33,7 +33,7 @@ returns-in-Ok-clause-log g c =
     _ c.in-Ok.ensures.log (sym (length-map steps (step_due definition c.args.count files)))
     c.in-Ok.ensures.whole
     (g.W.Sink.taken c.args.out.now) (g.W.Sink.taken c.print_offices-printed.new.out)
-    c.print_offices-printed.result None _ _ refl c.print_offices-printed.ensures
+    c.print_offices-printed.result None _ _ c.print_offices-printed.ensures
     c.end_with.ensures.status c.end_with.ensures.log
 
 pub returns-in-Err-clause-ends : goal.returns-in-Err-clause-ends

@@ -14,7 +14,6 @@ loop-place-init g c = record {
   any_refusal = search rules;
   file_lacking = search rules;
   log = λ dues due. tells_none (record {
-    by_file = false;
     texts = map g.A.Argument.spelled c.args.arguments.now;
     dues = dues;
   }) _ c.none-refusals.result c.none-refusals.ensures.file_lacking
@@ -49,12 +48,12 @@ loop-place-preserved g c =
                 ∙ wanted_here rs n o lt at cause before.file_lacking now.file_lacking told
                 was.file_lacking w.note.ensures.file_lacking;
             log = λ dues due.
-                subst (λ r. LogsFirst (record { by_file = false; texts = texts; dues = dues })
+                subst (λ r. LogsFirst (record { texts = texts; dues = dues })
                 (n + 1) r (g.L.Sink.taken c.args.log.now) (g.L.Sink.taken c.match-cause_in.log))
                 (sym w.refusals-is)
-                (subst (λ l. LogsFirst (record { by_file = false; texts = texts; dues = dues })
+                (subst (λ l. LogsFirst (record { texts = texts; dues = dues })
                 (n + 1) now (g.L.Sink.taken c.args.log.now) (g.L.Sink.taken l)) (sym w.log-is)
-                (tells_noted (record { by_file = false; texts = texts; dues = dues }) _ _ _ n before
+                (tells_noted (record { texts = texts; dues = dues }) _ _ _ n before
                 now w.text.result.now cause (was.log dues due) within
                 (omega (arith, lt, due.count))
                 (w.text.ensures ∙ (ap text_of w.index-arguments-place.is ∙ sym
@@ -71,13 +70,13 @@ loop-place-preserved g c =
             file_lacking = ap (λ r. r.file_lacking) w.refusals-is
                 ∙ unwanted_here rs n o lt at before.file_lacking told was.file_lacking;
             log = λ dues due.
-                subst (λ r. LogsFirst (record { by_file = false; texts = texts; dues = dues })
+                subst (λ r. LogsFirst (record { texts = texts; dues = dues })
                 (n + 1) r (g.L.Sink.taken c.args.log.now) (g.L.Sink.taken c.match-cause_in.log))
                 (sym w.refusals-is)
-                (subst (λ l. LogsFirst (record { by_file = false; texts = texts; dues = dues })
+                (subst (λ l. LogsFirst (record { texts = texts; dues = dues })
                 (n + 1) before (g.L.Sink.taken c.args.log.now) (g.L.Sink.taken l))
                 (sym w.log-is)
-                (tells_accepted (record { by_file = false; texts = texts; dues = dues }) _ _ n
+                (tells_accepted (record { texts = texts; dues = dues }) _ _ n
                 before (was.log dues due) within (omega (arith, lt, due.count))
                 (none_where_not rs n o lt at dues due told)));
           }
@@ -88,7 +87,6 @@ returns-clause-log g c = λ dues due.
     let all : c.loop-place.place ≡ length c.args.outcomes.now =
     omega (arith, c.loop-place-test.false, c.loop-place.auto.place-end) in
     subst (λ k. LogsFirst (record {
-      by_file = false;
       texts = map g.A.Argument.spelled c.args.arguments.now;
       dues = dues;
     }) k c.loop-place.refusals (g.L.Sink.taken c.args.log.now)

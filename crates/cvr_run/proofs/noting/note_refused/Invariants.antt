@@ -11,6 +11,6 @@ invariant-loop-place g l = record {
   file_lacking : l.refusals.file_lacking ≡ list_any is_want (take l.place l.outcomes);
   log : (dues : List Due) → AreDue dues l.outcomes
       → let texts = map g.A.Argument.spelled l.arguments in
-      LogsFirst (record { by_file = false; texts = texts; dues = dues }) l.place
+      LogsFirst (record { texts = texts; dues = dues }) l.place
       l.refusals (g.L.Sink.taken l.initial.log) (g.L.Sink.taken l.log);
 }

@@ -1,0 +1,33 @@
+use Rattle.std.proofs.Common.{◌∙◌, [], sym}
+use Rattle.cvr_run.specs.Outcome.{run_fault}
+use Rattle.cvr_run.specs.Told.{last_lines}
+use Rattle.cvr_run.proofs.Accepted.{none_last}
+use Rattle.cvr_run.proofs.Printed.{ends_unsound}
+use Rattle.cvr_run.proofs.Telling.{definition_log, definition_cut_short}
+use Rattle.cvr_run.proofs.tasks.refuse.Goals as goal
+
+pub returns : goal.returns
+returns g c = λ def files out working first.
+    let task = c.args.request.now.task in
+    let what = c.args.request.now.def in
+    let paths = c.args.request.now.paths in
+    let fault = c.args.fault in
+    let none = c.none-refusals in
+    let noted = c.note_file in
+    record {
+      ends = ends_unsound task def paths files out fault none.result.file_lacking
+          noted.new.self.file_lacking noted.new.self.path_unspelled noted.new.self.any_refusal _
+          working first none.ensures.file_lacking noted.ensures.file_lacking
+          noted.ensures.any_refusal c.status.ensures;
+      log = λ whole.
+          definition_log task what def paths files fault none.result noted.new.self _ _
+          c.as_str.result.now (last_lines (run_fault task def files) out.failed) c.as_str.ensures
+          first none.ensures.file_lacking none.ensures.path_unspelled noted.ensures.file_lacking
+          (none_last task def files _ fault working) noted.ensures.told
+          (λ e. whole (c.status.ensures ∙ e));
+      cut_short = λ want.
+          definition_cut_short task what def paths files fault none.result noted.new.self _ _
+          c.as_str.result.now [] c.as_str.ensures first none.ensures.file_lacking
+          none.ensures.path_unspelled noted.ensures.file_lacking out.failed noted.ensures.told
+          (sym c.status.ensures ∙ want);
+    }

@@ -1,0 +1,44 @@
+use Rattle.std.proofs.Common.{◌∙◌, ◌≡◌, None, inl, inr, refl, ap, subst, rules}
+use Rattle.cvr_office.specs.Outcomes.{no_frame}
+use Rattle.cvr_run.specs.Devices.{Outputs}
+use Rattle.cvr_run.specs.Drill.{drill_refused, drill_text}
+use Rattle.cvr_run.specs.Ends.{Ends}
+use Rattle.cvr_run.specs.Outcome.{files_of}
+use Rattle.cvr_run.specs.Told.{drill_dues, TellsRun}
+use Rattle.cvr_run.proofs.Had.{stops_behind}
+use Rattle.cvr_run.proofs.tasks.run_steps.Goals as goal
+
+pub returns-in-Ok : goal.returns-in-Ok
+returns-in-Ok g c =
+    let definition = c.args.definition.now in
+    let n = c.args.count in
+    let steps = c.args.steps.now in
+    let answer = c.run_drill.result in
+    let quiet = c.in-Ok.ensures.quiet in
+    let old : Outputs =
+    record { out = g.W.Sink.taken c.args.out.now; log = g.L.Sink.taken c.args.log.now } in
+    let new : Outputs = record {
+      out = g.W.Sink.taken c.run_drill.new.out;
+      log = g.L.Sink.taken c.run_drill.new.log;
+    } in
+    let had = c.in-Ok.ensures.taken no_frame (ap files_of c.new.ensures.items) in
+    let files : files_of c.as_slice.result.now ≡ had.0 =
+    ap files_of c.as_slice.ensures.value ∙ had.2 in
+    inr (
+      had.0,
+      had.1,
+      record {
+        ends = subst (λ fs. Ends old.out new.out (drill_text definition n fs steps)
+            (drill_refused definition n fs steps) answer) files c.run_drill.ensures.ends;
+        log = subst (λ l. TellsRun (drill_dues definition n had.0 steps) None answer
+            (record { out = old.out; log = g.L.Sink.taken l }) new) quiet
+            (subst (λ fs. TellsRun (drill_dues definition n fs steps) None answer
+            (record { out = old.out; log = g.L.Sink.taken c.take_all.new.log }) new) files
+            c.run_drill.ensures.log);
+      },
+    )
+
+pub returns : goal.returns
+returns g c =
+    let some = c.in-Err.ensures.stops in
+    inl (refl, (some.0, stops_behind _ _ _ _ _ _ some.1, some.2))

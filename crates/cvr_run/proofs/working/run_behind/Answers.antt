@@ -1,0 +1,42 @@
+use Rattle.std.proofs.Common.{◌≡◌, inl, inr, refl, subst}
+use Rattle.cvr_run.specs.Devices.{Devices, outputs}
+use Rattle.cvr_run.specs.Ends.{RanBeside}
+use Rattle.cvr_run.specs.Given.{StopsOr}
+use Rattle.cvr_run.specs.declared.given.Files.TheVariants.{Opened}
+use Rattle.cvr_run.proofs.Beside.{ran_beside}
+use Rattle.cvr_run.proofs.working.run_behind.Goals as goal
+
+pub returns-in-Ok : goal.returns-in-Ok
+returns-in-Ok g c =
+    let request = c.args.request.now in
+    let answer = c.run_task.result in
+    let definition = c.in-Ok.definition in
+    let old : Devices = record {
+      opener = g.O.Open.state c.args.opener.now;
+      out = g.W.Sink.taken c.args.out.now;
+      log = g.L.Sink.taken c.args.log.now;
+    } in
+    let new : Devices = record {
+      opener = g.O.Open.state c.run_task.new.opener;
+      out = g.W.Sink.taken c.run_task.new.out;
+      log = g.L.Sink.taken c.run_task.new.log;
+    } in
+    elim (subst (λ ps. StopsOr Opened ps answer old new (c.run_task.new.out ≡ c.args.out.now)
+    (λ files. RanBeside definition request.task ps files answer (outputs old) (outputs new)))
+    c.as_slice.ensures c.run_task.ensures) [
+      | inl stops ↦ inl stops
+      | inr had ↦ inr (
+        had.0,
+        had.1,
+        ran_beside request c.args.def.now definition had.0 answer (outputs old) (outputs new)
+            c.in-Ok.ensures.sound c.in-Ok.ensures.frame had.2,
+      )
+    ]
+
+pub returns-in-Err : goal.returns-in-Err
+returns-in-Err g c =
+    elim (c.refuse_last.ensures c.args.def.now (g.W.Sink.taken c.args.out.now) c.requires.working
+    c.in-Err.ensures.first) [
+      | inl stops ↦ inl (refl, stops.1)
+      | inr had ↦ inr had
+    ]
