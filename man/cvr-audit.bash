@@ -3,7 +3,7 @@ _cvr_audit() {
     COMPREPLY=()
     if [ "$COMP_CWORD" -eq 1 ]; then
         compopt +o default
-        COMPREPLY=($(compgen -W 'records compare trace without page warnings totals lines writeins definition gather -h --help --version' -- "$2"))
+        COMPREPLY=($(compgen -W 'records compare trace without page warnings totals lines strict why writeins definition gather journal -h --help --version' -- "$2"))
         return
     fi
     case $3 in
@@ -15,6 +15,7 @@ _cvr_audit() {
     --by) compopt +o default; COMPREPLY=($(compgen -W 'unit batch device style' -- "$2")); return ;;
     --format) compopt +o default; COMPREPLY=($(compgen -W 'text csv json' -- "$2")); return ;;
     --format) compopt +o default; COMPREPLY=($(compgen -W 'json' -- "$2")); return ;;
+    --format) compopt +o default; COMPREPLY=($(compgen -W 'text json' -- "$2")); return ;;
     --as) compopt +o default; COMPREPLY=($(compgen -W 'vxsuite cdf dominion dominion-json ess hart clearballot' -- "$2")); return ;;
     esac
     case ${COMP_WORDS[1]}:$2 in
@@ -26,9 +27,12 @@ _cvr_audit() {
     warnings:-*) COMPREPLY=($(compgen -W '--manifest --files-from --null -h --help' -- "$2")) ;;
     totals:-*) COMPREPLY=($(compgen -W '--by --format --spreadsheet -o --files-from --null -h --help' -- "$2")) ;;
     lines:-*) COMPREPLY=($(compgen -W '--format -o --files-from --null -h --help' -- "$2")) ;;
+    strict:-*) COMPREPLY=($(compgen -W '--files-from --null -h --help' -- "$2")) ;;
+    why:-*) COMPREPLY=($(compgen -W '--format -o --files-from --null -h --help' -- "$2")) ;;
     writeins:-*) COMPREPLY=($(compgen -W '--files-from --null -h --help' -- "$2")) ;;
     definition:-*) COMPREPLY=($(compgen -W '-o --files-from --null -h --help' -- "$2")) ;;
     gather:-*) COMPREPLY=($(compgen -W '-o --as --files-from --null -h --help' -- "$2")) ;;
+    journal:-*) COMPREPLY=($(compgen -W '--verify -h --help' -- "$2")) ;;
     esac
 }
 complete -o default -F _cvr_audit cvr-audit

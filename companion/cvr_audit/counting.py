@@ -80,6 +80,14 @@ def add(rows, row, numbers):
     rows[row] = [a + b for a, b in zip(held, numbers)] if held else list(numbers)
 
 
+def added(rows, key_of):
+    """The sums of rows by a key of each row."""
+    held = {}
+    for row, numbers in rows.items():
+        add(held, key_of(row), numbers)
+    return held
+
+
 def nothing_first(name):
     """The key that sorts a name among names and None: None comes first."""
     return name is not None, name or ''

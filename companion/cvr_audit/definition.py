@@ -12,7 +12,7 @@ from .reading import spelled
 
 KINDS = 'GpUnit', 'Party', 'ReportingDevice'
 RECORD = 'CVR.CVR'
-NOTES = ('Made by cvr-audit %s of what reports of cast vote records say of their election. '
+NOTES = ('Made, as by cvr-audit %s, of what reports of cast vote records say of their election. '
          'It was not written before the first ballot.' % VERSION)
 
 

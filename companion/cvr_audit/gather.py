@@ -6,8 +6,9 @@ import sys
 
 from . import (gather_cdf, gather_clearballot, gather_dominion, gather_dominion_json, gather_ess,
                gather_hart, gather_vxsuite, page_faults, program)
+from . import gather_said as said
 from .gather_out import DEFINITION, writing
-from .gather_source import NO_TEXT, fault, sources_in
+from .gather_source import fault, sources_in
 from .progress import Progress
 from .reading import spelled
 
@@ -36,7 +37,7 @@ def recognised(sources, paths):
         if source.name.endswith('/xl/workbook.xml'):
             raise fault(paths[0], WORKBOOK)
         if source.head().startswith(UTF_16):
-            raise fault(source.name, NO_TEXT, 'line 1')
+            raise fault(source.name, said.NO_TEXT, 'line 1')
     if found:
         raise fault(paths[0], 'there is more than one kind here: %s; name one with --as'
                     % ', '.join(found))
@@ -107,9 +108,9 @@ def run(words):
             progress.show('read %d sources of the kind %s' % (len(sources), name))
             report = kind.read(sources, out, cvr)
             if not out.count:
-                raise fault(words.files[0], 'there is no record of the kind %s' % name)
+                raise fault(words.files[0], said.NO_RECORD % name)
             if not report['Election'][0]['Contest']:
-                raise fault(words.files[0], 'there is no contest, so no record has a vote')
+                raise fault(words.files[0], said.NO_CONTEST)
             out.finish(report, sources)
             progress.show('cvr check: %d records' % out.count)
             counts = see_counts(cvr, kind, sources, out)

@@ -1,13 +1,16 @@
 """The CSV of Clear Ballot: a line of heads, then a line for each record."""
 import re
+from collections import Counter
 
 from .gather_frame import Contest, Frame, snapshot
 from .gather_table import Table, begins, marks, rows_of
+from .reading import spelled
 
 NEEDED = ['BoxID', 'BoxPosition', 'BallotID', 'PrecinctID', 'BallotStyleID', 'ScanComputerName']
 OPTIONAL = ['RowNumber', 'PrecinctStyleName', 'Status', 'Remade']
 CHOICE = re.compile(r'Choice_\d+_1:(.+):Vote For ([1-9][0-9]{0,8}):(.+):([^:]*)', re.S)
 HEADS = 1
+SHOWN = 5           # texts of Status in a note
 
 
 def fits(source):
@@ -54,7 +57,8 @@ class Reader:
     """The rows of a source as records."""
 
     def __init__(self, source, out, ballots):
-        self.out, self.table, self.ballots, self.remade = out, Table(source), ballots, 0
+        self.out, self.table, self.ballots = out, Table(source), ballots
+        self.remade, self.statuses = 0, Counter()
         self.rows, self.own = self.table.rows(), Frame('clearballot')
         self.heads = Heads(self.table, self.rows, self.own)
 
@@ -64,8 +68,20 @@ class Reader:
             self.table.see_row(cells, self.heads.cells)
             self.out.add(self.record(frame, cells))
         if self.remade:
-            self.out.note('%s: %d records have a Remade that is not 0; each is a record as the '
-                          'others' % (self.table.source.name, self.remade))
+            self.note(self.remade, 'Remade that is not 0')
+        if self.statuses:
+            self.note(sum(self.statuses.values()), 'Status (%s)' % self.told_statuses())
+
+    def note(self, number, what):
+        """Says what is left out of so many records."""
+        self.out.note('%s: %d records have a %s; each is a record as the others'
+                      % (self.table.source.name, number, what))
+
+    def told_statuses(self):
+        """The texts of Status, the most frequent first, each with its number of records."""
+        told = ['%s %d' % (spelled(text), number) for text, number in self.statuses.most_common(SHOWN)]
+        more = len(self.statuses) - len(told)
+        return ', '.join(told + ['%d more texts' % more] * bool(more))
 
     def see_ballot(self, ballot):
         """Stops where an id of a ballot stands twice."""
@@ -83,6 +99,7 @@ class Reader:
             raise self.table.fault('ScanComputerName, BoxID or BoxPosition is empty')
         self.see_ballot(held['BallotID'])
         self.remade += held.get('Remade', '') not in ('', '0')
+        self.statuses.update(filter(None, [held.get('Status')]))
         found = [(name, marks(self.table, columns, cells))
                  for name, columns in self.heads.columns.items()]
         texts = [frame.contests[name].marked(chosen) for name, chosen in found

@@ -141,9 +141,12 @@ class Frame:
 
     def report(self):
         """The definition. All is in the order of ids, but contests and selections are as added."""
+        scope = SCOPE
+        while scope in self.units:
+            scope = 'really ' + scope
         units = [{'@id': key, '@type': 'CVR.GpUnit', 'Name': self.units[key], 'Type': 'precinct'}
                  for key in sorted(self.units)]
-        election = {'@id': ELECTION, '@type': 'CVR.Election', 'ElectionScopeId': SCOPE,
+        election = {'@id': ELECTION, '@type': 'CVR.Election', 'ElectionScopeId': scope,
                     'Candidate': [one for it in self.contests.values() for one in it.candidates()],
                     'Contest': [it.report() for it in self.contests.values()]}
         election.update({'Name': self.name} if self.name else {})
@@ -151,5 +154,5 @@ class Frame:
         return {'@type': 'CVR.CastVoteRecordReport', 'Version': '1.0.0', 'GeneratedDate': NO_DATE,
                 'Notes': NOTES % (VERSION, self.kind), 'ReportingDevice': devices,
                 'ReportGeneratingDeviceIds': sorted(self.devices)[:1], 'Election': [election],
-                'GpUnit': [{'@id': SCOPE, '@type': 'CVR.GpUnit', 'Type': 'other'}] + units,
+                'GpUnit': [{'@id': scope, '@type': 'CVR.GpUnit', 'Type': 'other'}] + units,
                 'CVR': []}

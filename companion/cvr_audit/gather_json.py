@@ -4,18 +4,13 @@ import re
 from json.decoder import scanstring
 
 from . import definition, program
+from . import gather_said as said
 from .gather_out import Record
 from .gather_source import fault
 from .reading import pointer, spelled
 
 WHITE = re.compile(r'[ \t\n\r]*')
-# an escaped backslash, a whole pair of surrogates, or half of one
-ESCAPED = re.compile(r'\\\\|\\u[dD][89abAB]..\\u[dD][c-fC-F]..|(\\u[dD][89a-fA-F]..)')
-UNNAMED = ('this record has no %s. The standard leaves it optional; here it is part of the name by '
-           'which records are told apart, and nothing can stand in for it. Ask the maker of the '
-           'system to export each record with a CreatingDeviceId and a UniqueId')
-
-HALF = '%s is half of a sign, so a text here is cut off; have it exported anew'
+ESCAPED = re.compile(said.ESCAPED)
 
 
 def no_number(text):
@@ -40,7 +35,7 @@ STRICT = json.JSONDecoder(parse_constant=no_number, object_pairs_hook=once)
 
 
 def twice(source, wrong):
-    return fault(source.name, 'the member %s stands twice in an object' % spelled(wrong.args[0]))
+    return fault(source.name, said.TWICE % spelled(wrong.args[0]))
 
 
 def text_of(source):
@@ -49,7 +44,7 @@ def text_of(source):
     for found in ESCAPED.finditer(text):
         if found.group(1):
             line = text.count('\n', 0, found.start()) + 1
-            raise fault(source.name, HALF % found.group(), 'line %d' % line)
+            raise fault(source.name, said.HALF % found.group(), 'line %d' % line)
     return text
 
 
@@ -88,7 +83,7 @@ class Document:
             raise self.no_json(str(wrong)) from None
 
     def no_json(self, text, place=None):
-        return fault(self.source.name, 'it is no JSON, or cut off: ' + text, place)
+        return fault(self.source.name, said.NO_JSON % text, place)
 
     def members(self, text):
         sign, place, seen = *sign_at(text, 0, '{'), set()
@@ -130,8 +125,7 @@ def value_in(source):
     except Repeated as wrong:
         raise twice(source, wrong) from None
     except json.JSONDecodeError as wrong:
-        raise fault(source.name, 'it is no JSON, or cut off: ' + wrong.msg,
-                    'line %d' % wrong.lineno) from None
+        raise fault(source.name, said.NO_JSON % wrong.msg, 'line %d' % wrong.lineno) from None
     except (ValueError, RecursionError) as wrong:
         raise fault(source.name, 'it is no JSON: %s' % wrong) from None
 
@@ -143,9 +137,9 @@ def record_of(source, number, value, text):
     place = pointer('CVR', number)
     for name in ('CreatingDeviceId', 'UniqueId'):
         if not isinstance(value, dict) or name not in value:
-            raise fault(source.name, UNNAMED % name, place)
+            raise fault(source.name, said.UNNAMED % name, place)
         if not isinstance(value[name], str):
-            raise fault(source.name, 'the %s of this record is no text' % name, place)
+            raise fault(source.name, said.NO_NAME % name, place)
     return Record(source, place, value['CreatingDeviceId'], value['UniqueId'],
                   text.encode('utf-8'))
 
@@ -156,7 +150,7 @@ def see_frame(cvr, source, frame, above=''):
         done = program.started([cvr, 'check', '--', path])
     if done.returncode == 1:
         found = done.stderr.decode('utf-8', 'replace').strip().rpartition(': ')[2]
-        raise fault(source.name, 'cvr refuses it: %s' % found.replace(' /', ' %s/' % above, 1))
+        raise fault(source.name, said.REFUSED % found.replace(' /', ' %s/' % above, 1))
     if done.returncode:
         raise program.Ended(done.returncode, done.stderr)
 

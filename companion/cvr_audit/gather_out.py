@@ -9,13 +9,12 @@ from collections import namedtuple
 from contextlib import contextmanager
 
 from . import definition
+from . import gather_said as said
 from .gather_source import fault, in_a_line
 from .program import FAILED, ended
 from .reading import spelled
 
-MOST = 60000000         # bytes of a report; `cvr` reads up to 67,108,864
-ROOM = 10000000         # of these for what is not a record
-HEAD = b'{"@type":"CVR.CastVoteRecordReport","CVR":[\n'
+HEAD = said.BEGINNING.encode('utf-8')
 DEFINITION, SOURCES = 'definition.json', 'sources.csv'
 # Names of records are spelled as `cvr` prints them, so that no spreadsheet takes one for a formula or
 # a date.
@@ -73,9 +72,9 @@ class Out:
                              self.files[-1]])
 
     def next_file(self, record):
-        self.room = MOST - ROOM - len(HEAD)
+        self.room = said.MOST - said.ROOM - len(HEAD)
         if len(record.text) + 2 > self.room:
-            raise fault(record.source.name, 'this record is too long', record.place)
+            raise fault(record.source.name, said.LONG_RECORD, record.place)
         if self.file:
             self.file.close()
         self.files.append('records-%d.json' % (len(self.files) + 1))
@@ -86,7 +85,7 @@ class Out:
         """The end where a name stands twice; what tells ballots apart is in the name."""
         names = [spelled(record.device), spelled(record.unique)]
         first = next(line for line in self.held() if line[4:6] == names)
-        text = 'the record %s stands here and in %s: %s' % (' '.join(names), *first[:2])
+        text = said.ELSEWHERE % (' '.join(names), *first[:2])
         return fault(record.source.name, text, record.place)
 
     def held(self):
@@ -107,8 +106,8 @@ class Out:
         """Writes the definition, the end of each report, and the lines of the sources."""
         tail = {name: part for name, part in report.items() if name not in ('@type', 'CVR')}
         tail = ('\n],' + spelled(tail)[1:]).encode('utf-8')
-        if len(tail) > ROOM:
-            raise fault(self.path, 'the election has more than %d bytes' % ROOM)
+        if len(tail) > said.ROOM:
+            raise fault(self.path, said.LONG_ELECTION % said.ROOM)
         self.file.close()
         for name in self.files:
             with open(self.at(name), 'ab') as file:

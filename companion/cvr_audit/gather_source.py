@@ -7,21 +7,14 @@ import stat
 import zipfile
 import zlib
 
+from . import gather_said as said
 from .program import ended
 
 REFUSED = 1                 # the status where a source is refused
-LONGEST = 1 << 30           # bytes of a file in a ZIP
-WHOLE = 1 << 33             # bytes of all files in a ZIP
-DENSEST = 500               # bytes of a file in a ZIP for one packed byte
-FREE = 1 << 20              # bytes of a file in a ZIP that may be packed more densely
-HEAD = 1 << 20              # bytes by which a kind is recognised, as heads may be long
 PIECE = 1 << 20             # bytes that are read at once
 FORMULA = '=', '+', '-', '@'
 PACKED = b'PK\x03\x04'
-OF_A_MAC = re.compile(r'__MACOSX/(.*/)?\._[^/]*', re.S)    # what a Mac keeps on each file of a ZIP
-NO_TEXT = 'this is not text in UTF-8; export it in that encoding'
-WITHIN = ('it is a ZIP in a folder or in another ZIP, and may have records; unpack it, or name it '
-          'by itself')
+OF_A_MAC = re.compile(said.OF_A_MAC, re.S)
 DAMAGE = zipfile.BadZipFile, zlib.error, EOFError, NotImplementedError, RuntimeError
 
 
@@ -52,7 +45,7 @@ class Source:
             raise self.damaged() from None
 
     def damaged(self):
-        return fault(self.name, 'the ZIP is damaged here, or packed in a way that is not known')
+        return fault(self.name, said.DAMAGED)
 
     def head(self):
         """The first bytes; they aren't noted as read."""
@@ -60,7 +53,7 @@ class Source:
             return b''
         try:
             with self.file() as file:
-                return file.read(HEAD)
+                return file.read(said.HEAD)
         except DAMAGE:
             raise self.damaged() from None
 
@@ -93,7 +86,7 @@ class Source:
             return data.decode('utf-8-sig')
         except UnicodeDecodeError as wrong:
             line = data.count(b'\n', 0, wrong.start) + 1
-            raise fault(self.name, NO_TEXT, 'line %d' % line) from None
+            raise fault(self.name, said.NO_TEXT, 'line %d' % line) from None
 
 
 def opener(path):
@@ -136,18 +129,18 @@ def see_entry(path, entry):
     """Stops at a file of a ZIP that isn't plain, or may be a bomb."""
     name = '%s/%s' % (path, entry.filename)
     if '\\' in entry.filename:
-        raise fault(name, 'its path has a backslash; pack the ZIP with another tool')
+        raise fault(name, said.BACKSLASH)
     if not is_inside(entry.filename):
-        raise fault(name, 'its path leads out of the ZIP')
+        raise fault(name, said.OUTSIDE)
     if stat.S_ISLNK(entry.external_attr >> 16):
-        raise fault(name, 'it is a link, which may lead out of the ZIP')
+        raise fault(name, said.LINK)
     if entry.flag_bits & 1:
-        raise fault(name, 'it is encrypted')
+        raise fault(name, said.ENCRYPTED)
     if entry.compress_type not in (zipfile.ZIP_STORED, zipfile.ZIP_DEFLATED):
-        raise fault(name, 'it is packed in a way that is not known')
-    is_dense = entry.file_size > FREE and entry.file_size > DENSEST * entry.compress_size
-    if entry.file_size > LONGEST or is_dense:
-        raise fault(name, 'it unpacks to %d bytes, which is too many' % entry.file_size)
+        raise fault(name, said.PACKED)
+    size, packed = entry.file_size, entry.compress_size
+    if size > said.LONGEST or size > said.FREE and size > said.DENSEST * packed:
+        raise fault(name, said.TOO_LONG % size)
 
 
 def in_zip(path):
@@ -155,15 +148,15 @@ def in_zip(path):
     try:
         archive = zipfile.ZipFile(path)
     except DAMAGE:
-        raise fault(path, 'the ZIP is damaged or cut off') from None
+        raise fault(path, said.CUT_OFF) from None
     entries, names = archive.infolist(), set()
     for entry in entries:
         see_entry(path, entry)
         if entry.filename in names:
-            raise fault('%s/%s' % (path, entry.filename), 'it stands twice in the ZIP')
+            raise fault('%s/%s' % (path, entry.filename), said.AGAIN)
         names.add(entry.filename)
-    if sum(it.file_size for it in entries) > WHOLE:
-        raise fault(path, 'it unpacks to more than %d bytes' % WHOLE)
+    if sum(it.file_size for it in entries) > said.WHOLE:
+        raise fault(path, said.TOO_MUCH % said.WHOLE)
     filled = {it[:place + 1] for it in names for place, sign in enumerate(it[:-1]) if sign == '/'}
     for entry in entries:
         name = '%s/%s' % (path, entry.filename)
@@ -194,7 +187,7 @@ def sources_in(paths):
             found = in_zip(path) if is_zip(path) else found
         for source in found:
             if source.name != path and source.base.lower().endswith('.zip'):
-                raise fault(source.name, WITHIN)
+                raise fault(source.name, said.WITHIN)
             if source.name in held:
                 raise fault(source.name, 'it was given twice')
             held[source.name] = source

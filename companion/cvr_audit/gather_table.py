@@ -2,7 +2,8 @@
 import csv
 import re
 
-from .gather_source import NO_TEXT, fault
+from .gather_said import NO_TEXT
+from .gather_source import fault
 
 QUOTED = re.compile(r'="(.*)"')     # as a spreadsheet keeps a text from being a number
 OTHERS = {';': 'semicolons', '\t': 'tabs'}

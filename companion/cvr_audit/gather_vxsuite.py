@@ -2,15 +2,11 @@
 import os
 
 from . import definition
+from . import gather_said as said
 from .gather_json import Document, record_of, see_frame, value_in
+from .gather_said import FRAME, METADATA, REJECTED, REPORT
 from .gather_source import fault
 from .reading import spelled
-
-METADATA, REPORT = 'metadata.json', 'cast-vote-record-report.json'
-FRAME = 'castVoteRecordReportMetadata'
-LEFT = {'arePollsClosed', 'castVoteRecordRootHash', 'batchManifest'}
-REJECTED = 'rejected-'
-IMAGES = '.jpg', '.jpeg', '.png', '.layout.json'
 
 
 def fits(source):
@@ -25,7 +21,7 @@ def stays(source):
     """Whether a source is one that records name, and that stays where it is: an image, or its
     layout, beside a record."""
     is_rejected = os.path.basename(source.folder).startswith(REJECTED)
-    return source.base.endswith(IMAGES) and not is_rejected
+    return source.base.endswith(said.IMAGES) and not is_rejected
 
 
 def frame_in(source, out, cvr):
@@ -33,11 +29,11 @@ def frame_in(source, out, cvr):
     held = value_in(source)
     frame = held.get(FRAME) if isinstance(held, dict) else None
     if not isinstance(frame, dict):
-        raise fault(source.name, 'it has no %s' % FRAME)
+        raise fault(source.name, said.NO_FRAME)
     if frame.get('CVR'):
-        raise fault(source.name, 'it has records itself, beside those in the folders of ballots')
-    for name in sorted({*held} - {FRAME} - LEFT):
-        out.note('%s: its member %s is left out' % (source.name, spelled(name)))
+        raise fault(source.name, said.OWN_RECORDS)
+    for name in sorted({*held} - {FRAME, *said.LEFT}):
+        out.note(said.LEFT_OUT % (source.name, spelled(name)))
     frame = dict(frame, CVR=[])
     see_frame(cvr, source, frame, '/' + FRAME)
     return frame
@@ -49,7 +45,7 @@ def see_ballots(folder, sources):
     for source in sources:
         is_rejected = os.path.basename(source.folder).startswith(REJECTED)
         if is_below(source.folder, folder) and source.folder not in held and not is_rejected:
-            raise fault(source.folder, 'there is no %s in this folder of a ballot' % REPORT)
+            raise fault(source.folder, said.NO_REPORT)
 
 
 def read(sources, out, cvr):
@@ -61,7 +57,7 @@ def read(sources, out, cvr):
         see_ballots(source.folder, sources)
     for source in reports:
         if os.path.dirname(source.folder) not in folders:
-            raise fault(source.name, 'there is no %s beside its folder' % METADATA)
+            raise fault(source.name, said.NO_METADATA)
         read_report(source, out)
     return union.report()
 
@@ -71,7 +67,7 @@ def read_report(source, out):
     document = Document(source, 'CVR')
     records = [record_of(source, *it) for it in document.items()]
     if len(records) != 1 or document.rest:
-        raise fault(source.name, 'it is no object with a CVR of one record, and nothing else')
+        raise fault(source.name, said.NO_ONE_RECORD)
     out.add(records[0])
 
 

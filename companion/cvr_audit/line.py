@@ -2,20 +2,22 @@
 import argparse
 import sys
 
-from . import (VERSION, compare, definition, gather, lines, output, page, paths, program, records, totals,
-               trace, warnings, without, writeins)
+from . import (VERSION, compare, definition, gather, journal, lines, output, page, paths, program, records,
+               strict, totals, trace, warnings, why, without, writeins)
 
 ABOUT = ('Print cast vote records one by one, compare two sets of files, trace a number of the '
-         'tally, warn of what needs a person, and make what a voting system exports into files '
-         'that cvr accepts.')
+         'tally, warn of what needs a person, make what a voting system exports into files that cvr '
+         'accepts, and keep a journal of runs.')
 STATUSES = [
     ('0', 'all was done; `compare` found no difference, and `warnings` nothing to warn of'),
-    ('1', 'a file or export was refused, two sides or reports differ, or there is a warning'),
+    ('1', 'a file or export was refused, `strict` printed nothing, two sides or reports differ, there '
+          'is a warning, or a journal was changed'),
     ('2', 'the words fit no command, the definition lacks a contest or selection that they name, '
           'or the manifest has another form; nothing is printed'),
     ('3', 'a file could not be read or written'),
     ('4', 'out of memory; nothing is printed'),
-    ('69', 'there is no `cvr` of version 1, or something killed it; nothing is printed'),
+    ('69', 'there is no `cvr` of version 1, or something killed it; nothing is printed. `journal` ends '
+           'with 128 and the number of the signal'),
     ('70', 'the numbers don\'t come to those of `cvr`, a file was changed during the run, or '
            '`cvr-audit` has a fault; nothing is printed'),
 ]
@@ -36,22 +38,33 @@ COMMANDS = {
     'totals': (totals.run, 'Print the sums of each contest and selection, by name and id.'),
     'lines': (lines.run, 'Print the lines of a command of cvr (tally, currents, conflicts or check) '
                          'as JSON, with names.'),
+    'strict': (strict.run, 'Print what a command of cvr prints; nothing where DEF has records of its '
+                           'own, no FILE is given, or a FILE brings nothing new.'),
+    'why': (why.run, 'Print of each refused file what its fault means, what stands there, and what to '
+                     'do.'),
     'writeins': (writeins.run, 'Print the texts that were written in, with their votes and '
                                'records.'),
     'definition': (definition.run, 'Print a definition made of reports: their election, and all '
                                    'their units, parties and devices.'),
     'gather': (gather.run, 'Write a folder with a definition and reports, made of what a voting '
                            'system exports.'),
+    'journal': (journal.run, 'Run `cvr` with the words after `--`, and note in a file what was run '
+                             'over what, and what came of it; or see whether the file was changed.'),
 }
-# what a command takes beside its options: a definition, and what stands for its files
-TAKEN = {'compare': ('DEF', None), 'definition': (None, 'FILE'), 'gather': (None, 'FROM')}
+# what a command takes beside its options: a definition or journal, and what stands for the rest
+TAKEN = {'compare': ('DEF', None), 'definition': (None, 'FILE'), 'gather': (None, 'FROM'),
+         'journal': ('JOURNAL', '-- WORD')}
 MEANT = {'DEF': 'a report of the election; its own records are not counted',
+         'JOURNAL': 'the file with the lines of all runs, which is made where there is none',
+         '-- WORD': 'the words of a run of `cvr`, such as `tally DEF FILE`',
          'FILE': 'reports of cast vote records, or folders with them below, named .json',
          'FROM': 'the folders, ZIPs or files of an export'}
 MANIFEST = 'a file of lines `batch,ballots` or `device,batch,ballots`'
 # the options that take the paths of files from a list
 LISTS = {'files_from': 'files', 'one_from': 'one', 'other_from': 'other'}
-TASK = 'TASK'       # the first word of `lines`: a command of cvr
+TASK = 'TASK'       # the first word of these: a command of cvr
+TASKS = {'lines': lines.TASKS, 'strict': strict.TASKS}
+LAST = 'journal'    # whose words stand after `--`, behind its options
 FROM = (('--files-from',), 'LIST', {'help': 'a list of the paths of files, one a line, in place of '
                                             'the files; - is standard input'})
 NULL = (('--null',), None, {'action': 'store_true', 'help': 'paths in lists end with a NUL byte'})
@@ -81,6 +94,13 @@ OPTIONS = {
                                  'help': '`json`'}),
         (('-o',), 'JSON', {'dest': 'output',
                            'help': 'the file to write to, in place of standard output'}),
+    ],
+    'strict': [],
+    'why': [
+        (('--format',), 'FORM', {'choices': list(why.FORMS), 'default': 'text', 'dest': 'form',
+                                 'help': '`text` or `json`'}),
+        (('-o',), 'OUT', {'dest': 'output',
+                          'help': 'the file to write to, in place of standard output'}),
     ],
     'writeins': [],
     'without': [],
@@ -119,10 +139,14 @@ OPTIONS = {
         (('--as',), 'KIND', {'dest': 'kind', 'choices': list(gather.KINDS),
                              'help': 'the kind of the export, in place of recognising it'}),
     ],
+    'journal': [
+        (('--verify',), None, {'action': 'store_true', 'help': 'in place of a run: print what was '
+                               'changed, taken out or moved, and the hash of the last line'}),
+    ],
 }
 
 
-for name in COMMANDS.keys() - {'compare'}:
+for name in COMMANDS.keys() - {'compare', 'journal'}:
     OPTIONS[name] += [FROM, NULL]
 
 
@@ -134,13 +158,14 @@ def usage_of(name):
     """The words of a command, as help shows them."""
     definition, files = taken_of(name)
     many = '[%s ...]' if definition else '%s ...'
-    parts = ['cvr-audit', name] + [TASK] * (name == 'lines') + [definition] * bool(definition)
-    parts += [many % files] * bool(files)
+    many, is_last = [many % files] * bool(files), name == LAST
+    parts = ['cvr-audit', name] + [TASK] * (name in TASKS) + [definition] * bool(definition)
+    parts += many * (not is_last)
     for words, value, more in OPTIONS[name]:
         value = '[%s ...]' % value if 'nargs' in more else value
         option = ' '.join(filter(None, [words[0], value]))
         parts.append(option if more.get('required') else '[%s]' % option)
-    return ' '.join(parts)
+    return ' '.join(parts + many * is_last)
 
 
 class Command:
@@ -155,12 +180,13 @@ class Command:
         self.parser = commands.add_parser(name, parents=[self.options], help=about, epilog=EPILOG,
                                           description=about, usage=usage_of(name))
         self.definition, self.files = taken_of(name)
-        self.has_task = name == 'lines'
-        if self.has_task:
-            self.parser.add_argument('task', metavar=TASK, choices=list(lines.TASKS),
+        self.tasks, self.is_last = list(TASKS.get(name, ())), name == LAST
+        if self.tasks:
+            self.parser.add_argument('task', metavar=TASK, choices=self.tasks,
                                      help='`tally`, `currents`, `conflicts` or `check`')
         if self.definition:
-            self.parser.add_argument('definition', metavar='DEF', help=MEANT['DEF'])
+            self.parser.add_argument('definition', metavar=self.definition,
+                                     help=MEANT[self.definition])
         if self.files:
             self.parser.add_argument('files', metavar=self.files, help=MEANT[self.files],
                                      nargs='*' if self.definition else '+')
@@ -173,14 +199,15 @@ class Command:
             self.parser.parse_args(['--help'])
         values, left = self.options.parse_known_args(words[:place])
         paths = left + words[place + 1:]
+        paths = [] if self.is_last and len(left) != 1 else paths     # the others stand after `--`
         unknown = [it for it in left if it.startswith('-') and it != '-']
         unknown = unknown or ([] if self.files else paths[1:])
         if unknown:
             self.parser.error('unrecognized arguments: ' + ' '.join(unknown))
-        if self.has_task:
+        if self.tasks:
             values.task = paths.pop(0) if paths else None
-            if values.task not in lines.TASKS:
-                self.parser.error('%s has to be one of %s' % (TASK, ', '.join(lines.TASKS)))
+            if values.task not in self.tasks:
+                self.parser.error('%s has to be one of %s' % (TASK, ', '.join(self.tasks)))
         is_listed = not self.definition and values.files_from is not None
         if not paths and not is_listed:
             needed = self.definition or self.files
@@ -260,12 +287,15 @@ def find_files(words):
 
 
 def made(words):
-    """The text that the words ask for, and the status of a run that prints it."""
+    """The text that the words ask for, if there is one, and the status of a run that prints it."""
     try:
+        if words.run is journal.run:
+            return journal.run(words)
         find_files(words)
         if words.output:
             output.see_apart(words.output, inputs_of(words))
-        files = sides(words) if words.definition is not None else []
+        is_alone = words.definition is None or words.run is why.run
+        files = [] if is_alone else sides(words)
         text, is_found = words.run(*files, words)
         for side in files:
             if side.recount:
@@ -297,7 +327,8 @@ def main(words):
     try:
         words = read(words)
         text, status = made(words)
-        output.write(text, words.output, is_secret(words))
+        if text is not None:
+            output.write(text, words.output, is_secret(words))
         return status
     except program.Ended as end:
         log(end.log)

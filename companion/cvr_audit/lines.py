@@ -1,7 +1,7 @@
 """cvr-audit lines: what `cvr tally`, `currents`, `conflicts` or `check` prints, as JSON with names."""
 import json
 
-from . import counting, notes, page_names, reading, warnings, written
+from . import counting, notes, page_names, reading, written
 
 CURRENTS = 'CreatingDeviceId', 'UniqueId', 'CurrentSnapshotId', 'Type'
 
@@ -37,9 +37,9 @@ def conflicts(files):
 def check(files):
     """The files, each with the number of its records, or its fault."""
     records = iter(files.accepted)
-    faults = dict(parts for _, parts in warnings.refused_lines(files))
+    faults = dict(files.refused())
     for path in files.files:
-        fault = faults.get(reading.spelled(path))
+        fault = faults.get(path)
         yield {'path': path, 'records': None if fault else next(records)[1], 'fault': fault}
 
 

@@ -1,12 +1,8 @@
 """cvr-audit page: the tally as a page for a browser, with all else that a canvass looks at."""
-import copy
-import hashlib
-
-from . import page_contests, page_inputs, page_records, page_summary, page_warnings
+from . import digests, page_contests, page_counts, page_inputs, page_records, page_summary, page_warnings
 from .page_facts import Facts
 from .page_style import style_of
 from .page_tree import code, cut, element, section, shown, text_of
-from .program import mismatch
 
 # no scripts, and nothing is fetched
 POLICY = 'default-src \'none\'; style-src \'unsafe-inline\''
@@ -15,27 +11,13 @@ WITHHELD = ('The SHA-256 of the text that cvr tally prints is on the whole page:
             'tries all small numbers finds those that are withheld here.')
 
 
-SECOND = 'The same text is printed by a second program, {}, SHA-256 '
-
-
-def second(files, path):
-    """What is said of a second program, whose tally has to be the same text."""
-    other = copy.copy(files)
-    other.program = path
-    status, text, _ = other.run('tally', [files.definition], files.files)
-    if status > 1 or text.decode('utf-8', 'replace') != files.tally():
-        raise mismatch('%s: its tally is another one' % path)
-    version, digest, _ = page_summary.version_of(path)
-    return element('p', SECOND.format(version), code(digest))
-
-
 def signature(facts):
     """Lines to sign, and what is signed."""
-    digest = hashlib.sha256(facts.tally.encode('utf-8')).hexdigest()
+    digest = digests.of(facts.tally.encode('utf-8'))
     said = ['SHA-256 of the text that cvr tally prints: ', code(digest)]
     return section('signature', 'Signature',
                    element('p', *([WITHHELD] if facts.is_public else said)),
-                   second(facts.files, facts.second) if facts.second else None,
+                   None if facts.is_public else page_counts.counts(facts),
                    element('div', *(element('p', it) for it in SIGNED), class_='sign'))
 
 

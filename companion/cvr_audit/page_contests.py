@@ -40,6 +40,7 @@ class Contest:
         self.ballots = held['ballots']
         self.allowed, self.is_whole = facts.allowed.get(key), not facts.is_public
         self.plain, self.is_ranked = facts.names.plain_contest(key), facts.is_ranked(key)
+        self.is_single = self.allowed == 1 and not self.is_ranked       # a ballot has one vote at most
         self.stated = [it not in counting.WANTED or (key, counting.STATED[it]) in facts.seen.stated
                        for it in counting.COLUMNS]
         self.mask = page_masking.NOTHING
@@ -58,7 +59,7 @@ def contests_of(facts):
         rows[row[0]][row] = numbers
     contests = [Contest(facts, key, held) for key, held in rows.items()]
     if facts.is_public:
-        masks = page_masking.masks([it.units() for it in contests])
+        masks = page_masking.masks([it.units() for it in contests], [it.is_single for it in contests])
         for contest, mask in zip(contests, masks):
             contest.mask = mask
     return contests

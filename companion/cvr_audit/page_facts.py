@@ -1,5 +1,5 @@
 """What a page is made from: the texts of `cvr`, and what was seen in records and files."""
-from . import counting, manifest, page_names, warnings
+from . import counting, manifest, page_counts, page_names, warnings
 from .page_records import adjudicated_in
 
 
@@ -20,26 +20,22 @@ class Facts:
     """What a page is made from."""
 
     def __init__(self, files, words):
-        self.files, self.is_public, self.second = files, words.public, words.second
+        self.files, self.is_public = files, words.public
         self.names = page_names.Names(files.report)
         self.selections = counting.selections_of(files.report)
         self.allowed = warnings.allowed_of(files.report)
         self.manifest = manifest.manifest_in(words.manifest) if words.manifest else None
         self.seen = Seen(self)
         self.warnings = list(warnings.found_in(files, words.manifest, self.seen))
-        self.refused = faults_in(files)
+        self.refused = dict(files.refused())
         self.devices = devices_in(files)
         self.tally = files.tally()
         self.rows = counting.rows_in(self.tally)
+        self.counters = list(page_counts.counters_of(files, words.second))
         self.currents = '\n' + files.text('currents') if self.seen.texts else ''
 
     def is_ranked(self, contest):
         return self.seen.notes.ranks.is_ranked(contest)
-
-
-def faults_in(files):
-    """The fault of each refused file, by its path as a JSON string."""
-    return dict(parts for _, parts in warnings.refused_lines(files))
 
 
 def devices_in(files):

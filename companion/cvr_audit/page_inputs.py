@@ -1,21 +1,7 @@
 """The definition and the files of the page."""
-import hashlib
-
 from . import page_faults
+from .digests import of_file
 from .page_tree import code, codes, element, folded, listed, section, table
-from .reading import spelled
-
-SIZE = 1 << 20
-
-
-def digest_of(path):
-    """The SHA-256 of a file, and its length."""
-    held, length = hashlib.sha256(), 0
-    with open(path, 'rb') as file:
-        for part in iter(lambda: file.read(SIZE), b''):
-            held.update(part)
-            length += len(part)
-    return held.hexdigest(), length
 
 
 def state_of(fault):
@@ -31,21 +17,21 @@ def input_rows(facts):
     """DEF and the files, each with what it is and how it was judged."""
     files, records = facts.files, (count for _, count in facts.files.accepted)
     for number, path in enumerate([files.definition] + files.files):
-        fault = facts.refused.get(spelled(path)) if number else None
+        fault = facts.refused.get(path) if number else None
         count = '' if fault else next(records) if number else files.own_records
         yield [code(path), *file_cells(path), count, codes(facts.devices.get(path, [])),
                state_of(fault) if number else 'definition']
 
 
 def file_cells(path):
-    digest, length = digest_of(path)
+    digest, length = of_file(path)
     return code(digest), length
 
 
 def public_inputs(facts):
     """The definition alone. Nothing is said of a single file: a reader could make
     each file that it may be, and see which one fits. Nor of DEF, where it has records."""
-    said = ['SHA-256 ', code(digest_of(facts.files.definition)[0])]
+    said = ['SHA-256 ', code(of_file(facts.files.definition)[0])]
     if facts.files.own_records:
         said = ['SHA-256 withheld, since DEF has records']
     return listed([('DEF', *said)])

@@ -1,7 +1,9 @@
 """What a page for the public withholds, so that no number below ten follows from what it shows. All
 contests and units are looked at together. docs/PAGE.md has the rule and its reason.
 
-A contest is its numbers by unit: the ballots, then the votes of each selection."""
+A contest is its numbers by unit: the ballots, then the votes of each selection. Where a ballot may have
+several votes, the ballots without a vote for a selection count as its votes do: a reader knows that no
+selection has more votes than there are ballots, so that few without one lead to its votes."""
 from collections import namedtuple
 
 LEAST = 10          # the least number that may be shown, or follow
@@ -73,54 +75,65 @@ def joined(contests, styles):
             yield [units[place] for place in sorted(hidden)]
 
 
-def selections_withheld(votes, is_loose):
+def sides_of(numbers, is_single):
+    """Of each selection its votes and, where a ballot may have several, the ballots without one."""
+    ballots, *votes = numbers
+    return [(it,) if is_single else (it, ballots - it) for it in votes]
+
+
+def added(rows):
+    """The sums of rows of sides, by selection."""
+    return [tuple(map(sum, zip(*column))) for column in zip(*rows)]
+
+
+def selections_withheld(sums, is_loose):
     """The places of a contest's selections whose votes are withheld; None where that is not enough."""
-    small = [place for place, number in enumerate(votes) if number < LEAST]
-    hidden = covered([[it] for it in votes], small or [0] * is_loose)
-    return None if hidden and not is_enough([[votes[it]] for it in hidden]) else hidden
+    small = [place for place, sides in enumerate(sums) if min(sides) < LEAST]
+    hidden = covered(sums, small or [0] * is_loose)
+    return None if hidden and not is_enough([sums[it] for it in hidden]) else hidden
 
 
-def apart_of(votes, hidden, count):
+def apart_of(sums, hidden, count):
     """The places of the selections of which nothing is shown by unit: those that are withheld, and those
     whose votes, which are shown, are few for so many units; never one alone."""
     few = EACH * count if count > 1 else 0      # the votes of one unit are those of the contest
-    apart = {*hidden} | {place for place, it in enumerate(votes) if it < few}
-    others = [place for place in range(len(votes)) if place not in apart]
+    apart = {*hidden} | {place for place, sides in enumerate(sums) if min(sides) < few}
+    others = [place for place in range(len(sums)) if place not in apart]
     return apart | {*others[:1]} if len(apart) == 1 else apart
 
 
 def units_withheld(held, apart, groups):
-    """The units of a contest that are withheld: those of the groups, and those with a small number."""
+    """The units of a contest, with their sides, that are withheld: those of the groups, and those with a
+    small number."""
     inside = [group for group in groups if group[0] in held]
     names = {unit for group in inside for unit in group}
     parts = inside + [[unit] for unit in held if unit not in names]
-    rows = [columns_of([held[unit][1:] for unit in part], apart) for part in parts]
+    rows = [columns_of(added(held[unit] for unit in part), apart) for part in parts]
     small = [place for place, row in enumerate(rows) if place < len(inside) or min(row) < LEAST]
     return {unit for place in covered(rows, small) for unit in parts[place]}
 
 
-def columns_of(rows, apart):
-    """The sums of rows of votes: of each selection that is shown by unit, and of all others together."""
-    votes = list(map(sum, zip(*rows)))
-    shown = [it for place, it in enumerate(votes) if place not in apart]
-    return shown + [sum(votes[place] for place in apart)] * bool(apart)
+def columns_of(sums, apart):
+    """The sides of each selection that is shown by unit, and of all others together."""
+    shown = [it for place, sides in enumerate(sums) if place not in apart for it in sides]
+    return shown + list(map(sum, zip(*(sums[place] for place in apart))))
 
 
-def mask_of(place, held, styles, groups):
-    votes = list(map(sum, zip(*held.values())))[1:]
-    is_loose = not any(place in style for style in styles.values())
-    hidden = selections_withheld(votes, is_loose) if votes else None
+def mask_of(held, is_single, is_loose, groups):
+    sides = {unit: sides_of(numbers, is_single) for unit, numbers in held.items()}
+    sums = added(sides.values())
+    hidden, every = selections_withheld(sums, is_loose) if sums else None, {*range(len(sums))}
     if hidden is None or sum(numbers[0] for numbers in held.values()) < LEAST:
-        every = {*range(len(votes))}
         return Mask(True, True, every, every, {*held})
     if is_loose:
-        return Mask(False, True, hidden, {*range(len(votes))}, {*held})
-    apart = apart_of(votes, hidden, len(held))
-    return Mask(False, False, hidden, apart, units_withheld(held, apart, groups))
+        return Mask(False, True, hidden, every, {*held})
+    apart = apart_of(sums, hidden, len(held))
+    return Mask(False, False, hidden, apart, units_withheld(sides, apart, groups))
 
 
-def masks(contests):
-    """What is withheld of each contest."""
+def masks(contests, singles):
+    """What is withheld of each contest; `singles` says of each whether a ballot has one vote at most."""
     styles = styles_of(contests)
-    groups = list(joined(contests, styles))
-    return [mask_of(place, held, styles, groups) for place, held in enumerate(contests)]
+    groups, tight = list(joined(contests, styles)), {place for style in styles.values() for place in style}
+    return [mask_of(held, is_single, place not in tight, groups)
+            for place, (held, is_single) in enumerate(zip(contests, singles))]

@@ -53,12 +53,17 @@ def started(words, out=subprocess.PIPE):
     try:
         done = subprocess.run(words, stdin=subprocess.DEVNULL, stdout=out, stderr=subprocess.PIPE)
     except OSError as fault:
-        if fault.errno == errno.ENOMEM:
-            raise MemoryError from None
-        raise ended(UNFIT, '%s: %s' % (words[0], fault.strerror)) from None
+        raise unstarted(words[0], fault) from None
     if done.returncode < 0:
         raise ended(UNFIT, '%s: killed by signal %d' % (words[0], -done.returncode))
     return done
+
+
+def unstarted(path, fault):
+    """Why a program was not started."""
+    if fault.errno == errno.ENOMEM:
+        return MemoryError()
+    return ended(UNFIT, '%s: %s' % (path, fault.strerror))
 
 
 def mark_of(path):
@@ -113,7 +118,17 @@ class Files:
         """The text that a command prints of the accepted files."""
         status, out, log = self.run(task, [self.definition], self.files)
         self.see_same(status, log)
-        return out.decode('utf-8')
+        return out.decode('utf-8', 'surrogateescape')       # `check` prints paths as they are
+
+    def refused(self):
+        """Each refused file with its fault, from the log, whose lines are in the order of the files."""
+        accepted, place = {path for path, _ in self.accepted}, 0
+        for path in self.files:
+            if path not in accepted:
+                fault, place = line_of(path, b': ', self.log, place)
+                if not fault:
+                    raise mismatch('the log of `cvr check` is of other files than it was given')
+                yield path, fault.decode('utf-8')
 
     def see_same(self, status, log):
         """Stops where a command failed, or refused other files than `check`."""

@@ -1,6 +1,5 @@
 """cvr-audit records: a line of CSV for each record; together they add up to the tally."""
 from . import counting, forms, notes, page_names, ranks, reading, table
-from .program import mismatch
 from .warnings import allowed_of
 
 BETWEEN = '; '              # between several texts in one cell
@@ -76,8 +75,7 @@ def run(files, words):
     about = About(files, words.columns)
     lines = lines_of(files, about)
     files.notes = about.notes.text()
-    rows = table.added(lines, about.selections, table.unit_and_batch)
-    if counting.text_of(rows, about.selections) != files.tally():
-        raise mismatch('the records don\'t add up to what `cvr tally` prints')
+    # what is printed is what is held against the tally
+    files.recount.rows = table.added(lines, about.selections, table.unit_and_batch)
     form = FORMS.get(words.columns, table.whole)
     return table.text_of(form(lines, about), words.spreadsheet), False

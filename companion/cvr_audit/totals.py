@@ -1,6 +1,5 @@
 """cvr-audit totals: the sums of each contest and selection, by name and id."""
 from . import counting, notes, page_names, reading, table, written
-from .program import mismatch
 
 GROUPS = {'unit': 'BallotStyleUnitId', 'batch': 'BatchId', 'device': 'CreatingDeviceId',
           'style': 'BallotStyleId'}
@@ -8,27 +7,15 @@ PRINTED = {'unit': 1, 'batch': 2}       # the groups that a row of the tally has
 NUMBERS = counting.COLUMNS
 
 
-def added(rows, key_of):
-    """The sums of rows by contest and by the key of a row."""
-    held = {}
-    for row, numbers in rows.items():
-        counting.add(held, (row[0], key_of(row)), numbers)
-    return held
-
-
 def counted(files, said, selections, member):
-    """The sums of the records by contest and by a member of the header, once they are held against
-    the tally."""
-    sums, rows = {}, {}
+    """The sums of the records by contest and by a member of the header."""
+    sums = {}
     for record in files.volume(1):
         said.take(record)
         current = reading.current_of(record)
         for row, numbers in counting.rows_of(record, current, selections).items():
-            counting.add(rows, row, numbers)
             counting.add(sums, (row[0], record.get(member)), numbers)
     files.each_report(said.take_file)
-    if counting.text_of(rows, selections) != files.tally():
-        raise mismatch('the records don\'t add up to what `cvr tally` prints')
     return sums
 
 
@@ -40,7 +27,7 @@ def sums_of(files, selections, group):
     if group is None or group in PRINTED:
         place = PRINTED.get(group)
         rows = counting.rows_in(files.tally())
-        sums = added(rows, lambda row: None if place is None else row[place])
+        sums = counting.added(rows, lambda row: (row[0], None if place is None else row[place]))
     order = list(selections)
     return sorted(sums.items(), key=lambda it: (order.index(it[0][0]),
                                                 counting.nothing_first(it[0][1])))

@@ -2,9 +2,8 @@
 from . import bodies, counting, notes, reading
 from .advice import line_of
 from .manifest import Sizes, has_devices, manifest_in
-from .program import line_of as log_line_of
-from .program import mismatch
 from .reading import spelled
+
 
 class Seen:
     """What was seen in the records: the sizes of batches, the names with each BallotAuditId, the
@@ -51,17 +50,6 @@ def see(files, seen):
     for name in sorted(texts, key=lambda it: (bodies.KINDS.index(it[0]), it)):
         paths = conflicts.paths[name]
         seen.texts[name] = [(value, [*paths[text]]) for text, value in texts[name].items()]
-
-
-def refused_lines(files):
-    """A line for each refused file, from the log, whose lines are in the order of the files."""
-    accepted, place = {path for path, _ in files.accepted}, 0
-    for path in files.files:
-        if path not in accepted:
-            fault, place = log_line_of(path, b': ', files.log, place)
-            if not fault:
-                raise mismatch('the log of `cvr check` is of other files than it was given')
-            yield 'refused', [spelled(path), fault.decode('utf-8')]
 
 
 def conflict_lines(texts):
@@ -124,7 +112,7 @@ def ballot_lines(ballots):
 
 def found_in(files, manifest, seen):
     """Each warning as its kind and its parts. Notes in `seen` what is seen in the records."""
-    yield from refused_lines(files)
+    yield from (('refused', [spelled(path), fault]) for path, fault in files.refused())
     see(files, seen)
     yield from seen.notes.lines()
     yield from conflict_lines(seen.texts)

@@ -19,14 +19,6 @@ def rows_without(files, path):
     return rows_of(program.Files(files.program, files.definition, others, files.progress.log))
 
 
-def sums_of(rows):
-    """The rows of a tally, added up by contest."""
-    held = {}
-    for (contest, *_), numbers in rows.items():
-        counting.add(held, (contest,), numbers)
-    return held
-
-
 def lines_of(kind, both, selections):
     """A line for each column of a row that is another number without the file."""
     for row in counting.in_order({*both[0], *both[1]}, selections):
@@ -46,6 +38,7 @@ def run(files, words):
     for path, count in files.accepted:
         both = rows, rows_without(files, path)
         lines.append(['file', spelled(path), str(count)])
-        lines += lines_of('sum', list(map(sums_of, both)), selections)
+        sums = [counting.added(rows, lambda row: row[:1]) for rows in both]
+        lines += lines_of('sum', sums, selections)
         lines += lines_of('row', both, selections)
     return ''.join(' '.join(it) + '\n' for it in lines), False

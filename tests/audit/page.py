@@ -1,5 +1,5 @@
 #!/usr/bin/env python3
-"""page.py --cvr PATH [--sets N] [--seed N] [--companion FOLDER] [--picture PNG]
+"""page.py --cvr PATH [--sets N] [--seed N] [--companion FOLDER] [--masks] [--picture PNG]
 
 Tests `cvr-audit page`. The county of examples/: its two pages are compared line by line with
 page/county.txt, but for columns that it doesn't name, and page/public.txt, which were written by hand.
@@ -16,12 +16,13 @@ the public, it tests
   page as HTML5 (page_form.py);
 - how Chromium shows it in a wide and a narrow window, and prints it (page_views.py).
 
-It also tests that the page names the kit by the PROVENANCE of an installed program.
+It also tests that the page names the kit by the PROVENANCE of an installed program, and what a second
+program counted.
 
-Beside that the slips of page_ways.py: each is made in a copy, and the county or the sets have to
-find it. With --companion the copy in that folder is tested, without a browser and without the
-largest sets, until something is wrong. Where a tool isn't there a line `skipped` says so. --picture
-writes the picture that README shows.
+Beside that the slips of page_ways.py: each is made in a copy, and the county or the sets have to find
+it. With --companion the copy in that folder is tested, without a browser and without the largest sets,
+until something is wrong; with --masks only what follows from what it withholds. Where a tool isn't
+there a line `skipped` says so. --picture writes the picture that README shows.
 The last line is `page: N right, M wrong`; the status is 0 only where M is 0 and N is not."""
 import argparse
 import hashlib
@@ -41,6 +42,7 @@ sys.dont_write_bytecode = True
 HERE = os.path.dirname(os.path.abspath(__file__))
 TOP = os.path.dirname(os.path.dirname(HERE))
 sys.path[:0] = [HERE, os.path.join(TOP, 'tests', 'rows')]
+import journal       # noqa: E402
 import page_form     # noqa: E402
 import page_masks    # noqa: E402
 import page_numbers  # noqa: E402 (it needs printed of rows/)
@@ -68,9 +70,12 @@ Selection | No rank
 Low low | 0
 High high | 30
 """
+COUNTS = """Contest | cvr: ballots | cvr: votes | cvr-audit: ballots | cvr-audit: votes | second: ballots | second: votes
+County Council council | 4 | 2 | 4 | 2 | 4 | 2
+Measure 1: parks parks | 4 | 3 | 4 | 3 | 4 | 3""".splitlines()
 LARGE, BYTES = 3000, 250000     # ballots, and the bytes that their page may have
 NO_ROUNDS = 'They are added up over all ranks, and no rounds are computed.'
-SECONDS = 600
+SECONDS = 1800      # which a slip may take beside proofs
 SIDE_BY_SIDE = 4
 FEW = 8             # the sets with which a slip is tried
 
@@ -120,7 +125,9 @@ def run(folder, *words, **variables):
 # ---- the county
 
 def digest_of(name, trial, folder):
-    """The SHA-256 of a file, of the program, or of the tally."""
+    """The SHA-256 of a file, of a program, or of the tally."""
+    if name == 'cvr-audit':
+        return journal.sum_of_companion(trial.companion)
     if name == 'tally':
         data = trial.printed(folder, 'tally', 'definition.json', *FILES)[0].encode('utf-8')
     else:
@@ -133,6 +140,7 @@ def filled(text, trial, folder):
     """A text written by hand, with what can't be written by hand: digests, the version, and advice."""
     advice = trial.package.advice.ADVICE
     text = text.replace('{version}', trial.printed(folder, '--version')[0].split('\n')[0])
+    text = text.replace('{audit version}', 'cvr-audit ' + trial.package.VERSION)
     text = re.sub(r'\{digest of (.*?)\}', lambda it: digest_of(it.group(1), trial, folder), text)
     return re.sub(r'\{(\w+)\}', lambda it: advice[it.group(1)], text)
 
@@ -171,6 +179,14 @@ def see_kit(trial, folder):
         said = [it for it in page_text.lines(page_text.read(text)) if it.startswith('By: ')]
         wanted = filled('By: {version}, SHA-256 {digest of cvr}' + kit, trial, folder)
         trial.see('the kit of %s' % program, list(differences(said, [wanted])))
+
+
+def see_second(trial, folder):
+    """The page of a second program, which counts the same, beside the others."""
+    text, _, _ = trial.page(folder, 'definition.json', ['scan.json', '--second', trial.cvr])
+    said = list(page_text.lines(page_text.read(text)))
+    wanted = [filled('And by: {version}, SHA-256 {digest of cvr}', trial, folder), *COUNTS]
+    trial.see('a second program', ['%r is not there' % it for it in wanted if it not in said])
 
 
 def see_lines(trial, what, made, wanted, absent=()):
@@ -225,9 +241,10 @@ def sets(trial, words):
         yield '300 contests', page_sets.texts_of(page_sets.many_contests())
         yield '2,000 units', page_sets.texts_of(page_sets.many_units())
     yield 'odd names', page_sets.texts_of(page_sets.odd())
-    yield 'ranks', page_sets.texts_of(page_sets.ranked())
+    yield 'ranks', page_sets.texts_of(page_sets.ranked(24))
     yield '60 units', page_sets.texts_of(page_sets.many_units(60))
     yield 'small units', page_sets.texts_of(page_sets.small_units())
+    yield 'several votes', page_sets.texts_of(page_sets.several_votes())
     definition = page_sets.many_contests(2)[0]
     yield 'no record', page_sets.texts_of((definition, {}))
     refused = page_sets.texts_of((definition, {'a.json': dict(definition, Version='2.0.0')}))
@@ -285,7 +302,8 @@ def mask_wrong(trial, tally, masks):
     end = page_numbers.END
     contests = [{unit: numbers[:1] + numbers[end:] for unit, numbers in tally.sums(key, 0).items()}
                 for key in tally.contests]
-    for held, mask, wanted in zip(contests, masks, trial.package.page_masking.masks(contests)):
+    singles = [tally.allowed[key] == 1 and key not in tally.ranked for key in tally.contests]
+    for held, mask, wanted in zip(contests, masks, trial.package.page_masking.masks(contests, singles)):
         *mask, units = map(plain, mask)
         *wanted, wanted_units = map(plain, wanted)
         has_table = any(len(wanted[3]) < len(numbers) - 1 for numbers in held.values())
@@ -304,7 +322,7 @@ def see_way(trial, way):
     with tempfile.TemporaryDirectory() as folder:
         copy = wrong_ways.made(os.path.join(TOP, 'companion'), folder, way)
         words = [sys.executable, os.path.abspath(__file__), '--cvr', trial.cvr, '--sets', str(FEW),
-                 '--companion', copy]
+                 '--companion', copy] + ['--masks'] * (way.seen in page_ways.MASKED)
         out, log, status = run(folder, *words)
     lines = [line for line in out.splitlines() if line.startswith('WRONG ') and way.seen in line]
     is_broken = any(it in out + log for it in ('Error', 'Traceback'))
@@ -316,6 +334,7 @@ def see_own(trial, words):
     with tempfile.TemporaryDirectory() as folder:
         see_county(trial, folder)
         see_kit(trial, folder)
+        see_second(trial, folder)
         for name in ('county', 'public') if trial.is_seen else ():
             page_views.see(trial, os.path.join(folder, name + '.html'), name)
         if words.picture:
@@ -342,7 +361,7 @@ def see_masks(trial, words):
     trial.see('tables', list(page_tables.wrong_of(trial.package.page_masking, trial.is_seen)))
     ranges = page_ranges.wrong_of(trial.package.page_masking, words.counties)
     if ranges is None:
-        print('skipped the ranges of withheld numbers: glpsol is not there')
+        print('skipped the ranges of withheld numbers, and slips that these find: glpsol is not there')
     else:
         trial.see('ranges', ranges)
 
@@ -350,9 +369,10 @@ def see_masks(trial, words):
 def see_all(trial, words):
     """Tests everything but the slips: pages of the companion side by side, since most of the time
     is the browsers'; those of a copy in turn, up to the first that finds its slip."""
+    if words.masks:
+        return see_masks(trial, words)
     trial.see('masks', list(page_masks.judged()))
     trial.see('style', list(page_form.style_wrong(trial.package.page_style.style_of('Election'))))
-    trial.see('faults', list(page_form.faults_wrong(trial.package.page_faults)))
     with ThreadPoolExecutor(page_views.BROWSERS) as pool:
         each = pool.map if trial.is_seen else map
         for _ in each(lambda it: it[0](trial, *it[1:]), pages(trial, words)):
@@ -367,11 +387,12 @@ def main():
     words.add_argument('--seed', type=int, default=1)
     words.add_argument('--counties', type=int, default=8, help='how many the solver looks at')
     words.add_argument('--companion', help='a folder with a copy of the companion')
+    words.add_argument('--masks', action='store_true', help='test only what follows from what is withheld')
     words.add_argument('--picture', help='write the picture of the county that README shows')
     words = words.parse_args()
     companion = os.path.abspath(words.companion or os.path.join(TOP, 'companion'))
     trial = Trial(os.path.abspath(words.cvr), companion, not words.companion)
-    ways = [] if words.companion else page_ways.WAYS
+    ways = [] if words.companion else [it for it in page_ways.WAYS if page_ways.can_be_found(it)]
     with ThreadPoolExecutor(min(SIDE_BY_SIDE, len(os.sched_getaffinity(0)))) as pool:
         tries = pool.map(lambda way: see_way(trial, way), ways)     # they begin at once
         try:

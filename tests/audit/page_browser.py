@@ -23,8 +23,8 @@ def program():
 class Browser:
     """A browser with one window."""
 
-    def __init__(self, folder):
-        words = [program(), '--user-data-dir=' + os.path.join(folder, 'browser')] + OPTIONS
+    def __init__(self, folder, *more):
+        words = [program(), '--user-data-dir=' + os.path.join(folder, 'browser'), *OPTIONS, *more]
         theirs_in, self.out = os.pipe()
         self.into, theirs_out = os.pipe()
         script = 'exec 3<&%d 4>&%d; exec "$@"' % (theirs_in, theirs_out)

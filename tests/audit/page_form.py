@@ -1,11 +1,9 @@
 """page_form.py: the form of a page: heads and tables, that nothing runs or is fetched, its colours,
 and HTML5 as `tidy` reads it."""
-import os
 import re
 import shutil
 import subprocess
 
-TOP = os.path.dirname(os.path.dirname(os.path.dirname(os.path.abspath(__file__))))
 SECTIONS = ['inputs', 'warnings', 'contests', 'units', 'batches', 'conflicts', 'adjudications',
             'signature']
 TAGS = set('html head meta title style body header nav main section h1 h2 h3 p ul li dl dt dd div '
@@ -17,8 +15,6 @@ LEAST = 4.5         # the contrast that WCAG 2 requires of text at level AA
 BARS = 3            # and of what isn't text
 UNSHOWN = re.compile('[\x00-\x09\x0b-\x1f\x7f-\x9f\ufffe\uffff]')
 RULE = re.compile(r'([^{}]+)\{([^{}]*)\}')
-FAULT = re.compile(r'\| (E[1-5]) \|', re.M)
-NUMBERED = re.compile(r'^\| (\d+) \| \w+ \|', re.M)
 
 
 def wrong_of(page, text):
@@ -144,16 +140,3 @@ def colours_wrong(style):
         yield 'the contrast itself is worked out wrong'
     if len(pairs) < 10 or 'color' in re.sub(COLOUR + '|print-color-adjust', '', style):
         yield '%d pairs of colours, or one that is spelled otherwise' % len(pairs)
-
-
-# ---- the codes of faults
-
-def faults_wrong(faults):
-    """Codes and rules of docs/FAULTS.md for which the page has no words, or the other way round."""
-    with open(os.path.join(TOP, 'docs', 'FAULTS.md'), encoding='utf-8') as file:
-        text = file.read()
-    if sorted(faults.CODES) != sorted(set(FAULT.findall(text))):
-        yield 'codes %s' % sorted(faults.CODES)
-    rules = {int(it) for it in NUMBERED.findall(text)}
-    if set(faults.RULES) != rules or len(rules) < 14:
-        yield 'rules %s' % sorted(faults.RULES)

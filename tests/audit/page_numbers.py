@@ -19,6 +19,7 @@ WARNINGS = ['File refused', 'Records in DEF', 'DEF among the files', 'No file',
             'Two texts of a device', 'Two headers of a record', 'Two texts of a snapshot', 'Pending',
             'Unassigned', 'Too many votes', 'Sum', 'Not stated', 'Contest without a record',
             'Record without a contest', 'Batch', 'One ballot twice']
+COUNTED = ['Contest', 'cvr: ballots', 'cvr: votes', 'cvr-audit: ballots', 'cvr-audit: votes']
 ODD = '\x00\x07\x85\ufffe'      # the characters of page_sets.py that HTML can't have
 
 
@@ -289,6 +290,20 @@ class Held:
             self.see('batches', rows[-1][3], sum(sizes.values()))
             self.seen |= {id(row[place]) for row in rows for place in (1, 2, 4, 5)}
 
+    def see_programs(self):
+        """The ballots and votes of each contest by each program; none of them for the public."""
+        found = [it for it in self.sections['signature'].all('table')]
+        if len(found) != (not self.is_public):
+            self.wrong.append('%d tables of counts' % len(found))
+        for table in found:
+            head, *rows = page_text.rows(table)
+            if [it.text() for it in head] != COUNTED or len(rows) != len(self.tally.contests):
+                self.wrong.append('counts: %d rows below %s' % (len(rows), [it.text() for it in head]))
+            for row, key in zip(rows, self.tally.contests):
+                numbers = self.tally.total(key)
+                for cell, number in zip(row[1:], [numbers[0], sum(numbers[END:])] * 2):
+                    self.see('count of %s' % key, cell, number)
+
     def left(self):
         """The numbers that were compared with nothing."""
         cells = [it for it in self.page.all('td') if re.fullmatch(r'[0-9][0-9,.]*', it.text())]
@@ -317,6 +332,7 @@ def wrong_of(text, tally, records, is_public=False, sizes=None):
     held.see_contests()
     held.see_units()
     held.see_batches(sizes or {})
+    held.see_programs()
     held.wrong += ['%s stands in no text of cvr' % it for it in held.left()]
     masks = [tuple(held.masks[key]) for key in tally.contests] if is_public else []
     return held.wrong, held.equations, held.votes, masks

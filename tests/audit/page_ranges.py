@@ -1,48 +1,70 @@
 """page_ranges.py: the least and the greatest value that each withheld number of a page for the public can
 have, by a solver (`glpsol` of Debian's glpk-utils) over all that a page shows together.
 
-A reader knows the ballots that are shown, and that the contests of a unit are over the same ballots. One
-reader knows that every ballot has all its votes; another one only that it has no more. Where the solver
-is missing, a line `skipped` says so."""
+A reader knows the ballots that are shown, that the contests of a unit are over the same ballots, and how
+many votes a ballot may have. One reader knows that every ballot has all its votes; another one only that
+it has no more. Where the solver is missing, a line `skipped` says so."""
 import os
 import random
 import re
 import shutil
 import subprocess
 import tempfile
+from collections import namedtuple
 
 LEAST = 10
 SECONDS = 120
 
-
-# a contest of all units, and one of all but the smallest: together they show its ballots
-SMALLEST = [{'u0': [50, 30, 20], 'u1': [60, 35, 25], 'u2': [4, 3, 1]},
-            {'u0': [50, 30, 20], 'u1': [60, 25, 35]}]
+# A contest: of each unit the ballots and the votes; how many a ballot may have; and whether the page knows
+# that it is one.
+Contest = namedtuple('Contest', 'held allowed is_single', defaults=[1, True])
+# Counties by name, in which every ballot has all its votes.
+COUNTIES = {
+    # a contest of all units, and one of all but the smallest: together they show its ballots
+    'smallest': [Contest({'u0': [50, 30, 20], 'u1': [60, 35, 25], 'u2': [4, 3, 1]}),
+                 Contest({'u0': [50, 30, 20], 'u1': [60, 25, 35]})],
+    # a unit of few ballots, beside the first unit of each contest, which are two units
+    'few ballots': [Contest({'u0': [100, 50, 50], 'u1': [90, 45, 45], 'u2': [4, 3, 1]}),
+                    Contest({'u1': [90, 50, 40], 'u2': [4, 1, 3]})],
+    # the other votes of a unit, whose ballots the first contest shows
+    'other votes': [Contest({'u0': [60, 30, 30], 'u1': [53, 30, 23]}),
+                    Contest({'u0': [60, 20, 20, 10, 10], 'u1': [53, 30, 20, 2, 1]})],
+    # nearly all ballots have a vote for the selection that is withheld beside a small one; and nearly all of
+    # two units, of which one is small
+    'nearly all': [Contest({'u0': [14, 8, 13, 11, 10]}, 3, False)],
+    'nearly all of units': [Contest({'u0': [60, 30, 30], 'u1': [80, 40, 40], 'u2': [40, 20, 20]}),
+                            Contest({'u0': [60, 10, 59, 55, 56], 'u1': [80, 60, 60, 60, 60],
+                                     'u2': [40, 4, 38, 39, 39]}, 3, False)],
+}
 
 
 def county(chance):
     """A random county of contests over the ballots of their units, and whether every ballot has all its
-    votes: of each contest the ballots and the votes of each unit."""
+    votes."""
     units = ['u%d' % place for place in range(chance.randint(1, 5))]
     ballots = {it: chance.choice([1, 3, 9, 15, 30, 60, 120, 400]) for it in units}
     is_full, contests = chance.random() < 0.5, []
     for place in range(chance.randint(1, 4)):
         inside = units if place == 0 or chance.random() < 0.6 else \
             [it for it in units if chance.random() < 0.6]
-        weights = [chance.choice([0, 0.02, 0.3, 1, 1]) for _ in range(chance.randint(2, 4))]
-        weights[chance.randrange(len(weights))] = 1
-        held = {it: votes_of(chance, ballots[it], weights, is_full) for it in inside}
+        allowed = chance.choice([1, 1, 2, 3])
+        weights = [chance.choice([0.02, 0.3, 1, 1]) for _ in range(allowed + chance.randint(1, 3))]
+        held = {it: votes_of(chance, ballots[it], weights, allowed, is_full) for it in inside}
         if held:
-            contests.append(held)
+            contests.append(Contest(held, allowed, allowed == 1 and chance.random() < 0.8))
     return contests, is_full
 
 
-def votes_of(chance, ballots, weights, is_full):
-    """The ballots of a unit, and its votes: by the weights and, where a ballot may have none, fewer."""
+def votes_of(chance, ballots, weights, allowed, is_full):
+    """The ballots of a unit, and its votes: by the weights and, where a ballot may have less, fewer."""
     votes = [0] * len(weights)
     for _ in range(ballots):
-        if is_full or chance.random() < 0.95:
-            votes[chance.choices(range(len(weights)), weights)[0]] += 1
+        left = list(range(len(weights)))
+        for _ in range(allowed):
+            if is_full or chance.random() < 0.95:
+                one = chance.choices(left, [weights[it] for it in left])[0]
+                left.remove(one)
+                votes[one] += 1
     return [ballots, *votes]
 
 
@@ -56,10 +78,11 @@ def known(contests, masks, is_full):
     """The lines of what is known, in the solver's form; and each withheld number: its name in words, the
     number, and a sum of unknowns that comes to it."""
     lines, hidden = [], []
-    for place, (held, mask) in enumerate(zip(contests, masks)):
+    for place, ((held, allowed, _), mask) in enumerate(zip(contests, masks)):
         for unit, numbers in held.items():
-            votes = ' + '.join(name_of('x', place, unit, one) for one in range(len(numbers) - 1))
-            lines.append('%s - b_%s %s 0' % (votes, unit, '=' if is_full else '<='))
+            names = [name_of('x', place, unit, one) for one in range(len(numbers) - 1)]
+            lines.append('%s - %d b_%s %s 0' % (' + '.join(names), allowed, unit, '=' if is_full else '<='))
+            lines += ['%s - b_%s <= 0' % (it, unit) for it in names if allowed > 1]
         if not mask.is_loose:
             lines.append('%s = %d' % (' + '.join('b_' + it for it in held),
                                       sum(it[0] for it in held.values())))
@@ -73,11 +96,13 @@ def see_votes(place, one, held, mask, lines, hidden):
     names = {unit: name_of('x', place, unit, one) for unit in held}
     votes = {unit: numbers[1 + one] for unit, numbers in held.items()}
     total = ' + '.join(names.values())
-    if mask.is_whole or one in mask.selections:
-        hidden.append(('contest %d, selection %d' % (place, one), sum(votes.values()), total))
-    else:
+    is_shown = not mask.is_whole and one not in mask.selections
+    if is_shown:
         lines.append('%s = %d' % (total, sum(votes.values())))
-    for unit, name in names.items() if not mask.is_whole else ():
+    else:
+        hidden.append(('contest %d, selection %d' % (place, one), sum(votes.values()), total))
+    # the votes of a contest's only unit are those of the contest
+    for unit, name in names.items() if not mask.is_whole and len(names) > is_shown else ():
         if one in mask.apart or unit in mask.units:
             what = 'contest %d, selection %d, unit %s' % (place, one, unit)
             hidden.append((what, votes[unit], name))
@@ -120,7 +145,7 @@ def is_safe(least, most):
 def ranges(solver, contests, masks, is_full):
     """Each withheld number with the least and the greatest value that it may have."""
     lines, hidden = known(contests, masks, is_full)
-    units = sorted({unit for held in contests for unit in held})
+    units = sorted({unit for it in contests for unit in it.held})
     for what, number, term in hidden:
         ends = [bound(solver, lines, term, it, units) for it in (False, True)]
         if ends[0] > number or ends[1] is not None and ends[1] < number:
@@ -137,9 +162,10 @@ def wrong_of(masking, counties, seed=1):
 
 
 def county_wrong(solver, masking, seed, counties):
-    tried = [('smallest', SMALLEST, True)]
+    tried = [(name, held, True) for name, held in COUNTIES.items()]
     tried += [(it, *county(random.Random(it))) for it in range(seed, seed + counties)]
-    for number, contests, is_full in tried:
-        for what, votes, ends in ranges(solver, contests, masking.masks(contests), is_full):
+    for name, contests, is_full in tried:
+        masks = masking.masks([it.held for it in contests], [it.is_single for it in contests])
+        for what, votes, ends in ranges(solver, contests, masks, is_full):
             if not is_safe(*ends):
-                yield 'county %s: %s is %d, and is seen to be from %d to %s' % (number, what, votes, *ends)
+                yield 'county %s: %s is %d, and is seen to be from %d to %s' % (name, what, votes, *ends)

@@ -1,5 +1,5 @@
-"""page_sets.py: definitions and reports for pages: odd names, many contests, many units, one ballot a
-file, and no records."""
+"""page_sets.py: definitions and reports for pages: odd names, many contests, many units, several votes a
+ballot, one ballot a file, and no records."""
 import json
 
 MOMENT = '2024-11-05T20:00:00Z'
@@ -33,8 +33,8 @@ def contest(parts):
 
 
 def record(number, unit, batch, votes):
-    """A record with a vote for one selection in each contest: the selection's id, None for no vote, or
-    the id with an IsAllocable under which the vote doesn't count."""
+    """A record with a vote for one selection in each contest: the selection's id, None for no vote, the
+    id with an IsAllocable under which the vote doesn't count, or a list of votes."""
     contests = [{'@type': 'CVR.CVRContest', 'ContestId': key, **marks(one)}
                 for key, one in votes.items()]
     snapshot = {'@type': 'CVR.CVRSnapshot', '@id': 'a', 'Type': 'original', 'CVRContest': contests}
@@ -46,6 +46,8 @@ def record(number, unit, batch, votes):
 def marks(selection):
     if selection is None:
         return {'Undervotes': 1}
+    if isinstance(selection, list):
+        return {'CVRContestSelection': [marks(it)['CVRContestSelection'][0] for it in selection]}
     position = {'@type': 'CVR.SelectionPosition', 'HasIndication': 'yes', 'NumberVotes': 1}
     if isinstance(selection, tuple):
         selection, position['IsAllocable'] = selection
@@ -99,6 +101,32 @@ def small_units():
     return report(contests, units), {'records.json': report(contests, units, records)}
 
 
+def several_votes():
+    """A contest in which each ballot has three votes, beside one of one vote. In two of three units nearly
+    all ballots have a vote for the second selection."""
+    votes = [(60, [30, 30], [30, 59, 30, 31, 30]), (80, [40, 40], [60, 60, 40, 40, 40]),
+             (40, [20, 20], [20, 38, 24, 19, 19])]
+    contests = [('mayor', 'Mayor', 1, [('a', 'Ada'), ('b', 'Bo')]),
+                ('board', 'School board', 3, [('s%d' % place, 'Member %d' % place) for place in range(5)])]
+    units, records = [('u%d' % place, 'Unit %d' % place) for place in range(3)], []
+    for (unit, _), (ballots, *each) in zip(units, votes):
+        held = [spread(ballots, [it[0] for it in contest[3]], numbers)
+                for contest, numbers in zip(contests, each)]
+        records += [record(len(records) + place, unit, 'batch', {'mayor': mayor, 'board': board})
+                    for place, (mayor, board) in enumerate(zip(*held))]
+    return report(contests, units), {'records.json': report(contests, units, records)}
+
+
+def spread(ballots, selections, numbers):
+    """The votes of each ballot, where each selection has so many: dealt out in turn."""
+    held, place = [[] for _ in range(ballots)], 0
+    for selection, number in zip(selections, numbers):
+        for _ in range(number):
+            held[place % ballots].append(selection)
+            place += 1
+    return held
+
+
 def one_each(is_in_definition=False):
     """The files of a set with one ballot each, of which four have a vote with a longer id, and what each
     file could be: its bytes by the vote. DEF may have the first ballot, too. No ballot has the contest
@@ -140,7 +168,7 @@ def uneven(chance, units=7):
 
 def ranked(count=30):
     """A contest of ranks and one of scores, and one whose votes are neither, of `count` ballots."""
-    contests = [('mayor', 'Mayor', None, [('ada', 'Ada'), ('bob', 'Bob'), ('cyd', 'Cyd')]),
+    contests = [('mayor', 'Mayor', 1, [('ada', 'Ada'), ('bob', 'Bob'), ('cyd', 'Cyd')]),
                 ('score', 'Score', None, [('low', 'Low'), ('high', 'High')]),
                 ('tax', 'Tax', 1, [('yes', 'Yes'), ('no', 'No')])]
     held = [report(contests, [('u', 'Unit')]), report(contests, [('u', 'Unit')])]

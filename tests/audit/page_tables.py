@@ -2,40 +2,44 @@
 
 A reader who knows the rule can make each county that there could be, and see which ones give the page.
 In small counties this is tried out, with a lower bound in place of ten, and where every ballot has all
-its votes, so that the contests of a unit have one sum. Every withheld number has to take as many values
-as the bound says, or all below it, in the counties that give the page."""
+its votes: in each contest of a unit they come to the same ballots, or to several times as many. Every
+withheld number has to take as many values as the bound says, or all below it, in the counties that give
+the page."""
 import itertools
 
 LEAST = 2
-# the units of each contest, with two selections or as many as are named; and the greatest sum of ballots
+# of each contest the number of its selections, its units, and the votes of a ballot; and the greatest sum of
+# ballots
 COUNTIES = [
-    ('two contests', [(2, (0, 1)), (2, (0, 1))], 10),
-    ('three units', [(2, (0, 1, 2))], 13),
-    ('three selections', [(3, (0, 1))], 12),
-    ('a contest of two units of three', [(2, (0, 1, 2)), (2, (0, 1))], 8),
-    ('a contest of each unit', [(2, (0, 1)), (2, (0,)), (2, (1,))], 9),
+    ('two contests', [(2, (0, 1), 1), (2, (0, 1), 1)], 10),
+    ('three units', [(2, (0, 1, 2), 1)], 13),
+    ('three selections', [(3, (0, 1), 1)], 12),
+    ('two votes for three selections', [(3, (0, 1), 2)], 11),
+    ('a contest of two votes beside one of one vote', [(2, (0, 1), 1), (3, (0, 1), 2)], 7),
+    ('a contest of two units of three', [(2, (0, 1, 2), 1), (2, (0, 1), 1)], 8),
+    ('a contest of each unit', [(2, (0, 1), 1), (2, (0,), 1), (2, (1,), 1)], 9),
 ]
 
 
-def splits(total, count):
-    """Each way in which a total is the sum of so many numbers."""
+def splits(total, count, most):
+    """Each way in which a total is the sum of so many numbers, none of which is above the greatest."""
     if count == 1:
-        yield (total,)
+        yield from [(total,)] * (total <= most)
         return
-    for first in range(total + 1):
-        for rest in splits(total - first, count - 1):
+    for first in range(min(total, most) + 1):
+        for rest in splits(total - first, count - 1, most):
             yield (first, *rest)
 
 
 def unit_tables(contests, unit, ballots):
     """Each table of a unit: the votes in each of its contests."""
-    inside = [count for count, units in contests if unit in units]
-    return itertools.product(*(list(splits(ballots, count)) for count in inside))
+    inside = [(count, allowed) for count, units, allowed in contests if unit in units]
+    return itertools.product(*(list(splits(ballots * allowed, count, ballots)) for count, allowed in inside))
 
 
 def tables(contests, most):
     """Each county: of each contest its units with ballots and votes."""
-    units = sorted({unit for _, held in contests for unit in held})
+    units = sorted({unit for _, held, _ in contests for unit in held})
     for ballots in itertools.product(range(1, most), repeat=len(units)):
         if sum(ballots) > most:
             continue
@@ -43,7 +47,7 @@ def tables(contests, most):
         for votes in itertools.product(*each):
             left = [iter(it) for it in votes]
             yield [{unit: [ballots[unit], *next(left[unit])] for unit in held}
-                   for _, held in contests]
+                   for _, held, _ in contests]
 
 
 def numbers_of(masks, county):
@@ -61,9 +65,9 @@ def numbers_of(masks, county):
 def pages(masking, contests, most):
     """For each page the counties that give it: of each withheld number, by name, its values; and the
     least sum of ballots."""
-    held = {}
+    held, singles = {}, [allowed == 1 for _, _, allowed in contests]
     for county in tables(contests, most):
-        masks = masking.masks(county)
+        masks = masking.masks(county, singles)
         shown, hidden = [], []
         for name, number, is_shown in numbers_of(masks, county):
             (shown if is_shown else hidden).append((name, number))

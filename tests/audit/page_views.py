@@ -142,6 +142,6 @@ def words_of(row):
 def picture(path, to):
     """Writes the picture of a page."""
     browser = shown()
-    browser.open(path, 860, 1330, scale=0.6)
+    browser.open(path, 860, 1380, scale=0.6)
     with open(to, 'wb') as file:
         file.write(page_picture.smaller(browser.picture()))

@@ -1,13 +1,15 @@
 """page_ways.py: slips that the page could have. Each changes one line, which stands once in its
 file, and the county or the sets have to find it, without a browser; some have to be found by what is
 seen there."""
+import shutil
 from collections import namedtuple
 
 Way = namedtuple('Way', 'name file old new seen', defaults=[''])
+MASKED = 'tables', 'ranges'     # what follows from what is withheld, without a page
 FOLLOWS = 'one ballot a file for the public: (\'mayor\', 2) follows'     # by trying what files could be
 FILES = 'return listed([(\'DEF\', *said)])'
 WAYS = [
-    Way('withholds_what_is_below_five', 'page_masking.py', 'number < LEAST', 'number < LEAST // 2'),
+    Way('withholds_what_is_below_five', 'page_masking.py', 'min(sides) < LEAST', 'min(sides) < LEAST // 2'),
     Way('withholds_small_numbers_alone', 'page_masking.py', 'range(len(rows) if small else 0)', 'range(0)'),
     Way('hides_in_less_than_ten', 'page_masking.py',
         'len(rows) > 1 and all(sum(column) >= LEAST + len(rows)', 'len(rows) > 1 and all(sum(column) >= 0'),
@@ -17,6 +19,16 @@ WAYS = [
         'tables'),
     Way('shows_all_sums', 'page_masking.py', 'if held and not is_known(contests, tried):', 'if held:',
         'ranges'),
+    Way('shows_units_of_few_ballots', 'page_masking.py', 'if min(row) < LEAST])\n        if hidden',
+        'if False])\n        if hidden', 'ranges'),
+    Way('looks_at_each_selection_alone', 'page_masking.py', 'return shown + list(', 'return shown or list(',
+        'ranges'),
+    Way('forgets_ballots_without_a_vote', 'page_masking.py', '[(it,) if is_single else (it, ballots - it)',
+        '[(it,)', 'tables'),
+    Way('takes_several_votes_for_one', 'page_contests.py', 'self.allowed == 1 and not self.is_ranked',
+        'not self.is_ranked', 'several votes'),
+    Way('takes_ranks_for_one_vote', 'page_contests.py', 'self.allowed == 1 and not self.is_ranked',
+        'self.allowed == 1', 'ranks'),
     Way('draws_bars_beside_withheld_ones', 'page_contests.py', 'if place not in hidden], default=0)',
         'if True], default=0)', 'bar'),
     Way('adds_up_beside_withheld_votes', 'page_contests.py', 'foot = None if hidden else',
@@ -41,16 +53,23 @@ WAYS = [
     Way('shows_the_public_the_files', 'page_inputs.py', 'if facts.is_public else \\\n        folded',
         'if False else \\\n        folded', FOLLOWS),
     Way('gives_the_public_lengths', 'page_inputs.py', FILES,
-        FILES.replace('said)', 'said, *(\' %d\' % digest_of(it)[1] for it in facts.files.files))'),
+        FILES.replace('said)', 'said, *(\' %d\' % of_file(it)[1] for it in facts.files.files))'),
         FOLLOWS),
     Way('gives_the_public_digests', 'page_inputs.py', FILES,
-        FILES.replace('said)', 'said, *(\' \' + digest_of(it)[0] for it in facts.files.files))'),
+        FILES.replace('said)', 'said, *(\' \' + of_file(it)[0] for it in facts.files.files))'),
         FOLLOWS),
     Way('gives_the_public_the_digest_of_a_ballot', 'page_inputs.py', 'if facts.files.own_records:',
         'if False:'),
     Way('counts_refused_files_as_accepted', 'page_summary.py', 'given, accepted, given - accepted',
         'given, given, 0'),
-    Way('names_the_kit_of_another_program', 'page_summary.py', 'program +%s$\' % digest',
+    Way('names_one_program_twice', 'page_counts.py', 'digests.of_companion()',
+        'digests.of_file(files.program)[0]'),
+    Way('counts_ballots_for_votes', 'page_counts.py', 'sum(counting.parts(numbers)[1])]', 'numbers[0]]'),
+    Way('counts_the_contests_of_one_row', 'page_counts.py', 'counting.added(rows, lambda row: row[0])',
+        '{row[0]: numbers for row, numbers in rows.items()}'),
+    Way('forgets_the_second_program', 'page_counts.py', '    if second:', '    if False:', 'a second program'),
+    Way('shows_the_public_the_counts', 'page.py', 'None if facts.is_public else page_counts', 'page_counts'),
+    Way('names_the_kit_of_another_program', 'page_counts.py', 'program +%s$\' % digest',
         'program \''),
     Way('leaves_warnings_in_their_order', 'page_warnings.py', '{kind: [] for kind in KINDS}',
         '{kind: [] for kind, _ in facts.warnings}'),
@@ -99,3 +118,8 @@ WAYS = [
     Way('forgets_parties', 'page_names.py', 'return named(title, key, parties)',
         'return named(title, key)'),
 ]
+
+
+def can_be_found(way):
+    """Whether what has to find a slip is there."""
+    return way.seen != 'ranges' or shutil.which('glpsol') is not None

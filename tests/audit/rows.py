@@ -1,5 +1,6 @@
-"""rows.py: the rows of rows.json, and those of hostile.json, where someone or something does harm. Each is run in a folder of its own with the files of
-examples/county and its own files; its output, log and status are compared.
+"""rows.py: the rows of rows.json, those of hostile.json, where someone or something does harm, and those of
+why.json, on refused files. Each is run in a folder of its own with the files of examples/county and its
+own files; its output, log and status are compared.
 
 A log of argparse isn't compared, as it differs between versions of Python. A line that ends with
 `@KIND` is one of `warnings`, with its advice for that kind. In a line of CSV `{of CONTEST}` stands
@@ -25,7 +26,7 @@ COLUMNS = printed.Texts.columns[1:]     # of a contest in a line of CSV
 ANY = '\0'          # stands for any number
 SECONDS = 300
 TEXTS = []
-for rows_name in 'rows.json', 'hostile.json':
+for rows_name in 'rows.json', 'hostile.json', 'why.json':
     with open(os.path.join(HERE, rows_name), encoding='utf-8') as rows_file:
         TEXTS.append(rows_file.read())
 UNNAMED = [it for it in COLUMNS if not re.search('[{ ]%s [0-9]' % it, ''.join(TEXTS))]

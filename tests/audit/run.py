@@ -2,10 +2,10 @@
 """run.py --cvr PATH [--sets N] [--seed N]
 
 Tests companion/cvr-audit with the given program: the rows of rows.json and hostile.json, what a
-terminal shows, random sets of files (sets.py), and what a run leaves beside what it prints
-(outputs.py). Then the slips of wrong_ways.py: each is made in a copy, and the row that it names, the
-terminal or the sets have to find it. The last line is `audit: N right, M wrong`; the status is 0 only
-where M is 0 and N is not."""
+terminal shows, random sets of files (sets.py), what a journal holds (journal.py), and what a run
+leaves beside what it prints (outputs.py). Then the slips of wrong_ways.py: each is made in a copy, and
+the row that it names, the terminal, the sets or a part of journal.py have to find it. The last line is
+`audit: N right, M wrong`; the status is 0 only where M is 0 and N is not."""
 import argparse
 import os
 import subprocess
@@ -18,6 +18,7 @@ HERE = os.path.dirname(os.path.abspath(__file__))
 TOP = os.path.dirname(os.path.dirname(HERE))
 COMPANION = os.path.join(TOP, 'companion')
 sys.path[:0] = [HERE, os.path.dirname(HERE), os.path.join(TOP, 'tests', 'rows')]
+import journal     # noqa: E402
 import outputs     # noqa: E402
 import rows        # noqa: E402
 import sets        # noqa: E402
@@ -75,6 +76,8 @@ def way_differences(cvr, seed, held, advice, way):
             found = terminal_differences(copy, cvr)
         elif way.row == wrong_ways.SETS:
             found = set_differences(copy, cvr, seed)
+        elif way.row.startswith(wrong_ways.JOURNAL):
+            found = journal.differences(copy, cvr, way.row[len(wrong_ways.JOURNAL):])
         else:
             found = rows.differences(copy, cvr, held[way.row], advice)
     if any(word in line for line in found for word in BROKEN):
@@ -90,6 +93,7 @@ def jobs(words, cvr):
     yield terminal_differences, COMPANION, cvr
     yield number_differences, package
     yield from ((outputs.differences, COMPANION, cvr, see) for see in outputs.SEEN)
+    yield from ((journal.differences, COMPANION, cvr, name) for name in journal.PARTS)
     for seed in range(words.seed, words.seed + words.sets):
         yield sets.differences, package, cvr, seed
     for way in wrong_ways.WAYS:

@@ -1,11 +1,13 @@
 """wrong_ways.py: slips that the companion could have. Each changes a text that stands once in its
-file, and the row of rows.json that it names, the terminal or the sets have to find it."""
+file, and the row of rows.json that it names, the terminal, the sets or a part of journal.py have to
+find it."""
 import os
 import shutil
 from collections import namedtuple
 
 Way = namedtuple('Way', 'name file old new row')
-TERMINAL, SETS = 'terminal', 'sets'         # in place of a row
+TERMINAL, SETS, JOURNAL = 'terminal', 'sets', 'journal: '       # in place of a row; then a part
+WHY = 'why: '       # how the names of the rows of why.json begin
 LATER = ('a moment at the date of the file, one a nanosecond after it, and one in another age of 400 '
          'years')
 WAYS = [
@@ -53,6 +55,16 @@ WAYS = [
     Way('ends_well_where_a_file_is_refused', 'line.py',
         ' or any(side.status for side in files)', '',
         'the records of a refused file are left out'),
+    # ---- the guard
+    Way('lets_records_of_the_definition_pass', 'strict.py', 'if files.own_records:', 'if False:',
+        'a definition with records, which strict refuses'),
+    Way('lets_no_file_pass', 'strict.py', 'if not files.files:', 'if False:', 'no file, which strict refuses'),
+    Way('takes_devices_of_the_definition_for_new', 'strict.py', 'self.add(dict(files.report, CVR=[]))', 'pass',
+        'the definition as a file, which brings nothing'),
+    Way('forgets_what_stands_in_a_fact', 'strict.py', '(*name, reading.digest(it))', '(*name,)',
+        'a file that brings another text of a device alone'),
+    Way('looks_at_each_file_by_itself', 'strict.py', 'before = len(self.held)', 'before = 0',
+        'a file again, which strict refuses after a refused one'),
     # ---- bodies
     Way('forgets_the_devices_of_the_definition', 'bodies.py',
         'found.take(files.definition, dict(files.report, CVR=[]))', 'pass',
@@ -240,7 +252,7 @@ WAYS = [
         'pass',
         'what the county needs'),
     Way('adds_no_pending_votes', 'counting.py', "+ held['pending']", "- held['pending']",
-        'pending votes that come to the ballots'),
+        'pending votes, an overvote and an undervote that come to the ballots'),
     Way('forgets_batches_of_no_record', 'warnings.py', 'sorted({*expected, *found}',
         'sorted({*found}',
         'batches of the manifest and of the records alone, and a record of no batch'),
@@ -339,7 +351,7 @@ WAYS = [
         'cells that a spreadsheet takes for formulas'),
     Way('counts_nothing_again', 'line.py', 'if side.recount:', 'if False:',
         'nine votes of one ballot, in page'),
-    Way('trusts_a_second_program', 'page.py', 'if status > 1 or text', 'if status > 1 and text',
+    Way('trusts_a_second_program', 'page_counts.py', 'if status > 1 or text', 'if status > 1 and text',
         'a second program that counts otherwise'),
     # ---- what a file does
     Way('leaves_out_no_file', 'without.py', ' if it != path]', ']',
@@ -364,6 +376,75 @@ WAYS = [
         'a list beside files'),
     Way('gives_many_paths_as_words', 'program.py', '[self.program, task] + words + listed', '[self.program, task] + words',
         'more paths than words may have'),
+    # ---- why
+    Way('shows_a_number_as_python_has_it', 'why.py', 'parse_int=Number, parse_float=Number', 'parse_int=int',
+        WHY + 'a member that is absent, a number that is not whole, an id that names nothing'),
+    Way('shows_signs_that_a_terminal_obeys', 'why.py', "in_a_line('%s %s' % it)", "('%s %s' % it)",
+        WHY + 'a member that is absent, a number that is not whole, an id that names nothing'),
+    Way('looks_at_the_first_record', 'why.py', "at(value, steps[:2] + [it])[1]", "at(value, ['CVR', '0', it])[1]",
+        WHY + 'the second record'),
+    Way('shows_the_last_difference', 'why.py', 'next(members(one, other, reading.pointer(*steps)))',
+        '[*members(one, other, reading.pointer(*steps))][-1]',
+        WHY + 'the first member in which an object differs from that of the definition, and a unit that it lacks'),
+    Way('takes_the_unit_at_the_same_place', 'why.py', "if it['@id'] == one['@id']), None)", '), None)',
+        WHY + 'the first member in which an object differs from that of the definition, and a unit that it lacks'),
+    Way('shows_whole_texts', 'why.py', "text if len(text) <= MOST else text[:MOST] + '…'", 'text',
+        WHY + 'what stands there is cut, and an object or an array is not shown whole'),
+    Way('shows_whole_objects', 'why.py', 'if isinstance(value, dict):\n        return cut', 'if False:\n        return cut',
+        WHY + 'what stands there is cut, and an object or an array is not shown whole'),
+    Way('gives_advice_on_json_for_a_zip', 'why.py', "made['do'] = advice or made['do']", 'pass',
+        WHY + 'what a file seems to be that is no JSON'),
+    Way('takes_a_cut_file_for_a_damaged_one', 'instead.py', "return 'cut' if is_open else 'damaged'", "return 'damaged'",
+        WHY + 'what a file seems to be that is no JSON'),
+    Way('knows_one_order_of_bytes', 'instead.py', "rb'[{\\[]\\0|\\0[{\\[]'", "rb'\\0[{\\[]'",
+        WHY + 'what a file seems to be that is no JSON'),
+    Way('takes_strange_json_for_a_report_of_others', 'instead.py', "if kind == 'json' and not is_json else kind", 'if False else kind',
+        WHY + 'what a file seems to be that is no JSON'),
+    Way('knows_no_export', 'instead.py', "return None if kind == 'cdf' else kind", 'return None',
+        WHY + 'what a file seems to be that is no JSON'),
+    Way('says_nothing_of_a_refused_definition', 'why.py', "return None, [(words.definition, fault.decode('utf-8'))]", 'raise',
+        WHY + 'a definition that is refused, beside which nothing else is read'),
+    Way('ends_well_where_why_has_an_answer', 'why.py', "'refused': made}), bool(made)", "'refused': made}), False",
+        WHY + 'as JSON'),
+    # ---- journal
+    Way('notes_no_line_before', 'journal.py', 'dict(held, before=before)',
+        'dict(held, before=FIRST)', JOURNAL + 'noted'),
+    Way('notes_the_log_as_text', 'journal.py', "'text': text.found", "'text': log.found",
+        JOURNAL + 'noted'),
+    Way('notes_the_script_alone', 'digests.py', " if it.endswith('.py')]", ' if False]',
+        JOURNAL + 'noted'),
+    Way('notes_no_listed_files', 'journal.py', 'return [path] + paths.listed(path, is_null)',
+        'return [path]', JOURNAL + 'files'),
+    Way('reads_a_list_from_a_pipe', 'journal.py', '    if not os.path.isfile(path):', '    if False:',
+        JOURNAL + 'files'),
+    Way('takes_files_for_a_list', 'journal.py', " and '--' not in before", '', JOURNAL + 'files'),
+    Way('closes_what_the_shell_opened', 'journal.py', ', close_fds=False', '', JOURNAL + 'files'),
+    Way('forgets_that_a_file_was_changed', 'journal.py', 'if digest_of(it) != files[it]]',
+        'if False]', JOURNAL + 'files'),
+    Way('ends_well_where_a_run_is_killed', 'journal.py', 'status = 128 - status if status < 0',
+        'status = 0 if status < 0', JOURNAL + 'killed'),
+    Way('ends_by_a_signal_before_its_line', 'journal.py',
+        'signal.signal(it, lambda number, _: child.send_signal(number))', 'pass',
+        JOURNAL + 'killed'),
+    Way('hides_runs_without_an_end', 'journal.py', 'return found, sorted(runs.values())',
+        'return found, []', JOURNAL + 'killed'),
+    Way('ends_well_where_the_text_is_lost', 'journal.py',
+        'is_lost = text.has_failed and status in (0, 1)', 'is_lost = False', JOURNAL + 'failing'),
+    Way('runs_what_stands_before_the_mark', 'line.py',
+        'paths = [] if self.is_last and len(left) != 1 else paths', 'pass', JOURNAL + 'failing'),
+    Way('adds_to_a_line_without_an_end', 'journal.py', "if last and not (last.endswith(b'\\n') and value_of(last)):",
+        'if last and not value_of(last):', JOURNAL + 'changed'),
+    Way('takes_a_line_of_no_run', 'journal.py', "is_right = runs.pop(str(held.get('run')), None)",
+        "runs.pop(str(held.get('run')), None)", JOURNAL + 'changed'),
+    Way('adds_to_any_file', 'journal.py', " and value_of(last)):", '):', JOURNAL + 'failing'),
+    Way('shows_a_journal_to_all', 'journal.py', 'os.open(path, flags, 0o600)',
+        'os.open(path, flags, 0o666)', JOURNAL + 'noted'),
+    Way('fails_where_a_line_is_deep', 'journal.py', 'except (ValueError, RecursionError):',
+        'except ValueError:', JOURNAL + 'changed'),
+    Way('fails_where_a_run_is_a_list', 'journal.py', "runs.pop(str(held.get('run')), None)",
+        "runs.pop(held.get('run'), None)", JOURNAL + 'changed'),
+    Way('takes_a_moved_line', 'journal.py', "held and held.get('before') == before", 'held',
+        JOURNAL + 'changed'),
 ]
 
 

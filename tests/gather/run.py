@@ -35,6 +35,8 @@ SECONDS = 300
 BALLOTS = 80
 OTHER = 'contests are not those of the files before it'
 NOT_THOSE = {'dominion': 'its election or its ' + OTHER, 'clearballot': 'its election or its ' + OTHER, 'ess': 'its ' + OTHER}
+# what is said of records with such a column, which is left out
+NOTES = {'remade': 'Remade that is not 0', 'status': 'Status ("Held" 3, "a, b" 1)'}
 # the names of the county's batches in each kind; ES&S's form has none
 BATCHES = {'dominion': {'1-1': 'batch-1', '2-1': 'batch-2'}, 'dominion-json': {'1-1': 'batch-1', '2-1': 'batch-2'},
            'clearballot': {'BOX-1-1': 'batch-1', 'BOX-2-1': 'batch-2'}, 'hart': {'1001': 'batch-1', '2001': 'batch-2'}, 'ess': {None: None}}
@@ -290,10 +292,12 @@ def see_contests_missing(kind, cvr):
 
 
 def see_variants(cvr):
-    """Tables with a byte order mark, with other line ends, with choices of one name, with remade ballots, and with two
-    columns for written names."""
+    """Tables with a byte order mark, with other line ends, with choices of one name, with remade ballots and ballots of a
+    status, with a unit that has the name of all of them, and with two columns for written names."""
     changes = {'a mark': lambda it: b'\xef\xbb\xbf' + it, 'line ends': lambda it: it.replace(b'\r\n', b'\n'),
                'names': lambda it: it.replace(b'Omar Field', b'Iris Vale'), 'remade': lambda it: it.replace(b',,0,', b',,1,'),
+               'status': lambda it: it.replace(b'-1,,0,0,1', b'-1,"a, b",0,0,1').replace(b',,0,', b',Held,0,'),
+               'scope': lambda it: it.replace(b'Ferry Landing', b'all units').replace(b'Old Mill', b'really all units'),
                'written': lambda it: it.replace(b'Omar Field', b'Write-in')}
     for kind in ('dominion', 'clearballot', 'ess'):
         for name, change in changes.items():
@@ -302,8 +306,9 @@ def see_variants(cvr):
                 data = faults.read(path_of(kind, make.EXAMPLES))
                 faults.write(path, change(data))
                 text, _ = gathered(kind, path, cvr, out)
-                note = 'note: %s: 4 records have a Remade that is not 0; each is a record as the others\n' % path
-                see((note in text) == (name == 'remade' and kind == 'clearballot'), 'the note of ' + kind)
+                for what, said in NOTES.items():
+                    note = 'note: %s: 4 records have a %s; each is a record as the others\n' % (path, said)
+                    see((note in text) == (name == what and kind == 'clearballot'), 'the note on %s of %s' % (what, kind))
                 lines = recount.printed(cvr, 'tally', out)
                 see(('"Iris Vale (LAR)"' in lines[0]) == (name == 'names' and kind != 'ess'), 'choices of one name in ' + kind)
 

@@ -1,0 +1,58 @@
+"""What `gather` and the page for a browser (web/) both go by where they read ZIPs and exports of
+VxSuite: names, limits, and the sentences in which they refuse a source."""
+
+# ---- ZIPs
+LONGEST = 1 << 30           # bytes of a file in a ZIP
+WHOLE = 1 << 33             # bytes of all files in a ZIP
+DENSEST = 500               # bytes of a file in a ZIP for one packed byte
+FREE = 1 << 20              # bytes of a file in a ZIP that may be packed more densely
+HEAD = 1 << 20              # bytes by which a kind is recognised, as heads may be long
+OF_A_MAC = r'__MACOSX/(.*/)?\._[^/]*'       # what a Mac keeps on each file of a ZIP
+WITHIN = ('it is a ZIP in a folder or in another ZIP, and may have records; unpack it, or name it '
+          'by itself')
+CUT_OFF = 'the ZIP is damaged or cut off'
+DAMAGED = 'the ZIP is damaged here, or packed in a way that is not known'
+BACKSLASH = 'its path has a backslash; pack the ZIP with another tool'
+OUTSIDE = 'its path leads out of the ZIP'
+LINK = 'it is a link, which may lead out of the ZIP'
+ENCRYPTED = 'it is encrypted'
+PACKED = 'it is packed in a way that is not known'
+TOO_LONG = 'it unpacks to %d bytes, which is too many'
+AGAIN = 'it stands twice in the ZIP'
+TOO_MUCH = 'it unpacks to more than %d bytes'
+
+# ---- reports
+NO_TEXT = 'this is not text in UTF-8; export it in that encoding'
+NO_JSON = 'it is no JSON, or cut off: %s'
+HALF = '%s is half of a sign, so a text here is cut off; have it exported anew'
+# an escaped backslash, a whole pair of surrogates, or half of one
+ESCAPED = r'\\\\|\\u[dD][89abAB]..\\u[dD][c-fC-F]..|(\\u[dD][89a-fA-F]..)'
+TWICE = 'the member %s stands twice in an object'
+UNNAMED = ('this record has no %s. The standard leaves it optional; here it is part of the name by '
+           'which records are told apart, and nothing can stand in for it. Ask the maker of the '
+           'system to export each record with a CreatingDeviceId and a UniqueId')
+NO_NAME = 'the %s of this record is no text'
+ELSEWHERE = 'the record %s stands here and in %s: %s'
+REFUSED = 'cvr refuses it: %s'
+NO_RECORD = 'there is no record of the kind %s'
+NO_CONTEST = 'there is no contest, so no record has a vote'
+
+# ---- what is written
+MOST = 60000000         # bytes of a report; `cvr` reads up to 67,108,864
+ROOM = 10000000         # of these for what is not a record
+BEGINNING = '{"@type":"CVR.CastVoteRecordReport","CVR":[\n'
+LONG_RECORD = 'this record is too long'
+LONG_ELECTION = 'the election has more than %d bytes'
+
+# ---- VxSuite
+METADATA, REPORT = 'metadata.json', 'cast-vote-record-report.json'
+FRAME = 'castVoteRecordReportMetadata'
+LEFT = 'arePollsClosed', 'castVoteRecordRootHash', 'batchManifest'
+REJECTED = 'rejected-'
+IMAGES = '.jpg', '.jpeg', '.png', '.layout.json'
+NO_FRAME = 'it has no ' + FRAME
+OWN_RECORDS = 'it has records itself, beside those in the folders of ballots'
+LEFT_OUT = '%s: its member %s is left out'
+NO_REPORT = 'there is no %s in this folder of a ballot' % REPORT
+NO_METADATA = 'there is no %s beside its folder' % METADATA
+NO_ONE_RECORD = 'it is no object with a CVR of one record, and nothing else'
