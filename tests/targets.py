@@ -13,6 +13,8 @@ On a busy machine Wine gives a wrong answer once in some thousand runs, also to 
 more). So under Wine a trial that differs is tried once more, alone. How many are right only then is printed, with what
 differed at first; where more than SECOND differ, none is tried again, and all are wrong.
 
+The module of WebAssembly runs in Node; targets/wasm.py has what is tried of it besides, and targets/wasm.txt its rows.
+
 Where a target has the library, it is tried, too: that of Linux by tests/library/run.py, with the rows of `tally`; that of
 Windows by its driver.c, with one row of EACH, and by calls.c and offices.c.
 
@@ -37,9 +39,10 @@ from functools import partial
 sys.dont_write_bytecode = True
 HERE = os.path.dirname(os.path.abspath(__file__))
 TOP = os.path.dirname(HERE)
-sys.path.insert(0, os.path.join(HERE, 'rows'))
+sys.path[:0] = [os.path.join(HERE, 'rows'), os.path.join(HERE, 'targets')]
 import members      # noqa: E402
 import run as rows  # noqa: E402 (both stand in tests/rows)
+import wasm         # noqa: E402 (it stands in tests/targets)
 
 TOOL = runpy.run_path(os.path.join(TOP, 'tools/targets'))
 ROUNDS = 3          # of random files for each target
@@ -48,6 +51,7 @@ WINE, SERVER = '/usr/lib/wine/wine64', '/usr/lib/wine/wineserver64'
 # The libraries that each needs.
 NEEDED = {'cvr': set(), 'cvr.exe': {'KERNEL32.dll', 'msvcrt.dll', 'SHELL32.dll'}, 'cvr.dll': {'KERNEL32.dll', 'msvcrt.dll'}}
 EACH = 40           # of so many rows one is tried through the library under Wine
+ORDERED = 16        # of so many rows one is tried with its members in other orders under Wine and qemu
 COMPILED = ['x86_64-w64-mingw32-gcc', '-std=c11', '-O1', '-Wall', '-Wextra', '-Werror', '-static', '-pthread']
 
 
@@ -57,7 +61,8 @@ class Target:
 
     def __init__(self, name, before=(), packages='', listed=None):
         self.name, self.before, self.packages, self.is_windows = name, list(before), packages, name.startswith('windows')
-        self.path, self.library = (os.path.join(TOP, 'out/targets', name, it) if it else None for it in TOOL['FILES'][name])
+        self.is_wasm, files = name == 'wasm', TOOL['FILES'].get(name, (TOOL['MODULE'], ''))
+        self.path, self.library = (os.path.join(TOP, 'out/targets', name, it) if it else None for it in files)
         self.listed = listed_in(listed) if listed else {}
 
     def lacks(self):
@@ -153,14 +158,15 @@ ODD = [('@llvm.trap()', '@getenv(ptr)'), ('@llvm.trap()', '@llvm.frameaddress.p0
 
 def text_faults():
     """Yields a line for each text that tools/targets changes wrongly, or doesn't refuse, and None for each other."""
-    changed, _ = TOOL['retargeted'](BEFORE)
+    changed, _ = TOOL['retargeted'](BEFORE, TOOL['FOR_WINDOWS'])
     yield None if changed == AFTER else 'tools/targets changes its text to %s' % changed
     for old, new in ODD:
         try:
-            TOOL['retargeted'](BEFORE.replace(old, new))
+            TOOL['retargeted'](BEFORE.replace(old, new), TOOL['FOR_WINDOWS'])
             yield 'tools/targets takes a text with %s' % new
         except TOOL['Stopped']:
             yield None
+    yield from wasm.text_faults(TOOL)
 
 
 def second_faults():
@@ -206,8 +212,9 @@ def own_trials(target, cvr, folder):
             file.write(rows.VECTORS[name])
     for given in INPUTS:
         yield partial(input_fault, cvr, folder, *given)
-    yield partial(pipe_fault, cvr, folder)
-    yield partial(needed_fault, target.path)
+    if not target.is_wasm:      # a closed pipe ends the driver, which isn't the program; serve.js sees what is imported
+        yield partial(pipe_fault, cvr, folder)
+        yield partial(needed_fault, target.path)
 
 
 def input_fault(cvr, folder, more, *wanted):
@@ -238,7 +245,9 @@ def needed_fault(path):
 
 def library_trials(target, folder):
     """Yields the trials of a target's library, if it has one."""
-    if target.is_windows:
+    if target.is_wasm:
+        yield from wasm.trials(target.path, folder)
+    elif target.is_windows:
         yield from dll_trials(target, folder)
     elif target.library:
         yield partial(told_fault, 'library/run.py', '--only', 'tally', '--library', os.path.dirname(target.library))
@@ -281,6 +290,15 @@ def driven_trials(target, driver):
 
 # ---- all trials of a target
 
+def ordered(target):
+    """Which rows are run again with their members in other orders: all on Linux, elsewhere one of ORDERED, from one on that
+    the commit chooses."""
+    if not target.before:
+        return []
+    commit = subprocess.run(['git', 'rev-parse', 'HEAD'], cwd=TOP, stdout=subprocess.PIPE, stderr=subprocess.DEVNULL, text=True).stdout
+    return ['--of', '%d' % ORDERED, '--first', '%d' % (int(commit[:8] or '0', 16) % ORDERED)]
+
+
 def told_fault(name, *words):
     """What another test finds wrong, or None. Its last line is printed."""
     ran = subprocess.run([sys.executable, os.path.join(HERE, name), *words], stdout=subprocess.PIPE, stderr=subprocess.STDOUT, text=True)
@@ -306,12 +324,20 @@ def wine(folder):
         server.wait()
 
 
+def server(target, folder):
+    """What runs beside the trials of a target."""
+    if target.is_wasm:
+        return wasm.serving(target.path, folder)
+    return wine(folder) if target.is_windows else contextlib.nullcontext()
+
+
 def tried(target):
     """(right, wrong) of a target that is made."""
-    with tempfile.TemporaryDirectory() as folder, wine(folder) if target.is_windows else contextlib.nullcontext():
-        cvr = target.script(folder, target.path)
+    with tempfile.TemporaryDirectory() as folder, server(target, folder):
+        cvr = wasm.driver(folder) if target.is_wasm else target.script(folder, target.path)
         trials = [*own_trials(target, cvr, folder), *library_trials(target, folder), *row_trials(target, cvr)]
         trials.append(partial(told_fault, 'rows/random_files.py', '--cvr', cvr, '--rounds', '%d' % ROUNDS))
+        trials.append(partial(told_fault, 'rows/orders.py', '--cvr', cvr, *ordered(target), '--without', *target.listed))
         with ThreadPoolExecutor(min(rows.SIDE_BY_SIDE, len(os.sched_getaffinity(0)))) as pool:
             found = list(pool.map(lambda it: it(), trials))
         at_first = tried_again(trials, found) if target.is_windows else []
@@ -349,6 +375,7 @@ TARGETS = [
     Target('linux-x86_64'),
     Target('windows-x86_64', [WINE], 'wine64', 'windows.txt'),
     Target('linux-aarch64', ['qemu-aarch64-static'], 'qemu-user-static'),
+    Target('wasm', ['node'], 'nodejs', 'wasm.txt'),
 ]
 
 

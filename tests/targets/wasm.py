@@ -1,0 +1,162 @@
+"""wasm.py: what tests/targets.py tries of the module of WebAssembly: a module, not a command.
+
+Small texts show how LLVM's text and that of the module are changed, and what is refused. One process of Node has the module. The command line over the library, tests/library/driver.c, calls it through ask.c, so
+each row of tests/rows goes through it; so does calls.c. heap.c tries its heap, and refuse.js the page's worker with little
+memory."""
+import contextlib
+import os
+import re
+import subprocess
+import time
+from functools import partial
+
+HERE = os.path.dirname(os.path.abspath(__file__))
+TOP = os.path.dirname(os.path.dirname(HERE))
+COUNTY = os.path.join(TOP, 'examples', 'county')
+FILES = ['definition.json', 'scan.json', 'adjudicated.json']
+COMPILED = ['gcc', '-std=gnu11', '-O1', '-Wall', '-Wextra', '-Werror', '-Wno-attributes', '-pthread', '-I', os.path.join(TOP, 'library')]
+LOW = ['-no-pie', '-Wl,--defsym=__heap_base=0x10000008']        # where heap.c has its memory
+PATIENCE = 60       # seconds until Node listens
+PAGES = 64          # of 64 KiB, for refuse.js
+
+
+# Texts for tools/targets and tools/narrow.py, with what they become, and what isn't known.
+BEFORE = r"""target datalayout = "e-m:e-p270:32:32-p271:32:32-p272:64:64-i64:64-i128:128-f80:128-n8:16:32:64-S128"
+target triple = "x86_64-unknown-linux-gnu"
+@static.0 = private constant [9 x i8] c"@cvr_call"
+define noundef i8 @cvr_call(ptr noundef %a0) #0 {
+  %r0 = call { i64, i64 } @rattle_alloc(i64 8, i64 8)
+  %r1 = call <16 x i8> @llvm.x86.ssse3.pshuf.b.128(<16 x i8> %r2, <16 x i8> %r3)
+  ret i8 0
+}
+declare { i64, i64 } @rattle_alloc(i64 noundef, i64 noundef) #1
+declare <16 x i8> @llvm.x86.ssse3.pshuf.b.128(<16 x i8>, <16 x i8>) #1
+attributes #0 = { nounwind "probe-stack"="inline-asm" "stack-probe-size"="3072" "target-cpu"="x86-64-v2" }
+attributes #1 = { nobuiltin nounwind }
+"""
+AFTER = r"""target datalayout = "e-m:e-p:64:64-p10:8:8-p20:8:8-i64:64-i128:128-n32:64-S128-ni:1:10:20"
+target triple = "wasm64-unknown-unknown"
+@static.0 = private constant [9 x i8] c"@cvr_call"
+define noundef i8 @cvr_call(ptr noundef %a0) #0 "wasm-export-name"="cvr_call" {
+  %r0 = call { i64, i64 } @rattle_alloc(i64 8, i64 8)
+  %r1 = call <16 x i8> @cvr_shuffle(<16 x i8> %r2, <16 x i8> %r3)
+  ret i8 0
+}
+declare { i64, i64 } @rattle_alloc(i64 noundef, i64 noundef) #1
+attributes #0 = { nounwind }
+attributes #1 = { nobuiltin nounwind }
+"""
+WIDE = """(module
+  (func (;0;) (type 0) (param i64) (result i64)
+    (local i64)
+    local.get 0
+    i64.load offset=8 align=1
+    memory.grow
+    i64.store8 offset=4)
+  (func (;1;) (type 0)
+    v128.load8_lane 1
+    memory.copy
+    memory.fill)
+  (memory (;0;) i64 17)
+  (data (;0;) (i64.const 1048576) "i64.load)"))
+"""
+NARROW = """(module
+  (func (;0;) (type 0) (param i64) (result i64)
+    (local i64)
+(local $i64 i64)
+    local.get 0
+i32.wrap_i64
+i64.load offset=8 align=1
+i32.wrap_i64
+memory.grow
+i64.extend_i32_s
+local.set $i64
+i32.wrap_i64
+local.get $i64
+i64.store8 offset=4)
+  (func (;1;) (type 0)
+(local $from i64)
+(local $i32 i32)
+(local $i64 i64)
+(local $v128 v128)
+local.set $v128
+i32.wrap_i64
+local.get $v128
+v128.load8_lane 1
+local.set $i64
+local.set $from
+i32.wrap_i64
+local.get $from
+i32.wrap_i64
+local.get $i64
+i32.wrap_i64
+memory.copy
+local.set $i64
+local.set $i32
+i32.wrap_i64
+local.get $i32
+local.get $i64
+i32.wrap_i64
+memory.fill)
+  (memory (;0;) 17)
+  (data (i32.const 1048576) "i64.load)"))
+"""
+ODD = [('memory.copy', 'memory.init 0'), ('memory.copy', 'call_indirect (type 0)'), ('memory.copy', 'i32.atomic.load'), (' i64 17', ' 17')]
+
+
+def text_faults(tool):
+    """Yields a line for each text that is changed wrongly, or isn't refused, and None for each other."""
+    way, narrowed = tool['FOR_WASM'], tool['narrow'].narrowed
+    changed = tool['retargeted'](BEFORE, way)[0]
+    yield None if changed == AFTER + way.more else 'tools/targets changes a text to %s' % changed
+    changed = narrowed(WIDE)
+    yield None if changed == NARROW else 'tools/narrow.py changes a text to %s' % changed
+    for old, new in ODD:
+        try:
+            narrowed(WIDE.replace(old, new))
+            yield 'tools/narrow.py takes a text with %s' % new
+        except tool['Stopped']:
+            yield None
+
+
+@contextlib.contextmanager
+def serving(module, folder):
+    """Has a process of Node call the module for ask.c."""
+    socket = os.environ['CVR_SOCKET'] = os.path.join(folder, 'socket')
+    server = subprocess.Popen(['node', os.path.join(HERE, 'serve.js'), module, socket])
+    try:
+        for _ in range(10 * PATIENCE):
+            if os.path.exists(socket) or server.poll() is not None:
+                break
+            time.sleep(0.1)
+        yield
+    finally:
+        server.terminate()
+        server.wait()
+
+
+def compiled(folder, name, *sources, words=()):
+    """A program of these sources. What the compiler says of them ends the test."""
+    program = os.path.join(folder, name)
+    subprocess.run([*COMPILED, *words, '-o', program, *(os.path.join(TOP, 'tests', it) for it in sources)], check=True)
+    return program
+
+
+def driver(folder):
+    """The command line over the module."""
+    return compiled(folder, 'driver', 'library/driver.c', 'targets/ask.c')
+
+
+def fault(name, command):
+    """What is wrong with a test that ends with `NAME: N right, M wrong`, or None."""
+    ran = subprocess.run(command, cwd=COUNTY, stdout=subprocess.PIPE, stderr=subprocess.STDOUT, text=True)
+    last = ran.stdout.strip().split('\n')[-1]
+    print('  ' + last, flush=True)
+    return None if re.fullmatch(name + r': [1-9]\d* right, 0 wrong', last) and not ran.returncode else ran.stdout
+
+
+def trials(module, folder):
+    """Yields the trials of the module besides its rows: functions that answer what is wrong, or None."""
+    yield partial(fault, 'heap', [compiled(folder, 'heap', 'targets/heap.c', words=LOW)])
+    yield partial(fault, 'calls', [compiled(folder, 'calls', 'library/calls.c', 'targets/ask.c', words=['-DAPART']), *FILES])
+    yield partial(fault, 'refuse', ['node', '--wasm-max-mem-pages=%d' % PAGES, os.path.join(HERE, 'refuse.js'), module, *FILES])

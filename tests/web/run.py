@@ -1,0 +1,594 @@
+#!/usr/bin/env python3
+"""run.py --cvr PATH [--only chromium|firefox] [--pictures FOLDER] [--all]
+
+Tests the page that tools/html makes of web/ and the module, in Chromium and in Firefox, each headless and driven by its
+own protocol. The county of examples/, with a file that is refused and one that contradicts the others: each table, list
+and sentence of the page is compared with what `cvr` prints, added up here, and with SHA-256 sums of the files; what its
+buttons save, with the command's bytes; its warnings with those of cvr-audit in tests/audit/rows.json; what it makes of
+exports of VxSuite and of ZIPs, with what cvr-audit gather makes, and the faults of tests/gather. Names with markup,
+in Arabic and of 300 characters stand as texts. A run that is cancelled shows nothing, and the next one is right. A page
+whose module is changed, or that gives another tally of its example, does nothing. Chromium also shows it at the width
+of a phone, in the dark, in forced colours and on paper, with little memory, and keeps what it asks the network for:
+nothing; a server here, which the page is made to call, hears nothing in either. There also slips of the page's own code
+(slips.py) are each found, of which the commit's hash chooses some.
+
+The page is made twice, and its parts looked at; without the module or a browser only that is tried, which is said. The
+last line is `browser: N right, M wrong`; the status is 0 only where M is 0 and N is not."""
+import argparse
+import base64
+import hashlib
+import html.parser
+import json
+import os
+import re
+import runpy
+import shutil
+import socket
+import subprocess
+import sys
+import tempfile
+import time
+
+sys.dont_write_bytecode = True
+HERE = os.path.dirname(os.path.abspath(__file__))
+TOP = os.path.dirname(os.path.dirname(HERE))
+sys.path[:0] = [HERE, *(os.path.join(TOP, it) for it in ('tests/audit', 'tests/rows', 'companion'))]
+import chromium     # noqa: E402
+import exports      # noqa: E402
+import firefox      # noqa: E402 (these stand beside this file)
+import page_picture     # noqa: E402
+import rows         # noqa: E402
+import slips        # noqa: E402
+from trial import CLICK, COLUMNS, COUNTY, FILES, FOLDER, SETTLED, TEXTS, Found, Trial, given, saved_at, sum_of, tallied     # noqa: E402 (it stands beside this file)
+from cvr_audit.advice import ADVICE         # noqa: E402
+from cvr_audit.page_warnings import KINDS   # noqa: E402 (these stand in tests/audit and companion)
+
+# The names of the county's definition, as the page has to show them.
+NAMES = {'council': 'County Council council', 'council-iris': 'Iris Vale Heron Party council-iris', 'parks': 'Measure 1: parks parks',
+         'council-omar': 'Omar Field Larch Party council-omar', 'council-other': 'Write-in council-other', 'parks-yes': 'Yes parks-yes',
+         'parks-no': 'No parks-no', 'precinct-1': 'Old Mill precinct-1', 'precinct-2': 'Ferry Landing precinct-2', 'precinct-3': 'North Orchard precinct-3'}
+SHORT = {'council-iris': 'Iris Vale', 'council-omar': 'Omar Field', 'council-other': 'Write-in', 'parks-yes': 'Yes', 'parks-no': 'No'}   # in the head of a column
+TABLES = '''[...document.querySelectorAll('#answer table')].map(it => [it.caption.textContent, ...[...it.rows].map(row =>
+  [...row.cells].map(cell => cell.textContent))])'''
+LISTS = '''[...document.querySelectorAll('#answer dl')].map(it => [...it.children].map(one => one.textContent))'''
+PAGES = 200         # of 64 KiB, for a browser with little memory
+CHOSEN = 12         # how many slips are tried without --all
+READY = 'The page has tallied its own example rightly. It waits for files.'
+ODD = {'Iris Vale': '<img src="x" onerror="document.title = 1">', 'Omar Field': 'عمر فيلد', 'County Council': 'x' * 300,
+       'Alder County General Election': '</script><b>&amp;'}
+
+
+def parts(line):
+    """The parts of a line that `cvr` prints."""
+    return [json.loads(it) if it[0] in '"n0123456789' else it for it in re.findall(r'"(?:[^"\\]|\\.)*"|[^ ]+', line)]
+
+
+# ---- what the page has to show
+
+def summed(rows, place):
+    """The numbers of rows added up by what stands at a place, in the order of the first ones."""
+    sums = {}
+    for row in rows:
+        numbers = row[3:9] + row[10::2]
+        sums[row[place]] = [a + b for a, b in zip(sums.get(row[place], [0] * len(numbers)), numbers)]
+    return sums
+
+
+def texts(numbers):
+    return ['{:,}'.format(it) for it in numbers]
+
+
+def tables_of(text):
+    """The tables of the contests, and those by unit and by batch, that a tally asks for."""
+    rows = [parts(line) for line in text.splitlines()]
+    contests, divided = [], []
+    for contest, numbers in summed(rows, 0).items():
+        held = [row for row in rows if row[0] == contest]
+        selections, votes = held[0][9::2], numbers[6:]
+        contests.append(['Selections', ['Selection', 'Votes'], *([NAMES[key], '\u00a0' + n] for key, n in zip(selections, texts(votes))),
+                         ['All selections', *texts([sum(votes)])]])
+        for place, what in (1, 'unit'), (2, 'batch'):
+            divided.append(['By ' + what, [what, *COLUMNS, *(SHORT[key] for key in selections)],
+                            *([NAMES.get(key, key), *texts(it)] for key, it in summed(held, place).items()), ['Sum', *texts(numbers)]])
+    return contests + divided
+
+
+def lists_of(text):
+    """The lists of the contests: the ballots, and the other numbers."""
+    for numbers in summed([parts(line) for line in text.splitlines()], 0).values():
+        yield ['Ballots', *texts(numbers[:1])]
+        yield [it for name, number in zip(COLUMNS[1:], texts(numbers[1:])) for it in (name, number)]
+
+
+def inputs_of(trial):
+    """The table of the files."""
+    records = dict(line.rsplit(' ', 1) for line in trial.printed('check', 'definition.json', *FILES).decode().splitlines())
+    states = ['definition; its records are not counted', *['accepted'] * 3,
+              'refused, E3. A member that the profile demands is absent. At /CVR/0/UniqueId. Have it written; see the class tables in docs/FORMAT.md.']
+    yield 'Definition and files'
+    yield ['File', 'SHA-256', 'Bytes', 'Records', 'State']
+    for name, state in zip(FILES, states):
+        path = os.path.join(COUNTY, name)
+        yield [name, sum_of(path), *texts([os.path.getsize(path)]), records.get(name, ''), state]
+
+
+def conflicts_of(trial):
+    """The table of the conflicts."""
+    yield 'Names with several texts'
+    yield ['What', 'Name', 'Texts']
+    for line in trial.printed('conflicts', *FILES).decode().splitlines()[:-1]:
+        its = parts(line)
+        kind, names = (its[0], its[1:-1]) if its[0] == 'device' else (its[2], its[:2] + its[3:-1])
+        yield [kind, ' '.join(names), '%d' % its[-1]]
+
+
+def leaves(value, place=''):
+    """The texts, numbers and empty parts of a value by their places, in the order of their names."""
+    steps = sorted(value.items()) if isinstance(value, dict) else enumerate(value) if isinstance(value, list) else ()
+    held = {}
+    for step, part in steps:
+        held.update(leaves(part, '%s/%s' % (place, step)))
+    return held or {place: compact(value)}
+
+
+def compact(value):
+    return json.dumps(value, ensure_ascii=False, sort_keys=True, separators=(',', ':'))
+
+
+def facts(report):
+    """The kind and the name of each fact of a report, with its value."""
+    for device in report['ReportingDevice']:
+        yield ('device', device['@id']), device
+    for record in report.get('CVR', []):
+        name = record['CreatingDeviceId'], record['UniqueId']
+        yield ('header', *name), {key: it for key, it in record.items() if key not in ('CVRSnapshot', 'CurrentSnapshotId')}
+        for snapshot in record['CVRSnapshot']:
+            yield ('snapshot', *name, snapshot['@id']), snapshot
+
+
+def read(name):
+    with open(os.path.join(COUNTY, name), encoding='utf-8') as file:
+        return json.load(file)
+
+
+def beside_of(trial):
+    """The tables of the conflicts side by side: first the text of volume 1, then the others, the greatest first."""
+    volume = json.loads(trial.printed('merge', 'definition.json', '2024-11-07T00:00:00Z', 'desk-1', '1', *FILES[1:]))
+    first, held = {name: compact(it) for name, it in facts(volume)}, {}
+    for path in FILES[:-1]:     # the last one is refused
+        report = read(path)
+        for name, value in facts(dict(report, CVR=[]) if path == FILES[0] else report):
+            held.setdefault(name, {}).setdefault(compact(value), []).append(path)
+    for (kind, *names), texts in held.items():
+        if len(texts) > 1:
+            order = sorted(texts, key=lambda it: (it == first[(kind, *names)], it.encode()), reverse=True)
+            parts = [leaves(json.loads(it)) for it in order]
+            places = list(dict.fromkeys(place for it in parts for place in it))
+            yield (kind, *names), ['Texts side by side', ['Member', *('Text %d' % (number + 1) for number in range(len(order)))], ['Files', *(' '.join(texts[it]) for it in order)],
+                                   *([place, *(it.get(place, '') for it in parts)] for place in places)]
+
+
+# ---- what is tried
+
+class Parts(html.parser.HTMLParser):
+    """The scripts and the style of a page, its policy, and the names of its attributes."""
+
+    def __init__(self, text):
+        super().__init__()
+        self.last, self.texts, self.policy, self.names = None, [], '', set()
+        self.feed(text)
+
+    def handle_starttag(self, tag, attributes):
+        its = dict(attributes)
+        self.last = tag if tag == 'style' or (tag == 'script' and 'type' not in its) else None
+        self.names |= set(its)
+        self.policy += its.get('content', '') if 'http-equiv' in its else ''
+
+    def handle_endtag(self, tag):
+        self.last = None
+
+    def handle_data(self, text):
+        self.texts += [text] if self.last else []
+
+
+def see_made(trial, folder):
+    """The page with another module, made twice: the same bytes; its policy allows the script and the style in it."""
+    module, pages = os.path.join(folder, 'none.wasm'), []
+    with open(module, 'wb') as file:
+        file.write(b'no module')
+    for name in 'one.html', 'two.html':
+        subprocess.run([sys.executable, TOP + '/tools/html', module, os.path.join(folder, name)], stdout=subprocess.DEVNULL, check=True)
+        with open(os.path.join(folder, name), encoding='utf-8', newline='') as file:
+            pages.append(file.read())
+    trial.see('the page is the same each time', pages[0] == pages[1], True)
+    its = Parts(pages[0])
+    sums = [base64.b64encode(hashlib.sha256(it.encode()).digest()).decode() for it in its.texts]
+    trial.see('its policy has the sums of its style and its script', [it in its.policy for it in sums], [True, True])
+    for way in slips.WAYS:
+        with open(os.path.join(TOP, 'web', way.file), encoding='utf-8') as file:
+            trial.see('a slip that fits: ' + way.name, file.read().count(way.old), 1)
+    trial.see('nothing in it comes from elsewhere', its.names & {'src', 'href', 'srcset', 'action', 'onclick', 'onload'}, set())
+
+
+def started(browser, trial, page):
+    browser.open(page)
+    trial.see('the page starts', browser.value(SETTLED), READY)
+
+
+def see_county(browser, trial, page):
+    trial.see('the county is tallied', tallied(browser, COUNTY, FILES), 'Done.')
+    text = trial.printed('tally', *FILES)
+    trial.see('the text', browser.value(TEXTS % 'text'), text.decode())
+    trial.see('its sum', browser.value(TEXTS % 'sum'), hashlib.sha256(text).hexdigest())
+    beside, names = dict(beside_of(trial)), [it[:2] for it in list(conflicts_of(trial))[2:]]
+    besides = [beside[key] for key in sorted(beside, key=lambda key: names.index([key[0], ' '.join(key[1:])]))]
+    trial.see('the tables', browser.value(TABLES), [list(inputs_of(trial)), list(conflicts_of(trial)), *besides, *tables_of(text.decode())])
+    head, *lists = browser.value(LISTS)
+    trial.see('the lists', lists, list(lists_of(text.decode())))
+    version = trial.printed('--version').decode().splitlines()[0]
+    trial.see('the head', head[2:], ['By', version + ', in a browser', 'Module', 'SHA-256 ' + sum_of(FOLDER + '/cvr.wasm'), 'Page', 'SHA-256 ' + sum_of(page),
+                                     'Command', 'cvr tally -- ' + ' '.join(FILES)])
+    trial.see('the title', browser.value('document.title'), 'UNOFFICIAL: Alder County General Election')
+    trial.see('the election', browser.value("document.querySelector('#answer h1').textContent"), 'Alder County General Election')
+    widths = [[it.replace('%', '') for it in one] for one in browser.value(
+        "[...document.querySelectorAll('.contest')].map(it => [...it.querySelectorAll('.bar')].map(one => one.style.width))")]
+    votes = [it[6:] for it in summed([parts(line) for line in text.decode().splitlines()], 0).values()]
+    trial.see('the bars', [[round(float(it)) for it in one] for one in widths], [[round(100 * it // max(one)) for it in one] for one in votes])
+
+
+# The warnings that the page gives, of those of cvr-audit; conflicts have a section of their own.
+WARNED = {*KINDS} - {'alone', 'device', 'header', 'snapshot', 'batch'}
+BESIDE = """[...document.querySelectorAll('.conflict')].map(it => [it.querySelector('h3').textContent,
+  ...[...it.querySelector('tbody tr').cells].slice(1).map(one => one.textContent)])"""
+TITLES = {'device': 'Device', 'header': 'Header', 'snapshot': 'Snapshot'}
+WARNINGS = """[...document.querySelectorAll('.warnings > li')].map(it => [it.firstChild.textContent, it.childNodes[1].textContent,
+  ...[...it.querySelectorAll('code')].map(one => one.textContent)])"""
+
+
+def warnings_of(lines):
+    """The warnings of the page that lines of cvr-audit ask for, by kind."""
+    held = [line.rpartition(': @')[0].split(' ', 1) for line in lines]
+    return [[KINDS[kind], ': %s ' % ADVICE[kind], *(parts for one, parts in held if one == kind)]
+            for kind in KINDS if kind in WARNED and kind in [one for one, _ in held]]
+
+
+def conflicts_in(lines):
+    """The conflicts of the page that lines of cvr-audit ask for: each name, and the files of each of its texts."""
+    for line in lines:
+        kind, _, rest = line.rpartition(': @')[0].partition(' ')
+        if kind in TITLES:
+            name, *files = re.split(r' text \d+ ', rest)
+            yield [' '.join([TITLES[kind], *map(str, parts(name))]), *(' '.join(parts(it)) for it in files)]
+
+
+def see_warnings(browser, trial):
+    """The rows of cvr-audit on warnings; not those of a manifest, of no file, or of another program."""
+    held = [it for it in rows.held() if it['words'][0] == 'warnings' and len(it['words']) > 2 and '--manifest' not in it['words'] and 'program' not in it]
+    for row in held:
+        with tempfile.TemporaryDirectory() as folder:
+            rows.lay(folder, row.get('files', {}))
+            names = [it.replace('./', 'copy-of-') for it in row['words'][1:]]
+            for name, old in zip(names, row['words'][1:]):
+                if name != old:     # the page tells files by path
+                    os.link(os.path.join(folder, old), os.path.join(folder, name))
+            trial.see(row['name'], tallied(browser, folder, names), 'Done.')
+            trial.see('the warnings of ' + row['name'], browser.value(WARNINGS), warnings_of(row['out']))
+            trial.see('the conflicts of ' + row['name'], sorted(browser.value(BESIDE)), sorted(conflicts_in(row['out'])))
+
+
+def see_no_device(browser, trial, folder):
+    """A definition without a device, for which `cvr merge` makes no volume."""
+    with open(os.path.join(COUNTY, 'definition.json'), encoding='utf-8') as file:
+        report = json.load(file)
+    with open(os.path.join(folder, 'definition.json'), 'w', encoding='utf-8') as file:
+        json.dump(dict(report, ReportingDevice=[], ReportGeneratingDeviceIds=[]), file)
+    shutil.copy(os.path.join(COUNTY, 'scan.json'), folder)
+    trial.see('no device', tallied(browser, folder, ['definition.json', 'scan.json']), 'Done.')
+    warned = [it[0] for it in browser.value(WARNINGS)]
+    trial.see('no device: its warnings', warned, ['Pending'])
+    trial.see('no device: a note', 'no current snapshot was looked at' in browser.value(TEXTS % 'answer'), True)
+
+
+def see_saved(browser, trial, saved):
+    text = trial.printed('tally', *FILES)
+    for said, name in ('Save the text', 'tally.txt'), ('Save the totals as CSV', 'tally.csv'):
+        if os.path.exists(os.path.join(saved, name)):
+            os.remove(os.path.join(saved, name))
+        browser.value("[...document.querySelectorAll('button')].find(it => it.textContent === '%s').click()" % said)
+        got = saved_at(os.path.join(saved, name))
+        trial.see(said, got, text if name == 'tally.txt' else csv_of(text.decode()).encode())
+
+
+def see_volume(browser, trial, saved):
+    """A volume of merge that is saved: the command's bytes. A date that is none gives no volume."""
+    words, path = ['merge', '--', 'definition.json', '2024-11-07T00:00:00Z', 'desk-1', '2', *FILES[1:]], os.path.join(saved, 'volume-2.json')
+    if os.path.exists(path):
+        os.remove(path)
+    for date, said in ('2024-11-07T00:00:00Z', 'Saved, as by: cvr ' + ' '.join(words)), ('never', 'The program stopped: '):
+        for key, value in ('date', date), ('device', 'desk-1'), ('number', '2'):
+            browser.value("(document.getElementById('%s').value = '%s')" % (key, value))
+        browser.value("[...document.querySelectorAll('button')].find(it => it.textContent === 'Save the volume').click()")
+        trial.see('a volume at %s' % date, browser.value(SETTLED)[:len(said)], said)
+    trial.see('the volume', saved_at(path), trial.printed(*words))
+
+
+def csv_of(text):
+    """The CSV that a tally asks for."""
+    lines = ['"contest","unit","batch","number of","selection","number"']
+    for row in map(parts, text.splitlines()):
+        where = ','.join('"%s"' % it if it is not None else '' for it in row[:3])
+        lines += ['%s,"%s",,"%d"' % (where, name.lower(), number) for name, number in zip(COLUMNS, row[3:9])]
+        lines += ['%s,"votes","%s","%d"' % (where, key, number) for key, number in zip(row[9::2], row[10::2])]
+    return ''.join(it + '\r\n' for it in lines)
+
+
+def see_odd(browser, trial, folder):
+    """Names that a page could take for something else."""
+    for name in FILES[:3]:
+        with open(os.path.join(COUNTY, name), encoding='utf-8') as file:
+            text = file.read()
+        for old, new in ODD.items():
+            text = text.replace(json.dumps(old), json.dumps(new))
+        with open(os.path.join(folder, name), 'w', encoding='utf-8') as file:
+            file.write(text)
+    trial.see('odd names are tallied', tallied(browser, folder, FILES[:3]), 'Done.')
+    shown = browser.value("[document.querySelector('#answer h1').textContent, ...[...document.querySelectorAll('.contest bdi')].map(it => it.textContent)]")
+    trial.see('odd names stand as texts', [it in shown for it in ODD.values()], [True] * len(ODD))
+    trial.see('none is markup', browser.value("document.querySelectorAll('#answer img, #answer b, #answer script').length"), 0)
+    trial.see('none is run', browser.value('document.title'), 'UNOFFICIAL: ' + ODD['Alder County General Election'])
+
+
+def many(folder, count):
+    """A file of many records, made of the county's."""
+    with open(os.path.join(COUNTY, 'scan.json'), encoding='utf-8') as file:
+        report = json.load(file)
+    report['CVR'] = [dict(report['CVR'][0], UniqueId='many-%d' % it) for it in range(count)]
+    with open(os.path.join(folder, 'many.json'), 'w', encoding='utf-8') as file:
+        json.dump(report, file)
+
+
+def see_cancel(browser, trial, folder, seconds=1):
+    """A run that is cancelled shows nothing, also not `seconds` after the next one is done."""
+    many(folder, 20000)
+    given(browser, [os.path.join(COUNTY, 'definition.json'), os.path.join(folder, 'many.json')])
+    browser.value(CLICK % 'tally')
+    time.sleep(0.3)
+    busy = browser.value("document.getElementById('cancel').hidden")
+    browser.value(CLICK % 'cancel')
+    trial.see('there is a run to cancel', busy, False)
+    trial.see('a run is cancelled', browser.value(SETTLED), 'Cancelled. Nothing is shown.')
+    trial.see('nothing is shown then', browser.value(TEXTS % 'answer'), '')
+    trial.see('the next run is done', tallied(browser, COUNTY, FILES[:3]), 'Done.')
+    trial.see('and right', browser.value(TEXTS % 'text'), trial.printed('tally', *FILES[:3]).decode())
+    text, end = trial.printed('tally', *FILES[:3]).decode(), time.time() + seconds
+    while browser.value(TEXTS % 'text') == text and time.time() < end:
+        time.sleep(0.1)
+    trial.see('and stays', browser.value(TEXTS % 'text'), text)
+
+
+def see_memory(trial, page):
+    """A browser whose modules get little memory: files that need more are refused, and fewer are tallied then."""
+    with tempfile.TemporaryDirectory() as folder:
+        many(folder, 20000)
+        browser = chromium.Browser(folder, folder, '--js-flags=--wasm-max-mem-pages=%d' % PAGES)
+        try:
+            started(browser, trial, page)
+            given(browser, [os.path.join(COUNTY, 'definition.json'), os.path.join(folder, 'many.json')])
+            browser.value(CLICK % 'tally')
+            said = 'This browser refused memory. Free memory, or hand in fewer files. Nothing is shown.'
+            trial.see('files for which memory does not suffice', browser.value(SETTLED), said)
+            trial.see('fewer files then', tallied(browser, COUNTY, FILES[:3]), 'Done.')
+            trial.see('their text', browser.value(TEXTS % 'text'), trial.printed('tally', *FILES[:3]).decode())
+        finally:
+            browser.end()
+
+
+def see_refused(browser, trial, folder):
+    """A definition that is refused, two files of one name, and a file that is changed before it is read."""
+    trial.see('a refused definition', tallied(browser, COUNTY, ['damaged.json', 'scan.json']), 'The definition was refused, so there is no tally.')
+    trial.see('shows why', 'refused, E3' in browser.value(TEXTS % 'answer'), True)
+    browser.give('#files', [os.path.join(COUNTY, 'scan.json')])
+    trial.see('a second file of a name', 'another file has the same name: scan.json' in browser.value(SETTLED), True)
+    path = os.path.join(folder, 'changing.json')
+    for text in '{}', '{"a": 1, "b": 2}':
+        with open(path, 'w') as file:
+            file.write(text)
+        if text == '{}':
+            given(browser, [os.path.join(COUNTY, 'definition.json'), path])
+    browser.value(CLICK % 'tally')
+    # Chromium sees the change; Firefox reads as many bytes as there were, and the page has their sum.
+    said, shown = browser.value(SETTLED), browser.value(TEXTS % 'answer')
+    read = hashlib.sha256(text[:2].encode()).hexdigest() in shown and 'refused, E2' in shown
+    trial.see('a changed file', said.startswith("changing.json can't be read") or read, True)
+
+
+def see_network(browser, trial):
+    with socket.socket() as server:
+        server.bind(('127.0.0.1', 0))
+        server.listen()
+        server.settimeout(1)
+        url = 'http://127.0.0.1:%d/' % server.getsockname()[1]
+        trial.see('a request is refused', browser.value("fetch('%s').then(() => 'sent', () => 'refused')" % url), 'refused')
+        browser.value("(document.body.append(Object.assign(new Image(), {src: '%s'})), 0)" % url)
+        try:
+            heard = server.accept()[1]
+        except socket.timeout:
+            heard = None
+        trial.see('a server hears nothing', heard, None)
+    asked = [it for it in getattr(browser, 'asked', []) if not it.startswith(('file:', 'blob:', 'data:', url))]
+    trial.see('nothing is asked of the network', asked, [])
+
+
+def see_changed(browser, trial, page, folder):
+    """A page with another module, and one whose example has another tally."""
+    with open(page, encoding='utf-8') as file:
+        text = file.read()
+    other = os.path.join(folder, 'other.html')
+    for what, old, new in ('another sum', r'"sum": "[0-9a-f]{64}"', '"sum": "%s"' % ('0' * 64)), ('another module', r'(?<=id="module">)[^<]{40}', 'A' * 40):
+        with open(other, 'w', encoding='utf-8', newline='') as file:
+            file.write(re.sub(old, new, text))
+        browser.open(other)
+        said = browser.value(SETTLED)
+        trial.see('a page with ' + what, (said[:38], browser.value("document.getElementById('give').hidden")), ("This page can't work in this browser: ", True))
+
+
+def see_views(browser, trial, page, pictures):
+    """How Chromium shows it: on a phone, in the dark, on paper."""
+    for width, media, features in (1280, '', []), (390, '', []), (1280, '', [{'name': 'prefers-color-scheme', 'value': 'dark'}]), (800, 'print', []):
+        browser.open(page, width=width)
+        browser.value(SETTLED)
+        browser.call('Emulation.setEmulatedMedia', media=media, features=features)
+        tallied(browser, COUNTY, FILES)
+        what = '%d%s%s' % (width, media, 'dark' if features else '')
+        trial.see('nothing is wider than the window, %s' % what, browser.value('document.documentElement.scrollWidth') <= width, True)
+        colours = browser.value('[getComputedStyle(document.documentElement).color, getComputedStyle(document.documentElement).backgroundColor]')
+        wanted = ['rgb(232, 232, 232)', 'rgb(22, 24, 27)'] if features else ['rgb(27, 27, 27)', 'rgb(255, 255, 255)']
+        trial.see('the colours, %s' % what, colours, wanted)
+        shown = browser.value("[...document.querySelectorAll('.ours')].some(it => it.offsetParent !== null)")
+        trial.see('the buttons, %s' % what, shown, media != 'print')
+        if pictures:
+            write(os.path.join(pictures, 'page-%s.png' % what), browser.picture())
+    browser.call('Emulation.setEmulatedMedia', media='', features=[])
+    if pictures:        # that of README
+        browser.open(page, width=900, height=760)
+        browser.value(SETTLED)
+        tallied(browser, COUNTY, FILES[:3])
+        write(os.path.join(pictures, 'browser.png'), page_picture.smaller(browser.picture()))
+
+
+def write(path, data):
+    with open(path, 'wb') as file:
+        file.write(data)
+
+
+OPTIONS = "[...document.getElementById('definition').options].map(it => it.value)"
+FILLED = """new Promise(done => {
+  const look = () => { const its = %s; its.length ? done(its) : setTimeout(look, 20) }
+  look()
+})""" % OPTIONS
+
+
+def see_dropped(browser, trial, folder):
+    """Chromium: a folder and a file that are dropped on the page."""
+    above, other = os.path.join(folder, 'dropped'), os.path.join(COUNTY, 'damaged.json')
+    os.makedirs(above + '/scans')
+    for name, to in ('definition.json', ''), ('adjudicated.json', ''), ('scan.json', 'scans'), ('manifest.csv', ''):
+        shutil.copy(os.path.join(COUNTY, name), os.path.join(above, to))
+    browser.value(CLICK % 'clear')
+    browser.drop('#drop', [above, other])
+    trial.see('what was dropped', browser.value(FILLED), ['damaged.json', 'dropped/adjudicated.json', 'dropped/definition.json', 'dropped/scans/scan.json'])
+    browser.value(CLICK % 'tally')
+    trial.see('it is tallied', browser.value(SETTLED), 'Done.')
+    trial.see('its text', browser.value(TEXTS % 'text'), trial.printed('tally', *FILES[:3]).decode())
+
+
+def see_forced(browser, trial, page):
+    """In forced colours, where a ground may be missing, the bars have an edge that is seen."""
+    browser.open(page)
+    browser.value(SETTLED)
+    browser.call('Emulation.setEmulatedMedia', media='', features=[{'name': 'forced-colors', 'value': 'active'}])
+    tallied(browser, COUNTY, FILES)
+    edges = browser.value("""[...document.querySelectorAll('.bar')].filter(it => it.offsetWidth > 2).map(it => getComputedStyle(it)).map(it =>
+      it.borderTopStyle === 'solid' && it.borderTopColor !== getComputedStyle(document.documentElement).backgroundColor)""")
+    trial.see('forced colours', [browser.value("matchMedia('(forced-colors: active)').matches"), edges != [] and all(edges)], [True, True])
+    browser.call('Emulation.setEmulatedMedia', media='', features=[])
+
+
+def chosen(is_all):
+    """The slips that are tried: all, or as many as CHOSEN, by the commit's hash; without git always the same."""
+    has_git = shutil.which('git') and os.path.exists(os.path.join(TOP, '.git'))
+    commit = subprocess.run(['git', 'rev-parse', 'HEAD'], cwd=TOP, stdout=subprocess.PIPE).stdout if has_git else b''
+    return sorted(slips.WAYS, key=lambda it: hashlib.sha256(commit + it.name.encode()).digest())[:None if is_all else CHOSEN]
+
+
+def slipped(way):
+    """The page with a slip in its code."""
+    html = runpy.run_path(os.path.join(TOP, 'tools/html'))
+    held = html['held']
+
+    def with_slip(*path):
+        return held(*path).replace(way.old.encode(), way.new.encode()) if path == ('web', way.file) else held(*path)
+    html['page'].__globals__['held'] = with_slip
+    return html['page'](held(FOLDER, 'cvr.wasm'))
+
+
+def see_ways(browser, trial, folder, saved, is_all):
+    """Each slip of the page is found, once the page has started."""
+    page, seen = os.path.join(folder, 'slip.html'), {
+        'county': lambda own: see_county(browser, own, page), 'warnings': lambda own: see_warnings(browser, own),
+        'odd': lambda own: see_odd(browser, own, tempfile.mkdtemp(dir=folder)), 'cancel': lambda own: see_cancel(browser, own, folder, 240),
+        'gather': lambda own: exports.see_exports(browser, own, folder, saved, True),
+        'volume': lambda own: (tallied(browser, COUNTY, FILES), see_volume(browser, own, saved)),
+        'saved': lambda own: (tallied(browser, COUNTY, FILES), see_saved(browser, own, saved))}
+    for way in chosen(is_all):
+        own = Trial(trial.name, trial.cvr, False)
+        with open(page, 'w', encoding='utf-8', newline='') as file:
+            file.write(slipped(way))
+        starts = False
+        try:
+            started(browser, own, page)
+            starts = True
+            seen[way.seen](own)
+        except Found:
+            pass
+        trial.see('a slip is found: ' + way.name, (starts, own.wrong > 0), (True, True))
+
+
+def see_browser(kind, trial, page, words):
+    with tempfile.TemporaryDirectory() as folder:
+        saved, odd = os.path.join(folder, 'saved'), os.path.join(folder, 'odd')
+        os.mkdir(saved)
+        os.mkdir(odd)
+        browser = kind.Browser(folder, saved)
+        try:
+            started(browser, trial, page)
+            see_county(browser, trial, page)
+            see_saved(browser, trial, saved)
+            see_volume(browser, trial, saved)
+            see_warnings(browser, trial)
+            see_no_device(browser, trial, folder)
+            see_odd(browser, trial, odd)
+            exports.see_exports(browser, trial, folder, saved, kind is chromium)
+            see_refused(browser, trial, folder)
+            see_cancel(browser, trial, folder)
+            see_network(browser, trial)
+            if kind is chromium:
+                see_dropped(browser, trial, folder)
+                see_views(browser, trial, page, words.pictures)
+                see_forced(browser, trial, page)
+                see_ways(browser, trial, folder, saved, words.all)
+            see_changed(browser, trial, page, folder)
+        finally:
+            browser.end()
+
+
+def main():
+    words = argparse.ArgumentParser()
+    words.add_argument('--cvr', required=True, help='the program to compare with')
+    words.add_argument('--only', help='the name of a browser')
+    words.add_argument('--pictures', help='a folder for pictures of the page')
+    words.add_argument('--all', action='store_true', help='try all slips of the page\'s code')
+    words = words.parse_args()
+    page, own = FOLDER + '/cvr.html', Trial('page', os.path.abspath(words.cvr))
+    with tempfile.TemporaryDirectory() as folder:
+        see_made(own, folder)
+    right, wrong = own.right, own.wrong
+    subprocess.run([sys.executable, 'tools/targets', 'wasm'], cwd=TOP, check=True)
+    if os.path.exists(FOLDER + '/cvr.wasm'):
+        subprocess.run([sys.executable, 'tools/html'], cwd=TOP, check=True)
+    for name, kind in [('chromium', chromium), ('firefox', firefox)] if os.path.exists(FOLDER + '/cvr.wasm') else []:
+        if words.only in (None, name) and not kind.program():
+            print('%s is left out: it is not there' % name)
+        elif words.only in (None, name):
+            trial = Trial(name, os.path.abspath(words.cvr))
+            see_browser(kind, trial, page, words)
+            if kind is chromium:
+                see_memory(trial, page)
+            print('%s: %d right, %d wrong' % (name, trial.right, trial.wrong), flush=True)
+            right, wrong = right + trial.right, wrong + trial.wrong
+    print('browser: %d right, %d wrong' % (right, wrong))
+    sys.exit(0 if right and not wrong else 1)
+
+
+if __name__ == '__main__':
+    main()

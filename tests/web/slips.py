@@ -1,0 +1,43 @@
+"""slips.py: slips that the page's code could have. Each changes a text that stands once in its file of web/, and what
+`seen` names has to find it."""
+from collections import namedtuple
+
+Way = namedtuple('Way', 'name file old new seen', defaults=['county'])
+WAYS = [
+    Way('swaps_two_columns', 'texts.js', "'Overvotes', 'Undervotes'", "'Undervotes', 'Overvotes'"),
+    Way('leaves_out_a_number_of_a_row', 'texts.js', 'at % 2 === 1)]}', 'at % 2 === 1).fill(0n, 0, 1)]}'),
+    Way('sums_without_a_row', 'texts.js', 'for (const row of rows) {', 'for (const row of rows.slice(1)) {'),
+    Way('keeps_the_first_number_for_a_sum', 'texts.js', 'held.map((it, at) => it + row.numbers[at])', 'held'),
+    Way('takes_a_refused_file_for_one_not_read', 'texts.js', 'return {fault}', 'return {}'),
+    Way('tells_a_rule_by_its_code', 'texts.js', 'meaning: rule ? faults.rules[rule][0] : meaning', 'meaning'),
+    Way('forgets_the_names_of_candidates', 'texts.js', 'this.candidates = byId(this.its.Candidate)', 'this.candidates = new Map()'),
+    Way('leaves_out_the_last_selection', 'answer.js', 'selections.map((it, place) => [named', 'selections.slice(0, -1).map((it, place) => [named'),
+    Way('draws_bars_of_the_share_of_all_votes', 'answer.js', 'barred(votes[place], most)', 'barred(votes[place], counted)'),
+    Way('divides_by_batch_where_it_says_by_unit', 'answer.js', "part(it, 'unit', 'no unit'", "part(it, 'batch', 'no unit'"),
+    Way('shows_one_conflict_less', 'texts.js', 'linesOf(text).slice(0, -1).map(line', 'linesOf(text).slice(0, -2).map(line'),
+    Way('shows_the_sum_of_another_file', 'answer.js', 'sums[place] ??', 'sums[0] ??'),
+    Way('shows_the_module_for_the_page', 'answer.js', 'sum(own_sums.page)', 'sum(own_sums.module)'),
+    Way('tallies_without_the_fourth_file', 'page.js', "words = task => [task, '--', ...paths]",
+        "words = task => [task, '--', ...paths.filter((it, at) => at !== 3 || task !== 'tally')]"),
+    Way('tallies_without_the_second_file', 'page.js', "words = task => [task, '--', ...paths]",
+        "words = task => [task, '--', ...paths.filter((it, at) => at !== 1 || task !== 'tally')]"),
+    Way('leaves_out_overvotes_of_a_sum', 'warnings.js', 'total = counted + overvotes', 'total = counted', 'warnings'),
+    Way('leaves_out_the_first_that_waits', 'records.js', '...this.waiting, ...this.empty', '...this.waiting.slice(1), ...this.empty', 'warnings'),
+    Way('warns_of_a_rank_of_1', 'warnings.js', 'greatest > 1', 'greatest > 0', 'warnings'),
+    Way('looks_at_no_first_file', 'warnings.js', 'for (const at of accepted) for', 'for (const at of accepted.slice(1)) for', 'warnings'),
+    Way('takes_names_for_markup', 'page.js', 'its.append(...parts.filter(it => it !== null && it !== undefined))',
+        "for (const it of parts) it instanceof Node ? its.append(it) : its.insertAdjacentHTML('beforeend', it ?? '')", 'odd'),
+    Way('shows_an_answer_that_was_cancelled', 'page.js', 'working.worker.terminate()', 'working', 'cancel'),
+    Way('saves_numbers_that_a_table_takes_for_formulas', 'texts.js', "it === null ? '' : `", "it === null ? '' : `'", 'saved'),
+    Way('gathers_without_the_first_ballot', 'vxsuite.js', 'of = name => all.filter(it => baseOf(it.path) === name), reports = of(RULES.REPORT)',
+        'of = name => all.filter(it => baseOf(it.path) === name), reports = of(RULES.REPORT).slice(1)', 'gather'),
+    Way('writes_records_anew', 'vxsuite.js', 'text: its[1].trim()', 'text: spelled(records[0])', 'gather'),
+    Way('gathers_a_record_twice', 'vxsuite.js', 'if (this.names.has(name))', 'if (false)', 'gather'),
+    Way('looks_for_no_report', 'vxsuite.js', '!held.has(its) && !isRejected(its)', 'false', 'gather'),
+    Way('says_nothing_of_what_is_left_out', 'vxsuite.js', 'left: all.filter(isLeft)', 'left: [].filter(isLeft)', 'gather'),
+    Way('shows_an_export_of_which_a_part_is_refused', 'page.js', 'if (made) seeGathered(made, states, seen)', '', 'gather'),
+    Way('takes_any_bytes_of_a_zip', 'zip.js', 'throw fault instanceof Unfit ? fault : new Unfit(path, RULES.DAMAGED)', 'return bytes', 'gather'),
+    Way('counts_a_file_that_decides_nothing', 'records.js', 'decides: files > having.length', 'decides: files > 1', 'warnings'),
+    Way('asks_for_one_earlier_file', 'records.js', 'having.every(it => moment', 'having.some(it => moment', 'warnings'),
+    Way('takes_any_text_for_the_one_that_counts', 'records.js', 'taken === null || compact(it) === taken', 'true', 'warnings'),
+]

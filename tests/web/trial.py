@@ -1,0 +1,72 @@
+"""trial.py: what the tests of the page for a browser share: what is right and wrong, and how the page is driven."""
+import hashlib
+import os
+import subprocess
+import time
+
+TOP = os.path.dirname(os.path.dirname(os.path.dirname(os.path.abspath(__file__))))
+COUNTY = os.path.join(TOP, 'examples', 'county')
+FILES = ['definition.json', 'scan.json', 'adjudicated.json', 'corrected.json', 'damaged.json']
+FOLDER = os.path.join(TOP, 'out/targets/wasm')
+COLUMNS = ['Ballots', 'Overvotes', 'Undervotes', 'Write-ins', 'Pending', 'Unassigned']
+SETTLED = '''new Promise(done => {
+  const look = () => { const it = document.getElementById('state').textContent; /^(Starting|Reading|Running)/.test(it) ? setTimeout(look, 20) : done(it) }
+  look()
+})'''
+GIVEN = SETTLED.replace('(Starting|', '(0 files|Starting|')
+TEXTS = "document.getElementById('%s').textContent"
+CLICK = "document.getElementById('%s').click()"
+
+
+class Found(Exception):
+    """Something is wrong, in a trial that needs no more."""
+
+
+class Trial:
+    """What was right and wrong in a browser. One that doesn't tell ends at what is wrong."""
+
+    def __init__(self, name, cvr, tells=True):
+        self.name, self.cvr, self.tells, self.right, self.wrong = name, cvr, tells, 0, 0
+
+    def see(self, what, got, wanted):
+        if got == wanted:
+            self.right += 1
+        else:
+            self.wrong += 1
+            if not self.tells:
+                raise Found(what)
+            print('WRONG %s: %s\n    got      %.1500r\n    expected %.1500r' % (self.name, what, got, wanted), flush=True)
+
+    def printed(self, *words):
+        """What `cvr` prints in the folder of the county."""
+        return subprocess.run([self.cvr, *words], cwd=COUNTY, stdout=subprocess.PIPE, stderr=subprocess.DEVNULL).stdout
+
+
+def sum_of(path):
+    with open(path, 'rb') as file:
+        return hashlib.sha256(file.read()).hexdigest()
+
+
+def tallied(browser, folder, names):
+    """Gives files, has them tallied, and answers what the page then says."""
+    given(browser, [os.path.join(folder, it) for it in names])
+    browser.value(CLICK % 'tally')
+    return browser.value(SETTLED)
+
+
+def given(browser, paths, selector='#files'):
+    """Gives files in the place of those before; answers what the page says."""
+    browser.value(CLICK % 'clear')
+    browser.value(SETTLED)
+    browser.give(selector, paths)
+    return browser.value(GIVEN)
+
+
+def saved_at(path):
+    """The bytes of a file that a browser saves, once they stand there."""
+    for _ in range(100):
+        if os.path.exists(path) and os.path.getsize(path) and not os.path.exists(path + '.part') and not os.path.exists(path + '.crdownload'):
+            with open(path, 'rb') as file:
+                return file.read()
+        time.sleep(0.1)
+    return None

@@ -1,0 +1,222 @@
+'use strict'
+// What the records say, once cvr has read them; in the worker, since these may be many: warnings, by the rules of cvr-audit,
+// each its kind and its parts as cvr-audit prints them; and all texts of what is in conflict.
+
+const NEEDS = 'needs-adjudication', STATED = ['Overvotes', 'Undervotes']
+const nameOf = it => [it.CreatingDeviceId, it.UniqueId]
+
+// What stands several times, by its key: each key with all that has it.
+function several(values, key) {
+  const held = new Map()
+  for (const it of values) held.has(key(it)) ? held.get(key(it)).push(it) : held.set(key(it), [it])
+  return [...held].sort(([a], [b]) => byText(a, b)).filter(([, its]) => its.length > 1)
+}
+
+// ---- volume 1 of `cvr merge`
+
+const HEAD = '{"@type":"CVR.CastVoteRecordReport","CVR":['       // where it has records
+
+// Its records, one after the other; `rest` is the report without them, once they are read.
+class Volume {
+  constructor(bytes) {
+    this.bytes = bytes
+    this.rest = null
+  }
+
+  text(from, to) {
+    return new TextDecoder().decode(this.bytes.subarray(from, to))
+  }
+
+  *records() {
+    const has_records = this.text(0, HEAD.length) === HEAD
+    let at = has_records ? HEAD.length : 0
+    while (this.bytes[at] !== (has_records ? 0x5d : 0x7b)) {        // ] behind the last one
+      const end = this.behind(at)
+      yield JSON.parse(this.text(at, end))
+      at = end + (this.bytes[end] === 0x2c)
+    }
+    this.rest = JSON.parse((has_records ? '{"CVR":[' : '') + this.text(at))
+  }
+
+  // The place behind the object that begins at a place.
+  behind(at) {
+    for (let depth = 0, is_quoted = false; at < this.bytes.length; at++) {
+      const sign = this.bytes[at]
+      if (is_quoted) {
+        if (sign === 0x5c) at++
+        else is_quoted = sign !== 0x22
+      } else if (sign === 0x22) is_quoted = true
+      else if (sign === 0x7b) depth++
+      else if (sign === 0x7d && !--depth) return at + 1
+    }
+    throw new Error('volume 1 ends in a record')
+  }
+}
+
+// ---- the records that count
+
+const DAYS = 146097n        // of 400 years, after which the calendar is the same
+
+// The nanoseconds of a moment, counted from a day that is the same for all; RULES has its form.
+function instant(text) {
+  const [, sign, years, month, day, hours, minutes, rest, part, side, ...offset] = new RegExp(`^(?:${RULES.MOMENT})$`).exec(text)
+  const seconds = (hours, minutes, rest) => BigInt(3600 * (hours ?? 0) + 60 * (minutes ?? 0) + Math.min(rest ?? 0, 59))     // the 60th counts as the 59th
+  const year = sign === '-00' ? -years : +years, days = BigInt(Date.UTC(400 + (year % 400 + 400) % 400, month - 1, day) / 86400000) + BigInt(Math.floor(year / 400)) * DAYS
+  const shift = seconds(...offset)
+  return (86400n * days + seconds(hours, minutes, rest) - (side === '-' ? -shift : shift)) * 10n ** 9n + BigInt((part ?? '').padEnd(9, '0'))
+}
+
+const isUnknown = it => it.HasIndication === 'unknown' && (it.IsAllocable ?? 'unknown') === 'unknown'
+const waits = it => (it.Status ?? []).includes(NEEDS) || it.SelectionPosition.some(isUnknown)
+
+// The contests in which a snapshot waits for a person; null where it doesn't wait.
+function waitingIn(snapshot) {
+  const held = (snapshot.CVRContest ?? []).filter(it => (it.CVRContestSelection ?? []).some(waits)).map(it => it.ContestId)
+  return held.length || (snapshot.Status ?? []).includes(NEEDS) ? held : null
+}
+
+// The contests of a snapshot, each with the Ranks of its positions.
+function ranksIn(snapshot) {
+  return (snapshot.CVRContest ?? []).map(it => [it.ContestId, (it.CVRContestSelection ?? []).flatMap(chosen =>
+    chosen.SelectionPosition.map(one => one.Rank ?? chosen.Rank).filter(rank => rank !== undefined))])
+}
+
+// Of a current snapshot: its id; the latest moment that stands with it; whether one does, and nobody's name; how many files
+// have the record, and which of them have the snapshot.
+function originOf(current) {
+  const notes = current.Annotation ?? [], moments = notes.filter(it => it.TimeStamp !== undefined).map(it => instant(it.TimeStamp))
+  const has_name = notes.some(it => (it.AdjudicatorName ?? []).some(name => name))
+  return {id: current['@id'], moment: moments.reduce((a, b) => a === null || b > a ? b : a, null), is_unnamed: moments.length > 0 && !has_name, files: 0, having: []}
+}
+
+// What volume 1 says of the records, and then each file: their number, warnings of them, the greatest Rank of each contest, and
+// which contests have which number stated.
+class Seen {
+  constructor(conflicts) {
+    this.conflicts = conflicts
+    this.records = new Map()
+    this.made = new Map()       // of each file its moment
+    this.stated = new Set()
+    this.greatest = new Map()
+    this.waiting = []
+    this.empty = []
+    this.ballots = []
+  }
+
+  take(record) {
+    const current = record.CVRSnapshot.find(it => it['@id'] === record.CurrentSnapshotId), name = nameOf(record), contests = waitingIn(current)
+    this.records.set(spelled(name), originOf(current))
+    if (contests) this.waiting.push(['waiting', ...[...name, ...contests].map(spelled)])
+    if (!current.CVRContest?.length) this.empty.push(['record', ...name.map(spelled)])
+    if (record.BallotAuditId !== undefined) this.ballots.push([record.BallotAuditId, name])
+    for (const [contest, ranks] of ranksIn(current)) for (const it of ranks) this.greatest.set(contest, Math.max(it, this.greatest.get(contest) ?? it))
+    for (const it of record.CVRSnapshot) this.takeStated(it)
+    this.conflicts.shows({CVR: [record]})
+  }
+
+  takeStated(snapshot) {
+    for (const it of snapshot.CVRContest ?? []) for (const name of STATED) if (it[name] !== undefined) this.stated.add(spelled([it.ContestId, name]))
+  }
+
+  // Whether a record of a file has the snapshot that counts: of one without a conflict all texts are the same.
+  stands(record, {id}) {
+    const taken = this.conflicts.firstOf(['snapshot', ...nameOf(record), id])
+    return record.CVRSnapshot.some(it => it['@id'] === id && (taken === null || compact(it) === taken))
+  }
+
+  takeFile(path, report) {
+    const files = new Set(), having = new Set()
+    for (const it of report.CVR ?? []) {
+      const held = this.records.get(spelled(nameOf(it)))
+      files.add(held)
+      if (this.stands(it, held)) having.add(held)
+    }
+    for (const it of files) it.files++
+    for (const it of having) it.having.push(path)
+    this.made.set(path, instant(report.GeneratedDate))
+  }
+
+  // What is said of the files that have the snapshot that counts: each kind and file with the number of records.
+  decided() {
+    const counts = {decides: new Map(), nobody: new Map(), later: new Map()}
+    for (const {files, having, is_unnamed, moment} of this.records.values()) {
+      const kinds = {decides: files > having.length, nobody: is_unnamed, later: moment !== null && having.every(it => moment > this.made.get(it))}
+      for (const path of having) for (const kind in kinds) if (kinds[kind]) counts[kind].set(path, (counts[kind].get(path) ?? 0) + 1)
+    }
+    return Object.entries(counts).flatMap(([kind, its]) => [...this.made.keys()].filter(it => its.has(it)).map(it => [kind, spelled(it), its.get(it)]))
+  }
+
+  ended() {
+    const twice = several(this.ballots, it => it[0]).map(([ballot, its]) => ['ballot', spelled(ballot), ...its.flatMap(it => it[1]).map(spelled)])
+    for (const it of this.conflicts.ended()) if (it.name[0] === 'snapshot') for (const {value} of it.texts) this.takeStated(value)
+    return {count: this.records.size, greatest: this.greatest, stated: this.stated, lines: [...this.decided(), ...this.waiting, ...this.empty, ...twice]}
+  }
+}
+
+// ---- what is in conflict
+
+// Each fact of a report: its kind and name, the value whose text is its body, and whether it is a current snapshot.
+function* factsOf(report) {
+  for (const it of report.ReportingDevice ?? []) yield [['device', it['@id']], it, true]
+  for (const it of report.CVR ?? []) {
+    const {CVRSnapshot: snapshots, CurrentSnapshotId: current, ...header} = it
+    yield [['header', ...nameOf(it)], header, true]
+    for (const one of snapshots) yield [['snapshot', ...nameOf(it), one['@id']], one, one['@id'] === current]
+  }
+}
+
+// The texts of each name in conflict, and the paths of the files that have each.
+class Conflicts {
+  constructor(its) {
+    this.held = new Map(its.map(it => [spelled(it.name), {...it, first: null, is_current: false, texts: new Map()}]))
+  }
+
+  *those(report) {
+    if (this.held.size) for (const [name, value, is_current] of factsOf(report)) if (this.held.has(spelled(name))) yield [this.held.get(spelled(name)), value, is_current]
+  }
+
+  // The text of a name that cvr takes; null where the name has one text.
+  firstOf(name) {
+    return this.held.size ? this.held.get(spelled(name))?.first ?? null : null
+  }
+
+  // Notes a part of volume 1: its texts are the ones that cvr takes.
+  shows(report) {
+    for (const [it, value, is_current] of this.those(report)) Object.assign(it, {first: compact(value), is_current})
+  }
+
+  take(path, report) {
+    for (const [{texts}, value] of this.those(report)) {
+      const text = compact(value), held = texts.get(text) ?? {value, paths: []}
+      if (!held.paths.includes(path)) held.paths.push(path)
+      texts.set(text, held)
+    }
+  }
+
+  // Each name with its texts: first the one of volume 1, then the others, the greatest first.
+  ended() {
+    return [...this.held.values()].map(({name, count, first, is_current, texts}) => ({name, count, is_current, is_known: first !== null,
+      texts: [...texts].sort(([a], [b]) => a === first ? -1 : b === first ? 1 : byText(b, a)).map(([, it]) => it)}))
+  }
+}
+
+// The records of a report that stand in it several times.
+function repeatedIn(report) {
+  return several((report.CVR ?? []).map(nameOf), spelled).map(([, its]) => [its[0].map(spelled).join(' '), its.length])
+}
+
+// What the records say, from what `cvr check` and `cvr conflicts` print, and from volume 1, if there is one. `read` gives the
+// bytes of a file.
+function looked(paths, read, check, printed, volume) {
+  const states = judged(paths, check.text, check.log), conflicts = new Conflicts(conflictsIn(printed)), seen = volume ? new Seen(conflicts) : null
+  for (const it of volume?.records() ?? []) seen.take(it)
+  conflicts.shows(volume ? {ReportingDevice: volume.rest.ReportingDevice} : {})
+  const repeated = paths.map((path, at) => {
+    if (states[at].records === undefined) return []
+    const report = JSON.parse(new TextDecoder().decode(read(at)))
+    conflicts.take(path, at ? report : {ReportingDevice: report.ReportingDevice})
+    if (at) seen?.takeFile(path, report)
+    return repeatedIn(report)
+  })
+  return {states, repeated, seen: seen?.ended() ?? null, disagreements: conflicts.ended(), volumes: Number(/\d+\n$/.exec(printed)?.[0] ?? 0)}
+}

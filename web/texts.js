@@ -1,0 +1,128 @@
+'use strict'
+// What cvr prints and logs, as values; and the definition's names. Numbers are BigInt: a sum may be longer than 53 bits.
+
+const COLUMNS = ['Ballots', 'Overvotes', 'Undervotes', 'Write-ins', 'Pending', 'Unassigned']
+const FAULT = /^(?:E[126]|E3 .* \d+|E[45] .*|K[12]|memory)$/
+
+// The parts of a printed line: texts, numbers and null.
+function partsOf(line) {
+  return line.match(/"(?:[^"\\]|\\.)*"|[^ ]+/g).map(it => it[0] === '"' ? JSON.parse(it) : it === 'null' ? null : /^\d+$/.test(it) ? BigInt(it) : it)
+}
+
+function linesOf(text) {
+  return text.split('\n').slice(0, -1)
+}
+
+// The rows of `cvr tally`: contest, unit, batch, then the numbers of the columns and of the selections.
+function rowsOf(text) {
+  return linesOf(text).map(partsOf).map(([contest, unit, batch, ...rest]) => {
+    const votes = rest.slice(COLUMNS.length)
+    return {contest, unit, batch, selections: votes.filter((_, at) => at % 2 === 0),
+      numbers: [...rest.slice(0, COLUMNS.length), ...votes.filter((_, at) => at % 2 === 1)]}
+  })
+}
+
+// What `cvr conflicts` prints: each name, its kind first, and how many texts it has. The last line has the number of volumes.
+function conflictsIn(text) {
+  return linesOf(text).slice(0, -1).map(line => {
+    const parts = partsOf(line), count = Number(parts.pop())
+    return {name: line.startsWith('device ') ? parts : [parts[2], parts[0], parts[1], ...parts.slice(3)], count}
+  })
+}
+
+// The sums of the numbers of rows, by what a row has at a member; the keys in the order in which they first stand.
+function sumsBy(rows, member) {
+  const sums = new Map()
+  for (const row of rows) {
+    const held = sums.get(row[member])
+    sums.set(row[member], held ? held.map((it, at) => it + row.numbers[at]) : row.numbers)
+  }
+  return sums
+}
+
+// Of each path in its order what `cvr check` prints, or logs: the number of its records, or its fault.
+function judged(paths, text, log) {
+  let printed = 0, logged = 0
+  return paths.map(path => {
+    const records = text.startsWith(path + ' ', printed) && /^\d+(?=\n)/.exec(text.slice(printed + path.length + 1))
+    if (records) {
+      printed += path.length + records[0].length + 2
+      return {records: BigInt(records[0])}
+    }
+    const fault = log.startsWith(path + ': ', logged) ? log.slice(logged + path.length + 2).split('\n')[0] : ''
+    if (!FAULT.test(fault)) return {}
+    logged += path.length + fault.length + 3
+    return {fault}
+  })
+}
+
+// What a fault means, and what to do, in the sentences of FAULTS.
+function inWords(fault, faults) {
+  const [code, ...rest] = fault.split(' '), rule = code === 'E3' ? rest.pop() : null
+  const [meaning, todo] = faults.codes[code === 'memory' ? 'L4' : code]
+  const place = rest.join(' ') || (rule && 'the whole file')
+  return {code, place, meaning: rule ? faults.rules[rule][0] : meaning, todo: rule ? faults.rules[rule][1] : todo}
+}
+
+// The words of a command, as a shell takes them.
+function commandOf(words) {
+  return words.map(it => /^[\w@%+=:,./-]+$/.test(it) ? it : `'${it.replace(/'/g, `'"'"'`)}'`).join(' ')
+}
+
+// The rows as CSV, one line for each number of votes; a cell that a table would take for a formula begins with an apostrophe.
+function csvOf(rows) {
+  const cell = it => it === null ? '' : `"${String(it).replace(/^[=+\-@\t\r]/, `'$&`).replace(/"/g, '""')}"`
+  const lines = [['contest', 'unit', 'batch', 'number of', 'selection', 'number']]
+  for (const {contest, unit, batch, selections, numbers} of rows)
+    numbers.forEach((it, at) => lines.push([contest, unit, batch, at < COLUMNS.length ? COLUMNS[at].toLowerCase() : 'votes',
+      at < COLUMNS.length ? null : selections[at - COLUMNS.length], it]))
+  return lines.map(it => it.map(cell).join(',') + '\r\n').join('')
+}
+
+// ---- JSON
+
+const spelled = it => JSON.stringify(it)
+const isObject = it => it !== null && typeof it === 'object' && !Array.isArray(it)
+const pointed = step => '/' + String(step).replace(/~/g, '~0').replace(/\//g, '~1')       // a step of a JSON Pointer
+
+// A value as its compact text, the members in the order of their names.
+function compact(it) {
+  if (Array.isArray(it)) return `[${it.map(compact).join(',')}]`
+  return isObject(it) ? `{${Object.keys(it).sort(byText).map(name => `${spelled(name)}:${compact(it[name])}`).join(',')}}` : spelled(it)
+}
+
+// ---- the definition's names
+
+const textIn = (value, member) => typeof value[member] === 'string' && value[member] ? value[member] : null
+const textsIn = (value, member) => Array.isArray(value[member]) ? value[member].filter(it => typeof it === 'string') : []
+const byId = values => new Map((values ?? []).map(it => [it['@id'], it]))
+
+class Names {
+  constructor(report) {
+    this.its = report.Election[0]
+    this.election = textIn(this.its, 'Name') ?? this.its['@id']
+    this.units = byId(report.GpUnit)
+    this.parties = byId(report.Party)
+    this.candidates = byId(this.its.Candidate)
+    this.contests = byId(this.its.Contest)
+  }
+
+  named(all, key) {
+    return all.has(key) ? textIn(all.get(key), 'Name') : null
+  }
+
+  parties_of(keys) {
+    return [...new Set(keys)].map(it => this.named(this.parties, it) ?? it)
+  }
+
+  // The name of a selection, and the names of its parties.
+  selection(contest, key) {
+    const its = byId(this.contests.get(contest)?.ContestSelection).get(key) ?? {}
+    const held = textsIn(its, 'CandidateIds').filter(it => this.candidates.has(it))
+    const parties = held.map(it => this.candidates.get(it).PartyId).filter(it => it)
+    const names = its['@type'] === 'CVR.PartySelection' ? this.parties_of(textsIn(its, 'PartyIds')) : held.map(it => this.named(this.candidates, it) ?? it)
+    const name = textIn(its, 'Selection') ?? (names.join(' / ') || textIn(its, 'Name'))
+    const title = its.IsWriteIn === true ? (name ? 'Write-in: ' + name : 'Write-in') : name
+    return {name: title || null, more: this.parties_of([...parties, ...textsIn(its, 'EndorsementPartyIds')]).join(', ')}
+  }
+}

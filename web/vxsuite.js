@@ -1,0 +1,220 @@
+'use strict'
+// Makes an export of VxSuite into files for cvr, by the rules of cvr-audit gather and of the same bytes. RULES has its names,
+// limits and sentences (companion/cvr_audit/gather_said.py).
+
+const NUMBER = 'a number here has a point, an exponent or more than 15 digits; gather the export with cvr-audit'
+const own = (it, name) => Object.hasOwn(it, name) ? it[name] : undefined
+
+// ---- JSON
+
+// The places where two values differ, each with the texts of both there.
+function* differences(one, other, place) {
+  const isPair = isObject(one) && isObject(other), both = isPair || Array.isArray(one) && Array.isArray(other)
+  const texts = both ? [] : [one, other].map(it => it === undefined ? '-' : compact(it))
+  if (texts[0] !== texts[1]) yield [place, ...texts]
+  const steps = isPair ? [...new Set([...Object.keys(one), ...Object.keys(other)])].sort(byText) : both ? [...(one.length > other.length ? one : other).keys()] : []
+  for (const it of steps) yield* differences(own(one, it), own(other, it), place + pointed(it))
+}
+
+// The first line that isn't UTF-8.
+function lineOf(bytes) {
+  for (let line = 1, from = 0; ; line++) {
+    const end = bytes.indexOf(10, from)
+    try {
+      new TextDecoder('utf-8', {fatal: true}).decode(bytes.subarray(from, end < 0 ? bytes.length : end))
+    } catch (fault) {
+      return line
+    }
+    if (end < 0) return line
+    from = end + 1
+  }
+}
+
+// The text of a source. It has no half of a pair of surrogates, which would be no sign.
+async function textOf(source) {
+  const bytes = await bytesOf(source, source.size)
+  let text
+  try {
+    text = new TextDecoder('utf-8', {fatal: true}).decode(bytes)
+  } catch (fault) {
+    throw new Unfit(source.path, RULES.NO_TEXT, `line ${lineOf(bytes)}`)
+  }
+  for (const it of text.matchAll(new RegExp(RULES.ESCAPED, 'g')))
+    if (it[1]) throw new Unfit(source.path, filled(RULES.HALF, it[0]), `line ${text.slice(0, it.index).split('\n').length}`)
+  return text
+}
+
+function parsed(path, text) {
+  try {
+    return JSON.parse(text)
+  } catch (fault) {
+    throw new Unfit(path, filled(RULES.NO_JSON, fault.message))
+  }
+}
+
+// Stops at a member that stands twice in an object, and at a number that JavaScript would write otherwise.
+function seeMembers(path, text) {
+  const held = []         // of each open object the names of its members
+  for (const [token, colon] of text.matchAll(/"(?:[^"\\]|\\.)*"(\s*:)?|[{}]|-?\d[^\s,\]}]*/g)) {
+    if (token === '{') held.push(new Set())
+    else if (token === '}') held.pop()
+    else if (colon) {
+      const name = JSON.parse(token.slice(0, -colon.length))
+      if (held.at(-1).has(name)) throw new Unfit(path, filled(RULES.TWICE, spelled(name)))
+      held.at(-1).add(name)
+    } else if (token[0] !== '"' && !/^-?\d{1,15}$/.test(token)) throw new Unfit(path, NUMBER)
+  }
+}
+
+// ---- the election
+
+// What the reports that were taken say of their election.
+class Union {
+  constructor() {
+    this.election = null
+    this.dates = []
+    this.makers = new Set()
+    this.held = new Map(RULES.KINDS.map(kind => [kind, new Map()]))       // by id: the object, and the path of its report
+  }
+
+  take(path, report) {
+    this.election ??= {value: report.Election, path}
+    this.seeSame('/Election', path, report.Election, this.election)
+    this.dates.push(report.GeneratedDate)
+    for (const it of report.ReportGeneratingDeviceIds) this.makers.add(it)
+    for (const [kind, held] of this.held) for (const [at, one] of (report[kind] ?? []).entries()) {
+      const first = held.get(one['@id'])
+      if (first && kind !== 'ReportingDevice') this.seeSame(`/${kind}/${at}`, path, one, first)
+      if (!first || byText(compact(one), compact(first.value)) > 0) held.set(one['@id'], {value: one, path})
+    }
+  }
+
+  seeSame(place, path, value, first) {
+    for (const [where, old, found] of differences(first.value, value, place)) throw new Unfit(where, `${first.path} ${old}, ${path} ${found}`)
+  }
+
+  // The definition: objects in the order of their ids.
+  report() {
+    const made = {'@type': 'CVR.CastVoteRecordReport', Version: '1.0.0', Notes: RULES.NOTES, GeneratedDate: this.dates.sort(byText)[0],
+      ReportGeneratingDeviceIds: [...this.makers].sort(byText)}
+    for (const [kind, held] of this.held) if (held.size || kind !== 'Party') made[kind] = [...held.keys()].sort(byText).map(it => held.get(it).value)
+    return {...made, Election: this.election.value, CVR: []}
+  }
+}
+
+const textOfReport = report => JSON.stringify(report, null, 1) + '\n'
+
+// Stops where cvr doesn't accept a report without its records.
+async function seeFrame(compiled, path, frame) {
+  const text = new Blob([textOfReport(frame)]), words = ['check', '--', 'definition.json']
+  const held = new Files(new Module(compiled), [{path: 'definition.json', file: text, size: text.size}], [words])
+  await held.read(0)
+  const {status, log} = held.run(words)
+  if (status === 1) throw new Unfit(path, filled(RULES.REFUSED, log.trim().split(': ').at(-1).replace(' /', ` /${RULES.FRAME}/`)))
+  if (status) throw status === 4 ? new Refused() : new Error(log)
+}
+
+async function frameIn(source, compiled, notes) {
+  const text = await textOf(source), held = parsed(source.path, text), frame = isObject(held) ? own(held, RULES.FRAME) : null
+  seeMembers(source.path, text)
+  if (!isObject(frame)) throw new Unfit(source.path, RULES.NO_FRAME)
+  if (!['null', '[]', '{}', '0', '""', 'false'].includes(compact(own(frame, 'CVR') ?? null))) throw new Unfit(source.path, RULES.OWN_RECORDS)
+  for (const name of Object.keys(held).sort(byText))
+    if (name !== RULES.FRAME && !RULES.LEFT.includes(name)) notes.push(filled(RULES.LEFT_OUT, source.path, spelled(name)))
+  const its = {...frame, CVR: []}
+  await seeFrame(compiled, source.path, its)
+  return its
+}
+
+// ---- the records
+
+const isRejected = folder => baseOf(folder).startsWith(RULES.REJECTED)
+
+// Stops at a ballot without a report: part of the export is missing.
+function seeBallots(folder, sources, held) {
+  for (const it of sources) {
+    const its = folderOf(it.path)
+    if (its !== folder && folderOf(its) === folder && !held.has(its) && !isRejected(its)) throw new Unfit(its, RULES.NO_REPORT)
+  }
+}
+
+// The only record of a report: its own text.
+async function recordIn(source) {
+  const text = await textOf(source), report = parsed(source.path, text), records = isObject(report) ? report.CVR : null
+  const its = /^\s*\{\s*"(?:[^"\\]|\\.)*"\s*:\s*\[([^]*)\]\s*\}\s*$/.exec(text), stop = (said, place) => { throw new Unfit(source.path, said, place) }
+  if (!its || !Array.isArray(records) || records.length !== 1) stop(RULES.NO_ONE_RECORD)
+  for (const name of ['CreatingDeviceId', 'UniqueId']) {
+    if (!isObject(records[0]) || !Object.hasOwn(records[0], name)) stop(filled(RULES.UNNAMED, name), '/CVR/0')
+    if (typeof records[0][name] !== 'string') stop(filled(RULES.NO_NAME, name), '/CVR/0')
+  }
+  try {
+    JSON.parse(its[1])
+  } catch (fault) {       // more than one member
+    stop(RULES.NO_ONE_RECORD)
+  }
+  return {text: its[1].trim(), name: nameOf(records[0]).map(spelled).join(' ')}
+}
+
+// The records in files, each behind those before it.
+class Records {
+  constructor() {
+    this.files = []         // of each the texts of its records, and the paths of their sources
+    this.names = new Map()
+    this.room = 0
+  }
+
+  add(path, {text, name}) {
+    const bytes = new TextEncoder().encode(text), count = bytes.length + 2
+    if (this.names.has(name)) throw new Unfit(path, filled(RULES.ELSEWHERE, name, this.names.get(name), '/CVR/0'), '/CVR/0')
+    this.names.set(name, path)
+    if (count > this.room) {
+      this.room = RULES.MOST - RULES.ROOM - RULES.BEGINNING.length
+      if (count > this.room) throw new Unfit(path, RULES.LONG_RECORD, '/CVR/0')
+      this.files.push({parts: [RULES.BEGINNING, bytes], paths: [path]})
+    } else {
+      this.files.at(-1).parts.push(',\n', bytes)
+      this.files.at(-1).paths.push(path)
+    }
+    this.room -= count
+  }
+
+  ended(report, name) {
+    const {'@type': _, CVR: __, ...rest} = report, tail = new TextEncoder().encode('\n],' + compact(rest).slice(1))
+    if (tail.length > RULES.ROOM) throw new Unfit(name, filled(RULES.LONG_ELECTION, RULES.ROOM))
+    return this.files.map(it => new Blob([...it.parts, tail]))
+  }
+}
+
+// ---- the export
+
+const TOGETHER = 64     // reports that are read at once, since each has a browser wait
+
+const isLeft = ({path, file}) => ![RULES.METADATA, RULES.REPORT].includes(baseOf(path)) && !(RULES.IMAGES.some(it => path.endsWith(it)) && !isRejected(folderOf(path)))
+
+// The definition and the files of records that an export gives; how many records it has, counted by folders; what is left out;
+// and of each file of records the sources of these.
+async function gathered(sources, compiled, tell) {
+  const all = sources.sort((a, b) => byText(a.path, b.path)), root = all[0].path.split('/')[0], notes = [], union = new Union(), out = new Records()
+  const of = name => all.filter(it => baseOf(it.path) === name), reports = of(RULES.REPORT), held = new Set(reports.map(it => folderOf(it.path)))
+  const folders = new Set(of(RULES.METADATA).map(it => folderOf(it.path)))
+  for (const it of of(RULES.METADATA)) {
+    tell(it.path, 'Reading ' + it.path)
+    union.take(it.path, await frameIn(it, compiled, notes))
+    seeBallots(folderOf(it.path), all, held)
+  }
+  for (let from = 0; from < reports.length; from += TOGETHER) {
+    const some = reports.slice(from, from + TOGETHER)
+    for (const [at, it] of (await Promise.allSettled(some.map(recordIn))).entries()) {
+      tell(some[at].path, at ? null : `Reading ballot ${from + 1} of ${reports.length}`)
+      if (!folders.has(folderOf(folderOf(some[at].path)))) throw new Unfit(some[at].path, RULES.NO_METADATA)
+      if (it.reason) throw it.reason
+      out.add(some[at].path, it.value)
+    }
+  }
+  const report = union.report()
+  if (!reports.length) throw new Unfit(root, filled(RULES.NO_RECORD, 'vxsuite'))
+  if (!report.Election[0].Contest.length) throw new Unfit(root, RULES.NO_CONTEST)
+  const blobs = [new Blob([textOfReport(report)]), ...out.ended(report, root)]
+  const files = blobs.map((it, at) => ({path: at ? `gathered/records-${at}.json` : 'gathered/definition.json', file: it, size: it.size}))
+  return {files, count: held.size, left: all.filter(isLeft).map(it => it.path), notes, places: out.files.map(it => it.paths)}
+}

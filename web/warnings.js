@@ -1,0 +1,45 @@
+'use strict'
+// Warnings of what cvr printed, and of what records.js saw, by the rules of cvr-audit: each its kind, and its parts as
+// cvr-audit prints them.
+
+const RANKED = ['borda', 'range', 'rcv'], ABSENT = '-'
+
+// Of the files: refused ones, how the definition is used, and records that count as one.
+function* fileWarnings(files, states, sums, repeated, seen) {
+  const accepted = [...files.keys()].filter(it => it > 0 && states[it].records !== undefined)
+  for (const [at, {fault}] of states.entries()) if (at > 0 && fault) yield ['refused', spelled(files[at].path), fault]
+  if (sums[0] && sums.indexOf(sums[0], 1) > 0) yield ['among', spelled(files[0].path)]
+  else if (states[0].records) yield ['definition', spelled(files[0].path), states[0].records]
+  for (const at of accepted) for (const parts of repeated[at]) yield ['repeated', spelled(files[at].path), ...parts]
+  if (!seen) return
+  const all = accepted.reduce((sum, at) => sum + Number(states[at].records), 0), again = accepted.flatMap(at => repeated[at]).reduce((sum, [, count]) => sum + count - 1, 0)
+  if (all > seen.count) yield ['counted', all, seen.count, 'again', again, 'elsewhere', all - seen.count - again]
+}
+
+// Of the rows of the tally, with how many votes a ballot has in each contest.
+function* rowWarnings(rows, allowed) {
+  for (const {contest, unit, batch, numbers} of rows) {
+    const [ballots, overvotes, undervotes, , pending, unassigned] = numbers, most = allowed.get(contest)
+    const name = [contest, unit, batch].map(spelled).join(' ')
+    const counted = numbers.slice(COLUMNS.length).reduce((a, b) => a + b, unassigned), total = counted + overvotes + undervotes + pending
+    if (pending) yield ['pending', name, pending]
+    if (unassigned) yield ['unassigned', name, unassigned]
+    if (most && counted > ballots * most) yield ['votes', name, counted, ballots * most]
+    else if (most === 1n && total !== ballots) yield ['sum', name, total, ballots]
+  }
+}
+
+// Of the definition's contests: those of ranks, those that no row has, and the numbers that no file states.
+function* contestWarnings(contests, rows, seen) {
+  for (const it of contests) {
+    const key = it['@id'], greatest = seen?.greatest.get(key)
+    if (RANKED.includes(it.VoteVariation) || greatest > 1) yield ['ranked', spelled(key), it.VoteVariation ?? ABSENT, greatest ?? ABSENT]
+    if (!rows.some(row => row.contest === key)) yield ['contest', spelled(key)]
+    else for (const name of seen ? ['Overvotes', 'Undervotes'] : []) if (!seen.stated.has(spelled([key, name]))) yield ['unstated', spelled(key), name]
+  }
+}
+
+function warningsOf({files, states, sums, repeated, seen}, contests, rows) {
+  const allowed = new Map(contests.filter(it => Number.isInteger(it.VotesAllowed) && it.VotesAllowed > 0).map(it => [it['@id'], BigInt(it.VotesAllowed)]))
+  return [...fileWarnings(files, states, sums, repeated, seen), ...rowWarnings(rows, allowed), ...contestWarnings(contests, rows, seen), ...seen?.lines ?? []]
+}

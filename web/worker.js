@@ -1,0 +1,124 @@
+'use strict'
+// Reads files into the module's memory, one after the other, and then runs commands over them.
+
+const HELD = 67108865           // the most bytes that cvr reads of a file
+let RULES                       // of the page: what cvr-audit gather goes by
+
+async function digest(bytes) {
+  const sum = new Uint8Array(await crypto.subtle.digest('SHA-256', bytes))
+  return [...sum].map(it => it.toString(16).padStart(2, '0')).join('')
+}
+
+// Files, each with its path and the size that it had when it was given.
+class Files {
+  constructor(module, files, runs) {
+    this.module = module
+    this.files = files
+    this.encoded = files.map(it => new TextEncoder().encode(it.path))
+    this.room = Math.max(...runs.map(words => new TextEncoder().encode(words.join('')).length))       // of the words, before the files
+    this.size = files.reduce((sum, it, at) => sum + this.encoded[at].length + Math.min(it.size, HELD), 0)
+    this.ends = []
+    this.place = module.take(this.room + this.size)
+  }
+
+  // Puts the bytes of a file behind those before it, and answers them.
+  async read(at) {
+    const bytes = await bytesOf(this.files[at], HELD)
+    for (const piece of [this.encoded[at], bytes]) {
+      const start = this.ends.at(-1) ?? 0
+      this.module.bytes(this.place + this.room + start, piece.length).set(piece)
+      this.ends.push(start + piece.length)
+    }
+    return bytes
+  }
+
+  // The bytes of a file that was read.
+  bytes(at) {
+    return this.module.bytes(this.place + this.room + this.ends[2 * at], this.ends[2 * at + 1] - this.ends[2 * at])
+  }
+
+  // Runs a command: its words stand before the files, and end where these begin.
+  run(words) {
+    const text = Math.max(1 << 20, this.size >> 4), pieces = words.map(it => new TextEncoder().encode(it)), ends = []
+    const count = pieces.reduce((sum, it) => (ends.push(sum + it.length), sum + it.length), 0)
+    const all = [...ends, ...this.ends.map(it => it + count)], input = {place: this.place + this.room - count, count: count + this.size}
+    pieces.forEach((it, at) => this.module.bytes(input.place + ends[at] - it.length, it.length).set(it))
+    const table = {place: this.module.take(8 * all.length), count: all.length}
+    this.module.numbers(table.place, all.length).set(all.map(BigInt))
+    return this.answered(input, table, words.length, {text, log: 1 << 16})
+  }
+
+  // One call, and a second where the text or the log needs more room.
+  answered(input, table, words, rooms) {
+    const {module} = this, sizes = module.take(16)
+    for (;;) {
+      const text = {place: module.take(rooms.text), count: rooms.text}, log = {place: module.take(rooms.log), count: rooms.log}
+      const status = module.call(input, table, words, text, log, sizes)
+      const [printed, logged] = [...module.numbers(sizes, 2)].map(Number)
+      const answer = {status, text: module.bytes(text.place, Math.min(printed, text.count)).slice(),
+        log: new TextDecoder().decode(module.bytes(log.place, Math.min(logged, log.count)))}
+      module.free(text.place, log.place)
+      if (status !== 6) {
+        module.free(table.place, sizes)
+        return answer
+      }
+      rooms = {text: Math.max(rooms.text, printed), log: Math.max(rooms.log, logged)}
+    }
+  }
+}
+
+// The commands: null among their words stands for the first device of the definition, which `cvr merge` needs. Where that
+// has none, such a command is left out.
+async function withDevice(runs, definition) {
+  let device
+  try {
+    device = JSON.parse(new TextDecoder().decode(await bytesOf(definition, HELD))).ReportingDevice[0]['@id']
+  } catch (fault) {
+    return runs.filter(words => !words.includes(null))
+  }
+  return runs.map(words => words.map(it => it ?? device))
+}
+
+// Reads, and runs each of the commands; tells each step, and why it stops. Answers also the bytes of the first file, of each
+// its SHA-256, where cvr reads it whole, and what the records say.
+async function answered(compiled, files, runs, tell) {
+  const all = await withDevice(runs, files[0]), held = new Files(new Module(compiled), files, all), sums = [], answers = []
+  const looks = all.some(([task]) => task === 'conflicts')     // at the records; then volume 1 is for that alone
+  let first = null, volume = null
+  for (const [at, it] of files.entries()) {
+    tell(it.path, `Reading ${at + 1} of ${files.length}: ${it.path}`)
+    const bytes = await held.read(at)
+    sums.push(it.size < HELD ? await digest(bytes) : null)
+    first ??= bytes
+  }
+  for (const words of all) {
+    tell(null, `Running cvr ${words[0]}`)
+    const answer = held.run(words)
+    if (words[0] !== 'merge' || !looks) answers.push({...answer, sum: await digest(answer.text)})
+    else if (answer.status === 4) throw new Refused()
+    else if (answer.text.length) volume = new Volume(answer.text)
+  }
+  const [check, conflicts] = ['check', 'conflicts'].map(it => answers[all.findIndex(([task]) => task === it)])
+  if (!looks || answers.some(it => it.status > 1)) return {answers, sums}
+  tell(null, 'Reading the records once more')
+  const printed = its => new TextDecoder().decode(its.text)
+  return {first, sums, answers, ...looked(files.map(it => it.path), at => held.bytes(at), {...check, text: printed(check)}, printed(conflicts), volume)}
+}
+
+// What a fault is: that of a source, want of memory, that of the file that is read, or that of the program.
+function faultOf(fault, path) {
+  if (fault instanceof Unfit) return {fault: 'unfit', said: fault.message}
+  return {fault: fault instanceof Refused || fault instanceof RangeError ? 'memory' : path === null ? 'program' : 'file', path, said: String(fault)}
+}
+
+// Without commands the files are an export, which is gathered.
+onmessage = async ({data: {compiled, files, runs, rules}}) => {
+  let path = null
+  const tell = (now, step) => { path = now; if (step) postMessage({step}) }
+  RULES = rules
+  try {
+    postMessage(await (runs ? answered(compiled, files, runs, tell) : gathered(files, compiled, tell)))
+  } catch (fault) {
+    postMessage(faultOf(fault, path))
+  }
+}
