@@ -1,33 +1,33 @@
 #!/usr/bin/env python3
-"""tally.py [--cvr PATH] [--command tally|currents|conflicts] [--parts N] [--workers N]
-[--engine plain|distributed] [--scheduler ADDRESS] [--wait SECONDS] [--keep FOLDER] [--hold] [--]
-DEF FILE..
+"""tally.py [--cvr PATH] [--command tally|currents|conflicts] [--parts N] [--workers N | --host HOST..]
+[--check N] [--keep FOLDER] [--hold] [--] DEF FILE..
 
 Prints what `cvr COMMAND DEF FILE..` prints, worked out in at most N parts, no two of which have a
 record in common. A file stays whole in one part where it can; of files that share records, those
-that bridge others are split by record. Status and log lines are those of `cvr`; 69 where a worker
-is lost or can't be had, 70 where the answers of parts don't fit together. With --keep the parts
-that are done stay in the folder, and a later run takes them from there. With --hold the answer is
-compared with one run of `cvr` over all files. The workers are processes of this Python, or those of
-`distributed`, started here or at ADDRESS."""
+that bridge others are split by record. Status and log lines are those of `cvr`; 69 where all workers
+are lost or can't be had, 70 where answers don't fit together or a file has other bytes. The workers
+are N processes of this Python, or one for each HOST, through `ssh`. Jobs and answers are lines of
+JSON. With --check another worker does N jobs of each worker and kind again; without it one, if
+there are two hosts. With --keep the parts that are done stay in the folder, and a later run takes
+them from there. With --hold the answer is compared with one run of `cvr` over all files."""
 import argparse
 import concurrent.futures
 import gc
 import hashlib
 import heapq
-import importlib
+import itertools
 import json
-import logging
 import mmap
 import os
+import random
 import re
+import selectors
+import shlex
 import signal
 import stat
 import subprocess
 import sys
 import tempfile
-import threading
-import time
 from collections import namedtuple
 
 FAILED, MEMORY, LOST, UNFIT = 3, 4, 69, 70
@@ -40,10 +40,15 @@ NAME = re.compile(INSIDE + b' ' + INSIDE + b' ')        # of a record, at the st
 ROW = re.compile(INSIDE + rb' (null|' + INSIDE + rb') (null|' + INSIDE + b') ')
 WORD = re.compile(rb'"[^"\\]*(?:\\.[^"\\]*)*"|[^ \n]+')
 BLANK = re.compile('[ \t\n\r]*')
+WORKER = ['-I', '-X', 'utf8', os.path.abspath(__file__), '--work']
+# a host can't reach back, one with another key is refused, and one that is gone is noticed
+SSH = ['ssh', '-T', '-a', '-x'] + [word for it in (
+    'BatchMode=yes', 'StrictHostKeyChecking=yes', 'ClearAllForwardings=yes', 'ConnectTimeout=30',
+    'ServerAliveInterval=10') for word in ('-o', it)] + ['--']
 
-Task = namedtuple('Task', 'cvr command definition folder keep')     # what all jobs need
-Scan = namedtuple('Scan', 'mark names')     # of a file: a mark that it keeps, digests of its names
-Part = namedtuple('Part', 'files marks pieces')
+# what all jobs need; `marks` has a mark of each file that all of them use
+Task = namedtuple('Task', 'cvr command definition folder is_sure marks')
+Part = namedtuple('Part', 'files marks pieces sums')
 
 
 class Ended(Exception):
@@ -52,6 +57,17 @@ class Ended(Exception):
 
 def ended(status, text):
     return Ended(status, ('tally.py: %s\n' % text).encode('utf-8', 'surrogateescape'))
+
+
+def ending(fault):
+    """The status and log of a run that an exception ends; never the status of one with a text."""
+    if isinstance(fault, Ended):
+        return fault.args
+    if isinstance(fault, MemoryError):
+        return ended(MEMORY, 'out of memory').args
+    if isinstance(fault, OSError):
+        return ended(FAILED, fault).args
+    return ended(UNFIT, '%s: %s' % (type(fault).__name__, fault)).args
 
 
 def run(words, given=b''):
@@ -110,15 +126,24 @@ def names_by_cvr(task, path):
     return {digest(*map(text_of, NAME.match(line).groups())) for line in out.split(b'\n')[:-1]}
 
 
-def mark_of(held):
-    """What a file keeps while nobody changes it, on all machines that see it."""
-    return held.st_size, held.st_mtime_ns
+def sum_of(file):
+    held = hashlib.blake2b()
+    for data in iter(lambda: file.read(1 << 20), b''):
+        held.update(data)
+    return held.hexdigest()
 
 
-def scanned(job):
-    """The scan of each file of a list; None for a file that can't be read."""
-    task, paths = job
-    return [scan_of(task, path) for path in paths]
+def mark_of(path, is_sure):
+    """What a file keeps while nobody changes it: a digest of its bytes, or else its length and date."""
+    see_regular(path)
+    with open(path, 'rb') as file:
+        held = os.fstat(file.fileno())
+        return sum_of(file) if is_sure else '%d %d' % (held.st_size, held.st_mtime_ns)
+
+
+def see_same(path, mark, is_sure=True):
+    if mark_of(path, is_sure) != mark:
+        raise ended(UNFIT, '%s was changed while it was read, or has other bytes elsewhere' % path)
 
 
 def see_regular(path):
@@ -128,17 +153,20 @@ def see_regular(path):
         raise ended(FAILED, '%s: no regular file; it has to be read more than once' % path)
 
 
-def scan_of(task, path):
-    see_regular(path)
-    try:
-        with open(path, 'rb') as file:
-            held, names = os.fstat(file.fileno()), set()
-            if held.st_size:
-                with mmap.mmap(file.fileno(), 0, access=mmap.ACCESS_READ) as data:
-                    names = quick_names(data)
-    except OSError:
-        return None
-    return Scan(mark_of(held), names_by_cvr(task, path) if names is None else names)
+def scanned(task, paths, marks):
+    """Of each file of a list, digests of the names of its records."""
+    return [scan_of(task, *it) for it in zip(paths, marks)]
+
+
+def scan_of(task, path, mark):
+    with open(path, 'rb') as file:
+        names = set()
+        if os.fstat(file.fileno()).st_size:
+            with mmap.mmap(file.fileno(), 0, access=mmap.ACCESS_READ) as data:
+                names = quick_names(data)
+    names = names_by_cvr(task, path) if names is None else names
+    see_same(path, mark, task.is_sure)
+    return sorted(names)
 
 
 # ---- which files stay whole, and in which parts
@@ -147,10 +175,10 @@ def places_of(scans):
     """For each name that is in two files or more, the indices of these files."""
     seen, shared = set(), {}
     for it in scans:
-        shared.update((name, []) for name in it.names & seen)
-        seen |= it.names
+        shared.update((name, []) for name in it & seen)
+        seen |= it
     for place, it in enumerate(scans):
-        for name in it.names & shared.keys():
+        for name in it & shared.keys():
             shared[name].append(place)
     return shared
 
@@ -252,62 +280,50 @@ def records_of(text):
     return found
 
 
-def see_same(path, mark):
-    if mark_of(os.stat(path)) != mark:
-        raise ended(UNFIT, '%s was changed while it was read' % path)
-
-
-def text_at(path, mark):
+def text_at(path, mark, is_sure):
     with open(path, 'rb') as file:
         data = file.read()
-    see_same(path, mark)
+    see_same(path, mark, is_sure)
     return data.decode('utf-8')
 
 
-def put(folder, name, data):
-    """Writes a file, which is there whole or not at all: a job may be done twice."""
-    path = os.path.join(folder, name)
-    with tempfile.NamedTemporaryFile(dir=folder, delete=False) as file:
+def put(path, data):
+    """Writes a file, which is there whole or not at all: a job may be done twice. Its digest."""
+    with tempfile.NamedTemporaryFile(dir=os.path.dirname(path), delete=False) as file:
         file.write(data)
     os.replace(file.name, path)
-    return path
+    return hashlib.blake2b(data).hexdigest()
 
 
-def split(job):
+def piece_at(task, place, part):
+    return os.path.join(task.folder, '%d-%d.json' % (place, part))
+
+
+def split(task, path, mark, home, parts, place):
     """Checks a whole file, and cuts it if it is accepted: for each part that has one of its records,
-    its own bytes without the other records. (log, the piece for each part.)"""
-    task, path, mark, home, parts, place = job
+    its own bytes without the other records. (log, the part and digest of each piece.)"""
     status, _, log = checked([task.cvr, 'check', '--', task.definition, path])
     if status:
-        return log, {}
-    text, cut = text_at(path, mark), {}
+        return log.decode('utf-8'), []
+    text, home, cut = text_at(path, mark, task.is_sure), dict(home), {}
     first, end, records = records_of(text)
     for name, start, stop in records:
         # the part of a file that stays whole and has the record, else one chosen by the name
         cut.setdefault(home.get(name, name % parts), []).append(text[start:stop])
-    return log, {part: put(task.folder, '%d-%d.json' % (place, part),
-                           (text[:first] + ','.join(cut[part]) + text[end:]).encode('utf-8'))
-                 for part in cut}
+    return '', [(part, put(piece_at(task, place, part),
+                           (text[:first] + ','.join(cut[part]) + text[end:]).encode('utf-8')))
+                for part in sorted(cut)]
 
 
-def emptied(job):
-    """The bytes of an accepted file without its records, in a file named by their sum."""
-    task, path, mark = job
-    text = text_at(path, mark)
+def emptied(task, path, mark, place):
+    """Writes the bytes of an accepted file without its records. Their digest."""
+    text = text_at(path, mark, task.is_sure)
     found = records_of(text)
     data = (text[:found[0]] + text[found[1]:] if found else text).encode('utf-8')
-    return put(task.folder, hashlib.sha256(data).hexdigest(), data)
+    return put(piece_at(task, place, 0), data)
 
 
 # ---- a part
-
-def sum_of(path):
-    held = hashlib.sha256()
-    with open(path, 'rb') as file:
-        for data in iter(lambda: file.read(1 << 20), b''):
-            held.update(data)
-    return held.hexdigest()
-
 
 def over(task, paths):
     """(status, output, log) of the command over files, however many."""
@@ -317,39 +333,15 @@ def over(task, paths):
     return checked([task.cvr, task.command, definition, '--files-from', '-', '--null'], listed)
 
 
-def done(job):
+def done(task, part):
     """The output of a part, and the log lines for each of its whole files."""
-    task, part = job
-    held = worked(task, part) if task.keep is None else kept_or_worked(task, part)
+    part = Part(*part)
+    held = worked(task, part)
     for path, mark in zip(part.files, part.marks):
+        see_same(path, mark, task.is_sure)
+    for path, mark in zip(part.pieces, part.sums):
         see_same(path, mark)
-    return held
-
-
-def kept_or_worked(task, part):
-    """The same, from an earlier run where there was one over the same bytes."""
-    sums = [task.command, sum_of(task.cvr), sum_of(task.definition),
-            [(path, sum_of(path)) for path in part.files], sorted(map(sum_of, part.pieces))]
-    name = hashlib.sha256(json.dumps(sums).encode('utf-8')).hexdigest() + '.part'
-    held = kept(os.path.join(task.keep, name))
-    if held is None:
-        held = worked(task, part)
-        data = json.dumps([it.decode('utf-8') for it in [held[0]] + held[1]]).encode('utf-8')
-        put(task.keep, name, hashlib.sha256(data).hexdigest().encode('utf-8') + data)
-    return held
-
-
-def kept(path):
-    """What an earlier run has kept of a part, or None."""
-    try:
-        with open(path, 'rb') as file:
-            data = file.read()
-    except FileNotFoundError:
-        return None
-    if hashlib.sha256(data[64:]).hexdigest().encode('utf-8') != data[:64]:
-        return None
-    out, *logs = [it.encode('utf-8') for it in json.loads(data[64:])]
-    return out, logs
+    return [it.decode('utf-8') for it in held]
 
 
 def worked(task, part):
@@ -360,7 +352,7 @@ def worked(task, part):
     logs = [checked(words + [path])[2] if status else b'' for path in part.files]
     if b''.join(logs) != log:
         raise ended(UNFIT, 'the lines of a part are not those of its files')
-    return out, logs
+    return [out] + logs
 
 
 # ---- putting the answers together
@@ -414,8 +406,11 @@ def together(task, texts, accepted, each):
         return added(texts, places_in(task.definition))
     if task.command == 'currents':
         return in_order(texts)
-    heads = set(each(emptied, [(task, path, mark) for path, mark in accepted]))
-    status, devices, _ = over(task, sorted(heads))
+    jobs = [(task, path, mark, place) for place, (path, mark) in enumerate(accepted)]
+    heads = {mark: piece_at(task, place, 0) for place, mark in enumerate(each(emptied, jobs))}
+    status, devices, _ = over(task, list(heads.values()))
+    for mark, path in heads.items():
+        see_same(path, mark)
     if status:
         raise ended(UNFIT, 'a file without its records is refused')
     return conflicts(texts, devices)
@@ -423,54 +418,108 @@ def together(task, texts, accepted, each):
 
 # ---- the whole
 
-def scans_of(task, files, each):
-    """The scan of each file, where the definition and all files can be read; else the run ends."""
-    some = max(1, len(files) // 256)
-    lists = [files[place:place + some] for place in range(0, len(files), some)]
-    scans = [it for held in each(scanned, [(task, it) for it in lists]) for it in held]
-    if None in scans:
-        path = files[scans.index(None)]
+def marks_of(task, files):
+    """The mark of each file, where the definition and all files can be read; else the run ends."""
+    def mark(path):
+        try:
+            return mark_of(path, task.is_sure)
+        except OSError:
+            return None
+    with concurrent.futures.ThreadPoolExecutor() as lanes:
+        marks = list(lanes.map(mark, files))
+    if None in marks:
+        path = files[marks.index(None)]
         checked([task.cvr, 'check', '--', task.definition, path])
         raise ended(UNFIT, '%s was changed while it was read' % path)
-    return scans
+    return marks
 
 
-def parted(task, files, scans, words, each):
+def scans_of(task, files, marks, each):
+    """Digests of the names of each file's records."""
+    some = max(1, len(files) // 256)
+    cuts = [slice(place, place + some) for place in range(0, len(files), some)]
+    lists = each(scanned, [(task, files[it], marks[it]) for it in cuts])
+    return [set(it) for held in lists for it in held]
+
+
+def parted(task, files, marks, words, each):
     """The index of each file that stays whole, with its part; the parts; the log of the other files."""
-    sizes, shared = [it.mark[0] for it in scans], places_of(scans)
+    scans, sizes = scans_of(task, files, marks, each), list(map(os.path.getsize, files))
+    shared = places_of(scans)
     home, count = homes(sizes, shared, words.parts or 4 * words.workers, words.workers)
     names = {name: home[place] for name in shared for place in shared[name] if place in home}
-    jobs = [(task, files[place], scans[place].mark,
-             {name: names[name] for name in scans[place].names & names.keys()}, count, place)
+    jobs = [(task, files[place], marks[place],
+             [(name, names[name]) for name in scans[place] & names.keys()], count, place)
             for place in range(len(files)) if place not in home]
     cut = dict(zip((job[-1] for job in jobs), each(split, jobs)))
-    parts = [Part([], [], []) for _ in range(count)]
+    parts = [Part([], [], [], []) for _ in range(count)]
     for place, part in sorted(home.items()):
         parts[part].files.append(files[place])
-        parts[part].marks.append(scans[place].mark)
-    for _, made in cut.values():
-        for part, path in made.items():
-            parts[part].pieces.append(path)
-    return home, parts, {place: log for place, (log, _) in cut.items()}
+        parts[part].marks.append(marks[place])
+    for place, (_, made) in cut.items():
+        for part, mark in made:
+            parts[part].pieces.append(piece_at(task, place, part))
+            parts[part].sums.append(mark)
+    return home, parts, {place: log.encode('utf-8') for place, (log, _) in cut.items()}
+
+
+def texts_of(task, parts, keep, each):
+    """What each part answers, from an earlier run over the same bytes where the folder has it."""
+    paths = [keep and path_for(task, part, keep) for part in parts]
+    told = [path and kept(path) for path in paths]
+    missing = [place for place, it in enumerate(told) if it is None]
+
+    def keep_it(number, texts):
+        data = json.dumps(texts).encode('utf-8')
+        put(paths[missing[number]], hashlib.sha256(data).hexdigest().encode('utf-8') + data)
+    jobs = [(task, parts[place]) for place in missing]
+    for place, texts in zip(missing, each(done, jobs, *[keep_it] * bool(keep))):
+        told[place] = texts
+    return [[it.encode('utf-8') for it in texts] for texts in told]
+
+
+def path_for(task, part, keep):
+    """Where the answer of a part is kept: its name is a digest of what it depends on."""
+    held = [task.command, task.marks, list(zip(part.files, part.marks)), sorted(part.sums)]
+    name = hashlib.sha256(json.dumps(held).encode('utf-8')).hexdigest()
+    return os.path.join(keep, name + '.part')
+
+
+def kept(path):
+    """What an earlier run has kept of a part, or None."""
+    try:
+        with open(path, 'rb') as file:
+            data = file.read()
+    except FileNotFoundError:
+        return None
+    is_whole = hashlib.sha256(data[64:]).hexdigest().encode('utf-8') == data[:64]
+    return json.loads(data[64:]) if is_whole else None
 
 
 def answer(task, words, each):
     """(status, output, log) of the whole; `each` has workers do jobs, and gives the answers in
     order."""
-    see_regular(task.definition)
-    head, mark = checked([task.cvr, 'check', '--', task.definition]), os.stat(task.definition)
-    files, scans = words.files, scans_of(task, words.files, each)
+    head = checked([task.cvr, 'check', '--', task.definition])
+    files, marks = words.files, marks_of(task, words.files)
     if head[0]:         # the definition is refused: reported once all files have been read
         return head
-    home, parts, logs = parted(task, files, scans, words, each)
-    answers = each(done, [(task, part) for part in parts])
-    told = [iter(it[1]) for it in answers]
+    home, parts, logs = parted(task, files, marks, words, each)
+    answers = texts_of(task, parts, words.keep, each)
+    told = [iter(it[1:]) for it in answers]
     logs.update((place, next(told[home[place]])) for place in sorted(home))
     log = b''.join(logs[place] for place in range(len(files)))
-    accepted = [(files[place], scans[place].mark) for place in logs if not logs[place]]
+    accepted = [(files[place], marks[place]) for place in sorted(logs) if not logs[place]]
     text = together(task, [it[0] for it in answers], accepted, each)
-    see_same(task.definition, mark_of(mark))
+    for path, mark in task.marks:
+        see_same(path, mark, task.is_sure)
     return int(bool(log)), text, log
+
+
+def task_for(words, folder):
+    is_sure = bool(words.host or words.keep)
+    marks = [(path, mark_of(path, is_sure)) for path in (WORKER[3], words.cvr, words.definition)
+             if os.path.isfile(path)]
+    return Task(words.cvr, words.command, words.definition, folder, is_sure, marks)
 
 
 def tried(words, each):
@@ -478,105 +527,178 @@ def tried(words, each):
     asked = [words.cvr, words.command, '--', words.definition] + words.files
     try:
         ''.join(asked).encode('utf-8')
-        with tempfile.TemporaryDirectory(dir=words.keep) as folder:
-            task = Task(words.cvr, words.command, words.definition, folder, words.keep)
-            told = answer(task, words, each)
+    except UnicodeEncodeError:      # `cvr` then opens no file
+        return run(asked)
+    try:
+        see_regular(words.definition)
+        with tempfile.TemporaryDirectory() as folder:
+            told = answer(task_for(words, folder), words, each)
         if words.hold and told != run(asked):
             raise ended(UNFIT, 'one run over all files answers otherwise')
         return told
-    except UnicodeEncodeError:      # `cvr` then opens no file
-        return run(asked)
-    except Ended as fault:
-        return fault.args[0], b'', fault.args[1]
-    except MemoryError:
-        return MEMORY, b'', b'tally.py: out of memory\n'
-    except OSError as fault:
-        return FAILED, b'', ('tally.py: %s\n' % fault).encode('utf-8', 'surrogateescape')
-    except Exception as fault:      # never the status of an answer with a text
-        return UNFIT, b'', ('tally.py: %s: %s\n' % (type(fault).__name__, fault)).encode()
+    except Exception as fault:
+        status, log = ending(fault)
+        return status, b'', log
 
 
-def begin():
-    """Makes a worker end with the process that started it, as nothing else ends it."""
-    signal.signal(signal.SIGTERM, signal.SIG_DFL)
+# ---- workers
+
+def line_of(job):
+    return json.dumps(job).encode('ascii') + b'\n'
+
+
+def reply(line):
+    """The line that answers a job: what it gives, or the status and the log that end the run."""
+    name, task, *more = json.loads(line)
+    task = Task(*task)
+    try:
+        given = {it.__name__: it for it in (scanned, split, done, emptied)}[name](task, *more)
+        for path, mark in task.marks:
+            see_same(path, mark, task.is_sure)
+        return line_of([given])
+    except Exception as fault:
+        status, log = ending(fault)
+        return line_of([status, log.decode('utf-8', 'surrogateescape')])
+
+
+def given(line):
+    """What such a line gives, or the end of the run; never one that looks well."""
+    told = json.loads(line)
+    if len(told) == 1:
+        return told[0]
+    status, log = told
+    is_end = status in (2, FAILED, MEMORY, LOST, UNFIT)
+    raise Ended(status if is_end else UNFIT, log.encode('utf-8', 'surrogateescape'))
+
+
+def work():
+    """A worker answers line by line, until there is no more."""
     gc.disable()        # no value here refers to itself, and JSON makes many
-    threading.Thread(target=watch, args=[os.getppid()], daemon=True).start()
+    for line in sys.stdin.buffer:
+        sys.stdout.buffer.write(reply(line))
+        sys.stdout.buffer.flush()
 
 
-def watch(parent):
-    while os.getppid() == parent:
-        time.sleep(1)
-    os._exit(1)
+class Worker:
+    """A process here or on a host, which may be lost, and may lie."""
+
+    def __init__(self, host, number):
+        self.name = host or 'worker %d' % number
+        words = SSH + [host, shlex.join(['python3'] + WORKER)] if host else [sys.executable] + WORKER
+        try:
+            self.process = subprocess.Popen(words, stdin=subprocess.PIPE, stdout=subprocess.PIPE,
+                                            stderr=subprocess.DEVNULL)
+        except OSError as fault:
+            raise ended(LOST, '%s: %s' % (words[0], fault.strerror)) from None
+
+    def fileno(self):
+        return self.process.stdout.fileno()
+
+    def takes(self, line):
+        try:
+            self.process.stdin.write(line)
+            self.process.stdin.flush()
+            return True
+        except OSError:
+            return False
+
+    def answer(self):
+        """Its next line, or None if it is lost."""
+        line = self.process.stdout.readline()
+        return line if line[-1:] == b'\n' else None
 
 
-class Processes:
-    """Workers on this machine alone."""
+class Workers:
+    """Some of them, on hosts or here."""
 
     def __init__(self, words):
-        self.engine = concurrent.futures.ProcessPoolExecutor(words.workers, initializer=begin)
+        self.check, self.ready = words.check, selectors.DefaultSelector()
+        for host, number in zip(words.host or [None] * words.workers, itertools.count(1)):
+            self.ready.register(Worker(host, number), selectors.EVENT_READ)
 
-    def each(self, work, jobs):
+    def all(self):
+        return [it.fileobj for it in self.ready.get_map().values()]
+
+    def lose(self, worker):
+        self.ready.unregister(worker)
+        worker.process.kill()
+        worker.process.wait()
+
+    def each(self, work, jobs, tell=lambda place, value: None):
+        """What each job gives, in order. `tell` hears it, too: at once, or once all are checked."""
+        lines, values = [line_of([work.__name__, *job]) for job in jobs], [None] * len(jobs)
+
+        def hear(place, line):
+            values[place] = given(line)
+            if not self.check:
+                tell(place, values[place])
         try:
-            return list(self.engine.map(work, jobs))
-        except concurrent.futures.BrokenExecutor:
-            raise ended(LOST, 'a worker has died') from None
-
-    def close(self):
-        self.engine.shutdown()
-
-
-class Distributed:
-    """Workers of `distributed`: others do what a worker that dies had to do."""
-
-    def __init__(self, words):
-        try:
-            self.module, self.wait = importlib.import_module('distributed'), words.wait
-            asyncio = importlib.import_module('asyncio')        # slow, and for this engine alone
-            self.lost = concurrent.futures.CancelledError, asyncio.CancelledError
-            self.late = TimeoutError, asyncio.TimeoutError, concurrent.futures.TimeoutError
-            logging.disable(logging.CRITICAL)       # its own lines say less than this script's last one
-            where = [words.scheduler] if words.scheduler else []
-            own = {} if where else dict(
-                n_workers=words.workers, threads_per_worker=1, silence_logs=logging.CRITICAL,
-                dashboard_address='127.0.0.1:0')        # any port: others may have such workers here
-            self.client = self.module.Client(*where, timeout=words.wait, **own)
-            words.workers = len(self.client.scheduler_info()['workers']) or words.workers
-        except (ImportError, OSError) as fault:
-            raise ended(LOST, 'no `distributed`: %s' % fault) from None
-
-    def each(self, work, jobs):
-        try:
-            futures = self.client.map(work, jobs, pure=False)
-            self.see_workers(futures)
-            return self.client.gather(futures)
-        except Ended:
+            names = self.asked(lines, [None] * len(jobs), hear)
+            if self.check:
+                self.see(lines, names, values)
+                for place, value in enumerate(values):
+                    tell(place, value)
+            return values
+        except BaseException:
+            self.close()        # so that none writes a piece while the pieces are removed
             raise
-        except self.lost:
-            raise ended(LOST, 'the scheduler is lost') from None
-        except Exception as fault:
-            told = type(fault).__name__, str(fault)[:200]
-            raise ended(LOST, 'the workers: %s: %s' % told) from None
 
-    def see_workers(self, futures):
-        """Waits for the answers, but not long while there is no worker."""
-        seen, waiting = time.monotonic(), bool(futures)
-        while waiting:
-            try:
-                self.module.wait(futures, timeout=1)
-                waiting = False
-            except self.late:
-                seen = time.monotonic() if self.client.scheduler_info()['workers'] else seen
-            if waiting and time.monotonic() - seen > self.wait:
-                raise ended(LOST, 'no worker is there')
+    def see(self, lines, names, values):
+        """Has another worker do some jobs of each worker again; which ones, no worker can know."""
+        by = {name: [place for place, it in enumerate(names) if it == name] for name in set(names)}
+        places = [place for held in by.values()
+                  for place in random.SystemRandom().sample(held, min(self.check, len(held)))]
+
+        def hear(number, line):
+            if given(line) != values[places[number]]:
+                raise ended(UNFIT, '%s and another answer otherwise' % names[places[number]])
+        self.asked([lines[it] for it in places], [names[it] for it in places], hear)
+
+    def asked(self, lines, but, hear):
+        """The name of the worker that did each job, which isn't that of `but`. What one that is lost had
+        to do, another does."""
+        names, waiting, busy = [None] * len(lines), list(range(len(lines))), {}
+        while waiting or busy:
+            self.hand_out(lines, but, waiting, busy)
+            if not busy:
+                raise ended(LOST, 'no worker is left, or no other one to check')
+            for it, _ in self.ready.select():
+                worker = it.fileobj
+                place, line = busy.pop(worker, None), worker.answer()
+                if line and place is not None:
+                    names[place] = worker.name
+                    hear(place, line)
+                else:
+                    self.lose(worker)
+                    waiting[:0] = [] if place is None else [place]
+        return names
+
+    def hand_out(self, lines, but, waiting, busy):
+        for worker in self.all():
+            place = next((it for it in waiting if but[it] != worker.name), None)
+            if worker in busy or place is None:
+                continue
+            if worker.takes(lines[place]):
+                waiting.remove(place)
+                busy[worker] = place
+            else:
+                self.lose(worker)
 
     def close(self):
-        self.client.close()
+        for worker in self.all():
+            self.lose(worker)
+
+
+def counted(text):
+    if not text.isdigit():
+        raise ValueError
+    return int(text)
 
 
 def positive(text):
-    if not text.isdigit() or not int(text):
+    if not counted(text):
         raise ValueError
-    return int(text)
+    return counted(text)
 
 
 def read_words(given=None):
@@ -585,14 +707,17 @@ def read_words(given=None):
     words.add_argument('--command', default='tally', choices=['tally', 'currents', 'conflicts'])
     words.add_argument('--parts', type=positive)
     words.add_argument('--workers', default=2, type=positive)
-    words.add_argument('--wait', default=30, type=positive)
-    words.add_argument('--engine', default='plain', choices=['plain', 'distributed'])
-    words.add_argument('--scheduler')
+    words.add_argument('--host', action='append')
+    words.add_argument('--check', type=counted)
     words.add_argument('--keep', type=os.path.abspath)
     words.add_argument('--hold', action='store_true')
     words.add_argument('definition')
     words.add_argument('files', nargs='*')
-    return words.parse_args(given)
+    words = words.parse_args(given)
+    words.workers = len(words.host or []) or words.workers
+    if words.check is None:
+        words.check = int(len(set(words.host or [])) > 1)
+    return words
 
 
 def is_written(stream, data):
@@ -610,12 +735,12 @@ def main():
     # so that pieces are removed
     signal.signal(signal.SIGTERM, lambda number, _: sys.exit(128 + number))
     try:
-        engine = (Processes if words.engine == 'plain' else Distributed)(words)
+        workers = Workers(words)
     except Ended as fault:
         status, text, log = fault.args[0], b'', fault.args[1]
     else:
-        status, text, log = tried(words, engine.each)
-        engine.close()
+        status, text, log = tried(words, workers.each)
+        workers.close()
     if not is_written(sys.stdout, text):
         status, log = FAILED, log + b'out: X1\n'
     is_written(sys.stderr, log)
@@ -625,4 +750,4 @@ def main():
 if __name__ == '__main__':
     if sys.getfilesystemencoding() != 'utf-8':      # paths are UTF-8, as for `cvr`, whatever the language
         os.execve(sys.executable, [sys.executable] + sys.argv, dict(os.environ, PYTHONUTF8='1'))
-    main()
+    (work if sys.argv[1:] == WORKER[-1:] else main)()

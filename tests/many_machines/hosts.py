@@ -1,243 +1,208 @@
-"""hosts.py: examples/many-machines/tally.py on three hosts, with `distributed`. The hosts are network
-namespaces of this machine, joined by pairs of virtual devices, with a scheduler in one, a worker in
-each, and files that all see. Where these can't be made a line `skipped` says why."""
+"""hosts.py: examples/many-machines/tally.py on two hosts, through `ssh`. Each host is an `sshd` of this
+machine, at a port of its own, whose processes all end with it. They share its files. Where these can't
+be made a line `skipped` says why."""
+import getpass
 import os
 import shutil
+import socket
 import subprocess
 import sys
 import tempfile
 import time
 
+import lies
 import sets
 import ways
 import workers
 
-PORT, SECONDS = 8786, 60        # SECONDS: how long a host may take to be ready
-ADDRESSES = ['10.213.77.%d' % (1 + host) for host in range(3)]
-SCHEDULER = 'tcp://%s:%d' % (ADDRESSES[0], PORT)
-# Notes each part and its host, and works on it as long as there is a file that says so.
+SSHD, SECONDS = '/usr/sbin/sshd', 60        # SECONDS: how long a host may take to be ready
+# Notes each part and the port of its host, and works on it as long as there is a file that says so.
 PROGRAM = '''#!/bin/sh
 if [ "$3" = --files-from ]; then
-    echo "$HOST" >>"%(log)s"
+    echo "${SSH_CONNECTION##* }" >>"%(log)s"
     while [ -e "%(log)s-stays" ]; do sleep 0.1; done
 fi
 exec "%(cvr)s" "$@"
 '''
+DAEMON = 'mount -t tmpfs none /run && mkdir /run/sshd && exec "$@"'
+CONFIG = '''Port %(port)d
+ListenAddress 127.0.0.1
+HostKey %(folder)s/host
+PidFile none
+AuthorizedKeysFile %(folder)s/authorized
+StrictModes no
+UsePAM no
+PasswordAuthentication no
+'''
+KNOWN = '''Host %(port)d
+    HostName 127.0.0.1
+    Port %(port)d
+    User %(user)s
+    IdentityFile %(folder)s/key
+    IdentitiesOnly yes
+    UserKnownHostsFile %(folder)s/known
+    GlobalKnownHostsFile /dev/null
+'''
 
 
-def python():
-    """A Python that has `distributed`, or None."""
-    for it in (sys.executable, '/usr/bin/python3'):
-        if os.path.exists(it) and workers.run([it, '-c', 'import distributed'])[0] == 0:
-            return it
-    return None
+def free_port():
+    with socket.socket() as held:
+        held.bind(('127.0.0.1', 0))
+        return held.getsockname()[1]
 
 
-def ip(*words):
-    done = subprocess.run(['ip', *words], stdout=subprocess.PIPE, stderr=subprocess.STDOUT)
-    if done.returncode:
-        raise OSError('ip %s: %s' % (' '.join(words), done.stdout.decode().strip()))
+class Host:
+    """An `sshd` that lets one key start a worker, and do nothing else."""
+
+    def __init__(self, folder):
+        self.port = free_port()
+        with open('%s/sshd-%d' % (folder, self.port), 'w', encoding='utf-8') as file:
+            file.write(CONFIG % {'port': self.port, 'folder': folder})
+        words = ['unshare', '--mount', '--pid', '--fork', '--kill-child', 'sh', '-c', DAEMON, 'sh', SSHD,
+                 '-D', '-f', file.name]
+        self.process = subprocess.Popen(words, stdin=subprocess.DEVNULL, stdout=subprocess.DEVNULL,
+                                        stderr=subprocess.DEVNULL)
+
+    def wait(self):
+        end = time.monotonic() + SECONDS
+        while True:
+            try:
+                return socket.create_connection(('127.0.0.1', self.port)).close()
+            except OSError:
+                if time.monotonic() > end or self.process.poll() is not None:
+                    raise
+                time.sleep(0.1)
+
+    def kill(self):
+        self.process.kill()
+        self.process.wait()
 
 
-class Hosts:
-    """Three namespaces; the first has a bridge, to which the others are joined."""
+class Hosts(lies.Hosts):
+    """Two hosts, and files with full names."""
 
-    def __init__(self, program):
-        self.program, self.running = program, []
-        self.names = ['cvr-%d-%d' % (os.getpid(), host) for host in range(3)]
-        self.folder = tempfile.mkdtemp()
+    def __init__(self, cvr, folder):
+        super().__init__(cvr, folder)
+        self.log = os.path.join(folder, 'log')
+        self.put('program', PROGRAM % {'cvr': cvr, 'log': self.log})
+        self.put('bin/ssh', '#!/bin/sh\nexec %s -F "%s/config" "$@"\n' % (shutil.which('ssh'), folder))
+        for name in 'host', 'key', 'another':
+            subprocess.run(['ssh-keygen', '-q', '-t', 'ed25519', '-N', '', '-f', os.path.join(folder, name)],
+                           stdout=subprocess.DEVNULL, check=True)
+        words = ' '.join([sys.executable] + ways.script().WORKER)
+        self.put('authorized', 'restrict,command="%s" %s' % (words, self.text('key.pub')))
+        self.hosts = [Host(folder), Host(folder)]
+        self.names = [str(it.port) for it in self.hosts]
+        self.know('host')
+        self.put('config', ''.join(KNOWN % {'port': it.port, 'folder': folder, 'user': getpass.getuser()}
+                                   for it in self.hosts))
+
+    def know(self, key):
+        """Says which key the hosts have."""
+        lines = ['[127.0.0.1]:%s %s' % (it, self.text(key + '.pub')) for it in self.names]
+        self.put('known', ''.join(lines))
+
+    def text(self, name):
+        return workers.text_of(os.path.join(self.folder, name))
 
     def __enter__(self):
-        try:
-            for name in self.names:
-                ip('netns', 'add', name)
-                ip('-n', name, 'link', 'set', 'lo', 'up')
-            ip('-n', self.names[0], 'link', 'add', 'name', 'joined', 'type', 'bridge')
-            for host in 1, 2:
-                self.join(host)
-            self.up(0, 'joined')
-        except OSError:
-            self.__exit__()
-            raise
+        for it in self.hosts:
+            it.wait()
         return self
 
-    def join(self, host):
-        ends = 'eth0', 'to-%d' % host
-        ip('-n', self.names[host], 'link', 'add', ends[0], 'type', 'veth', 'peer', 'name', ends[1],
-           'netns', self.names[0])
-        ip('-n', self.names[0], 'link', 'set', ends[1], 'master', 'joined', 'up')
-        self.up(host, ends[0])
-
-    def up(self, host, device):
-        ip('-n', self.names[host], 'addr', 'add', ADDRESSES[host] + '/24', 'dev', device)
-        ip('-n', self.names[host], 'link', 'set', device, 'up')
-
     def __exit__(self, *_):
-        for process in self.running:
-            process.kill()
-            process.wait()
-        for name in self.names:
-            subprocess.run(['ip', 'netns', 'del', name], stderr=subprocess.DEVNULL)
-        shutil.rmtree(self.folder)
+        for it in self.hosts:
+            it.kill()
 
-    def start(self, host, *words, **more):
-        """Starts a process on a host, which goes on."""
-        words = ['ip', 'netns', 'exec', self.names[host], self.program, *words]
-        return subprocess.Popen(words, cwd=ways.TOP, stdin=subprocess.DEVNULL,
-                                env=dict(os.environ, HOST=str(host)), **more)
-
-    def scheduler(self):
-        return self.kept(0, 'dask_scheduler', '--host', ADDRESSES[0], '--port', str(PORT))
-
-    def worker(self, host):
-        return self.kept(host, 'dask_worker', SCHEDULER, '--host', ADDRESSES[host], '--nthreads',
-                         '1', '--no-nanny', '--local-directory', self.folder)
-
-    def kept(self, host, module, *words):
-        process = self.start(host, '-m', 'distributed.cli.%s' % module, '--no-dashboard', *words,
-                             stdout=subprocess.DEVNULL, stderr=subprocess.DEVNULL)
-        self.running.append(process)
-        return process
-
-    def ready(self, count):
-        """Waits until the scheduler has so many workers."""
-        asks = ('import distributed; distributed.Client("%s", timeout=%d).wait_for_workers(%d, %d)'
-                % (SCHEDULER, SECONDS, count, SECONDS))
-        if self.start(1, '-c', asks, stderr=subprocess.DEVNULL).wait():
-            raise OSError('%d workers were not ready' % count)
-
-
-class Run:
-    """A run of the script on the second host, which notes its parts in a file. With `stays` no part
-    ends before `lose`."""
-
-    def __init__(self, hosts, folder, *more, wait=SECONDS, stays=False):
-        self.log = os.path.join(folder.folder, 'log')
-        self.stays = self.log + '-stays'
-        if os.path.exists(self.log):
-            os.remove(self.log)
-        if stays:
-            open(self.stays, 'w').close()
-        words = ['--engine', 'distributed', '--scheduler', SCHEDULER, '--parts', '6',
-                 '--wait', str(wait)]
-        self.process = hosts.start(1, ways.SCRIPT, '--cvr', folder.program, *words, *more, '--',
-                                   workers.DEFINITION, *folder.files, stdout=subprocess.PIPE,
-                                   stderr=subprocess.PIPE)
-
-    def parts(self):
-        return workers.text_of(self.log).split() if os.path.exists(self.log) else []
-
-    def lose(self, host, *processes):
-        """Kills the processes once that host works on a part."""
-        end = time.monotonic() + SECONDS
-        while str(host) not in self.parts():
+    def lose(self, *hosts, more=()):
+        """Starts a run, and kills hosts once one of them works on a part. (What it told, the parts.)"""
+        self.put('log')
+        self.put('log-stays')
+        process, end = self.start(self.names, *more), time.monotonic() + SECONDS
+        while not {str(it.port) for it in hosts} & set(self.text('log').split()):
             if time.monotonic() > end:
-                raise OSError('host %d has no part' % host)
+                process.kill()
+                raise OSError('a host has no part')
             time.sleep(0.01)
-        for process in processes:
-            process.kill()
-            process.wait()
-        os.remove(self.stays)
-
-    def told(self):
-        out, log = self.process.communicate(timeout=2 * SECONDS)
-        return self.process.returncode, out, log
+        for it in hosts:
+            it.kill()
+        os.remove(self.log + '-stays')
+        out, log = process.communicate(timeout=2 * SECONDS)
+        return (process.returncode, out, log), self.text('log').split()
 
 
-def same(hosts, folder):
+def on_hosts(work):
+    """A try that has such hosts of its own."""
+    def done(cvr):
+        with tempfile.TemporaryDirectory() as folder, Hosts(cvr, folder) as at:
+            return work(at)
+    return done
+
+
+@on_hosts
+def same(at):
     """Each command answers as one run of `cvr`."""
     for command in sets.COMMANDS:
-        told = Run(hosts, folder, '--command', command).told()
-        whole = workers.run([folder.cvr, command, '--', workers.DEFINITION] + folder.files)
-        if told != whole:
-            return '%s: %r, else %r' % (command, told, whole)
-    return ''
+        told = at.ask(at.names, '--command', command)
+        if told != at.whole(command):
+            return '%s: %r' % (command, told)
+    return '' if set(at.text('log').split()) == set(at.names) else 'a host has done nothing'
 
 
-def without_one(hosts, folder, last):
-    """A worker is killed while it works on a part: another does that part."""
-    run = Run(hosts, folder, stays=True)
-    run.lose(2, last)
-    told, parts = run.told(), run.parts()
-    is_right = told == folder.whole() and len(parts) > 6 and {'0', '1'} & set(parts)
-    return '' if is_right else repr((told, parts))
+@on_hosts
+def one_killed(at):
+    """What a host had to do that is gone, the other does, if nothing is checked."""
+    told, parts = at.lose(at.hosts[1], more=['--check', '0'])
+    return '' if told == at.whole() and len(parts) == 7 else repr((told, parts))
 
 
-def without_all(hosts, folder, others):
-    """All workers are killed: the run ends."""
-    run = Run(hosts, folder, wait=10, stays=True)
-    run.lose(1, *others)
-    return lost(run, b'tally.py: no worker is there\n')
-
-
-def without_scheduler(hosts, folder, scheduler):
-    run = Run(hosts, folder, stays=True)
-    run.lose(1, scheduler)
-    return lost(run, b'tally.py: the scheduler is lost\n')
-
-
-def lost(run, log):
-    told = run.told()
+def ended(told):
+    log = b'tally.py: no worker is left, or no other one to check\n'
     return '' if told == (69, b'', log) else repr(told)
 
 
-def none_there(hosts, folder):
-    """There is no scheduler."""
-    told = Run(hosts, folder, wait=3).told()
-    return '' if told[:2] == (69, b'') and b'no `distributed`: ' in told[2] else repr(told)
+@on_hosts
+def one_killed_of_checked(at):
+    return ended(at.lose(at.hosts[1])[0])
 
 
-def all_of(hosts, folder):
-    """(name, what is wrong) of each try."""
-    scheduler, held = hosts.scheduler(), [hosts.worker(host) for host in range(3)]
-    hosts.ready(3)
-    yield 'three hosts', same(hosts, folder)
-    yield 'a worker that is killed', without_one(hosts, folder, held[2])
-    yield 'all workers are killed', without_all(hosts, folder, held[:2])
-    hosts.worker(1)
-    hosts.ready(1)
-    yield 'a scheduler that is killed', without_scheduler(hosts, folder, scheduler)
-    yield 'no scheduler', none_there(hosts, folder)
+@on_hosts
+def all_killed(at):
+    return ended(at.lose(*at.hosts)[0])
 
 
-def lacking():
-    """What is missing here, or nothing."""
-    if not shutil.which('ip'):
-        return 'ip: it is not there'
-    if not python():
-        return 'distributed: no Python has it'
-    try:
-        with Hosts(None):
-            return ''
-    except OSError as fault:
-        return 'namespaces: %s' % fault
+@on_hosts
+def other_host(at):
+    """Who stands in for a host hasn't its key."""
+    at.know('another')
+    return ended(at.ask(at.names))
 
 
-def here(cvr):
-    """`distributed` with workers that the script starts on this machine."""
-    with tempfile.TemporaryDirectory() as place:
-        folder = workers.Folder(cvr, place)
-        words = ['--engine', 'distributed', '--cvr', cvr, '--hold', '--', workers.DEFINITION]
-        told = workers.run([python(), ways.SCRIPT, *words, *folder.files])
-        return '' if told == folder.whole() else repr(told)
+@on_hosts
+def other_user(at):
+    """Who hasn't the key of the run can't have a worker start."""
+    os.replace(os.path.join(at.folder, 'another'), os.path.join(at.folder, 'key'))
+    return ended(at.ask(at.names))
 
 
-def tries(cvr):
-    """(name, what is wrong) of each try that can be made here."""
-    return ([('distributed on one host', here(cvr))] if python() else []) + on_hosts(cvr)
+@on_hosts
+def other_command(at):
+    """The key of the run starts a worker, and nothing else."""
+    words = [os.path.join(at.folder, 'bin', 'ssh'), at.names[0], 'echo', 'else']
+    told = workers.run(words)
+    return '' if told == (0, b'', b'') else repr(told)
 
 
-def on_hosts(cvr):
-    """The same for three hosts."""
-    told = lacking()
-    if told:
-        print('skipped several hosts: %s' % told)
-        return []
-    with tempfile.TemporaryDirectory() as place, Hosts(python()) as hosts:
-        folder = workers.Folder(cvr, place)
-        text = PROGRAM % {'cvr': cvr, 'log': os.path.join(place, 'log')}
-        folder.put('program', text)
-        try:
-            return list(all_of(hosts, folder))
-        except (OSError, subprocess.TimeoutExpired) as fault:
-            return [('several hosts', '%s: %s' % (type(fault).__name__, fault))]
+TRIES = [('two hosts', same), ('a host that is killed', one_killed),
+         ('a host that is killed, and the other is checked', one_killed_of_checked),
+         ('all hosts are killed', all_killed), ('a host with another key', other_host),
+         ('a user with another key', other_user), ('another command', other_command)]
+
+
+def tries():
+    """What can be tried here."""
+    for it in SSHD, shutil.which('ssh') or 'ssh', shutil.which('ssh-keygen') or 'ssh-keygen':
+        if not os.path.exists(it):
+            print('skipped hosts through ssh: %s is not there' % it)
+            return []
+    return [] if lies.lacking() else TRIES

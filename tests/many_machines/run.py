@@ -6,8 +6,8 @@ status have to be the same. First random sets of files (sets.py), each with all 
 that the script could have, each of which such a set has to find (ways.py). Then the script itself
 runs: on the county of the examples, also with a definition that is refused, files that aren't
 there, names that begin with a hyphen, and words that it refuses; with workers and programs that die
-(workers.py); and on three hosts, which are network namespaces of this machine (hosts.py). Where
-these can't be made, or `distributed` isn't there, a line `skipped` says so.
+(workers.py); with hosts that lie or have other bytes (lies.py); and on hosts through `ssh`
+(hosts.py). Where these can't be made a line `skipped` says so.
 
 The last line is `many machines: N right, M wrong`; the status is 0 only where M is 0 and N is
 not."""
@@ -21,6 +21,7 @@ from concurrent.futures import ThreadPoolExecutor
 sys.dont_write_bytecode = True
 sys.path.insert(0, os.path.dirname(os.path.abspath(__file__)))
 import hosts    # noqa: E402
+import lies     # noqa: E402
 import sets     # noqa: E402
 import ways     # noqa: E402
 import workers  # noqa: E402 (they stand beside this file)
@@ -133,7 +134,7 @@ ROWS = [
     ('a language of another encoding', other_language),
     ('no part', refused('--parts', '0')), ('no worker', refused('--workers', '0')),
     ('parts that are no number', refused('--parts', 'x')),
-    ('no such engine', refused('--engine', 'plian')),
+    ('a check that is no number', refused('--check', '-1')),
     ('a split by file', by_file), ('no room', no_room), ('no file twice', no_file),
 ]
 
@@ -149,7 +150,7 @@ def tries(cvr, cases, seed):
                lambda number=number: sets.tried(module, cvr, '%d %d' % (seed, number)))
     for way in ways.WAYS:
         yield 'slip %s' % way.name, lambda way=way: ways.unfound(way, passes)
-    for name, work in ROWS + workers.TRIES:
+    for name, work in hosts.tries() + lies.tries() + ROWS + workers.TRIES:
         yield name, lambda work=work: work(cvr)
 
 
@@ -168,12 +169,10 @@ def main():
     words = words.parse_args()
     cvr, right, wrong = os.path.abspath(words.cvr), 0, 0
     os.chdir(ways.TOP)
+    named = list(tries(cvr, words.cases, words.seed))
     with ThreadPoolExecutor(1 + os.cpu_count()) as lanes:
-        several = lanes.submit(hosts.tries, cvr)        # these mostly wait
-        named = list(tries(cvr, words.cases, words.seed))
-        answers = list(zip((name for name, _ in named),
-                           lanes.map(told_of, (work for _, work in named))))
-    for name, told in answers + several.result():
+        answers = lanes.map(told_of, [work for _, work in named])
+    for name, told in zip((name for name, _ in named), answers):
         right, wrong = right + (not told), wrong + bool(told)
         if told:
             print('WRONG: %s: %s' % (name, told))

@@ -83,22 +83,25 @@ def reports_of(chance):
 
 def words_for(cvr, definition, files, **more):
     return SimpleNamespace(**dict(dict(cvr=cvr, command='tally', definition=definition, files=files,
-                                       parts=3, workers=2, keep=None, hold=False), **more))
+                                       parts=3, workers=2, host=None, keep=None, hold=False),
+                                  **more))
 
 
 class Watched:
-    """Does jobs one after the other, and checks their answers."""
+    """Does jobs one after the other, as workers do, and checks their answers."""
 
     def __init__(self, module):
         self.module, self.told = module, ''
 
-    def each(self, work, jobs):
-        return [self.looked(work, job, work(job)) for job in jobs]
+    def each(self, work, jobs, _=None):
+        return [self.looked(work, job) for job in jobs]
 
-    def looked(self, work, job, given):
+    def looked(self, work, job):
+        line = self.module.line_of([work.__name__, *job])
+        given = self.module.given(self.module.reply(line))
         if work.__name__ == 'split':
-            longest = max([0] + [os.path.getsize(it) for it in given[1].values()])
-            if longest > os.path.getsize(job[1]):
+            pieces = [self.module.piece_at(job[0], job[5], part) for part, _ in given[1]]
+            if max([0] + list(map(os.path.getsize, pieces))) > os.path.getsize(job[1]):
                 self.told = 'a part is longer than its file'
         return given
 
@@ -112,7 +115,8 @@ def tried(module, cvr, seed):
             data = [it.replace(b'"q1"', b'"a1"') for it in data]
         definition, *files = [os.path.join(folder, round_trip.put(folder, 'file-%d' % n, it))
                               for n, it in enumerate(data)]
-        more = {'parts': chance.randint(1, 7), 'workers': chance.randint(1, 4)}
+        more = {'parts': chance.randint(1, 7), 'workers': chance.randint(1, 4),
+                'host': chance.choice([None, ['first']])}
         told = [one(module, words_for(cvr, definition, files, command=it, **more))
                 for it in COMMANDS]
     return '; '.join(filter(None, told))

@@ -29,7 +29,7 @@ WAYS = [
     Way('forgets_the_last_file', 'for place, it in enumerate(scans):\n        for name',
         'for place, it in enumerate(scans[:-1]):\n        for name'),
     # ---- splitting
-    Way('splits_before_it_checks', 'if status:\n        return log, {}', ''),
+    Way('splits_before_it_checks', 'if status:\n        return log.decode(\'utf-8\'), []', ''),
     Way('takes_the_first_of_two_members',
         'found = items_of(text, place, decode)\n            place = found[1] + 1',
         'found = found or items_of(text, place, decode)\n'
@@ -67,7 +67,7 @@ WAYS = [
         'sorted(lines, key=lambda it: list(map(text_of, NAME.match(it).groups())))', 'lines'),
     Way('takes_devices_from_a_part', 'return conflicts(texts, devices)',
         'return conflicts(texts, texts[0])'),
-    Way('empties_refused_files', 'for place in logs if not logs[place]]', 'for place in logs]'),
+    Way('empties_refused_files', 'in sorted(logs) if not logs[place]]', 'in sorted(logs)]'),
     Way('counts_volumes_of_devices_alone', 'for it in texts + [devices]', 'for it in [devices]'),
     Way('counts_volumes_of_records_alone', 'for it in texts + [devices]', 'for it in texts'),
 ]

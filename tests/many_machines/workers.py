@@ -8,18 +8,20 @@ import sys
 import tempfile
 import time
 
+import sets
 import ways
 
 COUNTY = ['examples/county/%s.json' % name for name in ('scan', 'adjudicated', 'damaged')]
 DEFINITION = 'examples/county/definition.json'
-# Notes each part in a file `log`. Where there is a file `kill`, it ends by a signal at the first part;
-# with `worker` its worker ends so; with `piece` it reports a piece as refused; and so on.
+# Notes each part in a file `log`. Where there is a file `kill`, it ends by a signal at the third part or
+# later; with `worker` or `workers` one worker or each ends so; with `piece` it reports a piece as refused;
+# and so on.
 PROGRAM = '''#!/bin/sh
 here=$(dirname "$0")
 if [ "$3" = --files-from ]; then
     echo part >>"$here/log"
-    if rm "$here/kill" 2>/dev/null; then kill -9 $$; fi
-    if rm "$here/worker" 2>/dev/null; then kill -9 $PPID; fi
+    if [ "$(wc -l <"$here/log")" -ge 3 ] && rm "$here/kill" 2>/dev/null; then kill -9 $$; fi
+    if [ -e "$here/workers" ] || rm "$here/worker" 2>/dev/null; then kill -9 $PPID; fi
     if rm "$here/memory" 2>/dev/null; then echo memory >&2; exit 4; fi
     if rm "$here/change" 2>/dev/null; then for it in "$here"/scan-*; do echo >>"$it"; done; fi
     if rm "$here/piece" 2>/dev/null; then "%(cvr)s" "$@"; echo piece: E2 >&2; exit 1; fi
@@ -104,6 +106,14 @@ def nothing_amiss(at):
 
 
 @in_folder
+def without_one(at):
+    """What a worker that dies had to do, another does."""
+    at.put('worker')
+    told, parts = at.run()
+    return '' if told == at.whole() and parts == 7 else repr((told, parts))
+
+
+@in_folder
 def kept(at):
     """After a run that died, the next works out only the parts that weren't done, and the one after it none."""
     keep = os.path.join(at.folder, 'keep')
@@ -155,7 +165,7 @@ def one_file_is_split(at):
 
     def each(work, jobs):
         split.extend(job[1] for job in jobs if work.__name__ == 'split')
-        return [work(job) for job in jobs]
+        return sets.Watched(module).each(work, jobs)
     told = module.tried(words, each)
     return '' if told == at.whole() and split == at.files[-1:] else repr((told, split))
 
@@ -242,7 +252,8 @@ TRIES = [
     ('a correction goes with what it corrects', corrections),
     ('the fewest bytes are split', fewest_bytes),
     ('a program in the place of cvr', nothing_amiss),
-    ('a worker that dies', ends('worker', 69, b'a worker has died')),
+    ('a worker that dies', without_one),
+    ('all workers die', ends('workers', 69, b'no worker is left')),
     ('a program that dies', ends('kill', 69, b'was ended by signal 9')),
     ('a part without memory', ends('memory', 4, b'memory\n')),
     ('a piece that is refused', ends('piece', 70, b'are not those of its files')),
