@@ -5,15 +5,24 @@ DESTDIR =
 CVR = crates/cvr/out/cvr
 ZSH = $(PREFIX)/share/zsh/site-functions
 SHARE = $(DESTDIR)$(PREFIX)/share
-DOCUMENTS = README.md CHANGELOG.md LICENSE SECURITY.md examples/README.md \
-	$(wildcard docs/*.* docs/reference/*.md examples/*/*.* examples/exports/*/*.* examples/exports/*/*/*.*)
+DOCUMENTS = README.md CHANGELOG.md LICENSE SECURITY.md examples/README.md docs/reference/README.md \
+	$(wildcard docs/*.* examples/*/*.* examples/exports/*/*.* examples/exports/*/*/*.*)
 # What the repository alone has: of a link to it, an installed document has the text.
-ALONE = CONTRIBUTING\.md|(bench|crates|library|man|python|tests)/
+ALONE = CONTRIBUTING\.md|(bench|crates|library|man|python|tests|web)/
 
-.PHONY: all install uninstall package
+# Copies the documents to a folder, and makes the pages of the reference there.
+copied = for file in $(DOCUMENTS); do install -D -m 644 "$$file" "$(1)/$$file" || exit; done && tools/reference "$(1)" && \
+	cd "$(1)" && sed -zEi 's:\[([^][]*)\]\((\.\./)*($(ALONE))[^)]*\):\1:g' $(filter %.md,$(DOCUMENTS))
+
+.PHONY: all docs install uninstall package
 
 all:
 	./cvr --help >/dev/null
+
+# As they are installed; docs/reference/README.md there lists the pages.
+docs:
+	rm -rf out/doc
+	$(call copied,out/doc)
 
 install:
 	install -D -m 755 "$(CVR)" "$(DESTDIR)$(PREFIX)/bin/cvr"
@@ -26,8 +35,7 @@ install:
 		install -D -m 644 "man/$$name.bash" "$(SHARE)/bash-completion/completions/$$name" && \
 		install -D -m 644 "man/_$$name" "$(DESTDIR)$(ZSH)/_$$name" && \
 		install -D -m 644 "man/$$name.fish" "$(SHARE)/fish/vendor_completions.d/$$name.fish" || exit; done
-	for file in $(DOCUMENTS); do install -D -m 644 "$$file" "$(SHARE)/doc/cvr/$$file" || exit; done
-	cd "$(SHARE)/doc/cvr" && sed -zEi 's:\[([^][]*)\]\((\.\./)*($(ALONE))[^)]*\):\1:g' $(filter %.md,$(DOCUMENTS))
+	$(call copied,$(SHARE)/doc/cvr)
 
 # Removes what `install` with the same variables puts there, as an install into an empty folder shows; then the folders
 # below PREFIX that are empty, but for those that a system has in /usr/local.
@@ -37,6 +45,12 @@ uninstall:
 	cd "$$tree" && find . ! -type d -print0 | (cd / && xargs -0 rm -f) && \
 	find ".$$prefix" -mindepth 1 -depth -type d ! -path './usr/local/bin' ! -path './usr/local/share' \
 		! -path './usr/local/share/man' -print0 | (cd / && xargs -0 rmdir 2>/dev/null || :)
+
+ifneq ($(filter package,$(MAKECMDGOALS)),)
+ifneq ($(origin CVR),file)
+$(error make package packs the program that was last built, and takes no CVR)
+endif
+endif
 
 package: all
 	tools/package
