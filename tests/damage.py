@@ -10,6 +10,7 @@ leave what is printed as it was.
 before are left, and the fault is reported, for each command, for help and for refused words. A file can't be opened, as
 it may not be read, or since memory is refused. The device is devices.c, which cc builds on the spot and LD_PRELOAD loads
 with the program.
+- A line of the log that has 4,096 bytes or fewer is one write, and a longer one comes in pieces.
 - The program is killed at each such call of its output, and from outside while it writes a long volume to a file: what
 is left is a prefix of the volume, and `check` refuses each proper prefix as no JSON.
 
@@ -21,6 +22,7 @@ import json
 import multiprocessing
 import os
 import signal
+import socket
 import subprocess
 import sys
 import tempfile
@@ -237,6 +239,30 @@ def failing_words():
             yield from cut_short(stated(name), 2, how)
 
 
+# ---- lines of the log
+
+def writes(program, words):
+    """What a run writes to its log, write by write: each is a packet of a socket."""
+    theirs, ours = socket.socketpair(socket.AF_UNIX, socket.SOCK_SEQPACKET)
+    with ours:
+        with theirs:
+            quiet = {'stdin': subprocess.DEVNULL, 'stdout': subprocess.DEVNULL}
+            subprocess.run([program.cvr, *words], cwd=program.folder, stderr=theirs, timeout=SECONDS, **quiet)
+        return list(iter(lambda: ours.recv(1 << 16), b''))
+
+
+def lines(program):
+    """Yields what is wrong with how lines come to the log, or None."""
+    refused, most = ['check', 'def.json', 'bad', 'f2.json', 'bad'], 4096 - len(': K1\n')
+    wanted = [(refused, [answered(refused[:3], [('bad', reading(BAD))]).log] * 2)]
+    for count, pieces in (most, [b'%s: K1\n']), (most + 1, [b'%s', b': K1\n']):
+        path = 'n' * count
+        wanted.append((['check', 'def.json', path], [it.replace(b'%s', path.encode('utf-8')) for it in pieces]))
+    for words, packets in wanted:
+        found = writes(program, words)
+        yield None if found == packets else 'lines: %d writes of %r' % (len(found), [it[-40:] for it in found])
+
+
 # ---- prefixes of volumes
 
 def many():
@@ -277,6 +303,7 @@ def main():
         program.put('bad', BAD)
         found = list(damaged(program, pool, {'f11': rows.VECTORS['f11.json'], 'volume': volume}))
         found += pool.imap(program.fault, failing(), 50)
+        found += lines(program)
         found += fronts(program)
     wrong = [one for one in found if one]
     for line in wrong[:50]:

@@ -5,15 +5,16 @@ What is installed and packed: `make install` below a folder, and what tools/pack
 Debian and the archive of the static program that tools/targets makes, and the ZIP. In the first the commands of all
 documents are run with its programs, but for those that read the sources, and in the package and the archive those of
 README and of AUDITING, each time in a folder with a copy of its examples, made as the guide says. Each link of a
-document leads to something there. `make uninstall` leaves all that was there before `make install`, also what a package
-adds, and nothing else. `man` finds and reads the pages of the package, and the packed program needs no library. The
-object file beside it can be linked again. SHA256SUMS has the sums of all files, also that in each package, and each
-PROVENANCE those of its program and of the sources, as the commands in it print them; those to sign it and to check that
-are tried with right and wrong keys and texts, where there is `ssh-keygen`. The bill of materials names what is linked
-in and what is imported. A second packing gives the same bytes, and neither a program that was not tried is packed, nor
-one that isn't noted as built. Programs for other systems may be missing here (tests/targets.py makes them): something else stands
-in for them then. Where lintian is installed, it finds no error. Where git finds no commit at the top, as in an unpacked
-archive, a commit made of its files takes its place.
+document leads to something there, and what links to a source in a checkout, to the reference. `make uninstall` leaves
+all that was there before `make install`, also what a package adds, and nothing else. `man` finds and reads the pages of
+the package, and the packed program needs no library. The object file beside it can be linked again. SHA256SUMS has the
+sums of all files, also that in each package, and each PROVENANCE those of its program and of the sources, as the
+commands in it print them; those to sign it and to check that are tried with right and wrong keys and texts, where there
+is `ssh-keygen`. The bill of materials names what is linked in and what is imported. A second packing gives the same
+bytes, and neither a program that was not tried is packed, nor one that isn't noted as built. Programs for other systems
+may be missing here (tests/targets.py makes them): something else stands in for them then. Where lintian is installed,
+it finds no error. Where git finds no commit at the top, as in an unpacked archive, a commit made of its files takes its
+place.
 
 The last line is `package: N right, M wrong`; the status is 0 only where M is 0 and N is not."""
 import argparse
@@ -47,8 +48,8 @@ READ += ['share/cvr/cvr_audit/line.py']
 FILES = runpy.run_path(os.path.join(TOP, 'tools/targets'))['FILES']
 NAMES = list(FILES)     # of targets; the first runs here
 PROGRAM, MADE = os.path.join(TOP, 'crates/cvr/out/cvr'), os.path.join(TOP, 'out/targets')
-SECONDS = 300
-MAKING = 3600   # seconds that making the first may take, beside proofs
+SECONDS = 1200  # which a command may take, also beside proofs
+MAKING = 3600   # and making the first program
 
 
 def done(*words, timeout=SECONDS, **more):
@@ -113,7 +114,8 @@ def links(prefix):
     loader.exec_module(wording)
     texts, folder = pages(prefix), os.path.join(prefix, 'share/doc/cvr')
     lost = [it for name, text in texts.items() for it in wording.lost(name, text, texts, lambda path: os.path.exists(os.path.join(folder, path)))]
-    return 'links below %s: %s' % (os.path.basename(prefix), ', '.join(lost)), not lost
+    is_led = '[`Ran`](../docs/reference/cvr_run.md#Ends.Ran)' in texts['docs/HEADLINE.md']        # and not to a source
+    return 'links below %s: %s' % (os.path.basename(prefix), ', '.join(lost)), is_led and not lost
 
 
 def everything(folder):
@@ -312,7 +314,7 @@ def bill(text, library, program):
 # The modules that any file of these two packages names, once all are loaded.
 LOADED = '''import importlib, pkgutil, sys, types
 sys.dont_write_bytecode, sys.path[:0] = True, sys.argv[1:]
-found = {'sys', 'os', 'gc', 'signal'}       # of the script itself
+found = {'sys', 'os', 'gc', 'signal', 'fcntl'}      # of the script itself; the last of a function
 for package in 'cvr_audit', 'cvr':
     top = importlib.import_module(package)
     for it in [top] + [importlib.import_module(package + '.' + it.name) for it in pkgutil.iter_modules(top.__path__)]:
@@ -368,6 +370,8 @@ def unbuilt(made, folder):
 def tried(cvr, folder):
     """Yields each trial, and whether it is right."""
     prefix, out = os.path.join(folder, 'a prefix'), os.path.join(folder, 'one')
+    told = done('make', 'package', 'CVR=' + cvr)
+    yield 'make package, of a program that it would not pack', told[0] == 2 and 'takes no CVR' in told[1]
     yield 'make install', done('make', 'install', 'CVR=' + cvr, 'PREFIX=' + prefix, umask=0o077)[0] == 0 and is_installed(prefix)
     yield links(prefix)
     yield from first_runs(prefix, commands.FILES)

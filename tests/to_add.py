@@ -27,9 +27,9 @@ PLAYS = {
     'a text of an enumeration': [
         ('docs/FORMAT.md', '| ReportType | aggregated | Gathered from several devices. |', '| ReportType | mended | After a fault was mended. |')],
     'a rule': [
-        ('docs/FAULTS.md', '| 14 | NotWhole |', '| 15 | BlankText | A name has only spaces. | `scan.json: E3 /CVR/0/UniqueId 15` | Give it a name. |')],
+        ('docs/FAULTS.md', '| 14 | NotWhole |', '| 15 | BlankText | A name has only spaces. | `scan.json: E3 /CVR/0/UniqueId 15` | Give it a name. | a name is blank |')],
     'a code': [
-        ('docs/FAULTS.md', '| N1 | There is no office', '| N3 | An office has no number. | `>4: N3` | Name an office. |')],
+        ('docs/FAULTS.md', '| N1 | There is no office', '| N3 | An office has no number. | `>4: N3` | Name an office. | |')],
     'a column of the tally': [
         ('docs/FORMAT.md', '| unassigned |', '| blanks | 1 for each record that has no mark for the contest |'),
         ('tests/rows/printed.py', '    columns = [', "    columns += ['blanks']"),

@@ -20,7 +20,7 @@ MADE = os.path.join(TOP, 'out/made')        # what was compiled: NAME.TRIPLE
 X86 = 'x86_64-unknown-linux-gnu'
 FORMS = {'cvr': ('cvr.o', []), 'cvr_call': ('libcvr_call.a', ['--backend', 'llvm'])}       # of each crate the file that is made
 # The calls of the library: the names that callers see.
-SEEN = ['cvr_call', *('cvr_office_' + it for it in ('conflicts', 'currents', 'free', 'import', 'join', 'new', 'tally'))]
+SEEN = ['cvr_call', *('cvr_office_' + it for it in ('conflicts', 'currents', 'free', 'import', 'join', 'new', 'tally', 'volume'))]
 LIBRARIES = ['crates/%(name)s/out/rlib/%(name)s.rlib', 'out/rlib/%(name)s.rlib']     # of `rt ci`; of `./cvr`
 # A clang that keeps what it compiles, and its words.
 KEEPS = '''#!/bin/sh

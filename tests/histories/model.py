@@ -1,5 +1,5 @@
 """model.py: what offices answer after a history, worked out anew each time from what has reached
-them: by the definitions in docs/reference, and not by the code of the libraries. What a contest adds
+them: by the definitions in crates/*/specs, and not by the code of the libraries. What a contest adds
 to its row is as tests/rows/printed.py reads docs/FORMAT.md.
 
 A fact is a tuple of its name's parts and its body: ('device', id, body), ('header', record, body)

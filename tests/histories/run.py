@@ -2,7 +2,7 @@
 
 Random histories of offices: imports, exchanges, and imports of volumes that another office has
 written; and what offices answer after them, by a model made anew from the definitions in
-docs/reference (model.py). The histories of one seed stand in data/ of crates/cvr_calls, whose program
+crates/*/specs (model.py). The histories of one seed stand in data/ of crates/cvr_calls, whose program
 plays them in offices of both kinds; the model's answers are the end of its file stdout.
 
 Without a word it checks, in a second or two, that these are the files that the model gives, that

@@ -1,5 +1,5 @@
 #!/usr/bin/env python3
-"""orders.py --cvr PATH
+"""orders.py --cvr PATH [--of N] [--first K] [--without ROW ..]
 
 Runs the rows again with the members of each file in other orders: by name, reversed, `CVR` first and last, each time
 with the members of no table between them. What is printed and logged and the status have to be the row's: a file is
@@ -9,7 +9,8 @@ counts. This doesn't hold where a row's file is no JSON, as the list that doesn'
 
 Members are moved as text, so that each number and each text keeps its spelling. A file stays as it is where it is no
 object, has a name twice, or has more than 256 KiB. A row without any other file isn't run, nor one of more than a
-hundred files, which differ in a byte, nor a row's second run with its file as the definition. It tries itself first.
+hundred files, which differ in a byte, nor a row's second run with its file as the definition. With --of it runs one row
+of N, from number K on; it leaves out the rows that --without names. It tries itself first.
 The last line is `orders: N right, M wrong`; the status is 0 only where M is 0 and N is not."""
 import argparse
 import functools
@@ -198,6 +199,9 @@ def try_itself():
 def main():
     words = argparse.ArgumentParser()
     words.add_argument('--cvr', required=True, help='the program to try')
+    words.add_argument('--of', type=int, default=1, metavar='N', help='run one row of N')
+    words.add_argument('--first', type=int, default=0, metavar='K', help='the number of the first')
+    words.add_argument('--without', nargs='*', default=[], metavar='ROW', help='rows to leave out')
     words = words.parse_args()
     sys.stdout.reconfigure(errors='backslashreplace')       # a word may be invalid UTF-8
     cvr, right, wrong = os.path.abspath(words.cvr), 0, 0
@@ -206,6 +210,7 @@ def main():
         wrong += 1
     rows = [it for it in run.all_rows() + [('members.py', row, {}) for row in members.rows()]
             if len(it[1].get('files', {})) <= FILES and not it[1]['name'].endswith('(as definition)')]
+    rows = [it for it in rows[words.first::words.of] if it[1]['name'] not in words.without]
     # processes, since moving the members takes the time
     with multiprocessing.get_context('fork').Pool(min(run.SIDE_BY_SIDE, len(os.sched_getaffinity(0)))) as pool:
         for (where, row, _), (count, found) in zip(rows, pool.imap(functools.partial(tried, cvr), rows)):
