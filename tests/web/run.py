@@ -463,13 +463,13 @@ def write(path, data):
 
 OPTIONS = "[...document.getElementById('definition').options].map(it => it.value)"
 FILLED = """new Promise(done => {
-  const look = () => { const its = %s; its.length ? done(its) : setTimeout(look, 20) }
-  look()
+  const look = left => { const its = %s; its.length || !left ? done(its) : setTimeout(look, 20, left - 1) }
+  look(3000)
 })""" % OPTIONS
 
 
 def see_dropped(browser, trial, folder):
-    """Chromium: a folder and a file that are dropped on the page."""
+    """Chromium: a folder and a file that are dropped on the page. It hands on none below /dev, where other files here may be."""
     above, other = os.path.join(folder, 'dropped'), os.path.join(COUNTY, 'damaged.json')
     os.makedirs(above + '/scans')
     for name, to in ('definition.json', ''), ('adjudicated.json', ''), ('scan.json', 'scans'), ('manifest.csv', ''):
@@ -553,7 +553,8 @@ def see_browser(kind, trial, page, words):
             see_cancel(browser, trial, folder)
             see_network(browser, trial)
             if kind is chromium:
-                see_dropped(browser, trial, folder)
+                with tempfile.TemporaryDirectory(dir=os.path.join(TOP, 'out')) as shown:
+                    see_dropped(browser, trial, shown)
                 see_views(browser, trial, page, words.pictures)
                 see_forced(browser, trial, page)
                 see_ways(browser, trial, folder, saved, words.all)
