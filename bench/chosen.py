@@ -21,7 +21,8 @@ TRIES = 3
 DEEP = 127          # as deep as JSON may be nested
 STEP = 4096         # bytes, to which the least stack is found
 MOST = 8 << 20      # bytes of stack that a system mostly gives
-SMALL = {'{"":0}': 7, '[]': 3, '""': 3, '0': 2, '{"a":{"b":0}}': 14}      # values, and their bytes with a comma
+# Values, and their bytes with a comma.
+SMALL = {'[0]': 4, '{"":0}': 7, '[]': 3, '""': 3, '0': 2, '{"a":{"b":0}}': 14}
 
 
 def run(words, folder, status=0, stack=None):
