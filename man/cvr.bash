@@ -17,7 +17,7 @@ _cvr() {
     case ${COMP_WORDS[1]}:$COMP_CWORD in
     explain:*)
         compopt +o default
-        [ "$COMP_CWORD" -gt 2 ] || COMPREPLY=($(compgen -W 'E1 E2 E3 E4 E5 E6 J2 N1 K1 K2 X1 H1 H2 V1 L1 L2 L3 L4 memory L5 words' -- "$2"))
+        [ "$COMP_CWORD" -gt 2 ] || COMPREPLY=($(compgen -W 'E1 E2 E3 rule E4 E5 E6 J2 N1 K1 K2 X1 H1 H2 V1 L1 L2 L3 L4 memory L5 words' -- "$2"))
         ;;
     help:*)
         compopt +o default

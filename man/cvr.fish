@@ -10,7 +10,7 @@ complete -c cvr -n __fish_use_subcommand -a merge -d 'Print a report of all that
 complete -c cvr -n __fish_use_subcommand -a drill -d 'Try out how several offices take in files and pass on what they hold, and print what each holds at the end'
 complete -c cvr -n __fish_use_subcommand -a explain -d 'Print what a code means, and what to do'
 complete -c cvr -n __fish_use_subcommand -a help -d 'Print this message or the help of the given subcommand(s)'
-complete -c cvr -n '__fish_seen_subcommand_from explain; and test (count (commandline -opc)) -eq 2' -f -a 'E1 E2 E3 E4 E5 E6 J2 N1 K1 K2 X1 H1 H2 V1 L1 L2 L3 L4 memory L5 words'
+complete -c cvr -n '__fish_seen_subcommand_from explain; and test (count (commandline -opc)) -eq 2' -f -a 'E1 E2 E3 rule E4 E5 E6 J2 N1 K1 K2 X1 H1 H2 V1 L1 L2 L3 L4 memory L5 words'
 complete -c cvr -n 'not __fish_seen_subcommand_from help; and __fish_seen_subcommand_from currents conflicts tally check merge drill' -F
 complete -c cvr -n '__fish_seen_subcommand_from currents conflicts tally check merge' -l files-from -r -F -d 'Take the files from a list'
 complete -c cvr -n '__fish_seen_subcommand_from currents conflicts tally check merge' -l null -d 'Each path of the list ends with a NUL byte'

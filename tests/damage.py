@@ -235,7 +235,7 @@ def failing_words():
     for how in ('fails', 'nothing'):
         for name in 'help-drill', 'version', 'explain-E1':
             yield from cut_short(stated(name), 1, how, b'out: X1\n', 3)
-        for name in ('no-command-taly-alone', 'no-step-x', 'explain-e1'):
+        for name in ('no-command-taly-alone', 'no-step-x', 'explain-J1'):
             yield from cut_short(stated(name), 2, how)
 
 

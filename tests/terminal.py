@@ -57,6 +57,10 @@ NO_JSON = {
     'lines': (b'{\n  "\xc3\xa9": nul\n}', 2, 9, ''),
 }
 
+# Options of other programs, each with what there is in its place.
+TABLES = 'cvr prints lines; cvr-audit totals DEF FILE.. --format json, or csv, prints tables'
+TRIED = {**dict.fromkeys(('--json', '--csv', '--format'), TABLES), **dict.fromkeys(('-o', '--out', '--output'), 'cvr prints to standard output, which > OUT saves in a file')}
+
 
 # ---- the judge
 
@@ -169,6 +173,8 @@ def differs(got, wanted):
 def notes(program, asked):
     """The notes of a run, by its log and by the table above."""
     log = asked.log.decode('utf-8')
+    if asked.status == 2:
+        return next(('note: %s: %s\n' % (it, TRIED[it]) for it in (word.split('=')[0] for word in asked.words) if it in TRIED), '')
     if asked.status == 3:
         code = errno.EISDIR if '.: K1' in log else errno.ENOENT
         return 'note: K1: %s (os error %d)\n' % (os.strerror(code), code)
@@ -254,7 +260,7 @@ def asked_runs(program):
     for files in [], held:
         asked = damage.case('tally', files)
         yield asked._replace(words=['tally', 'own'] + asked.words[2:]), len(files)
-    for name in 'help-drill', 'no-command-taly-alone', 'no-step-x':
+    for name in 'help-drill', 'no-command-taly-alone', 'no-step-x', 'option-json', 'option-o', 'option-format', 'option-output-of-a-path':
         yield damage.stated(name), 0
 
 

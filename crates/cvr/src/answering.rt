@@ -40,8 +40,9 @@ pub fn answer<O: Open, W: Sink, L: Sink, R: Eprint + AllocGlobal>(
         → PrintsOwn version_text (ended result)
         (record { out = W.taken out.old; log = L.taken log.old })
         (record { out = W.taken out.new; log = L.taken log.new }) }
-    ensures explains { (name : List ℕ) → AsksCode (map string_bytes (drop 1 words.now)) name
-        → Explains name (ended result)
+    ensures explains { (asked : List (List ℕ))
+        → AsksCode (map string_bytes (drop 1 words.now)) asked
+        → Explains asked (ended result)
         (record { out = W.taken out.old; log = L.taken log.old })
         (record { out = W.taken out.new; log = L.taken log.new })
         (out.new ≡ out.old) }
@@ -52,7 +53,7 @@ pub fn answer<O: Open, W: Sink, L: Sink, R: Eprint + AllocGlobal>(
         (record { opener = O.state opener.new; out = W.taken out.new; log = L.taken log.new })
         (out.new ≡ out.old) }
     ensures works { ¬ AsksVersion (map string_bytes (drop 1 words.now))
-        → ((name : List ℕ) → ¬ AsksCode (map string_bytes (drop 1 words.now)) name)
+        → ((asked : List (List ℕ)) → ¬ AsksCode (map string_bytes (drop 1 words.now)) asked)
         → ((asked : ListedRequest) → ¬ AsksListed (map string_bytes (drop 1 words.now)) asked)
         → Answers (map string_bytes (drop 1 words.now)) (ended result)
         (record { opener = O.state opener.old; out = W.taken out.old; log = L.taken log.old })
@@ -68,11 +69,11 @@ pub fn answer<O: Open, W: Sink, L: Sink, R: Eprint + AllocGlobal>(
         → ended result ≢ CommandLine }
     ensures says { SaysTheSame (O.state opener.old) (O.state opener.new) }
     ensures unopened { AsksVersion (map string_bytes (drop 1 words.now))
-        ⊎ ((name : List ℕ) × AsksCode (map string_bytes (drop 1 words.now)) name)
+        ⊎ ((asked : List (List ℕ)) × AsksCode (map string_bytes (drop 1 words.now)) asked)
         → Opens (O.state opener.old) (O.state opener.new) [] }
 {
     let status = respond(alloc, opener, behind_the_name(words), out, log);
     progress.clear();
-    notes.print(&status);
+    notes.print(words, &status);
     ExitCode::from(status.code())
 }

@@ -43,21 +43,23 @@ listed asked status old new more (inr (inl (same, logs))) = inr (inl (more same,
 listed asked status old new more (inr (inr (text, read, is, done))) =
     inr (inr (text, read, is, does _ status _ new more done))
 
-explains : {U V : Type 0} (name : List ℕ) (status : Status) (old new : Outputs) → (U → V)
-    → Explains name status old new U → Explains name status old new V
-explains name status old new more (inl prints) = inl prints
-explains name status old new more (inr none) = inr (record {
+explains : {U V : Type 0} (asked : List (List ℕ)) (status : Status) (old new : Outputs) → (U → V)
+    → Explains asked status old new U → Explains asked status old new V
+explains asked status old new more (inl prints) = inl prints
+explains asked status old new more (inr (inl own)) = inr (inl own)
+explains asked status old new more (inr (inr none)) = inr (inr (record {
   unknown = none.unknown;
+  some = none.some;
   quiet = more none.quiet;
   status = none.status;
   log = none.log;
-})
+}))
 
 responds : {U V : Type 0} (words : List (List ℕ)) (status : Status) (old new : Devices) → (U → V)
     → Responds words status old new U → Responds words status old new V
 responds words status old new more did = record {
   version = did.version;
-  explains = λ name asks. explains name status _ _ more (did.explains name asks);
+  explains = λ asked asks. explains asked status _ _ more (did.explains asked asks);
   listed = λ asked asks. listed asked status old new more (did.listed asked asks);
   works = λ no_version no_code no_list.
       answers words status old new more (did.works no_version no_code no_list);

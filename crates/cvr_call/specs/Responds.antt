@@ -21,18 +21,18 @@ use Rattle.cvr_call.specs.Given.{File, Given, opener_over}
 pub record Responds (words : List (List ℕ)) (status : Status) (old new : Devices)
     (unchanged : Type 0) : Type 0 where
   pub version : AsksVersion words → PrintsOwn version_text status (outputs old) (outputs new)
-  pub explains : (name : List ℕ) → AsksCode words name
-      → Explains name status (outputs old) (outputs new) unchanged
+  pub explains : (asked : List (List ℕ)) → AsksCode words asked
+      → Explains asked status (outputs old) (outputs new) unchanged
   pub listed : (asked : ListedRequest) → AsksListed words asked
       → AnswersListed asked status old new unchanged
-  pub works : ¬ AsksVersion words → ((name : List ℕ) → ¬ AsksCode words name)
+  pub works : ¬ AsksVersion words → ((asked : List (List ℕ)) → ¬ AsksCode words asked)
       → ((asked : ListedRequest) → ¬ AsksListed words asked)
       → Answers words status old new unchanged
   pub given : (job : Job) → IsGivenEither old.opener.at words job → IsWhole status
       → Ran job status (outputs old) (outputs new)
   pub asked : (request : Request) → IsRequest (with_program words) request → status ≢ CommandLine
   pub says : SaysTheSame old.opener new.opener
-  pub unopened : AsksVersion words ⊎ ((name : List ℕ) × AsksCode words name)
+  pub unopened : AsksVersion words ⊎ ((asked : List (List ℕ)) × AsksCode words asked)
       → Opens old.opener new.opener []
 
 -- ---- over given files

@@ -103,8 +103,8 @@ pub fn respond<O: Open, W: Sink, L: Sink>(
     ensures version { AsksVersion (map string_bytes words.now) → PrintsOwn version_text result
         (record { out = W.taken out.old; log = L.taken log.old })
         (record { out = W.taken out.new; log = L.taken log.new }) }
-    ensures explains { (name : List ℕ) → AsksCode (map string_bytes words.now) name
-        → Explains name result
+    ensures explains { (asked : List (List ℕ)) → AsksCode (map string_bytes words.now) asked
+        → Explains asked result
         (record { out = W.taken out.old; log = L.taken log.old })
         (record { out = W.taken out.new; log = L.taken log.new })
         (out.new ≡ out.old) }
@@ -114,7 +114,7 @@ pub fn respond<O: Open, W: Sink, L: Sink>(
         (record { opener = O.state opener.new; out = W.taken out.new; log = L.taken log.new })
         (out.new ≡ out.old) }
     ensures works { ¬ AsksVersion (map string_bytes words.now)
-        → ((name : List ℕ) → ¬ AsksCode (map string_bytes words.now) name)
+        → ((asked : List (List ℕ)) → ¬ AsksCode (map string_bytes words.now) asked)
         → ((asked : ListedRequest) → ¬ AsksListed (map string_bytes words.now) asked)
         → Answers (map string_bytes words.now) result
         (record { opener = O.state opener.old; out = W.taken out.old; log = L.taken log.old })
@@ -129,7 +129,7 @@ pub fn respond<O: Open, W: Sink, L: Sink>(
         → IsRequest (with_program (map string_bytes words.now)) request → result ≢ CommandLine }
     ensures says { SaysTheSame (O.state opener.old) (O.state opener.new) }
     ensures unopened { AsksVersion (map string_bytes words.now)
-        ⊎ ((name : List ℕ) × AsksCode (map string_bytes words.now) name)
+        ⊎ ((asked : List (List ℕ)) × AsksCode (map string_bytes words.now) asked)
         → Opens (O.state opener.old) (O.state opener.new) [] }
 {
     cvr_run::respond::<CachedOffice, O, W, L>(alloc, opener, words, out, log)

@@ -13,9 +13,9 @@ use Rattle.cvr_run.specs.File.{is_file_device}
 use Rattle.cvr_run.specs.Given.{AreAsMany, AreHad, IsFile, IsFilled, IsThere, StopsAmong}
 use Rattle.cvr_run.specs.Given.{StopsBehind}
 use Rattle.cvr_run.specs.Log.{memory_line}
-use Rattle.cvr_run.specs.Opening.{Absent, AreRead, FailedAt, IsRead, Opener, Opens}
+use Rattle.cvr_run.specs.Opening.{Absent, FailedAt, IsRead, Opener, Opens}
 use Rattle.cvr_run.specs.Outcome.{files_of}
-use Rattle.cvr_run.specs.Worked.{unread_line, unread_status, Stops, NoRoom}
+use Rattle.cvr_run.specs.Worked.{unread_line, unread_status, NoRoom}
 use Rattle.cvr_run.proofs.Opened.{opens_none, opens_one_more, opens_both, opens_same, read_one_more}
 use Rattle.cvr_run.proofs.Opened.{stops_at, stops_full, stops_later}
 

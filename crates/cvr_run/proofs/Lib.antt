@@ -1,4 +1,5 @@
 pub mod Files
+mod FirstCode
 pub mod Accepted
 pub mod Members
 pub mod Steps

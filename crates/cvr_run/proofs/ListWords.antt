@@ -14,10 +14,7 @@ use Rattle.cvr_words.specs.declared.request.Request.{Request}
 use Rattle.cvr_words.proofs.Laws.{one_request}
 use Rattle.cvr_run.specs.Answered.{Does, IsGiven}
 use Rattle.cvr_run.specs.Devices.{Devices}
-use Rattle.cvr_run.specs.declared.file.FileFault.TheVariants as fault
 use Rattle.cvr_run.specs.declared.status.Status.{Status}
-use Rattle.cvr_run.specs.declared.status.Status.TheVariants as status
-use Rattle.cvr_run.specs.declared.status.Status.TheVariants.{Device}
 use Rattle.cvr_run.specs.Explained.{AsksCode}
 use Rattle.cvr_run.specs.File.{held_bytes}
 use Rattle.cvr_run.specs.Job.{Job}
@@ -29,6 +26,7 @@ use Rattle.cvr_run.specs.Opening.{At, Has, Opener, IsRead, Opens}
 use Rattle.cvr_run.specs.Outcome.{IsWhole}
 use Rattle.cvr_run.specs.OwnWords.{AsksVersion}
 use Rattle.cvr_run.specs.Told.{LogsSome}
+use Rattle.cvr_run.proofs.CodeWords.{code_asks_none}
 use Rattle.cvr_run.proofs.Known.{not_whole, stopped}
 
 -- ---- words are cut in one way
@@ -277,6 +275,28 @@ version_few words (inl is) =
 version_few words (inr is) =
     let one : length words ≡ 1 = ap (λ (w : List (List ℕ)). length w) is in omega (arith, one)
 
-pub code_few : (words : List (List ℕ)) (name : List ℕ) → AsksCode words name → length words ≤ 3
-code_few words name is =
-    let two : length words ≡ 2 = ap (λ (w : List (List ℕ)). length w) is in omega (arith, two)
+-- those for a code ask for no list: what stands before it would begin with the same word
+same_first : (before asked tail : List (List ℕ)) → IsBefore before
+    → codes "explain" ∷ asked ≡ before ++ tail
+    → (rest : List (List ℕ)) × (before ≡ codes "explain" ∷ rest)
+same_first [] asked tail (inl short) is = absurd (omega (arith, short))
+same_first [] asked tail (inr short) is = absurd (omega (arith, short))
+same_first (word ∷ before) asked tail short is =
+    let first : word ≡ codes "explain" = cc in (before, ap (λ w. w ∷ before) first)
+
+pub code_alone : (words asked : List (List ℕ)) → AsksCode words asked → (listed : ListedRequest)
+    → AsksListed words listed → ⊥
+code_alone words asked (inl is) listed asks =
+    let first = same_first asks.before asked (list_tail listed.list listed.by_null) asks.short
+    (sym is ∙ asks.split) in
+    code_asks_none asks.before first.0 (inl first.1) listed.request asks.request
+code_alone words asked (inr is) listed asks =
+    let two : length words ≡ 2 = ap (λ (w : List (List ℕ)). length w) is.0 in
+    few_alone words (omega (arith, two)) listed asks
+
+pub code_gives_none : (at : List ℕ → At) (words asked : List (List ℕ)) (job : Job)
+    → AsksCode words asked → IsGivenEither at words job → ⊥
+code_gives_none at words asked job asks (inl given) =
+    code_asks_none words asked asks job.request given.asked
+code_gives_none at words asked job asks (inr given) =
+    code_alone words asked asks given.by given.asked

@@ -6,7 +6,6 @@ use Rattle.cdf_types.specs.Device.{Taken, taken_with}
 use Rattle.cvr_words.specs.Fault.{IsLineFault}
 use Rattle.cvr_words.specs.Request.{IsRequest}
 use Rattle.cvr_words.specs.declared.fault.LineFault.{LineFault}
-use Rattle.cvr_words.specs.declared.fault.LineFault.TheVariants.{Memory}
 use Rattle.cvr_words.specs.declared.request.Request.{Request}
 use Rattle.cvr_words.proofs.Laws.{no_line_fault_but_memory}
 use Rattle.cvr_run.specs.Answered.{TellsWords, help_text, is_help, words_line, words_status}

@@ -1,14 +1,15 @@
 -- The codes that the program reports, and what it prints of each.
 -- Made by tools/codes from docs/FAULTS.md. Change that.
-use Rattle.std.specs.Prelude.{ℕ, List, codes, ◌++◌}
+use Rattle.std.specs.Prelude.{ℕ, List, [], ◌∷◌, codes, ◌++◌}
 use Rattle.cvr_run.specs.declared.code.Code.{Code}
-use Rattle.cvr_run.specs.declared.code.Code.TheVariants.{E1, E2, E3, E4, E5, E6, J2, N1, K1, K2, X1, H1, H2, V1, L1, L2, L3, L4, MemoryLine, L5, WordsLine}
+use Rattle.cvr_run.specs.declared.code.Code.TheVariants.{E1, E2, E3, RuleLine, E4, E5, E6, J2, N1, K1, K2, X1, H1, H2, V1, L1, L2, L3, L4, MemoryLine, L5, WordsLine}
 
 -- the word that names it
 abbrev pub code_name : Code → List ℕ
 code_name E1 = codes "E1"
 code_name E2 = codes "E2"
 code_name E3 = codes "E3"
+code_name RuleLine = codes "rule"
 code_name E4 = codes "E4"
 code_name E5 = codes "E5"
 code_name E6 = codes "E6"
@@ -28,9 +29,16 @@ code_name MemoryLine = codes "memory"
 code_name L5 = codes "L5"
 code_name WordsLine = codes "words"
 
--- what is printed of it
-abbrev pub code_text : Code → List ℕ
-code_text E1 =
+-- all of them
+abbrev pub all_codes : List Code
+all_codes =
+    E1 ∷ E2 ∷ E3 ∷ RuleLine ∷ E4 ∷ E5 ∷ E6 ∷ J2 ∷ N1 ∷ K1 ∷ K2 ∷ X1 ∷ H1 ∷ H2 ∷ V1 ∷ L1 ∷ L2 ∷ L3 ∷
+    L4 ∷ MemoryLine ∷ L5 ∷ WordsLine ∷ []
+
+-- ---- what is printed of each
+
+abbrev pub e1_text : List ℕ
+e1_text =
     codes "E1  The file has more than 67,108,864 bytes.\n"
     ++ codes "\n"
     ++ codes "Example:\n"
@@ -38,7 +46,9 @@ code_text E1 =
     ++ codes "\n"
     ++ codes "What to do:\n"
     ++ codes "  Have the tool that wrote it write several files.\n"
-code_text E2 =
+
+abbrev pub e2_text : List ℕ
+e2_text =
     codes "E2  The file is no JSON text in UTF-8, is nested more than 127 deep, or has a\n"
     ++ codes "    number too large for a float or half a pair of surrogates in a text.\n"
     ++ codes "\n"
@@ -48,9 +58,11 @@ code_text E2 =
     ++ codes "What to do:\n"
     ++ codes "  Check whether it was cut off or is of another kind, such as XML; remove a\n"
     ++ codes "  byte order mark. On a terminal a note says where it stops being JSON.\n"
-code_text E3 =
-    codes "E3  The file hasn't the form of a report: the value at the path breaks the\n"
-    ++ codes "    rule.\n"
+
+abbrev pub e3_text : List ℕ
+e3_text =
+    codes "E3, rule  The file hasn't the form of a report: the value at the path breaks\n"
+    ++ codes "          the rule.\n"
     ++ codes "\n"
     ++ codes "Example:\n"
     ++ codes "  scan.json: E3 /CVR/0/UniqueId 2\n"
@@ -86,7 +98,9 @@ code_text E3 =
     ++ codes "      selections under one CVRContest.\n"
     ++ codes "  14  A number, anywhere in the file, isn't whole. Write it whole, or as a\n"
     ++ codes "      text, as MarkMetricValue is.\n"
-code_text E4 =
+
+abbrev pub e4_text : List ℕ
+e4_text =
     codes "E4  The text at the path has to be the @id of something in the same file, and\n"
     ++ codes "    names nothing.\n"
     ++ codes "\n"
@@ -95,7 +109,9 @@ code_text E4 =
     ++ codes "\n"
     ++ codes "What to do:\n"
     ++ codes "  Look the id up in the file; the table of references is in docs/FORMAT.md.\n"
-code_text E5 =
+
+abbrev pub e5_text : List ℕ
+e5_text =
     codes "E5  The object at the path (the Election, a GpUnit or a Party) isn't the\n"
     ++ codes "    definition's: it has another text under the same @id, or the definition\n"
     ++ codes "    has no such object.\n"
@@ -106,7 +122,9 @@ code_text E5 =
     ++ codes "What to do:\n"
     ++ codes "  Was the file exported under another version of the election? Hand in the\n"
     ++ codes "  definition that it was made under, or have it exported again.\n"
-code_text E6 =
+
+abbrev pub e6_text : List ℕ
+e6_text =
     codes "E6  Memory was refused while the file was read or its facts were taken in.\n"
     ++ codes "    Nothing is printed, since the text would lack the file (status 4).\n"
     ++ codes "\n"
@@ -115,7 +133,9 @@ code_text E6 =
     ++ codes "\n"
     ++ codes "What to do:\n"
     ++ codes "  Free memory, or hand in fewer files.\n"
-code_text J2 =
+
+abbrev pub j2_text : List ℕ
+j2_text =
     codes "J2  Memory was refused while one office took in what another holds. Nothing is\n"
     ++ codes "    printed, since the text would lack the step (status 4).\n"
     ++ codes "\n"
@@ -124,7 +144,9 @@ code_text J2 =
     ++ codes "\n"
     ++ codes "What to do:\n"
     ++ codes "  Free memory, or hand in fewer files.\n"
-code_text N1 =
+
+abbrev pub n1_text : List ℕ
+n1_text =
     codes "N1  There is no office with a number of the step: offices count from 1 to\n"
     ++ codes "    OFFICES (status 1).\n"
     ++ codes "\n"
@@ -133,7 +155,9 @@ code_text N1 =
     ++ codes "\n"
     ++ codes "What to do:\n"
     ++ codes "  Name an office from 1 to OFFICES, or ask for more offices.\n"
-code_text K1 =
+
+abbrev pub k1_text : List ℕ
+k1_text =
     codes "K1  The file could not be opened or read, or is a folder. A file of a step is\n"
     ++ codes "    reported by its path. The program stops there (status 3).\n"
     ++ codes "\n"
@@ -144,7 +168,9 @@ code_text K1 =
     ++ codes "  Check the path and its permissions. An empty path can't be opened: an empty\n"
     ++ codes "  line of a list of files is one. A list with line ends as on Windows has a\n"
     ++ codes "  carriage return at the end of each path: cat -A shows it.\n"
-code_text K2 =
+
+abbrev pub k2_text : List ℕ
+k2_text =
     codes "K2  Memory was refused while the file was opened or read. The program stops\n"
     ++ codes "    there (status 4).\n"
     ++ codes "\n"
@@ -153,7 +179,9 @@ code_text K2 =
     ++ codes "\n"
     ++ codes "What to do:\n"
     ++ codes "  Free memory, or hand in fewer files.\n"
-code_text X1 =
+
+abbrev pub x1_text : List ℕ
+x1_text =
     codes "X1  Standard output failed or took nothing. A prefix of the text may have been\n"
     ++ codes "    written (status 3).\n"
     ++ codes "\n"
@@ -162,7 +190,9 @@ code_text X1 =
     ++ codes "\n"
     ++ codes "What to do:\n"
     ++ codes "  Check where the output goes: a full disk, a closed pipe? Then run again.\n"
-code_text H1 =
+
+abbrev pub h1_text : List ℕ
+h1_text =
     codes "H1  DATE of merge is no date-time with an offset, or names a zone in brackets.\n"
     ++ codes "    Nothing is printed (status 1).\n"
     ++ codes "\n"
@@ -171,7 +201,9 @@ code_text H1 =
     ++ codes "\n"
     ++ codes "What to do:\n"
     ++ codes "  Write it as 2024-11-06T08:00:00Z or 2024-11-06T03:00:00-05:00.\n"
-code_text H2 =
+
+abbrev pub h2_text : List ℕ
+h2_text =
     codes "H2  The definition has no ReportingDevice with DEVICE as its @id. Nothing is\n"
     ++ codes "    printed (status 1).\n"
     ++ codes "\n"
@@ -180,7 +212,9 @@ code_text H2 =
     ++ codes "\n"
     ++ codes "What to do:\n"
     ++ codes "  Name one of the definition's devices; one that only files have doesn't do.\n"
-code_text V1 =
+
+abbrev pub v1_text : List ℕ
+v1_text =
     codes "V1  There are fewer volumes than VOLUME; how many stands after it, as\n"
     ++ codes "    conflicts ends with. Nothing is printed (status 1).\n"
     ++ codes "\n"
@@ -189,7 +223,9 @@ code_text V1 =
     ++ codes "\n"
     ++ codes "What to do:\n"
     ++ codes "  Ask for a volume from 1 to that number.\n"
-code_text L1 =
+
+abbrev pub l1_text : List ℕ
+l1_text =
     codes "L1  No command takes the words, or none stands, or a number is out of range. A\n"
     ++ codes "    sentence says what is wrong; a hint follows where a like word would do,\n"
     ++ codes "    and the usage. No file was opened (status 2).\n"
@@ -200,7 +236,9 @@ code_text L1 =
     ++ codes "What to do:\n"
     ++ codes "  cvr --help lists the commands, cvr help tally the words of one. A path that\n"
     ++ codes "  begins with - stands after --.\n"
-code_text L2 =
+
+abbrev pub l2_text : List ℕ
+l2_text =
     codes "L2  The words ask for help: it is printed on standard output (status 0).\n"
     ++ codes "\n"
     ++ codes "Example:\n"
@@ -208,7 +246,9 @@ code_text L2 =
     ++ codes "\n"
     ++ codes "What to do:\n"
     ++ codes "  Nothing: this is no fault.\n"
-code_text L3 =
+
+abbrev pub l3_text : List ℕ
+l3_text =
     codes "L3  The step has no form. The first such step is reported, and no file was\n"
     ++ codes "    opened (status 2).\n"
     ++ codes "\n"
@@ -218,31 +258,23 @@ code_text L3 =
     ++ codes "What to do:\n"
     ++ codes "  K=FILE or 'K>L', in quotes since > is a sign of the shell; K and L are\n"
     ++ codes "  decimal numbers of one to nine digits, without a sign or a space.\n"
-code_text L4 =
-    codes "L4  Memory was refused for the words (L4), for the list of the files'\n"
-    ++ codes "    contents, for the offices, for the list of their imports or steps, or for\n"
-    ++ codes "    the text: nothing is printed, or of merge a prefix of the volume. Or the\n"
-    ++ codes "    path of a line E3, E4 or E5 could not be spelled: this line stands in its\n"
-    ++ codes "    place, and the rest is done (status 4).\n"
+
+abbrev pub l4_text : List ℕ
+l4_text =
+    codes "L4, memory  Memory was refused for the words (L4), for the list of the files'\n"
+    ++ codes "            contents, for the offices, for the list of their imports or steps,\n"
+    ++ codes "            or for the text: nothing is printed, or of merge a prefix of the\n"
+    ++ codes "            volume. Or the path of a line E3, E4 or E5 could not be spelled:\n"
+    ++ codes "            this line stands in its place, and the rest is done (status 4).\n"
     ++ codes "\n"
     ++ codes "Example:\n"
     ++ codes "  memory\n"
     ++ codes "\n"
     ++ codes "What to do:\n"
     ++ codes "  Free memory, or hand in fewer files.\n"
-code_text MemoryLine =
-    codes "memory  Memory was refused for the words (L4), for the list of the files'\n"
-    ++ codes "        contents, for the offices, for the list of their imports or steps, or\n"
-    ++ codes "        for the text: nothing is printed, or of merge a prefix of the volume.\n"
-    ++ codes "        Or the path of a line E3, E4 or E5 could not be spelled: this line\n"
-    ++ codes "        stands in its place, and the rest is done (status 4).\n"
-    ++ codes "\n"
-    ++ codes "Example:\n"
-    ++ codes "  memory\n"
-    ++ codes "\n"
-    ++ codes "What to do:\n"
-    ++ codes "  Free memory, or hand in fewer files.\n"
-code_text L5 =
+
+abbrev pub l5_text : List ℕ
+l5_text =
     codes "L5  The list of files is not UTF-8, or has more than 67,108,864 bytes. Nothing\n"
     ++ codes "    but it was opened (status 2).\n"
     ++ codes "\n"
@@ -252,7 +284,9 @@ code_text L5 =
     ++ codes "What to do:\n"
     ++ codes "  Rename the file whose path is not UTF-8; split a longer list, and add up the\n"
     ++ codes "  tallies of parts that have no record in common.\n"
-code_text WordsLine =
+
+abbrev pub words_text : List ℕ
+words_text =
     codes "words  A word is not UTF-8. No file was opened (status 2).\n"
     ++ codes "\n"
     ++ codes "Example:\n"
@@ -261,10 +295,48 @@ code_text WordsLine =
     ++ codes "What to do:\n"
     ++ codes "  Rename the file, or go to its folder.\n"
 
--- what is reported of a word that names none, in the form in which clap refuses a value
+abbrev pub code_text : Code → List ℕ
+code_text E1 = e1_text
+code_text E2 = e2_text
+code_text E3 = e3_text
+code_text RuleLine = e3_text
+code_text E4 = e4_text
+code_text E5 = e5_text
+code_text E6 = e6_text
+code_text J2 = j2_text
+code_text N1 = n1_text
+code_text K1 = k1_text
+code_text K2 = k2_text
+code_text X1 = x1_text
+code_text H1 = h1_text
+code_text H2 = h2_text
+code_text V1 = v1_text
+code_text L1 = l1_text
+code_text L2 = l2_text
+code_text L3 = l3_text
+code_text L4 = l4_text
+code_text MemoryLine = l4_text
+code_text L5 = l5_text
+code_text WordsLine = words_text
+
+-- what is reported of words that name none, in the form in which clap refuses a value
 abbrev pub no_code_text : List ℕ
 no_code_text =
     codes "error: invalid value for '<CODE>'\n"
-    ++ codes "  [possible values: E1, E2, E3, E4, E5, E6, J2, N1, K1, K2, X1, H1, H2, V1, L1, L2, L3, L4, memory, L5, words]\n"
+    ++ codes "  [possible values: E1, E2, E3, rule, E4, E5, E6, J2, N1, K1, K2, X1, H1, H2, V1, L1, L2, L3, L4, memory, L5, words]\n"
     ++ codes "\n"
     ++ codes "For more information, try '--help'.\n"
+
+-- what is printed of `explain` itself
+abbrev pub explain_text : List ℕ
+explain_text =
+    codes "Print what a code on standard error means, and what to do\n"
+    ++ codes "\n"
+    ++ codes "Usage: cvr explain <CODE>...\n"
+    ++ codes "\n"
+    ++ codes "  <CODE>...  E1, E2, E3, rule, E4, E5, E6, J2, N1, K1, K2, X1, H1, H2, V1, L1,\n"
+    ++ codes "             L2, L3, L4, memory, L5, words; in capitals or not; or a line that\n"
+    ++ codes "             has one\n"
+    ++ codes "\n"
+    ++ codes "Example:\n"
+    ++ codes "  cvr explain 'scan.json: E3 /CVR/0/UniqueId 2'\n"

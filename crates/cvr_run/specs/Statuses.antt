@@ -97,7 +97,7 @@ NoListAtL = (old new : Opener) (answer : Status) (line : List ℕ)
 -- E3 is explained, unless the output failed
 abbrev pub E3IsExplained : Type 0
 E3IsExplained = (answer : Status) (old new : Outputs)
-    → Explains (codes "E3") answer old new (Unit {0})
+    → Explains (codes "E3" ∷ []) answer old new (Unit {0})
     → (new.out.failed ≡ false → answer ≡ Done) × (new.out.failed ≡ true → answer ≡ Device)
 
 -- ---- ends of paths

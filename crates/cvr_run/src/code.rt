@@ -1,9 +1,10 @@
 // Made by tools/codes from docs/FAULTS.md. Change that.
 
-ghost use Rattle.std.specs.Prelude.{◌≡◌, ◌↔◌, Some};
-ghost use Rattle.cvr_run.specs.Code.{code_name, code_text, no_code_text};
+ghost use Rattle.std.specs.Prelude.{◌≡◌};
+ghost use Rattle.cvr_run.specs.Code as spec;
+ghost use Rattle.cvr_run.specs.Code.{all_codes, code_name, code_text, explain_text, no_code_text};
 
-/// A code that the program reports.
+/// A code that the program reports, or another word for one.
 #[derive(Clone, Copy, Debug, PartialEq, Eq)]
 pub enum Code {
     /// `E1`
@@ -12,6 +13,8 @@ pub enum Code {
     E2,
     /// `E3`
     E3,
+    /// `rule`
+    RuleLine,
     /// `E4`
     E4,
     /// `E5`
@@ -52,7 +55,7 @@ pub enum Code {
 
 // What is printed of `E1`.
 fn e1_text() -> &'static str
-    ensures { result.now ≡ code_text Code.E1 }
+    ensures { result.now ≡ spec.e1_text }
 {
     "E1  The file has more than 67,108,864 bytes.
 
@@ -66,7 +69,7 @@ What to do:
 
 // What is printed of `E2`.
 fn e2_text() -> &'static str
-    ensures { result.now ≡ code_text Code.E2 }
+    ensures { result.now ≡ spec.e2_text }
 {
     "E2  The file is no JSON text in UTF-8, is nested more than 127 deep, or has a
     number too large for a float or half a pair of surrogates in a text.
@@ -82,10 +85,10 @@ What to do:
 
 // What is printed of `E3`.
 fn e3_text() -> &'static str
-    ensures { result.now ≡ code_text Code.E3 }
+    ensures { result.now ≡ spec.e3_text }
 {
-    "E3  The file hasn't the form of a report: the value at the path breaks the
-    rule.
+    "E3, rule  The file hasn't the form of a report: the value at the path breaks
+          the rule.
 
 Example:
   scan.json: E3 /CVR/0/UniqueId 2
@@ -126,7 +129,7 @@ Rules, by the number at the end of the line:
 
 // What is printed of `E4`.
 fn e4_text() -> &'static str
-    ensures { result.now ≡ code_text Code.E4 }
+    ensures { result.now ≡ spec.e4_text }
 {
     "E4  The text at the path has to be the @id of something in the same file, and
     names nothing.
@@ -141,7 +144,7 @@ What to do:
 
 // What is printed of `E5`.
 fn e5_text() -> &'static str
-    ensures { result.now ≡ code_text Code.E5 }
+    ensures { result.now ≡ spec.e5_text }
 {
     "E5  The object at the path (the Election, a GpUnit or a Party) isn't the
     definition's: it has another text under the same @id, or the definition
@@ -158,7 +161,7 @@ What to do:
 
 // What is printed of `E6`.
 fn e6_text() -> &'static str
-    ensures { result.now ≡ code_text Code.E6 }
+    ensures { result.now ≡ spec.e6_text }
 {
     "E6  Memory was refused while the file was read or its facts were taken in.
     Nothing is printed, since the text would lack the file (status 4).
@@ -173,7 +176,7 @@ What to do:
 
 // What is printed of `J2`.
 fn j2_text() -> &'static str
-    ensures { result.now ≡ code_text Code.J2 }
+    ensures { result.now ≡ spec.j2_text }
 {
     "J2  Memory was refused while one office took in what another holds. Nothing is
     printed, since the text would lack the step (status 4).
@@ -188,7 +191,7 @@ What to do:
 
 // What is printed of `N1`.
 fn n1_text() -> &'static str
-    ensures { result.now ≡ code_text Code.N1 }
+    ensures { result.now ≡ spec.n1_text }
 {
     "N1  There is no office with a number of the step: offices count from 1 to
     OFFICES (status 1).
@@ -203,7 +206,7 @@ What to do:
 
 // What is printed of `K1`.
 fn k1_text() -> &'static str
-    ensures { result.now ≡ code_text Code.K1 }
+    ensures { result.now ≡ spec.k1_text }
 {
     "K1  The file could not be opened or read, or is a folder. A file of a step is
     reported by its path. The program stops there (status 3).
@@ -220,7 +223,7 @@ What to do:
 
 // What is printed of `K2`.
 fn k2_text() -> &'static str
-    ensures { result.now ≡ code_text Code.K2 }
+    ensures { result.now ≡ spec.k2_text }
 {
     "K2  Memory was refused while the file was opened or read. The program stops
     there (status 4).
@@ -235,7 +238,7 @@ What to do:
 
 // What is printed of `X1`.
 fn x1_text() -> &'static str
-    ensures { result.now ≡ code_text Code.X1 }
+    ensures { result.now ≡ spec.x1_text }
 {
     "X1  Standard output failed or took nothing. A prefix of the text may have been
     written (status 3).
@@ -250,7 +253,7 @@ What to do:
 
 // What is printed of `H1`.
 fn h1_text() -> &'static str
-    ensures { result.now ≡ code_text Code.H1 }
+    ensures { result.now ≡ spec.h1_text }
 {
     "H1  DATE of merge is no date-time with an offset, or names a zone in brackets.
     Nothing is printed (status 1).
@@ -265,7 +268,7 @@ What to do:
 
 // What is printed of `H2`.
 fn h2_text() -> &'static str
-    ensures { result.now ≡ code_text Code.H2 }
+    ensures { result.now ≡ spec.h2_text }
 {
     "H2  The definition has no ReportingDevice with DEVICE as its @id. Nothing is
     printed (status 1).
@@ -280,7 +283,7 @@ What to do:
 
 // What is printed of `V1`.
 fn v1_text() -> &'static str
-    ensures { result.now ≡ code_text Code.V1 }
+    ensures { result.now ≡ spec.v1_text }
 {
     "V1  There are fewer volumes than VOLUME; how many stands after it, as
     conflicts ends with. Nothing is printed (status 1).
@@ -295,7 +298,7 @@ What to do:
 
 // What is printed of `L1`.
 fn l1_text() -> &'static str
-    ensures { result.now ≡ code_text Code.L1 }
+    ensures { result.now ≡ spec.l1_text }
 {
     "L1  No command takes the words, or none stands, or a number is out of range. A
     sentence says what is wrong; a hint follows where a like word would do,
@@ -312,7 +315,7 @@ What to do:
 
 // What is printed of `L2`.
 fn l2_text() -> &'static str
-    ensures { result.now ≡ code_text Code.L2 }
+    ensures { result.now ≡ spec.l2_text }
 {
     "L2  The words ask for help: it is printed on standard output (status 0).
 
@@ -326,7 +329,7 @@ What to do:
 
 // What is printed of `L3`.
 fn l3_text() -> &'static str
-    ensures { result.now ≡ code_text Code.L3 }
+    ensures { result.now ≡ spec.l3_text }
 {
     "L3  The step has no form. The first such step is reported, and no file was
     opened (status 2).
@@ -342,31 +345,13 @@ What to do:
 
 // What is printed of `L4`.
 fn l4_text() -> &'static str
-    ensures { result.now ≡ code_text Code.L4 }
+    ensures { result.now ≡ spec.l4_text }
 {
-    "L4  Memory was refused for the words (L4), for the list of the files'
-    contents, for the offices, for the list of their imports or steps, or for
-    the text: nothing is printed, or of merge a prefix of the volume. Or the
-    path of a line E3, E4 or E5 could not be spelled: this line stands in its
-    place, and the rest is done (status 4).
-
-Example:
-  memory
-
-What to do:
-  Free memory, or hand in fewer files.
-"
-}
-
-// What is printed of `memory`.
-fn memory_text() -> &'static str
-    ensures { result.now ≡ code_text Code.MemoryLine }
-{
-    "memory  Memory was refused for the words (L4), for the list of the files'
-        contents, for the offices, for the list of their imports or steps, or
-        for the text: nothing is printed, or of merge a prefix of the volume.
-        Or the path of a line E3, E4 or E5 could not be spelled: this line
-        stands in its place, and the rest is done (status 4).
+    "L4, memory  Memory was refused for the words (L4), for the list of the files'
+            contents, for the offices, for the list of their imports or steps,
+            or for the text: nothing is printed, or of merge a prefix of the
+            volume. Or the path of a line E3, E4 or E5 could not be spelled:
+            this line stands in its place, and the rest is done (status 4).
 
 Example:
   memory
@@ -378,7 +363,7 @@ What to do:
 
 // What is printed of `L5`.
 fn l5_text() -> &'static str
-    ensures { result.now ≡ code_text Code.L5 }
+    ensures { result.now ≡ spec.l5_text }
 {
     "L5  The list of files is not UTF-8, or has more than 67,108,864 bytes. Nothing
     but it was opened (status 2).
@@ -394,7 +379,7 @@ What to do:
 
 // What is printed of `words`.
 fn words_text() -> &'static str
-    ensures { result.now ≡ code_text Code.WordsLine }
+    ensures { result.now ≡ spec.words_text }
 {
     "words  A word is not UTF-8. No file was opened (status 2).
 
@@ -406,45 +391,92 @@ What to do:
 "
 }
 
-/// What is reported of a word that names none. Takes no memory.
+/// What is reported of words that name none. Takes no memory.
 pub fn no_code() -> &'static str
     ensures { result.now ≡ no_code_text }
 {
     "error: invalid value for '<CODE>'
-  [possible values: E1, E2, E3, E4, E5, E6, J2, N1, K1, K2, X1, H1, H2, V1, L1, L2, L3, L4, memory, L5, words]
+  [possible values: E1, E2, E3, rule, E4, E5, E6, J2, N1, K1, K2, X1, H1, H2, V1, L1, L2, L3, L4, memory, L5, words]
 
 For more information, try '--help'.
 "
 }
 
+/// What is printed of `explain` itself. Takes no memory.
+pub fn explain_use() -> &'static str
+    ensures { result.now ≡ explain_text }
+{
+    "Print what a code on standard error means, and what to do
+
+Usage: cvr explain <CODE>...
+
+  <CODE>...  E1, E2, E3, rule, E4, E5, E6, J2, N1, K1, K2, X1, H1, H2, V1, L1,
+             L2, L3, L4, memory, L5, words; in capitals or not; or a line that
+             has one
+
+Example:
+  cvr explain 'scan.json: E3 /CVR/0/UniqueId 2'
+"
+}
+
+/// All codes. Takes no memory.
+pub fn all_codes() -> &'static [Code]
+    ensures { result.now ≡ all_codes }
+{
+    &[
+        Code::E1,
+        Code::E2,
+        Code::E3,
+        Code::RuleLine,
+        Code::E4,
+        Code::E5,
+        Code::E6,
+        Code::J2,
+        Code::N1,
+        Code::K1,
+        Code::K2,
+        Code::X1,
+        Code::H1,
+        Code::H2,
+        Code::V1,
+        Code::L1,
+        Code::L2,
+        Code::L3,
+        Code::L4,
+        Code::MemoryLine,
+        Code::L5,
+        Code::WordsLine,
+    ]
+}
+
 impl Code {
-    /// The code of this name. Takes no memory.
-    pub fn from_name(name: &str) -> Option<Code>
-        ensures listed { (code : Code) → (result ≡ Some code) ↔ (name.now ≡ code_name code) }
+    /// The word that names it. Takes no memory.
+    pub fn name(&self) -> &'static str
+        ensures { result.now ≡ code_name self.now }
     {
-        match name {
-            "E1" => Some(Code::E1),
-            "E2" => Some(Code::E2),
-            "E3" => Some(Code::E3),
-            "E4" => Some(Code::E4),
-            "E5" => Some(Code::E5),
-            "E6" => Some(Code::E6),
-            "J2" => Some(Code::J2),
-            "N1" => Some(Code::N1),
-            "K1" => Some(Code::K1),
-            "K2" => Some(Code::K2),
-            "X1" => Some(Code::X1),
-            "H1" => Some(Code::H1),
-            "H2" => Some(Code::H2),
-            "V1" => Some(Code::V1),
-            "L1" => Some(Code::L1),
-            "L2" => Some(Code::L2),
-            "L3" => Some(Code::L3),
-            "L4" => Some(Code::L4),
-            "memory" => Some(Code::MemoryLine),
-            "L5" => Some(Code::L5),
-            "words" => Some(Code::WordsLine),
-            _ => None,
+        match self {
+            Code::E1 => "E1",
+            Code::E2 => "E2",
+            Code::E3 => "E3",
+            Code::RuleLine => "rule",
+            Code::E4 => "E4",
+            Code::E5 => "E5",
+            Code::E6 => "E6",
+            Code::J2 => "J2",
+            Code::N1 => "N1",
+            Code::K1 => "K1",
+            Code::K2 => "K2",
+            Code::X1 => "X1",
+            Code::H1 => "H1",
+            Code::H2 => "H2",
+            Code::V1 => "V1",
+            Code::L1 => "L1",
+            Code::L2 => "L2",
+            Code::L3 => "L3",
+            Code::L4 => "L4",
+            Code::MemoryLine => "memory",
+            Code::L5 => "L5",
+            Code::WordsLine => "words",
         }
     }
 
@@ -456,6 +488,7 @@ impl Code {
             Code::E1 => e1_text(),
             Code::E2 => e2_text(),
             Code::E3 => e3_text(),
+            Code::RuleLine => e3_text(),
             Code::E4 => e4_text(),
             Code::E5 => e5_text(),
             Code::E6 => e6_text(),
@@ -471,7 +504,7 @@ impl Code {
             Code::L2 => l2_text(),
             Code::L3 => l3_text(),
             Code::L4 => l4_text(),
-            Code::MemoryLine => memory_text(),
+            Code::MemoryLine => l4_text(),
             Code::L5 => l5_text(),
             Code::WordsLine => words_text(),
         }

@@ -81,7 +81,7 @@ fn respond_listed<C: Office + Drop, O: Open, W: Sink, L: Sink>(
 /// code means, that is printed, and no file is opened. Where a list stands in the place of the
 /// files, it is read, and the request is done over the files of its paths. All other words go to
 /// `work`. What `work` says of words that ask for a request holds as it stands.
-#[tactic(auto, using(crate::proofs::CodeWords::version_no_code, crate::proofs::CodeWords::one_name))]
+#[tactic(auto, using(crate::proofs::CodeWords::version_no_code, crate::proofs::CodeWords::one_asked))]
 pub fn respond<C: Office + Drop, O: Open, W: Sink, L: Sink>(
     alloc: Global,
     opener: &mut O,
@@ -94,8 +94,8 @@ pub fn respond<C: Office + Drop, O: Open, W: Sink, L: Sink>(
     ensures version { AsksVersion (map string_bytes words.now) → PrintsOwn version_text result
         (record { out = W.taken out.old; log = L.taken log.old })
         (record { out = W.taken out.new; log = L.taken log.new }) }
-    ensures explains { (name : List ℕ) → AsksCode (map string_bytes words.now) name
-        → Explains name result
+    ensures explains { (asked : List (List ℕ)) → AsksCode (map string_bytes words.now) asked
+        → Explains asked result
         (record { out = W.taken out.old; log = L.taken log.old })
         (record { out = W.taken out.new; log = L.taken log.new })
         (out.new ≡ out.old) }
@@ -105,7 +105,7 @@ pub fn respond<C: Office + Drop, O: Open, W: Sink, L: Sink>(
         (record { opener = O.state opener.new; out = W.taken out.new; log = L.taken log.new })
         (out.new ≡ out.old) }
     ensures works { ¬ AsksVersion (map string_bytes words.now)
-        → ((name : List ℕ) → ¬ AsksCode (map string_bytes words.now) name)
+        → ((asked : List (List ℕ)) → ¬ AsksCode (map string_bytes words.now) asked)
         → ((asked : ListedRequest) → ¬ AsksListed (map string_bytes words.now) asked)
         → Answers (map string_bytes words.now) result
         (record { opener = O.state opener.old; out = W.taken out.old; log = L.taken log.old })
@@ -120,14 +120,14 @@ pub fn respond<C: Office + Drop, O: Open, W: Sink, L: Sink>(
         → IsRequest (with_program (map string_bytes words.now)) request → result ≢ CommandLine }
     ensures says { SaysTheSame (O.state opener.old) (O.state opener.new) }
     ensures unopened { AsksVersion (map string_bytes words.now)
-        ⊎ ((name : List ℕ) × AsksCode (map string_bytes words.now) name)
+        ⊎ ((asked : List (List ℕ)) × AsksCode (map string_bytes words.now) asked)
         → Opens (O.state opener.old) (O.state opener.new) [] }
 {
     if asks_version(words) {
         return print_version(out, log);
     }
     match asked_code(words) {
-        Some(name) => explain(name, out, log),
+        Some(asked) => explain(asked, out, log),
         None => match listing_of(words) {
             Some(listing) => respond_listed::<C, O, W, L>(alloc, opener, words, &listing, out, log),
             None => work::<C, O, W, L>(alloc, opener, words, out, log),

@@ -5,6 +5,7 @@
 mod notes;
 mod progress;
 mod seen;
+mod tried;
 mod watched;
 
 pub use notes::Notes;

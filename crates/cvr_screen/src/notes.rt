@@ -1,4 +1,5 @@
 use crate::seen::{Flaw, Seen, see};
+use crate::tried::tried;
 use cvr_run::{HELD, Status};
 use std::cell::{Cell, RefCell};
 use std::io;
@@ -120,15 +121,23 @@ impl<'a, R: Eprint + AllocGlobal> Notes<'a, R> {
         self.several.set(names);
     }
 
-    /// Prints the notes of a run that ended with this status. What the terminal answers is ignored.
-    pub fn print(&self, status: &Status) {
+    /// Prints the notes of a run of these words that ended with this status. What the terminal
+    /// answers is ignored.
+    pub fn print(&self, words: &[String], status: &Status) {
         if !self.is_terminal {
             return;
         }
         match status {
             Status::Done | Status::Refused => self.print_files(),
             Status::Device => self.print_code(),
-            Status::CommandLine | Status::Memory => {}
+            Status::CommandLine => self.print_tried(words),
+            Status::Memory => {}
+        }
+    }
+
+    fn print_tried(&self, words: &[String]) {
+        if let Some((option, instead)) = tried(words) {
+            let _ = eprintln!(self.rt; "note: {option}: {instead}");
         }
     }
 

@@ -212,8 +212,8 @@ fn bare_command<'a>(alloc: Global) -> Command<'a>
         .after_help(
             "Where files differ: cvr conflicts. One report of several files: cvr merge. Votes: cvr tally.\n\
             Paths from a list: --files-from LIST [--null] in place of FILE... Version: cvr --version.\n\
-            What is refused is reported on standard error by a code: cvr explain CODE says what it means,\n\
-            as do cvr(1) and docs/FAULTS.md.",
+            What is refused is reported on standard error by a code; these say what it means:\n\
+            cvr explain CODE, cvr explain 'LINE', cvr(1) and docs/FAULTS.md.",
         )
 }
 

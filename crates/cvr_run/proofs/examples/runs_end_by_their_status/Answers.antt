@@ -1,8 +1,9 @@
-use Rattle.std.proofs.Common.{◌≡◌, ◌∙◌, Bool, true, false, inl, inr, refl, ap}
+use Rattle.std.proofs.Common.{◌≡◌, Bool, true, false, Some, None, inl, inr, refl}
 use Rattle.std.specs.Prelude.{if◌then◌else◌}
 use Rattle.cvr_run.specs.declared.code.Code.TheVariants as code
 use Rattle.cvr_run.specs.declared.status.Status.{Status}
 use Rattle.cvr_run.specs.declared.status.Status.TheVariants.{Done, Device}
+use Rattle.cvr_run.specs.Explained.{first_code}
 use Rattle.cvr_run.specs.ListedPaths.{listed_paths}
 use Rattle.cvr_run.specs.Statuses.{E3IsExplained}
 use Rattle.cvr_run.proofs.examples.runs_end_by_their_status.Goals as goal
@@ -13,9 +14,13 @@ by_output true answer is = (λ no. absurd (cc), λ yes. is)
 by_output false answer is = (λ no. is, λ yes. absurd (cc))
 
 e3_is_explained : E3IsExplained
+unfolding first_code listed_paths
 e3_is_explained answer old new (inl prints) =
     by_output new.out.failed answer prints.printed.status
-e3_is_explained answer old new (inr none) = absurd (none.unknown code.E3 refl)
+e3_is_explained answer old new (inr (inl own)) =
+    by_output new.out.failed answer own.printed.status
+e3_is_explained answer old new (inr (inr none)) =
+    let bad : Some code.E3 ≡ None = none.unknown in absurd (cc)
 
 pub returns : goal.returns
 unfolding listed_paths

@@ -1,4 +1,4 @@
-use Rattle.std.proofs.Common.{◌≡◌, ◌∙◌, ◌+◌, ◌++◌, drop, sym, ap}
+use Rattle.std.proofs.Common.{◌∙◌, ◌+◌, ◌++◌, drop, sym, ap}
 use Rattle.cvr_run.proofs.Pieces.{bytes_of, next_piece, where_ok}
 use Rattle.cvr_run.proofs.log.one_line.Goals as goal
 

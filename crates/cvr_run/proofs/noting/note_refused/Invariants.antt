@@ -1,4 +1,4 @@
-use Rattle.std.proofs.Common.{false, ◌≡◌, List, map, take}
+use Rattle.std.proofs.Common.{◌≡◌, List, map, take}
 use Rattle.std.specs.List.{list_any}
 use Rattle.cvr_run.specs.Refusals.{Due, is_refusal, is_want, AreDue}
 use Rattle.cvr_run.specs.Told.{LogsFirst}

@@ -1,7 +1,7 @@
 use Rattle.std.proofs.Common.{map, string_bytes}
-use Rattle.cvr_run.proofs.CodeWords.{code_asks_none}
-use Rattle.cvr_run.proofs.ListWords.{code_few, few_alone, few_give_none, none_listed, only_paths}
-use Rattle.cvr_run.proofs.ListWords.{version_few}
+use Rattle.cvr_run.proofs.CodeWords.{code_asks_none, neither}
+use Rattle.cvr_run.proofs.ListWords.{code_alone, code_gives_none, few_alone, few_give_none}
+use Rattle.cvr_run.proofs.ListWords.{none_listed, only_paths, version_few}
 use Rattle.cvr_run.proofs.VersionWords.{version_asks_none}
 use Rattle.cvr_run.proofs.responding.respond.Goals as goal
 
@@ -25,21 +25,39 @@ returns-then-asks_version-clause-asked g c request asks =
 
 pub returns-in-Some-clause-listed : goal.returns-in-Some-clause-listed
 returns-in-Some-clause-listed g c asked asks =
-    let words = map string_bytes c.args.words.now in
-    absurd (few_alone words (code_few words c.in-Some.name.now c.in-Some.ensures.some) asked asks)
+    absurd (code_alone (map string_bytes c.args.words.now) (map string_bytes c.in-Some.asked.now)
+    c.in-Some.ensures.some asked asks)
 
 pub returns-in-Some-clause-given : goal.returns-in-Some-clause-given
 returns-in-Some-clause-given g c job given whole =
-    let words = map string_bytes c.args.words.now in
-    let name = c.in-Some.name.now in
-    let asks = c.in-Some.ensures.some in
-    absurd (few_give_none (g.O.Open.state c.args.opener.now).at words job (code_few words name asks)
-    (code_asks_none words name asks) given)
+    absurd (code_gives_none (g.O.Open.state c.args.opener.now).at
+    (map string_bytes c.args.words.now) (map string_bytes c.in-Some.asked.now) job
+    c.in-Some.ensures.some given)
 
 pub returns-in-Some-clause-asked : goal.returns-in-Some-clause-asked
 returns-in-Some-clause-asked g c request asks =
-    absurd (code_asks_none (map string_bytes c.args.words.now) c.in-Some.name.now
-    c.in-Some.ensures.some request asks)
+    absurd (code_asks_none (map string_bytes c.args.words.now)
+    (map string_bytes c.in-Some.asked.now) c.in-Some.ensures.some request asks)
+
+pub returns-in-Some-clause-works : goal.returns-in-Some-clause-works
+returns-in-Some-clause-works g c version code list =
+    absurd (code (map string_bytes c.in-Some.asked.now) c.in-Some.ensures.some)
+
+pub returns-in-Some-listing_of-clause-explains : goal.returns-in-Some-listing_of-clause-explains
+returns-in-Some-listing_of-clause-explains g c asked asks =
+    absurd (c.in-None.ensures.none asked asks)
+
+pub returns-in-Some-listing_of-clause-unopened : goal.returns-in-Some-listing_of-clause-unopened
+returns-in-Some-listing_of-clause-unopened g c = neither (map string_bytes c.args.words.now)
+    (c.asks_version.ensures.no c.if-asks_version.false) c.in-None.ensures.none
+
+pub returns-in-None-listing_of-clause-explains : goal.returns-in-None-listing_of-clause-explains
+returns-in-None-listing_of-clause-explains g c asked asks =
+    absurd (c.in-None.ensures.none asked asks)
+
+pub returns-in-None-listing_of-clause-unopened : goal.returns-in-None-listing_of-clause-unopened
+returns-in-None-listing_of-clause-unopened g c = neither (map string_bytes c.args.words.now)
+    (c.asks_version.ensures.no c.if-asks_version.false) c.in-None.ensures.none
 
 pub returns-in-None-listing_of-clause-given : goal.returns-in-None-listing_of-clause-given
 returns-in-None-listing_of-clause-given g c job given whole =

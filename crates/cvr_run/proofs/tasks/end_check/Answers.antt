@@ -1,4 +1,4 @@
-use Rattle.std.proofs.Common.{◌∙◌, length, None, sym, subst}
+use Rattle.std.proofs.Common.{length, None, subst}
 use Rattle.std.specs.List.{list_any}
 use Rattle.cvr_run.specs.Accepted.{is_refused}
 use Rattle.cvr_run.specs.Outcome.{check_lines}

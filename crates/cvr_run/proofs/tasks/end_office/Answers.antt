@@ -1,4 +1,4 @@
-use Rattle.std.proofs.Common.{◌∙◌, length, sym, subst}
+use Rattle.std.proofs.Common.{length, subst}
 use Rattle.std.specs.List.{list_any}
 use Rattle.cvr_run.specs.Accepted.{is_refused}
 use Rattle.cvr_run.specs.Outcome.{content_of_files, facts_fault, facts_text, task_fault}

@@ -1,4 +1,4 @@
-use Rattle.std.proofs.Common.{◌≡◌, ◌∙◌, ℕ, List, false, length, map, sym, subst}
+use Rattle.std.proofs.Common.{◌∙◌, ℕ, List, false, length, map, sym, subst}
 use Rattle.std.proofs.lemmas.List.{map-id}
 use Rattle.cdf_definition.specs.Frame.{Frame}
 use Rattle.cdf_types.specs.Device.{Taken}

@@ -1,4 +1,4 @@
-use Rattle.std.proofs.Common.{◌≡◌, ◌∙◌, inl, inr, length, ap, subst}
+use Rattle.std.proofs.Common.{◌∙◌, inl, inr, length, ap, subst}
 use Rattle.cvr_run.specs.Devices.{Outputs}
 use Rattle.cvr_run.specs.Ends.{Ran, RanBeside}
 use Rattle.cvr_run.specs.Log.{Logs}

@@ -1,4 +1,4 @@
-use Rattle.std.proofs.Common.{◌∙◌, ◌≡◌, None, inl, inr, refl, ap, subst, rules}
+use Rattle.std.proofs.Common.{◌∙◌, ◌≡◌, None, inl, inr, refl, ap, subst}
 use Rattle.cvr_office.specs.Outcomes.{no_frame}
 use Rattle.cvr_run.specs.Devices.{Outputs}
 use Rattle.cvr_run.specs.Drill.{drill_refused, drill_text}

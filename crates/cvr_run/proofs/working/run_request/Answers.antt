@@ -1,4 +1,4 @@
-use Rattle.std.proofs.Common.{◌≡◌, ◌∷◌, [], ◌∙◌, inl, inr, refl, sym, ap, subst}
+use Rattle.std.proofs.Common.{◌≡◌, ◌∷◌, [], inl, inr, refl, sym, subst}
 use Rattle.cvr_run.specs.Answered.{Does}
 use Rattle.cvr_run.specs.Devices.{Devices}
 use Rattle.cvr_run.specs.Log.{Logs}

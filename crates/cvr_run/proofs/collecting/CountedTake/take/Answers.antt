@@ -1,10 +1,10 @@
-use Rattle.std.proofs.Common.{◌≡◌, ◌∙◌, ◌++◌, [], subst, sym, ap, string_bytes, option_map, None, Some}
+use Rattle.std.proofs.Common.{◌≡◌, ◌∙◌, ◌++◌, subst, sym, ap, string_bytes, option_map, None, Some}
 use Rattle.cdf_parts.specs.Parts.{record_count}
 use Rattle.cdf_definition.specs.Acceptance.{first_refusal, value_in}
 use Rattle.cdf_form.specs.Reading.{IsMemory}
 use Rattle.cvr_office.specs.declared.event.Cause.TheVariants.{Read}
-use Rattle.cvr_run.specs.Outcome.{check_line, check_lines}
-use Rattle.cvr_run.specs.Refusals.{IsDue, file_due, cause_in}
+use Rattle.cvr_run.specs.Outcome.{check_lines}
+use Rattle.cvr_run.specs.Refusals.{IsDue, file_due}
 use Rattle.cvr_run.proofs.Collected.{line_of_accepted, lines_more, lines_refused, taken_more}
 use Rattle.cvr_run.proofs.Telling.{read_due}
 use Rattle.cvr_run.proofs.collecting.CountedTake.take.Goals as goal
