@@ -1,11 +1,12 @@
 -- Names in byte order, and that what serde_json reads has them so.
-use Rattle.std.proofs.Common.{◌≡◌, ℕ, List, Option, Some, None, option_map, option_and_then}
+use Rattle.std.proofs.Common.{◌≡◌, ◌≢◌, ℕ, ◌<◌, List, [], ◌∷◌, length, get_or, Bool, true, false}
+use Rattle.std.proofs.Common.{cond, nat_lt, ne_eqb, Option, Some, None, option_map, option_and_then}
 use Rattle.std.proofs.Common.{Ordering, Less, Equal, Greater, nat_cmp, refl, ap, ◌∙◌}
 use Rattle.std.specs.Prelude.{IfSome, ⊤}
 use Rattle.std.proofs.lemmas.Cmp.{nat_list_cmp_total}
 use Rattle.std.proofs.lemmas.Option.{IfSome_then}
 use Rattle.std.specs.Cmp.Lexicographic.{slice_cmp}
-use Rattle.std.specs.Ordering.{match_ordering, ordering_reverse}
+use Rattle.std.specs.Ordering.{match_ordering, ordering_reverse, ordering_then}
 use Rattle.json.specs.Token.{Token}
 use Rattle.json.specs.Lex.{tokens}
 use Rattle.json.specs.Json as json
@@ -27,6 +28,18 @@ Below-trans k l (member m d ms) p h = (
 
 pub reversed : (k l : List ℕ) → Before l k → slice_cmp nat_cmp k l ≡ Greater
 reversed k l e = nat_list_cmp_total.antisymm k l ∙ ap ordering_reverse e
+
+decided : (b : Bool) (o : Ordering) → ordering_then (cond b Less Greater) o ≡ cond b Less Greater
+decided true o = refl
+decided false o = refl
+
+-- the first bytes decide, where they differ
+pub first_decides : (a b : List ℕ) → 0 < length a → 0 < length b → get_or a 0 0 ≢ get_or b 0 0
+    → slice_cmp nat_cmp a b ≡ nat_cmp (get_or a 0 0) (get_or b 0 0)
+first_decides [] b some more other = elim some [ ]
+first_decides (x ∷ xs) [] some more other = elim more [ ]
+first_decides (x ∷ xs) (y ∷ ys) some more other =
+    rw (ne_eqb x y other) (decided (nat_lt x y) _)
 
 pub rises_sorted : (ms : Members) → MembersAreSorted ms → Rises ms
 rises_sorted no_members h = tt

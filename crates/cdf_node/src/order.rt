@@ -1,5 +1,7 @@
 ghost use Rattle.std.specs.Prelude.{◌≡◌, IfOk};
 ghost use Rattle.std.specs.Bool.{OnTrue};
+ghost use Rattle.std.specs.Cmp.Lexicographic.{slice_cmp};
+ghost use Rattle.std.specs.Ordering.{nat_cmp};
 ghost use Rattle.cdf_node.specs.Order.{in_order as in_order_of, Rises};
 ghost use Rattle.cdf_node.specs.View.{members_view};
 
@@ -7,6 +9,7 @@ use crate::node::Node;
 use bumpalo::Bump;
 use bumpalo::collections::into_bump_slice;
 use std::alloc::AllocError;
+use std::cmp::Ordering;
 use std::collections::BTreeMap;
 
 /// The members in byte order of names, of equal names the last. Members that rise stay where they
@@ -24,7 +27,7 @@ pub fn in_order<'t>(
     if rises(&found) {
         return Ok(into_bump_slice(found));
     }
-    found.sort_by_key(|m| m.0)?;
+    found.sort_by(|a, b| compare(a.0, b.0))?;
     last_of_each(bump, found)
 }
 
@@ -44,11 +47,24 @@ fn last_of_each<'t>(
     }
 }
 
+// The order of two names by their bytes. Most differ in the first, and need no call.
+#[inline(always)]
+#[tactic(auto, using(crate::proofs::Sorting::first_decides))]
+fn compare(a: &str, b: &str) -> Ordering
+    ensures { result ≡ slice_cmp nat_cmp a.now b.now }
+{
+    let (x, y) = (a.as_bytes(), b.as_bytes());
+    if x.len() > 0 && y.len() > 0 && x[0] != y[0] {
+        return x[0].cmp(&y[0]);
+    }
+    a.cmp(b)
+}
+
 // Whether each name stands before the next.
 fn rises(members: &[(&str, Node<'_>)]) -> bool
     ensures { OnTrue result (Rises (members_view members.now)) }
 {
-    members.is_sorted_by(|a, b| a.0 < b.0)
+    members.is_sorted_by(|a, b| compare(a.0, b.0).is_lt())
 }
 
 // The members by name, of equal names the last.
