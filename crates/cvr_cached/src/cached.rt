@@ -4,7 +4,6 @@ use cdf_check::Definition;
 use cdf_types::{Body, Memory, ReadFault};
 use cvr_facts::{HeaderFact, RecordName, SnapshotFact};
 use cvr_lists::devices::{device_body_in, device_count_in, next_device_in};
-use cvr_lists::putting::{of_devices, of_records, put_in};
 use cvr_lists::read_facts;
 use cvr_lists::record_lists::{grouped, headers_down};
 use cvr_office::{ConflictList, JoinFault, Office, Receipt, RecordFacts};
@@ -118,11 +117,9 @@ impl Office for CachedOffice {
     {
         let store = &self.store;
         let alloc = *store.devices.allocator();
-        let (cvrs, list) = read_facts(alloc, &self.definition, bytes)?;
-        let theirs = of_devices(alloc, list.devices)?;
-        let mut more = Vec::new(alloc);
-        put_in(&mut more, of_records(alloc, list.headers, list.snapshots)?)?;
-        let new_facts = self.store.take_in(&theirs, more)?;
+        let file = read_facts(alloc, &self.definition, bytes)?;
+        let (cvrs, records) = (file.cvrs, file.records);
+        let new_facts = self.store.take_in(&file.devices, records)?;
         Ok(Receipt { cvrs, new_facts })
     }
 

@@ -1,7 +1,7 @@
 -- Facts that lists in order keep, and the sets of them.
 use Rattle.std.proofs.Common.{◌≡◌, ℕ, List, ◌++◌, map, Bool, true, Ordering, Equal}
 use Rattle.std.proofs.Common.{sym, ap, ◌∙◌, subst, slice_index_or, inl, inr, arith}
-use Rattle.std.specs.List.{Any, Contains, dedup, flat_map, list_any}
+use Rattle.std.specs.List.{Any, Contains, dedup, list_any}
 use Rattle.std.specs.Ordering.{eq_by_cmp, ordering_then}
 use Rattle.std.specs.Cmp.{Equal-is, IsEquivalence}
 use Rattle.std.specs.FinSet.{from_list, same_set, contains-from_list}
@@ -14,7 +14,6 @@ use Rattle.std.proofs.lemmas.List.Elements.{Contains-append_left, Contains-appen
 use Rattle.std.proofs.lemmas.List.Elements.{Contains-get_or}
 use Rattle.std.proofs.lemmas.List.Kept.{Any-dedup}
 use Rattle.std.proofs.lemmas.Map.Views.{Contains-from_any, list_any-from_Contains}
-use Rattle.std.proofs.lemmas.Simd.{map-map}
 use Rattle.cdf_types.specs.declared.report.Report.{Report}
 use Rattle.cdf_parts.specs.Places.{Contest}
 use Rattle.cvr_fact_types.specs.declared.device.DeviceFact.{DeviceFact}
@@ -23,8 +22,8 @@ use Rattle.cvr_fact_types.specs.declared.snapshot.SnapshotFact.{SnapshotFact}
 use Rattle.cvr_facts.specs.declared.list.FactList.{FactList}
 use Rattle.cvr_fact_types.specs.Facts.{Fact, text_cmp, fact_cmp, fact_total, fact_exact}
 use Rattle.cvr_fact_types.specs.Orders.{device_cmp, header_cmp, snapshot_cmp}
-use Rattle.cvr_facts.specs.Lists.{told_device, told_header, told_snapshots, fact_of_device}
-use Rattle.cvr_facts.specs.Lists.{fact_of_header, fact_of_snapshot, facts_in, told_facts}
+use Rattle.cvr_facts.specs.Lists.{fact_of_device, fact_of_header, fact_of_snapshot, facts_in}
+use Rattle.cvr_facts.specs.Lists.{told_list}
 
 -- ---- ties
 
@@ -152,18 +151,13 @@ same_facts xs ys there back =
 
 -- a list that keeps what a report gives has its facts
 pub same_told : (contests : List Contest) (report : Report) (list : FactList)
-    → Keeps fact_of_device (map told_device report.devices) list.devices
-    → Keeps fact_of_header (map told_header report.cvrs) list.headers
-    → Keeps fact_of_snapshot (flat_map (told_snapshots contests) report.cvrs) list.snapshots
-    → from_list {R = fact_cmp} (facts_in list) ≡ from_list (told_facts contests report)
+    → Keeps fact_of_device (told_list contests report).devices list.devices
+    → Keeps fact_of_header (told_list contests report).headers list.headers
+    → Keeps fact_of_snapshot (told_list contests report).snapshots list.snapshots
+    → from_list {R = fact_cmp} (facts_in list) ≡ from_list (facts_in (told_list contests report))
 same_told contests report list devices headers snapshots =
-    rw (
-      ← map-map fact_of_device told_device report.devices,
-      ← map-map fact_of_header told_header
-          report.cvrs,
-    )
-    (same_facts _ _
+    same_facts _ _
     (Within-append _ _ _ _ (listed_are_told _ _ _ devices)
     (Within-append _ _ _ _ (listed_are_told _ _ _ headers) (listed_are_told _ _ _ snapshots)))
     (Within-append _ _ _ _ (told_are_listed _ _ _ devices)
-    (Within-append _ _ _ _ (told_are_listed _ _ _ headers) (told_are_listed _ _ _ snapshots))))
+    (Within-append _ _ _ _ (told_are_listed _ _ _ headers) (told_are_listed _ _ _ snapshots)))

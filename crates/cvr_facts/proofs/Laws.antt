@@ -9,3 +9,4 @@ pub use Rattle.cvr_facts.proofs.Records.{Contains-header_bodies, Contains-snapsh
 pub use Rattle.cvr_facts.proofs.Records.{contains_iff}
 pub use Rattle.cvr_facts.proofs.Sources.{device_listed, fact_held, fact_source, header_listed}
 pub use Rattle.cvr_facts.proofs.Sources.{snapshot_listed}
+pub use Rattle.cvr_facts.proofs.Spelled.{spelled_told}

@@ -2,7 +2,6 @@
 use Rattle.std.proofs.Common.{◌≡◌, ℕ, List, [], map, Contains, false, Some, codes, refl, sym, ap}
 use Rattle.std.proofs.Common.{◌∙◌, subst, arith}
 use Rattle.std.specs.Prelude.{option_and_then, unwrap_or}
-use Rattle.std.specs.List.{flat_map}
 use Rattle.serde_json.specs.Data.{Data, null, boolean, number, string, array, object}
 use Rattle.serde_json.specs.Find.{get, as_str}
 use Rattle.serde_json.specs.Read.{read, max_depth}
@@ -24,7 +23,7 @@ use Rattle.cvr_fact_types.specs.declared.header.HeaderFact.{HeaderFact}
 use Rattle.cvr_fact_types.specs.declared.snapshot.SnapshotFact.{SnapshotFact}
 use Rattle.cvr_facts.specs.declared.list.FactList.{FactList}
 use Rattle.cvr_facts.specs.Lists.{told_device, told_header, told_snapshot, told_snapshots}
-use Rattle.cvr_facts.specs.Lists.{AreFactsOf, IsReportOf}
+use Rattle.cvr_facts.specs.Lists.{told_list, AreFactsOf, IsReportOf}
 use Rattle.cvr_facts.specs.Stands.{IsSpelledDevice, IsSpelledHeader, IsSpelledSnapshot}
 use Rattle.cvr_facts.specs.Stands.{ListIsSpelled}
 use Rattle.cvr_facts.proofs.Members.{from_map, from_flat}
@@ -90,7 +89,10 @@ spelled_snapshot contests c s back =
 
 module _ (contests : List Contest) (text : List ℕ) (d : Data) (is : read text ≡ Some d)
     (whole : has_float d ≡ false) where
-  device_told : (f : DeviceFact) → Contains (map told_device (report_of contests d).devices) f
+  abbrev told : FactList
+  told = told_list contests (report_of contests d)
+
+  device_told : (f : DeviceFact) → Contains told.devices f
       → IsSpelledDevice f
   device_told f a =
       let t = from_map told_device f (map device_of (devices_in d)) a in
@@ -106,7 +108,7 @@ module _ (contests : List Contest) (text : List ℕ) (d : Data) (is : read text 
       (header_proper max_depth c (part_proper max_depth c d (listed_part (codes "CVR") d c a)
       (proper_read text d is whole)))
 
-  header_told : (f : HeaderFact) → Contains (map told_header (report_of contests d).cvrs) f
+  header_told : (f : HeaderFact) → Contains told.headers f
       → IsSpelledHeader f
   header_told f a =
       let t = from_map told_header f (map (cvr_of contests) (cvrs_in d)) a in
@@ -128,31 +130,38 @@ module _ (contests : List Contest) (text : List ℕ) (d : Data) (is : read text 
       subst (IsSpelledSnapshot contests) (ap (told_snapshot contests (cvr_of contests c)) s.2 ∙ t.2)
       (spelled_snapshot contests c s.0 (snapshot_back c s.0 a s.1))
 
-  snapshot_told : (f : SnapshotFact) → Contains
-      (flat_map (told_snapshots contests) (report_of contests d).cvrs) f
-      → IsSpelledSnapshot contests f
+  snapshot_told : (f : SnapshotFact) → Contains told.snapshots f → IsSpelledSnapshot contests f
   snapshot_told f a =
       let t = from_flat (told_snapshots contests) f (map (cvr_of contests) (cvrs_in d)) a in
       let c = from_map (cvr_of contests) t.0 (cvrs_in d) t.1 in
       snapshot_of_cvr c.0 f c.1 (subst (λ x. Contains (told_snapshots contests x) f) (sym c.2) t.2)
 
-  read_spelled : (list : FactList) → AreFactsOf contests (report_of contests d) list
-      → ListIsSpelled contests list
-  read_spelled list told = record {
-    devices = λ f a. device_told f (told.devices f a);
-    headers = λ f a. header_told f (told.headers f a);
-    snapshots = λ f a. snapshot_told f (told.snapshots f a);
-  }
-
 -- ---- an accepted file
 
-pub spelled_are : (frame : Frame) (bytes : List ℕ) (report : Report) (list : FactList)
+-- what its report says is what its bodies spell
+pub spelled_told : (frame : Frame) (bytes : List ℕ) (report : Report)
     → IsReportOf frame bytes report
-    → AreFactsOf frame.contests report list → ListIsSpelled frame.contests list
-spelled_are frame bytes report list of told =
+    → ListIsSpelled frame.contests (told_list frame.contests report)
+spelled_told frame bytes report of =
     let v = (valid_file frame bytes).0 of.accepted in
     let same : value_in bytes ≡ v.0 = ap (λ o. unwrap_or o null) v.1.1 in
     let is : report ≡ report_of frame.contests v.0 =
     of.report_is ∙ ap (report_of frame.contests) same in
-    read_spelled frame.contests bytes v.0 (was_read bytes v.0 v.1.1) v.2.whole list
-    (subst (λ r. AreFactsOf frame.contests r list) is told)
+    let read = was_read bytes v.0 v.1.1 in
+    subst (λ r. ListIsSpelled frame.contests (told_list frame.contests r)) (sym is) (record {
+      devices = device_told frame.contests bytes v.0 read v.2.whole;
+      headers = header_told frame.contests bytes v.0 read v.2.whole;
+      snapshots = snapshot_told frame.contests bytes v.0 read v.2.whole;
+    })
+
+-- so is each fact that the report says
+pub spelled_are : (frame : Frame) (bytes : List ℕ) (report : Report) (list : FactList)
+    → IsReportOf frame bytes report
+    → AreFactsOf frame.contests report list → ListIsSpelled frame.contests list
+spelled_are frame bytes report list of told =
+    let all = spelled_told frame bytes report of in
+    record {
+      devices = λ f a. all.devices f (told.devices f a);
+      headers = λ f a. all.headers f (told.headers f a);
+      snapshots = λ f a. all.snapshots f (told.snapshots f a);
+    }

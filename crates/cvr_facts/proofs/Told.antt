@@ -15,8 +15,8 @@ use Rattle.cdf_definition.specs.Acceptance.{value_in}
 use Rattle.cvr_fact_types.specs.Facts.{Fact, fact_cmp, fact_total, fact_exact}
 use Rattle.cvr_facts.specs.Reports.{device_fact, header_fact, snapshot_fact, report_facts, facts}
 use Rattle.cvr_facts.specs.Lists.{told_device, told_header, told_snapshot, told_snapshots}
-use Rattle.cvr_facts.specs.Lists.{fact_of_device, fact_of_header, fact_of_snapshot, told_facts}
-use Rattle.cvr_facts.specs.Lists.{IsReportOf}
+use Rattle.cvr_facts.specs.Lists.{fact_of_device, fact_of_header, fact_of_snapshot, facts_in}
+use Rattle.cvr_facts.specs.Lists.{told_list, IsReportOf}
 use Rattle.cvr_facts.proofs.Members.{in_map, from_map, in_flat, from_flat, same_from_list}
 use Rattle.cvr_facts.specs.Sources.{devices_in, cvrs_in, snapshots_in, Source, of_device, of_header}
 use Rattle.cvr_facts.specs.Sources.{of_snapshot}
@@ -34,13 +34,13 @@ of_records d = map header_fact (cvrs_in d) ++ flat_map snapshots_of (cvrs_in d)
 abbrev by_kind : Data → List Fact
 by_kind d = map device_fact (devices_in d) ++ of_records d
 
-devices_told : (es : List Data) → map (λ device. fact_of_device (told_device device))
-    (map device_of es) ≡ map device_fact es
+devices_told : (es : List Data) → map fact_of_device (map told_device (map device_of es))
+    ≡ map device_fact es
 devices_told [] = refl
 devices_told (e ∷ es) = ap (λ fs. device_fact e ∷ fs) (devices_told es)
 
 headers_told : (contests : List Contest) (cs : List Data)
-    → map (λ cvr. fact_of_header (told_header cvr)) (map (cvr_of contests) cs) ≡ map header_fact cs
+    → map fact_of_header (map told_header (map (cvr_of contests) cs)) ≡ map header_fact cs
 headers_told contests [] = refl
 headers_told contests (c ∷ cs) = ap (λ fs. header_fact c ∷ fs) (headers_told contests cs)
 
@@ -61,7 +61,7 @@ all_snapshots_told contests (c ∷ cs) =
     ∙ rw (snapshots_told contests c (snapshots_in c), all_snapshots_told contests cs) refl
 
 told_by_kind : (contests : List Contest) (d : Data)
-    → told_facts contests (report_of contests d) ≡ by_kind d
+    → facts_in (told_list contests (report_of contests d)) ≡ by_kind d
 told_by_kind contests d = rw (
   devices_told (devices_in d),
   headers_told contests (cvrs_in d),
@@ -120,8 +120,8 @@ same_facts d =
     (λ f a. told d f (source_of d f a))
 
 pub told_are : (frame : Frame) (bytes : List ℕ) (report : Report) → IsReportOf frame bytes report
-    → from_list {R = fact_cmp} (told_facts frame.contests report) ≡ facts bytes
+    → from_list {R = fact_cmp} (facts_in (told_list frame.contests report)) ≡ facts bytes
 told_are frame bytes report of =
-    ap (λ r. from_list {R = fact_cmp} (told_facts frame.contests r)) of.report_is
+    ap (λ r. from_list {R = fact_cmp} (facts_in (told_list frame.contests r))) of.report_is
     ∙ ap (from_list {R = fact_cmp}) (told_by_kind frame.contests (value_in bytes))
     ∙ same_facts (value_in bytes)

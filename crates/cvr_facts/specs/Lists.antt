@@ -2,7 +2,6 @@
 use Rattle.std.specs.Prelude.{◌≡◌, ℕ, List, ◌++◌, map, None}
 use Rattle.std.specs.List.{flat_map, Contains}
 use Rattle.std.specs.List.Sorted.{IsStrictlySortedBy}
-use Rattle.std.specs.FinSet.{from_list}
 use Rattle.cdf_types.specs.declared.report.Cvr.{Cvr}
 use Rattle.cdf_types.specs.declared.report.Snapshot.{Snapshot as ReportSnapshot}
 use Rattle.cdf_types.specs.declared.report.ReportingDevice.{ReportingDevice}
@@ -15,8 +14,7 @@ use Rattle.cvr_fact_types.specs.declared.device.DeviceFact.{DeviceFact}
 use Rattle.cvr_fact_types.specs.declared.header.HeaderFact.{HeaderFact}
 use Rattle.cvr_fact_types.specs.declared.snapshot.SnapshotFact.{SnapshotFact}
 use Rattle.cvr_facts.specs.declared.list.FactList.{FactList}
-use Rattle.cvr_facts.specs.declared.kept.KeptFacts.{KeptFacts}
-use Rattle.cvr_fact_types.specs.Facts.{Fact, Device, Header, Snapshot, fact_cmp}
+use Rattle.cvr_fact_types.specs.Facts.{Fact, Device, Header, Snapshot}
 use Rattle.cvr_fact_types.specs.Orders.{device_cmp, header_cmp, snapshot_cmp}
 use Rattle.cvr_facts.specs.Sums.{sums_in}
 
@@ -50,6 +48,14 @@ told_snapshot contests cvr snapshot = told_under contests (record_name cvr) snap
 abbrev pub told_snapshots : List Contest → Cvr → List SnapshotFact
 told_snapshots contests cvr = map (told_snapshot contests cvr) cvr.snapshots
 
+-- the devices, headers and snapshots of a typed report
+abbrev pub told_list : List Contest → Report → FactList
+told_list contests report = record {
+  devices = map told_device report.devices;
+  headers = map told_header report.cvrs;
+  snapshots = flat_map (told_snapshots contests) report.cvrs;
+}
+
 -- ---- the facts that they are
 
 abbrev pub fact_of_device : DeviceFact → Fact
@@ -66,13 +72,6 @@ abbrev pub facts_in : FactList → List Fact
 facts_in list = map fact_of_device list.devices
     ++ (map fact_of_header list.headers ++ map fact_of_snapshot list.snapshots)
 
--- the facts that a typed report gives: of each device, each record and each snapshot
-abbrev pub told_facts : List Contest → Report → List Fact
-told_facts contests report =
-    map (λ device. fact_of_device (told_device device)) report.devices
-    ++ (map (λ cvr. fact_of_header (told_header cvr)) report.cvrs
-    ++ map fact_of_snapshot (flat_map (told_snapshots contests) report.cvrs))
-
 -- ---- lists in order
 
 -- each fact stands once, in order
@@ -84,24 +83,11 @@ pub record ListsRise (list : FactList) : Type 0 where
 -- each is what the report says
 pub record AreFactsOf (contests : List Contest) (report : Report) (list : FactList) : Type 0 where
   pub devices : (d : DeviceFact) → Contains list.devices d
-      → Contains (map told_device report.devices) d
+      → Contains (told_list contests report).devices d
   pub headers : (h : HeaderFact) → Contains list.headers h
-      → Contains (map told_header report.cvrs) h
+      → Contains (told_list contests report).headers h
   pub snapshots : (s : SnapshotFact) → Contains list.snapshots s
-      → Contains (flat_map (told_snapshots contests) report.cvrs) s
-
--- the list has the facts of the report, and each is what the report says
-pub record HasFactsOf (contests : List Contest) (report : Report) (list : FactList) : Type 0 where
-  pub facts : from_list {R = fact_cmp} (facts_in list) ≡ from_list (told_facts contests report)
-  pub told : AreFactsOf contests report list
-
--- ---- records one by one
-
--- the headers of these records, and their snapshots
-pub record AreOfRecords (contests : List Contest) (cvrs : List Cvr)
-    (records : KeptFacts) : Type 0 where
-  pub headers : records.headers.items ≡ map told_header cvrs
-  pub snapshots : records.snapshots.items ≡ flat_map (told_snapshots contests) cvrs
+      → Contains (told_list contests report).snapshots s
 
 -- ---- files
 
@@ -109,10 +95,3 @@ pub record AreOfRecords (contests : List Contest) (cvrs : List Cvr)
 pub record IsReportOf (frame : Frame) (bytes : List ℕ) (report : Report) : Type 0 where
   pub accepted : first_refusal frame bytes ≡ None
   pub report_is : report ≡ report_in frame.contests bytes
-
--- the devices of the report of such a file, and the facts that are kept of its records
-pub record IsKeptOf (frame : Frame) (bytes : List ℕ) (devices : List ReportingDevice)
-    (kept : KeptFacts) : Type 0 where
-  pub accepted : first_refusal frame bytes ≡ None
-  pub devices_are : devices ≡ (report_in frame.contests bytes).devices
-  pub records : AreOfRecords frame.contests (report_in frame.contests bytes).cvrs kept

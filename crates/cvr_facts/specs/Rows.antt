@@ -15,7 +15,7 @@ use Rattle.cvr_fact_types.specs.Columns.{sums_from}
 use Rattle.cvr_fact_types.specs.Facts.{Fact, Device, Header, Snapshot, Facts}
 use Rattle.cvr_facts.specs.Reports.{facts}
 use Rattle.cvr_facts.specs.Choosing.{choice_cmp, current, header}
-use Rattle.cvr_facts.specs.Lists.{told_header, told_snapshots, told_facts}
+use Rattle.cvr_facts.specs.Lists.{facts_in, told_header, told_list, told_snapshots}
 
 -- ---- snapshots
 
@@ -268,7 +268,7 @@ FactsOfFile = facts every_kind_file ≡ from_list every_kind_facts
 
 -- the typed report says the same, in the same order
 abbrev pub FactsToldOfReport : Type 0
-FactsToldOfReport = told_facts contests every_kind_report ≡ every_kind_facts
+FactsToldOfReport = facts_in (told_list contests every_kind_report) ≡ every_kind_facts
 
 -- the header with its unit and without a batch
 abbrev pub HeaderOfReport : Type 0

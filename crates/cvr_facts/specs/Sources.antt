@@ -6,12 +6,16 @@ use Rattle.std.specs.Cmp.{IsTotalOrder}
 use Rattle.std.specs.FinMap.{IsAntisymmetric}
 use Rattle.std.specs.FinSet.{contains, items}
 use Rattle.serde_json.specs.Data.{Data}
+use Rattle.cdf_types.specs.declared.report.Report.{Report}
 use Rattle.cdf_parts.specs.Parts.{array_at}
 use Rattle.cdf_definition.specs.Acceptance.{value_in}
+use Rattle.cdf_definition.specs.Frame.{Frame}
 use Rattle.cvr_fact_types.specs.declared.name.RecordName.{RecordName}
 use Rattle.cvr_fact_types.specs.Facts.{Fact, Header, Snapshot, Facts, text_cmp}
 use Rattle.cvr_facts.specs.Reports.{device_fact, header_fact, snapshot_fact, report_facts, facts}
 use Rattle.cvr_facts.specs.Choosing.{choice_cmp, header_bodies, snapshot_bodies}
+use Rattle.cvr_facts.specs.Lists.{told_list, IsReportOf}
+use Rattle.cvr_facts.specs.Stands.{ListIsSpelled}
 
 -- ---- facts of a file
 
@@ -52,6 +56,11 @@ SnapshotListedLaw = (d c s : Data) → Contains (cvrs_in d) c → Contains (snap
 abbrev pub FactHeldLaw : Type 0
 FactHeldLaw = (bytes : List ℕ) (f : Fact) → Contains (report_facts (value_in bytes)) f
     → contains (facts bytes) f ≡ true
+
+-- what the report of an accepted file says of them is what their bodies spell
+abbrev pub SpelledLaw : Type 0
+SpelledLaw = (frame : Frame) (bytes : List ℕ) (report : Report) → IsReportOf frame bytes report
+    → ListIsSpelled frame.contests (told_list frame.contests report)
 
 -- ---- bodies of a record
 

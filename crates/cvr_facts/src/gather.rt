@@ -5,13 +5,12 @@ ghost use Rattle.cdf_types.specs.declared.report.Cvr.{Cvr};
 ghost use Rattle.cdf_typed.specs.Range.{SnapshotInRange, CvrInRange, ReportInRange};
 ghost use Rattle.cvr_fact_types.specs.Facts.{fact_cmp};
 ghost use Rattle.cvr_facts.specs.Lists.{record_name, told_device, told_header, told_snapshot};
-ghost use Rattle.cvr_facts.specs.Lists.{told_snapshots, facts_in, told_facts, ListsRise};
+ghost use Rattle.cvr_facts.specs.Lists.{told_snapshots, told_list, facts_in, ListsRise};
 ghost use Rattle.cvr_facts.specs.Lists.{AreFactsOf, IsReportOf};
 ghost use Rattle.cvr_facts.specs.Reports.{facts};
 ghost use Rattle.cvr_facts.specs.Stands.{ListIsSpelled};
 
-use crate::kept::KeptFacts;
-use crate::list::{FactList, list_of};
+use crate::list::{FactList, in_order};
 use crate::sums::sums_in;
 use cdf_definition::Definition;
 use cdf_types::{Cvr, Memory, Report, ReportingDevice, Snapshot};
@@ -31,7 +30,7 @@ pub fn facts_of(alloc: Global, definition: &Definition, report: &Report) -> Resu
     requires { ReportInRange definition.now.contests report.now }
     ensures facts { IfOk result
         (λ list. from_list {R = fact_cmp} (facts_in list)
-        ≡ from_list (told_facts definition.now.contests report.now)) }
+        ≡ from_list (facts_in (told_list definition.now.contests report.now))) }
     ensures once { IfOk result ListsRise }
     ensures told { IfOk result (AreFactsOf definition.now.contests report.now) }
     ensures file { IfOk result
@@ -42,11 +41,13 @@ pub fn facts_of(alloc: Global, definition: &Definition, report: &Report) -> Resu
         → ListIsSpelled definition.now.contests list) }
 {
     let devices = devices_in(alloc, report.devices.as_slice())?;
-    let records = KeptFacts {
-        headers: headers_in(alloc, report.cvrs.as_slice())?,
-        snapshots: snapshots_in(alloc, definition, report.cvrs.as_slice())?,
-    };
-    Ok(list_of(devices, records))
+    let headers = headers_in(alloc, report.cvrs.as_slice())?;
+    let snapshots = snapshots_in(alloc, definition, report.cvrs.as_slice())?;
+    Ok(FactList {
+        devices: in_order(devices),
+        headers: in_order(headers),
+        snapshots: in_order(snapshots),
+    })
 }
 
 // The facts of the devices, in order of the file.

@@ -8,7 +8,7 @@ ghost use Rattle.cvr_facts.specs.Laws.{MomentLaw, NoMomentLaw, JoiningLaw, SumsL
 ghost use Rattle.cvr_facts.specs.SumLaws.{EitherLaw, MarkedLaw, UnsetLaw, VotesLaw};
 ghost use Rattle.cvr_facts.specs.SumLaws.{SnapshotRangeLaw, EachOnceLaw, InOrderLaw};
 ghost use Rattle.cvr_facts.specs.Sources.{FactSourceLaw, DeviceListedLaw, HeaderListedLaw};
-ghost use Rattle.cvr_facts.specs.Sources.{SnapshotListedLaw, FactHeldLaw};
+ghost use Rattle.cvr_facts.specs.Sources.{SnapshotListedLaw, FactHeldLaw, SpelledLaw};
 ghost use Rattle.cvr_facts.specs.Sources.{SetItemsLaw, HeaderBodiesLaw, SnapshotBodiesLaw};
 ghost use Rattle.cvr_facts.specs.Sources.{TextsInOrder, TextsAreExact, BodiesInOrder};
 ghost use Rattle.cvr_facts.specs.Sources.{BodiesAreExact};
@@ -87,13 +87,14 @@ pub fn sums_stay_below()
 {}
 
 /// Each fact of a file comes from a device, a record or a snapshot of it, and each of these gives
-/// one.
+/// one. What the report of an accepted file says of them is what their bodies spell.
 pub fn sources()
     ensures source { FactSourceLaw }
     ensures devices { DeviceListedLaw }
     ensures headers { HeaderListedLaw }
     ensures snapshots { SnapshotListedLaw }
     ensures held { FactHeldLaw }
+    ensures spelled { SpelledLaw }
 {}
 
 /// The bodies of a record's headers and snapshots are those of its facts.

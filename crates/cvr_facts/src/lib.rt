@@ -17,5 +17,5 @@ pub use choice::choice_cmp;
 pub use cvr_fact_types::{DeviceFact, HeaderFact, RecordName, SnapshotFact, VoteSums};
 pub use gather::facts_of;
 pub use join::{Join, join_both};
-pub use kept::{Facts, KeptFacts, facts_of_kept};
+pub use kept::{header_in, snapshot_in};
 pub use list::FactList;

@@ -1,12 +1,8 @@
-ghost use Rattle.std.specs.Prelude.{◌≡◌, List, map};
+ghost use Rattle.std.specs.Prelude.{◌≡◌};
 ghost use Rattle.std.specs.List.{Any, Contains};
 ghost use Rattle.std.specs.List.Sorted.{IsStrictlySortedBy};
 ghost use Rattle.std.specs.declared.cmp.Ordering.TheVariants.{Equal};
-ghost use Rattle.cdf_types.specs.declared.report.Report.{Report};
-ghost use Rattle.cdf_parts.specs.Places.{Contest};
-ghost use Rattle.cvr_facts.specs.Lists.{told_device, AreOfRecords, HasFactsOf, ListsRise};
 
-use crate::kept::KeptFacts;
 use cdf_types::Seq;
 use cvr_fact_types::{DeviceFact, HeaderFact, SnapshotFact};
 
@@ -22,7 +18,7 @@ pub struct FactList {
 }
 
 // The facts in order, one of those that tie.
-fn in_order<T: Ord + Drop>(mut facts: Vec<T>) -> Seq<T>
+pub(crate) fn in_order<T: Ord + Drop>(mut facts: Vec<T>) -> Seq<T>
     ensures once { IsStrictlySortedBy T.cmp result }
     ensures told { (fact : T) → Contains result fact → Contains facts.items fact }
     ensures kept { (fact : T) → Contains facts.items fact
@@ -31,18 +27,4 @@ fn in_order<T: Ord + Drop>(mut facts: Vec<T>) -> Seq<T>
     facts.sort_unstable();
     facts.dedup();
     Seq::new(facts)
-}
-
-// The facts of devices and records, each once and in order.
-pub(crate) fn list_of(devices: Vec<DeviceFact>, records: KeptFacts) -> FactList
-    ensures once { ListsRise result }
-    ensures list { (contests : List Contest) (report : Report)
-        → devices.items ≡ map told_device report.devices
-        → AreOfRecords contests report.cvrs records → HasFactsOf contests report result }
-{
-    FactList {
-        devices: in_order(devices),
-        headers: in_order(records.headers),
-        snapshots: in_order(records.snapshots),
-    }
 }

@@ -3,8 +3,7 @@
 pub use Rattle.cvr_lists.proofs.ConflictLists.{conflicts-is, greatest_count-is}
 pub use Rattle.cvr_lists.proofs.CurrentSums.{currents_are_sums, facts_are_sums}
 pub use Rattle.cvr_lists.proofs.OneRecord.{current_is, header_is}
-pub use Rattle.cvr_lists.proofs.PlainLists.{all_spelled, map-all_of, plain_start, spelled_put}
-pub use Rattle.cvr_lists.proofs.PlainLists.{start_is}
+pub use Rattle.cvr_lists.proofs.PlainLists.{plain_start, spelled_put, start_is}
 pub use Rattle.cvr_lists.proofs.Puts.{put_growth}
 pub use Rattle.cvr_lists.proofs.RecordGroups.{rises_by_id}
 pub use Rattle.cvr_lists.proofs.SameFacts.{same_facts}

@@ -2,6 +2,7 @@ pub mod Orderings
 pub mod Insertions
 pub mod Puts
 pub mod PlainLists
+pub mod FileLists
 pub mod SameFacts
 pub mod NameRuns
 pub mod ConflictLists

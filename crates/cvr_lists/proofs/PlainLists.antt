@@ -1,27 +1,28 @@
 -- What a plain office's list of facts keeps.
-use Rattle.std.proofs.Common.{◌≡◌, ◌++◌, ℕ, List, [], map, Contains, sym, ◌∙◌, subst, inl, inr}
+use Rattle.std.proofs.Common.{◌≡◌, ℕ, List, [], ◌∷◌, map, Contains, sym, ◌∙◌, subst, inl, inr}
 use Rattle.std.specs.FinSet.{from_list, union}
-use Rattle.std.proofs.lemmas.List.{map-append}
-use Rattle.std.proofs.lemmas.List.Elements.{Contains-append_cases}
-use Rattle.std.proofs.lemmas.Simd.{map-map}
+use Rattle.std.specs.List.Sorted.{IsStrictlySortedBy}
 use Rattle.cdf_parts.specs.Places.{Contest}
 use Rattle.cdf_definition.specs.Named.{IdText}
 use Rattle.cdf_definition.specs.Frame.{Frame}
 use Rattle.cdf_definition.specs.Sound.{IsFrame}
-use Rattle.cvr_facts.specs.declared.list.FactList.{FactList}
 use Rattle.cvr_fact_types.specs.Facts.{Fact, Device, fact_cmp, fact_total, fact_exact}
-use Rattle.cvr_facts.specs.Lists.{fact_of_header, fact_of_snapshot, facts_in}
-use Rattle.cvr_facts.specs.Stands.{ListIsSpelled}
 use Rattle.cvr_facts.specs.Unions.{empty_union}
 use Rattle.cvr_facts.proofs.Lemmas.{none_listed, in_map, from_map}
 use Rattle.cvr_office.specs.declared.any_fact.AnyFact.{AnyFact}
 use Rattle.cvr_office.specs.declared.any_fact.AnyFact.TheVariants as any
 use Rattle.cvr_office.specs.Keeps.{Keeps, starting_content}
-use Rattle.cvr_office.specs.Place.{fact_of}
-use Rattle.cvr_office.specs.Plain.{set_of, all_of, IsSpelled, IsPlain, IsPut}
+use Rattle.cvr_office.specs.Place.{any_cmp, fact_of}
+use Rattle.cvr_office.specs.Plain.{set_of, IsSpelled, IsPlain, IsPut}
 use Rattle.cvr_office.proofs.Laws.{start_keeps}
 
 -- ---- what is put in
+
+-- nothing is in order
+pub none_rise : (xs : List AnyFact) → xs ≡ [] → IsStrictlySortedBy any_cmp xs
+unfolding IsStrictlySortedBy
+none_rise [] e = tt
+none_rise (x ∷ xs) e = Prim.cc e
 
 -- what is spelled stays so
 pub spelled_put : (contests : List Contest) (old more new : List AnyFact) → IsPut old more new
@@ -62,35 +63,3 @@ module _ (frame : Frame) (none more new : List AnyFact) (empty_is : none ≡ [])
         (λ f at. absurd (none_listed f (subst (λ xs. Contains xs f) empty_is at))) own_spelled;
     keeps = subst (Keeps frame) (sym start_is) (start_keeps frame sound);
   }
-
--- ---- the facts of a file
-
-map-records : (list : FactList) → map fact_of
-    (map any.Header list.headers ++ map any.Snapshot list.snapshots)
-    ≡ map fact_of_header list.headers ++ map fact_of_snapshot list.snapshots
-map-records list =
-    map-append fact_of (map any.Header list.headers) (map any.Snapshot list.snapshots)
-    ∙ (λ i. map-map fact_of any.Header list.headers i
-    ++ map-map fact_of any.Snapshot list.snapshots i)
-
-pub map-all_of : (list : FactList) → map fact_of (all_of list) ≡ facts_in list
-map-all_of list =
-    map-append fact_of (map any.Device list.devices)
-    (map any.Header list.headers ++ map any.Snapshot list.snapshots)
-    ∙ (λ i. map-map fact_of any.Device list.devices i ++ map-records list i)
-
-pub all_spelled : (contests : List Contest) (list : FactList) → ListIsSpelled contests list
-    → (f : AnyFact) → Contains (all_of list) f → IsSpelled contests f
-all_spelled contests list are f at =
-    elim (Contains-append_cases (map any.Device list.devices)
-    (map any.Header list.headers ++ map any.Snapshot list.snapshots) f at) [
-      | inl a ↦ let found =
-          from_map any.Device f list.devices a in subst (IsSpelled contests) found.2 tt
-      | inr b ↦ elim (Contains-append_cases (map any.Header list.headers)
-          (map any.Snapshot list.snapshots) f b) [
-            | inl h ↦ let found = from_map any.Header f list.headers h in
-                subst (IsSpelled contests) found.2 (are.headers found.0 found.1)
-            | inr s ↦ let found = from_map any.Snapshot f list.snapshots s in
-                subst (IsSpelled contests) found.2 (are.snapshots found.0 found.1)
-          ]
-    ]

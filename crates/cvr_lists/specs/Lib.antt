@@ -1,5 +1,6 @@
 pub mod AnyNames
 pub mod NameRuns
 pub mod Groups
+pub mod Kept
 pub mod ListLaws
 pub mod SumLaws

@@ -13,10 +13,7 @@ use Rattle.cdf_definition.specs.Sound.{IsFrame}
 use Rattle.cvr_fact_types.specs.declared.name.RecordName.{RecordName}
 use Rattle.cvr_fact_types.specs.declared.header.HeaderFact.{HeaderFact}
 use Rattle.cvr_fact_types.specs.declared.snapshot.SnapshotFact.{SnapshotFact}
-use Rattle.cvr_facts.specs.declared.list.FactList.{FactList}
 use Rattle.cvr_fact_types.specs.Facts.{Fact, Device, name_cmp}
-use Rattle.cvr_facts.specs.Lists.{facts_in}
-use Rattle.cvr_facts.specs.Stands as stands
 use Rattle.cvr_facts.specs.Stands.{IsSpelledHeader}
 use Rattle.cvr_office.specs.declared.any_fact.AnyFact.{AnyFact}
 use Rattle.cvr_office.specs.declared.any_fact.AnyFact.TheVariants as any
@@ -25,7 +22,7 @@ use Rattle.cvr_office.specs.declared.record_facts.RecordFacts.{RecordFacts}
 use Rattle.cvr_office.specs.Names.{name_of, is_named, record_of, records, conflicts, greatest_count}
 use Rattle.cvr_office.specs.Keeps.{starting_content}
 use Rattle.cvr_office.specs.Place.{fact_of, any_cmp}
-use Rattle.cvr_office.specs.Plain.{set_of, all_of, IsSpelled, IsPlain, IsPut}
+use Rattle.cvr_office.specs.Plain.{set_of, IsSpelled, IsPlain, IsPut}
 use Rattle.cvr_office.specs.Readers.{growth, IsHeader, IsCurrent, AreAllFactsOf}
 use Rattle.cvr_office.specs.Runs.{run, headers, snapshots, IsChosen, AreSpelled}
 use Rattle.cvr_lists.specs.Groups.{RisesById, AreGrouped}
@@ -60,16 +57,6 @@ abbrev pub PlainStartLaw : Type 0
 PlainStartLaw = (frame : Frame) (none more new : List AnyFact) → none ≡ []
     → map fact_of more ≡ map (λ e. Device e.0 e.1) frame.devices → IsPut none more new
     → IsFrame frame → IsPlain frame new
-
--- ---- the facts of a file
-
--- those of all kinds in one list are those of the list of each kind
-abbrev pub AllOfLaw : Type 0
-AllOfLaw = (list : FactList) → map fact_of (all_of list) ≡ facts_in list
-
-abbrev pub AllSpelledLaw : Type 0
-AllSpelledLaw = (contests : List Contest) (list : FactList) → stands.ListIsSpelled contests list
-    → (f : AnyFact) → Contains (all_of list) f → IsSpelled contests f
 
 -- ---- the run of a record
 

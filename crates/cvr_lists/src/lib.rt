@@ -4,6 +4,7 @@
 
 pub mod conflicts;
 pub mod devices;
+pub mod kept;
 pub mod list_law;
 pub mod putting;
 pub mod reading;
@@ -11,4 +12,4 @@ pub mod record_lists;
 pub mod records;
 pub mod shared;
 
-pub use reading::read_facts;
+pub use reading::{FileFacts, read_facts};

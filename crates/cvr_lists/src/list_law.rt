@@ -1,6 +1,6 @@
 //! Laws of lists of facts in order, which offices keep.
 ghost use Rattle.cvr_lists.specs.ListLaws.{SameListsLaw, PutGrowthLaw, SpelledPutLaw, StartSetLaw};
-ghost use Rattle.cvr_lists.specs.ListLaws.{PlainStartLaw, AllOfLaw, AllSpelledLaw};
+ghost use Rattle.cvr_lists.specs.ListLaws.{PlainStartLaw};
 ghost use Rattle.cvr_lists.specs.ListLaws.{LastHeaderLaw, GreatestSnapshotLaw, IdsRiseLaw};
 ghost use Rattle.cvr_lists.specs.ListLaws.{RunsRiseLaw, NoRunLaw, WholeRunLaw, NamedLaw};
 ghost use Rattle.cvr_lists.specs.ListLaws.{ConflictRunsLaw, GreatestRunLaw};
@@ -19,12 +19,6 @@ pub fn putting()
 pub fn starting()
     ensures set { StartSetLaw }
     ensures start { PlainStartLaw }
-{}
-
-/// The facts of all kinds in one list are those of a file, each spelled.
-pub fn files()
-    ensures all { AllOfLaw }
-    ensures spelled { AllSpelledLaw }
 {}
 
 /// The run of a record has its header last of its headers, its current snapshot as the greatest of

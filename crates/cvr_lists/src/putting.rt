@@ -3,14 +3,13 @@ ghost use Rattle.std.specs.Vec.{vec_len, vec_capacity};
 ghost use Rattle.std.specs.List.Sorted.{IsStrictlySortedBy};
 ghost use Rattle.cvr_fact_types.specs.Facts.{Device};
 ghost use Rattle.cvr_office.specs.Readers.{growth};
-ghost use Rattle.cvr_office.specs.declared.any_fact.AnyFact.TheVariants as any;
 ghost use Rattle.cvr_office.specs.Place.{fact_of, any_cmp};
-ghost use Rattle.cvr_office.specs.Plain.{set_of, all_of, IsPut};
+ghost use Rattle.cvr_office.specs.Plain.{set_of, IsPut};
 
 use crate::shared::SharedFact;
 use cdf_check::Definition;
-use cdf_types::{Body, Memory, Seq};
-use cvr_facts::{DeviceFact, FactList, HeaderFact, SnapshotFact};
+use cdf_types::{Body, Memory};
+use cvr_facts::DeviceFact;
 use cvr_office::any_fact::AnyFact;
 use std::alloc::Global;
 use std::collections::VecDeque;
@@ -116,65 +115,6 @@ pub fn own_devices(alloc: Global, definition: &Definition) -> Result<Vec<SharedF
             body: body.copy()?,
         };
         facts.push(SharedFact::new(alloc, AnyFact::Device(device))?)?;
-    }
-    Ok(facts)
-}
-
-// The facts of all kinds in one list.
-pub fn in_one(alloc: Global, list: FactList) -> Result<Vec<SharedFact>, Memory>
-    ensures { IfOk result (λ facts. facts.items ≡ all_of list) }
-{
-    let mut facts = of_devices(alloc, list.devices)?;
-    facts.append(&mut of_records(alloc, list.headers, list.snapshots)?)?;
-    Ok(facts)
-}
-
-// The headers and snapshots as facts of any kind.
-pub fn of_records(
-    alloc: Global,
-    headers: Seq<HeaderFact>,
-    snapshots: Seq<SnapshotFact>,
-) -> Result<Vec<SharedFact>, Memory>
-    ensures { IfOk result
-        (λ facts. facts.items ≡ map any.Header headers ++ map any.Snapshot snapshots) }
-{
-    let mut facts = of_headers(alloc, headers)?;
-    facts.append(&mut of_snapshots(alloc, snapshots)?)?;
-    Ok(facts)
-}
-
-// The devices as facts of any kind.
-pub fn of_devices(alloc: Global, devices: Seq<DeviceFact>) -> Result<Vec<SharedFact>, Memory>
-    ensures { IfOk result (λ facts. facts.items ≡ map any.Device devices) }
-{
-    let devices = devices.into_vec();
-    let mut facts = Vec::with_capacity(alloc, devices.len())?;
-    for device in devices {
-        facts.push(SharedFact::new(alloc, AnyFact::Device(device))?)?;
-    }
-    Ok(facts)
-}
-
-// The headers as facts of any kind.
-fn of_headers(alloc: Global, headers: Seq<HeaderFact>) -> Result<Vec<SharedFact>, Memory>
-    ensures { IfOk result (λ facts. facts.items ≡ map any.Header headers) }
-{
-    let headers = headers.into_vec();
-    let mut facts = Vec::with_capacity(alloc, headers.len())?;
-    for header in headers {
-        facts.push(SharedFact::new(alloc, AnyFact::Header(header))?)?;
-    }
-    Ok(facts)
-}
-
-// The snapshots as facts of any kind.
-fn of_snapshots(alloc: Global, snapshots: Seq<SnapshotFact>) -> Result<Vec<SharedFact>, Memory>
-    ensures { IfOk result (λ facts. facts.items ≡ map any.Snapshot snapshots) }
-{
-    let snapshots = snapshots.into_vec();
-    let mut facts = Vec::with_capacity(alloc, snapshots.len())?;
-    for snapshot in snapshots {
-        facts.push(SharedFact::new(alloc, AnyFact::Snapshot(snapshot))?)?;
     }
     Ok(facts)
 }

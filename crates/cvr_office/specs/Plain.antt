@@ -1,5 +1,5 @@
 -- A plain office: a definition, and a list of facts in order. (This project's own.)
-use Rattle.std.specs.Prelude.{◌≡◌, ◌⊎◌, ℕ, List, ◌++◌, map, ⊤}
+use Rattle.std.specs.Prelude.{◌≡◌, ◌⊎◌, ℕ, List, map, ⊤}
 use Rattle.std.specs.List.{Contains}
 use Rattle.std.specs.List.Sorted.{IsStrictlySortedBy}
 use Rattle.std.specs.Coded.{Coded, code_by, coded×, coded_list, coded_ℕ}
@@ -8,11 +8,8 @@ use Rattle.std.proofs.Common.{refl}
 use Rattle.cdf_parts.specs.Places.{Contest}
 use Rattle.cdf_definition.specs.Named.{IdText}
 use Rattle.cdf_definition.specs.Frame.{Frame}
-use Rattle.cvr_facts.specs.declared.list.FactList.{FactList}
-use Rattle.cvr_fact_types.specs.Facts.{Facts, fact_cmp, coded_facts}
-use Rattle.cvr_facts.specs.Lists.{facts_in}
-use Rattle.cvr_facts.specs.Reports.{facts}
-use Rattle.cvr_facts.specs.Stands.{IsSpelledHeader, IsSpelledSnapshot, ListIsSpelled}
+use Rattle.cvr_fact_types.specs.Facts.{Facts, coded_facts}
+use Rattle.cvr_facts.specs.Stands.{IsSpelledHeader, IsSpelledSnapshot}
 use Rattle.cvr_tally.specs.Rows.{coded_contests}
 use Rattle.cvr_office.specs.declared.any_fact.AnyFact.{AnyFact}
 use Rattle.cvr_office.specs.declared.any_fact.AnyFact.TheVariants as any
@@ -22,11 +19,6 @@ use Rattle.cvr_office.specs.Keeps.{Keeps}
 -- the set of the facts of a list
 abbrev pub set_of : List AnyFact → Facts
 set_of items = from_list (map fact_of items)
-
--- the facts of the list, of each kind
-abbrev pub all_of : FactList → List AnyFact
-all_of list =
-    map any.Device list.devices ++ (map any.Header list.headers ++ map any.Snapshot list.snapshots)
 
 -- a definition and facts
 pub record Content : Type 0 where
@@ -84,8 +76,3 @@ pub record IsPut (old more new : List AnyFact) : Type 0 where
   pub rises : IsStrictlySortedBy any_cmp new
   pub from : (fact : AnyFact) → Contains new fact → Contains old fact ⊎ Contains more fact
   pub set : set_of new ≡ union (set_of old) (set_of more)
-
--- the facts that a list has of a file are the file's, and spelled
-pub record IsTheFiles (frame : Frame) (bytes : List ℕ) (list : FactList) : Type 0 where
-  pub file : from_list {R = fact_cmp} (facts_in list) ≡ facts bytes
-  pub spelled : ListIsSpelled frame.contests list

@@ -1,5 +1,5 @@
 -- A plain office's list of facts: what it keeps after each call, and when two are the same.
-use Rattle.std.proofs.Common.{◌≡◌, List, [], ◌∷◌, map, Contains, true, sym, ap, ◌∙◌, subst, ℕ}
+use Rattle.std.proofs.Common.{◌≡◌, List, map, true, sym, ap, ◌∙◌, subst, ℕ}
 use Rattle.std.proofs.Common.{length}
 use Rattle.std.specs.Cmp.Lexicographic.{pointwise, pointwise_decides}
 use Rattle.std.specs.FinSet.{from_list, union, len}
@@ -15,22 +15,17 @@ use Rattle.cdf_definition.specs.Frame.{Frame, IsSame}
 use Rattle.cvr_facts.proofs.Lemmas.{tie_decides}
 use Rattle.cvr_fact_types.specs.Facts.{fact_cmp, fact_total, fact_exact}
 use Rattle.cvr_facts.specs.Reports.{facts}
-use Rattle.cvr_facts.specs.declared.list.FactList.{FactList}
 use Rattle.cvr_office.specs.Keeps.{Keeps}
 use Rattle.cvr_office.specs.Place.{fact_of, place_cmp, place_total, place_exact, any_cmp}
-use Rattle.cvr_office.specs.Plain.{set_of, all_of, IsSpelled, IsPlain, IsPut, IsTheFiles}
+use Rattle.cvr_office.specs.Plain.{set_of, IsSpelled, IsPlain, IsPut}
+use Rattle.cvr_office.specs.Runs.{AreSpelled}
 use Rattle.cvr_office.specs.declared.any_fact.AnyFact.{AnyFact}
 use Rattle.cvr_office.proofs.Laws.{import_keeps, join_keeps}
-use Rattle.cvr_lists.proofs.Laws.{spelled_put, map-all_of, all_spelled, same_facts}
+use Rattle.cvr_lists.proofs.Laws.{spelled_put, same_facts}
 use Rattle.cvr_lists.proofs.Lemmas.{pointwise-on}
 use Rattle.cvr_office.proofs.Lemmas.{len-from_list}
 
 -- ---- order and number
-
-pub none_rise : (xs : List AnyFact) → xs ≡ [] → IsStrictlySortedBy any_cmp xs
-unfolding IsStrictlySortedBy
-none_rise [] e = tt
-none_rise (x ∷ xs) e = Prim.cc e
 
 pub len-set_of : (frame : Frame) (xs : List AnyFact) → IsPlain frame xs
     → len (set_of xs) ≡ length xs
@@ -52,21 +47,16 @@ module _ (xs ys : List AnyFact) (h : IsStrictlySortedBy any_cmp xs)
 
 -- ---- the facts of a file
 
-module _ (frame : Frame) (bytes : List ℕ) (list : FactList) (old more new : List AnyFact)
-    (files : IsTheFiles frame bytes list) (all_is : more ≡ all_of list)
-    (put : IsPut old more new) where
-  pub told_is : set_of more ≡ facts bytes
-  told_is = ap set_of all_is ∙ (ap (from_list {R = fact_cmp}) (map-all_of list) ∙ files.file)
-
+module _ (frame : Frame) (bytes : List ℕ) (old more new : List AnyFact)
+    (told_is : set_of more ≡ facts bytes) (put : IsPut old more new) where
   pub import_is : set_of new ≡ union (set_of old) (facts bytes)
   import_is = put.set ∙ ap (union (set_of old)) told_is
 
-  pub plain_import : Valid frame bytes → IsPlain frame old → IsPlain frame new
-  plain_import valid plain = record {
+  pub plain_import : AreSpelled frame.contests more → Valid frame bytes → IsPlain frame old
+      → IsPlain frame new
+  plain_import spelled valid plain = record {
     rises = put.rises;
-    spelled = spelled_put frame.contests old more new put plain.spelled
-        (λ f at. all_spelled frame.contests list files.spelled f
-        (subst (λ xs. Contains xs f) all_is at));
+    spelled = spelled_put frame.contests old more new put plain.spelled spelled;
     keeps = subst (Keeps frame) (sym import_is)
         (import_keeps frame (set_of old) bytes valid plain.keeps);
   }

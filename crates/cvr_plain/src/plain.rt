@@ -4,7 +4,7 @@ use cdf_types::{Body, Memory, ReadFault};
 use cvr_facts::{HeaderFact, RecordName, SnapshotFact};
 use cvr_lists::conflicts::{conflicts_in, greatest_count_in};
 use cvr_lists::devices::{device_body_in, device_count_in, next_device_in};
-use cvr_lists::putting::{in_one, own_devices, put_copies, put_in};
+use cvr_lists::putting::{own_devices, put_copies, put_in};
 use cvr_lists::reading::read_facts;
 use cvr_lists::record_lists::record_facts_in;
 use cvr_lists::records::{current_in, header_in, next_record_in, record_count_in};
@@ -60,8 +60,10 @@ impl Office for PlainOffice {
 
     fn import(&mut self, bytes: &[u8]) -> Result<Receipt, ReadFault> {
         let alloc = *self.facts.allocator();
-        let (cvrs, list) = read_facts(alloc, &self.definition, bytes)?;
-        let new_facts = put_in(&mut self.facts, in_one(alloc, list)?)?;
+        let mut file = read_facts(alloc, &self.definition, bytes)?;
+        let cvrs = file.cvrs;
+        file.devices.append(&mut file.records)?;
+        let new_facts = put_in(&mut self.facts, file.devices)?;
         Ok(Receipt { cvrs, new_facts })
     }
 

@@ -1,12 +1,12 @@
 use Rattle.std.proofs.Common.{◌∙◌, ap, arith}
 use Rattle.cvr_office.specs.Plain.{set_of}
 use Rattle.cvr_lists.proofs.Laws.{start_is, plain_start}
+use Rattle.cvr_lists.proofs.Lemmas.{none_rise}
 use Rattle.cvr_cached.proofs.Begins.{alone, held_start, cached_start}
-use Rattle.cvr_cached.proofs.Listed.{rises_none}
 use Rattle.cvr_cached.proofs.store.Store.new.Goals as goal
 
 pub put_in-requires : goal.put_in-requires
-put_in-requires c = rises_none c.new-devices.result.items c.new-devices.ensures.items
+put_in-requires c = none_rise c.new-devices.result.items c.new-devices.ensures.items
 
 pub invariant_of-result : goal.invariant_of-result
 invariant_of-result c =

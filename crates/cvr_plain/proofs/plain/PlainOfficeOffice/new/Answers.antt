@@ -1,5 +1,5 @@
-use Rattle.cvr_plain.proofs.Lists.{none_rise}
 use Rattle.cvr_lists.proofs.Laws.{start_is, plain_start}
+use Rattle.cvr_lists.proofs.Lemmas.{none_rise}
 use Rattle.cvr_plain.proofs.plain.PlainOfficeOffice.new.Goals as goal
 
 pub put_in-requires : goal.put_in-requires
