@@ -1,9 +1,8 @@
 -- The greatest of a list is in it, and is the only one.
-use Rattle.std.specs.Prelude.{◌≡◌, ◌≢◌, ◌↔◌, ℕ, zero, suc, ◌<◌, length, slice_index_or, true, false}
-use Rattle.std.specs.Prelude.{cond, List, [], ◌∷◌, ◌⊎◌, Some, None}
-use Rattle.std.proofs.Common.{arith, refl, sym, ap, ◌∙◌, subst, inl, inr}
+use Rattle.std.specs.Prelude.{◌≡◌, ◌≢◌, ◌↔◌, true, false}
+use Rattle.std.specs.Prelude.{cond, List, [], ◌∷◌, Some, None}
+use Rattle.std.proofs.Common.{refl, sym, ap, ◌∙◌, subst, inl, inr}
 use Rattle.std.proofs.lemmas.Bool.{false≢true}
-use Rattle.std.proofs.lemmas.List.Elements.{Contains-append_right}
 use Rattle.std.specs.Option.{option_map_or}
 use Rattle.std.specs.List.{Contains}
 use Rattle.std.specs.declared.cmp.Ordering.{Ordering}
@@ -13,26 +12,7 @@ use Rattle.std.specs.Cmp.{IsTotalOrder, tied_itself, upto}
 use Rattle.std.specs.FinMap.{IsAntisymmetric}
 use Rattle.cdf_typed.specs.Greatest.{max_of, max_by}
 use Rattle.cvr_facts.specs.Choosing.{IsGreatest}
-
--- ---- what a list contains, by its head
-
-module _ {K : Type 0} where
-  pub Contains-head : (x : K) (xs : List K) → Contains (x ∷ xs) x
-  Contains-head x xs = (0, omega arith, refl)
-
-  pub Contains-later : (x y : K) (xs : List K) → Contains xs y → Contains (x ∷ xs) y
-  Contains-later x y xs h = Contains-append_right (x ∷ []) xs y h
-
-  cases_at : (x y : K) (xs : List K) (k : ℕ) → k < length (x ∷ xs) → slice_index_or (x ∷ xs) k y ≡ y
-      → (x ≡ y) ⊎ Contains xs y
-  cases_at x y xs zero lt e = inl e
-  cases_at x y xs (suc k) lt e = inr (k, omega arith, e)
-
-  pub Contains-cases : (x y : K) (xs : List K) → Contains (x ∷ xs) y → (x ≡ y) ⊎ Contains xs y
-  Contains-cases x y xs h = cases_at x y xs h.0 h.1 h.2
-
-  pub Contains-none : (y : K) → Contains [] y → ⊥
-  Contains-none y h = let lt = h.1 in omega arith
+use Rattle.cvr_facts.proofs.Members.{at_head, at_tail, head_or_tail, none_listed}
 
 -- ---- orderings
 
@@ -59,22 +39,22 @@ module _ {K : Type 0} {R : K → K → Ordering} (t : IsTotalOrder R) where
   not_past : (x y : K) → x ≡ y → is_gt (R y x) ≡ false
   not_past x y e = subst (λ z. is_gt (R z x) ≡ false) e (ap is_gt (tied_itself t x))
 
-  none_listed : (xs : List K) → max_by R xs ≡ None → (y : K) → Contains xs y → ⊥
-  none_listed [] h y at = Contains-none y at
-  none_listed (x ∷ xs) h y at = Prim.cc h
+  no_greatest : (xs : List K) → max_by R xs ≡ None → (y : K) → Contains xs y → ⊥
+  no_greatest [] h y at = none_listed y at
+  no_greatest (x ∷ xs) h y at = Prim.cc h
 
   alone : (x : K) (xs : List K) → max_by R xs ≡ None → IsGreatest R (x ∷ xs) x
   alone x xs w = record {
-    listed = Contains-head x xs;
-    top = λ y h. elim (Contains-cases x y xs h)
-        [ inl e ↦ not_past x y e | inr rest ↦ absurd (none_listed xs w y rest) ];
+    listed = at_head x xs;
+    top = λ y h. elim (head_or_tail x y xs h)
+        [ inl e ↦ not_past x y e | inr rest ↦ absurd (no_greatest xs w y rest) ];
   }
 
   passed : (x y : K) (xs : List K) → IsGreatest R xs y → is_gt (R x y) ≡ true
       → IsGreatest R (x ∷ xs) x
   passed x y xs was gt = record {
-    listed = Contains-head x xs;
-    top = λ z h. elim (Contains-cases x z xs h) [
+    listed = at_head x xs;
+    top = λ z h. elim (head_or_tail x z xs h) [
       | inl e ↦ not_past x z e
       | inr rest ↦ upto t z y x (was.top z rest)
           (gt_back (R y x) (R x y) (t.antisymm y x) gt)
@@ -84,8 +64,8 @@ module _ {K : Type 0} {R : K → K → Ordering} (t : IsTotalOrder R) where
   kept : (x y : K) (xs : List K) → IsGreatest R xs y → is_gt (R x y) ≡ false
       → IsGreatest R (x ∷ xs) y
   kept x y xs was below = record {
-    listed = Contains-later x y xs was.listed;
-    top = λ z h. elim (Contains-cases x z xs h)
+    listed = at_tail x y xs was.listed;
+    top = λ z h. elim (head_or_tail x z xs h)
         [ inl e ↦ subst (λ w. is_gt (R w y) ≡ false) e below | inr rest ↦ was.top z rest ];
   }
 
@@ -110,7 +90,7 @@ module _ {K : Type 0} {R : K → K → Ordering} (t : IsTotalOrder R) where
       → max_by R xs ≡ Some x
   is_greatest e xs x a =
       elim (max_by R xs) as (λ w. max_by R xs ≡ w → w ≡ Some x) [
-        | None ↦ λ w. absurd (none_listed xs w x a.listed)
+        | None ↦ λ w. absurd (no_greatest xs w x a.listed)
         | Some y ↦ λ w. ap Some (one_greatest e xs y x (greatest_is xs y w) a)
       ] refl
 

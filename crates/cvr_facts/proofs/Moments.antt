@@ -11,7 +11,8 @@ use Rattle.cdf_parts.specs.Parts.{array_at}
 use Rattle.cdf_typed.specs.Greatest.{max_by}
 use Rattle.cdf_typed.specs.Typed.{instant_in}
 use Rattle.cvr_facts.specs.Laws.{IsAnnotatedAt, MomentLaw, NoMomentLaw}
-use Rattle.cvr_facts.proofs.Greatest.{greatest_is, is_greatest, Contains-none}
+use Rattle.cvr_facts.proofs.Greatest.{greatest_is, is_greatest}
+use Rattle.cvr_facts.proofs.Members.{none_listed}
 use Rattle.cvr_facts.proofs.Records.{Contains-filter_map, from-filter_map}
 
 not_above : (n m : ℤ) → is_gt (int_cmp n m) ≡ false → ¬ (m <ℤ n)
@@ -56,7 +57,7 @@ none_greatest xs never =
     ] refl
 
 none_in : (xs : List ℤ) → max_by int_cmp xs ≡ None → (m : ℤ) → ¬ Contains xs m
-none_in [] none m at = Contains-none m at
+none_in [] none m at = none_listed m at
 none_in (x ∷ xs) none m at = Prim.cc none
 
 pub no_moment : NoMomentLaw

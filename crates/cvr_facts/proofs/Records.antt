@@ -12,7 +12,7 @@ use Rattle.cvr_fact_types.specs.Facts.{Fact, Device, Header, Snapshot, Facts, fa
 use Rattle.cvr_fact_types.specs.Facts.{fact_exact}
 use Rattle.cvr_facts.specs.Choosing.{is_name, header_body, snapshot_body, header_bodies}
 use Rattle.cvr_facts.specs.Choosing.{snapshot_bodies}
-use Rattle.cvr_facts.proofs.Greatest.{Contains-head, Contains-later, Contains-cases, Contains-none}
+use Rattle.cvr_facts.proofs.Members.{at_head, at_tail, head_or_tail, none_listed}
 
 -- ---- items of a set
 
@@ -29,32 +29,32 @@ contains_iff s f = (
 module _ {X Y : Type 0} (h : X → Option Y) where
   added : (o : Option Y) (y : Y) (ys : List Y) → Contains ys y → Contains (cons_option o ys) y
   added None y ys at = at
-  added (Some z) y ys at = Contains-later z y ys at
+  added (Some z) y ys at = at_tail z y ys at
 
   added_cases : (o : Option Y) (y : Y) (ys : List Y) → Contains (cons_option o ys) y
       → (o ≡ Some y) ⊎ Contains ys y
   added_cases None y ys at = inr at
   added_cases (Some z) y ys at =
-      elim (Contains-cases z y ys at) [ inl e ↦ inl (ap Some e) | inr rest ↦ inr rest ]
+      elim (head_or_tail z y ys at) [ inl e ↦ inl (ap Some e) | inr rest ↦ inr rest ]
 
   pub Contains-filter_map : (xs : List X) (x : X) (y : Y) → Contains xs x → h x ≡ Some y
       → Contains (filter_map h xs) y
-  Contains-filter_map [] x y at e = absurd (Contains-none x at)
+  Contains-filter_map [] x y at e = absurd (none_listed x at)
   Contains-filter_map (z ∷ xs) x y at e =
-      elim (Contains-cases z x xs at) [
+      elim (head_or_tail z x xs at) [
         | inl is ↦ subst (λ o. Contains (cons_option o (filter_map h xs)) y) (sym (ap h is ∙ e))
-            (Contains-head y (filter_map h xs))
+            (at_head y (filter_map h xs))
         | inr rest ↦ added (h z) y (filter_map h xs) (Contains-filter_map xs x y rest e)
       ]
 
   pub from-filter_map : (xs : List X) (y : Y) → Contains (filter_map h xs) y
       → (x : X) × Contains xs x × (h x ≡ Some y)
-  from-filter_map [] y at = absurd (Contains-none y at)
+  from-filter_map [] y at = absurd (none_listed y at)
   from-filter_map (z ∷ xs) y at =
       elim (added_cases (h z) y (filter_map h xs) at) [
-        | inl e ↦ (z, Contains-head z xs, e)
+        | inl e ↦ (z, at_head z xs, e)
         | inr rest ↦ let found =
-            from-filter_map xs y rest in (found.0, Contains-later z found.0 xs found.1, found.2)
+            from-filter_map xs y rest in (found.0, at_tail z found.0 xs found.1, found.2)
       ]
 
 -- ---- names

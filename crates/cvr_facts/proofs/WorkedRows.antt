@@ -1,31 +1,29 @@
 -- Sets of facts that are given by lists: how many they hold, and which header and snapshot stand.
 use Rattle.std.proofs.Common.{◌≡◌, ℕ, ◌+◌, ◌<◌, List, [], ◌∷◌, ◌++◌, ◌&&◌, cond, Bool, true, false}
-use Rattle.std.proofs.Common.{Option, Some, None, Ordering, Contains, nat_lt, inl, inr, arith, refl}
-use Rattle.std.proofs.Common.{sym, ap, ◌∙◌, subst, true≢false}
-use Rattle.std.specs.Prelude.{◌⊎◌}
+use Rattle.std.proofs.Common.{Option, Some, Ordering, nat_lt, arith, refl}
+use Rattle.std.proofs.Common.{sym, ◌∙◌, true≢false}
 use Rattle.std.proofs.lemmas.List.Folds.{list_any-append}
-use Rattle.std.specs.List.{list_any, list_all, filter_map, flat_map, cons_option}
+use Rattle.std.specs.List.{list_any, list_all, filter_map, flat_map}
 use Rattle.std.specs.Str.{IsAscii}
 use Rattle.std.specs.Ordering.{eq_by_cmp}
 use Rattle.std.specs.Cmp.{IsTotalOrder}
-use Rattle.std.proofs.lemmas.Cmp.{eq_by_cmp_equiv}
-use Rattle.std.proofs.lemmas.Map.Views.{list_any-from_Contains, Contains-from_any, tells_apart}
 use Rattle.std.proofs.lemmas.Bool.Decides.{nat_tests}
 use Rattle.std.proofs.lemmas.Str.{IsUtf8-from_ascii, is_utf8-from_IsUtf8}
 use Rattle.std.proofs.lemmas.Str.Ascii.{IsAscii-nil, IsAscii-cons}
 use Rattle.std.specs.FinMap.{IsAntisymmetric}
-use Rattle.std.specs.FinSet.{contains-items, contains-union, contains-from_list, same_set}
+use Rattle.std.specs.FinSet.{contains-union, contains-from_list, same_set}
 use Rattle.std.specs.FinSet.{from_list, union, len, len-empty, len-insert, items}
 use Rattle.serde_json.specs.Data.{Data}
 use Rattle.cdf_typed.specs.Greatest.{max_by}
 use Rattle.cdf_definition.specs.Acceptance.{value_in}
 use Rattle.cvr_fact_types.specs.declared.name.RecordName.{RecordName}
-use Rattle.cvr_fact_types.specs.Facts.{Fact, fact_cmp, fact_total, fact_exact, text_cmp}
+use Rattle.cvr_fact_types.specs.Facts.{Fact, Facts, fact_cmp, fact_total, fact_exact, text_cmp}
 use Rattle.cvr_facts.specs.Reports.{facts, report_facts}
 use Rattle.cvr_facts.specs.Choosing.{data_of, choice_cmp, header_body, snapshot_body, header}
 use Rattle.cvr_facts.specs.Choosing.{current}
 use Rattle.cvr_facts.specs.Rows.{facts_of_files}
-use Rattle.cvr_facts.proofs.Greatest.{Contains-head, Contains-later, Contains-cases, Contains-none}
+use Rattle.cvr_facts.proofs.Members.{from_set, in_set}
+use Rattle.cvr_facts.proofs.Records.{contains_iff, from-filter_map, Contains-filter_map}
 use Rattle.cvr_facts.proofs.Greatest.{greatest_is, is_greatest}
 use Rattle.cvr_facts.proofs.Choosing.{text_total, text_exact, choice_total, choice_exact}
 
@@ -109,66 +107,19 @@ len-files files n a e =
 -- ---- what stands
 
 module _ (pick : Fact → Option (List ℕ)) where
-  at_some : (o : Option (List ℕ)) (b : List ℕ) (bs : List (List ℕ)) → o ≡ Some b
-      → Contains (cons_option o bs) b
-  at_some None b bs e = Prim.cc e
-  at_some (Some x) b bs e =
-      let is : b ≡ x = Prim.cc e in subst (λ y. Contains (x ∷ bs) y) (sym is) (Contains-head x bs)
-
-  past : (o : Option (List ℕ)) (b : List ℕ) (bs : List (List ℕ)) → Contains bs b
-      → Contains (cons_option o bs) b
-  past None b bs h = h
-  past (Some x) b bs h = Contains-later x b bs h
-
-  cases : (o : Option (List ℕ)) (b : List ℕ) (bs : List (List ℕ)) → Contains (cons_option o bs) b
-      → (o ≡ Some b) ⊎ Contains bs b
-  cases None b bs h = inr h
-  cases (Some x) b bs h =
-      elim (Contains-cases x b bs h) [ inl e ↦ inl (ap Some e) | inr more ↦ inr more ]
-
-  picked : (fs : List Fact) (f : Fact) (b : List ℕ) → Contains fs f → pick f ≡ Some b
-      → Contains (filter_map pick fs) b
-  picked [] f b h e = absurd (Contains-none f h)
-  picked (g ∷ fs) f b h e =
-      elim (Contains-cases g f fs h) [
-        | inl is ↦ at_some (pick g) b (filter_map pick fs) (ap pick is ∙ e)
-        | inr more ↦ past (pick g) b (filter_map pick fs) (picked fs f b more e)
-      ]
-
-  picked_from : (fs : List Fact) (b : List ℕ) → Contains (filter_map pick fs) b
-      → (f : Fact) × Contains fs f × (pick f ≡ Some b)
-  picked_from [] b h = absurd (Contains-none b h)
-  picked_from (g ∷ fs) b h =
-      elim (cases (pick g) b (filter_map pick fs) h) [
-        | inl e ↦ (g, Contains-head g fs, e)
-        | inr more ↦ let r = picked_from fs b more in (r.0, Contains-later g r.0 fs r.1, r.2)
-      ]
-
-  -- a fact is in the list exactly where it is an item of its set
-  to_items : (fs : List Fact) (f : Fact) → Contains fs f
-      → Contains (items (from_list {R = fact_cmp} fs)) f
-  to_items fs f h =
-      Contains-from_any (tells_apart fact_exact) f (items (from_list {R = fact_cmp} fs))
-      (sym (contains-items (from_list {R = fact_cmp} fs) f) ∙ contains-from_list fact_total fs f
-      ∙ list_any-from_Contains (eq_by_cmp_equiv fact_total) f fs h)
-
-  from_items : (fs : List Fact) (f : Fact) → Contains (items (from_list {R = fact_cmp} fs)) f
-      → Contains fs f
-  from_items fs f h =
-      Contains-from_any (tells_apart fact_exact) f fs
-      (sym (contains-from_list fact_total fs f) ∙ contains-items (from_list {R = fact_cmp} fs) f
-      ∙ list_any-from_Contains (eq_by_cmp_equiv fact_total) f _ h)
-
   max_by-items : {R : List ℕ → List ℕ → Ordering} → IsTotalOrder R → IsAntisymmetric R
       → (fs : List Fact) (b : List ℕ) → max_by R (filter_map pick fs) ≡ Some b
       → max_by R (filter_map pick (items (from_list {R = fact_cmp} fs))) ≡ Some b
   max_by-items total exact fs b e =
+      let set : Facts = from_list fs in
       let most = greatest_is total (filter_map pick fs) b e in
       is_greatest total exact (filter_map pick (items (from_list {R = fact_cmp} fs))) b (record {
-        listed = let r = picked_from fs b most.listed in
-            picked (items (from_list {R = fact_cmp} fs)) r.0 b (to_items fs r.0 r.1) r.2;
-        top = λ y h. let r = picked_from (items (from_list {R = fact_cmp} fs)) y h in
-            most.top y (picked fs r.0 y (from_items fs r.0 r.1) r.2);
+        listed = let r = from-filter_map pick fs b most.listed in
+            Contains-filter_map pick (items set) r.0 b ((contains_iff set r.0).0
+            (in_set fact_total fact_exact fs r.0 r.1)) r.2;
+        top = λ y h. let r = from-filter_map pick (items set) y h in
+            most.top y (Contains-filter_map pick fs r.0 y
+            (from_set fact_total fact_exact fs r.0 ((contains_iff set r.0).1 r.1)) r.2);
       })
 
 pub current-files : (files : List (List ℕ)) (key : RecordName) (b : List ℕ)
