@@ -4,6 +4,9 @@ pub mod Together
 pub mod Naming
 pub mod Searched
 pub mod Places
+pub mod FreshFacts
+pub mod Chosen
+pub mod ShownFacts
 pub mod Pairs
 pub mod Passing
 pub mod Olds

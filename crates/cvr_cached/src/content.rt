@@ -1,4 +1,4 @@
-ghost use Rattle.std.specs.Prelude.{◌≡◌, ◌<◌, ◌≤◌, ◌+◌, ℕ, OnOk, IfOk, [], true, false};
+ghost use Rattle.std.specs.Prelude.{◌≡◌, ◌<◌, ◌≤◌, ◌+◌, ℕ, List, OnOk, IfOk, [], true, false};
 ghost use Rattle.std.specs.Prelude.{if◌then◌else◌, option_map, length};
 ghost use Rattle.std.specs.FinMap.{get};
 ghost use Rattle.std.specs.Ordering.{eq_by_cmp};
@@ -9,13 +9,18 @@ ghost use Rattle.cvr_tally.specs.Rows.{row_closed, limit_of};
 ghost use Rattle.cvr_tally.specs.declared.key.RowKey.{RowKey};
 ghost use Rattle.cvr_office.specs.Place.{any_cmp, any_total};
 ghost use Rattle.cvr_office.specs.Plain.{IsPut};
+ghost use Rattle.cvr_office.specs.declared.any_fact.AnyFact.{AnyFact};
+ghost use Rattle.cvr_cached.specs.Fresh.{AreApart};
 ghost use Rattle.cvr_cached.specs.Contents.{header_in, current_in, pairs_of};
+ghost use Rattle.cvr_cached.specs.Shown.{HasChosen, IsShown};
 ghost use Rattle.cvr_fact_types.specs.Columns.{Column};
 ghost use Rattle.cvr_cached.specs.Cells.{cell, shares, has_row, is_row_of};
 ghost use Rattle.cvr_cached.specs.Cells.{AreFit};
 
+use crate::plan::fresh_of;
 use crate::remembered::{
-    current_place, header_fact_at, header_place, key_at, no_key, snapshot_at, votes_at,
+    current_place, header_fact_at, header_place, key_at, no_key, place_among, push_at, snapshot_at,
+    votes_at,
 };
 use cdf_types::Memory;
 use cvr_facts::{HeaderFact, SnapshotFact};
@@ -72,12 +77,11 @@ impl RecordContent {
         }
     }
 
-    // Its facts with more put in.
-    pub(crate) fn with(&self, alloc: Global, more: Vec<SharedFact>) -> Result<RecordContent, Memory>
-        ensures { IfOk result (λ c. IsPut self.now more.items c) }
+    // These facts.
+    fn of(facts: Vec<SharedFact>) -> Result<RecordContent, Memory>
+        requires { IsStrictlySortedBy any_cmp facts.items }
+        ensures { IfOk result (λ c. c ≡ facts.items) }
     {
-        let mut facts = copies(alloc, &self.facts)?;
-        put_in(&mut facts, more)?;
         let header = header_place(&facts);
         let current = current_place(&facts);
         let key = key_at(&facts, header)?;
@@ -87,6 +91,67 @@ impl RecordContent {
             current,
             key,
         })
+    }
+
+    // Its facts with more put in, which are in order.
+    pub(crate) fn with(&self, alloc: Global, more: Vec<SharedFact>) -> Result<RecordContent, Memory>
+        requires { IsStrictlySortedBy any_cmp more.items }
+        ensures { IfOk result (λ c. IsPut self.now more.items c) }
+    {
+        if self.facts.is_empty() {
+            return RecordContent::of(more);
+        }
+        let fresh = fresh_of(&self.facts, more);
+        let shown = self.shown_with(alloc, &fresh)?;
+        let mut facts = copies(alloc, &self.facts)?;
+        put_in(&mut facts, fresh)?;
+        Ok(shown.among(facts))
+    }
+
+    // A few facts that show what it does once others are put in, which aren't among its own.
+    fn shown_with(&self, alloc: Global, fresh: &[SharedFact]) -> Result<RecordContent, Memory>
+        requires rises { IsStrictlySortedBy any_cmp fresh.now }
+        requires apart { AreApart self.now fresh.now }
+        ensures { IfOk result (λ shown. (new : List AnyFact) → IsPut self.now fresh.now new
+            → IsShown shown new) }
+    {
+        let found = self.remembered(alloc)?;
+        let mut facts = copies(alloc, fresh)?;
+        put_in(&mut facts, found)?;
+        RecordContent::of(facts)
+    }
+
+    // Its header and its current snapshot.
+    fn remembered(&self, alloc: Global) -> Result<Vec<SharedFact>, Memory>
+        ensures chosen { IfOk result (λ found. HasChosen found.items self.now) }
+        ensures rises { IsStrictlySortedBy any_cmp self.now }
+    {
+        let mut found = Vec::new(alloc);
+        push_at(&mut found, &self.facts, self.header)?;
+        push_at(&mut found, &self.facts, self.current)?;
+        Ok(found)
+    }
+
+    // More facts, which show the same.
+    fn among(self, facts: Vec<SharedFact>) -> RecordContent
+        requires rises { IsStrictlySortedBy any_cmp facts.items }
+        requires shown { IsShown self facts.items }
+        ensures { result ≡ facts.items }
+    {
+        let RecordContent {
+            facts: few,
+            header,
+            current,
+            key,
+        } = self;
+        let header = place_among(&facts, &few, header);
+        let current = place_among(&facts, &few, current);
+        RecordContent {
+            facts,
+            header,
+            current,
+            key,
+        }
     }
 
     // Its facts, in order. Takes no memory.

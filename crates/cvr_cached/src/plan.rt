@@ -11,6 +11,7 @@ ghost use Rattle.cvr_office.specs.Place.{fact_of, any_cmp};
 ghost use Rattle.cvr_office.specs.Plain.{set_of, IsPut};
 ghost use Rattle.cvr_office.specs.Runs.{run};
 ghost use Rattle.cvr_cached.specs.Contents.{facts_at};
+ghost use Rattle.cvr_cached.specs.Fresh.{fresh, is_fresh};
 ghost use Rattle.cvr_cached.specs.Plans.{IsAdded, IsPlan, IsStep};
 
 use crate::content::RecordContent;
@@ -85,6 +86,7 @@ fn add_change(
     name: RecordName,
     group: Vec<SharedFact>,
 ) -> Result<(), Memory>
+    requires { IsStrictlySortedBy any_cmp group.items }
     ensures { OnOk result (IsStep (facts_at (get name_cmp records.now name))
         group.items name plan.old plan.new) }
 {
@@ -124,7 +126,8 @@ fn push_change(
     old: &RecordContent,
     more: Vec<SharedFact>,
 ) -> Result<(), Memory>
-    requires { (x : AnyFact) × Contains more.items x
+    requires rises { IsStrictlySortedBy any_cmp more.items }
+    requires some { (x : AnyFact) × Contains more.items x
         × (contains (set_of old.now) (fact_of x) ≡ false) }
     ensures { OnOk result (IsAdded old.now more.items name plan.old plan.new) }
 {
@@ -152,4 +155,19 @@ pub(crate) fn has_all(facts: &[SharedFact], group: &[SharedFact]) -> bool
         }
     }
     true
+}
+
+// Those of more facts that aren't among the facts. Takes no memory.
+pub(crate) fn fresh_of(facts: &[SharedFact], mut more: Vec<SharedFact>) -> Vec<SharedFact>
+    requires { IsStrictlySortedBy any_cmp facts.now }
+    ensures { result.items ≡ fresh facts.now more.items }
+{
+    more.retain(|fact| is_fresh(facts, fact));
+    more
+}
+
+fn is_fresh(facts: &[SharedFact], fact: &SharedFact) -> bool
+    ensures { IsStrictlySortedBy any_cmp facts.now → result ≡ is_fresh facts.now fact.now }
+{
+    facts.binary_search(fact).is_err()
 }

@@ -1,6 +1,12 @@
 // What a content remembers of its facts: where its header and its current snapshot stand, and a key
 // of its rows.
-ghost use Rattle.std.specs.Prelude.{◌≡◌, ◌<◌, ◌+◌, IfOk, None, option_map, drop, length};
+ghost use Rattle.std.specs.Prelude.{◌≡◌, ◌<◌, ◌+◌, ◌++◌, IfOk, OnOk, None, option_map, drop};
+ghost use Rattle.std.specs.Prelude.{length};
+ghost use Rattle.std.specs.List.{Contains};
+ghost use Rattle.std.specs.List.Sorted.{IsStrictlySortedBy};
+ghost use Rattle.std.specs.Option.{IfSome, option_to_list};
+ghost use Rattle.cvr_office.specs.Place.{any_cmp};
+ghost use Rattle.cvr_cached.specs.Shown.{fact_at};
 ghost use Rattle.cvr_cached.specs.Contents.{header_at, current_at, header_in, current_in};
 ghost use Rattle.cvr_cached.specs.Contents.{current_sums};
 ghost use Rattle.cvr_cached.specs.Contents.{IsKeyOf};
@@ -50,6 +56,41 @@ fn greater_place(facts: &[SharedFact], place: usize, behind: Option<usize>) -> O
         Some(other) if !choice_cmp(snapshot, other).is_gt() => behind,
         _ => Some(place),
     }
+}
+
+// Puts the fact at a place behind a list.
+pub(crate) fn push_at(
+    list: &mut Vec<SharedFact>,
+    facts: &[SharedFact],
+    place: Option<usize>,
+) -> Result<(), Memory>
+    ensures { OnOk result (list.new.items ≡ list.old.items ++ option_to_list
+        (fact_at facts.now place)) }
+{
+    if let Some(fact) = fact_at(facts, place) {
+        list.push(fact.share()?)?;
+    }
+    Ok(())
+}
+
+// The place of a fact among facts in order, given its place in another list.
+pub(crate) fn place_among(
+    facts: &[SharedFact],
+    few: &[SharedFact],
+    place: Option<usize>,
+) -> Option<usize>
+    requires rises { IsStrictlySortedBy any_cmp facts.now }
+    requires among { IfSome (fact_at few.now place) (Contains facts.now) }
+    ensures { fact_at facts.now result ≡ fact_at few.now place }
+{
+    facts.binary_search(fact_at(few, place)?).ok()
+}
+
+// The fact at a place.
+fn fact_at(facts: &[SharedFact], place: Option<usize>) -> Option<&SharedFact>
+    ensures { option_map (λ f. f.now) result ≡ fact_at facts.now place }
+{
+    facts.get(place?)
 }
 
 // The header at a place.

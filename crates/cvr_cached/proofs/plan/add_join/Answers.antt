@@ -3,10 +3,11 @@ use Rattle.std.specs.Prelude.{OnOk}
 use Rattle.std.specs.BTreeMap.{get}
 use Rattle.std.specs.FinSet.{contains}
 use Rattle.std.specs.List.{Contains}
+use Rattle.std.specs.List.Sorted.{IsStrictlySortedBy}
 use Rattle.cvr_fact_types.specs.declared.name.RecordName.{RecordName}
 use Rattle.cvr_fact_types.specs.Facts.{name_cmp}
 use Rattle.cvr_office.specs.declared.any_fact.AnyFact.{AnyFact}
-use Rattle.cvr_office.specs.Place.{fact_of}
+use Rattle.cvr_office.specs.Place.{fact_of, any_cmp}
 use Rattle.cvr_office.specs.Plain.{set_of}
 use Rattle.cvr_cached.specs.Contents.{facts_at}
 use Rattle.cvr_cached.specs.Plans.{IsAdded, IsStep}
@@ -14,14 +15,18 @@ use Rattle.cvr_cached.proofs.Growing.{step_added}
 use Rattle.cvr_cached.proofs.Olds.{old_is}
 use Rattle.cvr_cached.proofs.plan.add_join.Goals as goal
 
-pub push_change-requires : goal.push_change-requires
-push_change-requires c =
+pub push_change-requires-clause-some : goal.push_change-requires-clause-some
+push_change-requires-clause-some c =
     let among = subst (λ o. (x : AnyFact) × Contains c.facts-2.result.now x
     × (contains (set_of o) (fact_of x) ≡ false)) c.facts.ensures.is
     (c.has_all.ensures.some c.if-has_all.false) in
     subst (λ xs. (x : AnyFact) × Contains xs x
     × (contains (set_of c.unwrap_or-old.result.now) (fact_of x) ≡ false))
     (c.facts-2.ensures.is ∙ sym (c.in_ok-more.ensures ∙ c.facts-3.ensures.is)) among
+
+pub push_change-requires-clause-rises : goal.push_change-requires-clause-rises
+push_change-requires-clause-rises c = subst (IsStrictlySortedBy any_cmp)
+    (sym (c.in_ok-more.ensures ∙ c.facts-3.ensures.is)) c.facts-3.ensures.rises
 
 pub returns : goal.returns
 returns c =
