@@ -1,12 +1,10 @@
-ghost use Rattle.std.specs.Prelude.{◌≡◌, IfOk, refl};
+ghost use Rattle.std.specs.Prelude.{refl};
 ghost use Rattle.std.specs.Ordering.{as_partial_cmp, eq_by_cmp};
 ghost use Rattle.std.specs.Cmp.{partial_equiv_from_equiv, partial_order_from_total};
 ghost use Rattle.std.specs.Cmp.{eq_by_cmp_equiv};
 ghost use Rattle.cvr_office.specs.Place.{any_cmp, any_total};
 
-use cdf_types::Memory;
 use cvr_facts::{DeviceFact, HeaderFact, RecordName, SnapshotFact};
-use std::alloc::Global;
 use std::cmp::Ordering;
 
 // A fact of any kind. Devices come before records, a record's headers before its snapshots; facts
@@ -16,19 +14,6 @@ pub enum AnyFact {
     Device(DeviceFact),
     Header(HeaderFact),
     Snapshot(SnapshotFact),
-}
-
-impl AnyFact {
-    // An equal fact, in every field.
-    pub fn copy(&self, alloc: Global) -> Result<AnyFact, Memory>
-        ensures { IfOk result (λ fact. fact ≡ self.now) }
-    {
-        match self {
-            AnyFact::Device(device) => Ok(AnyFact::Device(device.copy()?)),
-            AnyFact::Header(header) => Ok(AnyFact::Header(header.copy()?)),
-            AnyFact::Snapshot(snapshot) => Ok(AnyFact::Snapshot(snapshot.copy(alloc)?)),
-        }
-    }
 }
 
 impl PartialEq for AnyFact {
