@@ -40,16 +40,16 @@ fn tell_snapshot(text: &mut String, snapshot: &SnapshotFact) -> Result<(), Memor
     Ok(())
 }
 
-// Writes the bodies of devices and headers, and each snapshot.
-fn tell_facts(text: &mut String, list: &FactList) -> Result<(), Memory> {
+// Writes the bodies of devices and headers, and each snapshot, as their copies have them.
+fn tell_facts(alloc: Global, text: &mut String, list: &FactList) -> Result<(), Memory> {
     for device in list.devices.as_slice() {
-        writeln!(text, "{}", device.body)?;
+        writeln!(text, "{}", device.copy()?.body)?;
     }
     for header in list.headers.as_slice() {
-        writeln!(text, "{}", header.body)?;
+        writeln!(text, "{}", header.copy()?.body)?;
     }
     for snapshot in list.snapshots.as_slice() {
-        tell_snapshot(text, snapshot)?;
+        tell_snapshot(text, &snapshot.copy(alloc)?)?;
     }
     Ok(())
 }
@@ -62,7 +62,7 @@ fn tell_report(
     bytes: &[u8],
 ) -> Result<(), ReadFault> {
     match facts_in(alloc, definition, bytes) {
-        Ok(list) => tell_facts(text, &list)?,
+        Ok(list) => tell_facts(alloc, text, &list)?,
         Err(ReadFault::Memory) => return Err(ReadFault::Memory),
         Err(fault) => writeln!(text, "{fault}")?,
     }

@@ -50,7 +50,7 @@ impl Script {
 // The scripts. Each public call that can answer out of memory, and that no command makes, stands in
 // the name of one.
 static SCRIPTS: [(&str, Script); 16] = [
-    ("check_report, facts_of", Script::Facts),
+    ("check_report, facts_of, copies of facts", Script::Facts),
     ("ReadFault, as a sentence", Script::Faults),
     ("BodySet::new, BodySet::join, join_both", Script::Sets),
     (
