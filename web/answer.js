@@ -90,18 +90,17 @@ function ruleOf({name: [kind], is_current, is_known, texts}) {
 }
 
 function beside(its) {
-  const {name: [kind, ...names], texts, count} = its, codes = them => them.flatMap((it, at) => [at ? ' ' : null, text('code', text('bdi', it))])
+  const {name: [kind, ...names], texts} = its, codes = them => them.flatMap((it, at) => [at ? ' ' : null, text('code', text('bdi', it))])
   const cell = (it, is_same) => it === undefined ? '' : is_same ? text('code', text('bdi', it)) : text('mark', text('code', text('bdi', it)))
   const rows = membersOf(texts).map(([place, parts]) => [text('code', place), ...parts.map(it => cell(it, new Set(parts).size === 1))])
   const heads = ['Member', ...texts.map((_, at) => `Text ${at + 1}`)]
   return element('div', {className: 'conflict'}, text('h3', HELD.titles[kind], ' ', ...codes(names)), text('p', ruleOf(its)),
-    texts.length === count ? null : text('p', `cvr counts ${count} texts: some differ only in how a number is written.`),
     folded('Members', rows.length, table('Texts side by side', heads, [['Files', ...texts.map(it => text('span', ...codes(it.paths)))], ...rows])))
 }
 
 function conflictsOf({disagreements}) {
   if (!disagreements.length) return section('Conflicts', text('p', 'None: no device, header or snapshot has two texts.'))
-  const rows = disagreements.map(({name: [kind, ...names], count}) => [kind, text('code', text('bdi', names.join(' '))), BigInt(count)])
+  const rows = disagreements.map(({name: [kind, ...names], texts}) => [kind, text('code', text('bdi', names.join(' '))), BigInt(texts.length)])
   return section('Conflicts', text('p', 'The files contradict each other about these. Find out which text is right before you use the numbers.'),
     folded('Conflicts', rows.length, table('Names with several texts', ['What', 'Name', 'Texts'], rows)), ...disagreements.slice(0, BESIDE).map(beside),
     rows.length > BESIDE ? text('p', `The first ${BESIDE} stand side by side: cvr-audit page shows all.`) : null)
@@ -117,7 +116,7 @@ function barred(votes, most) {
 }
 
 function contestOf(names, key, rows) {
-  const its = names.contests.get(key), selections = rows[0].selections.map(it => ({key: it, ...names.selection(key, it)}))
+  const its = names.contests.get(key), held = byId(its?.ContestSelection), selections = rows[0].selections.map(it => ({key: it, ...names.selection(held.get(it) ?? {})}))
   const sums = sumsBy(rows, 'contest').get(key), votes = sums.slice(COLUMNS.length), most = votes.reduce((a, b) => a > b ? a : b, 0n)
   const counted = votes.reduce((a, b) => a + b, 0n)
   return {key, rows, selections, sums, title: () => text('h3', named(its && textIn(its, 'Name'), key)),
@@ -182,8 +181,8 @@ function show(answer) {
   const {report, tally, command} = answer
   if (!report) return at('answer').replaceChildren(head('No tally', command), inputs(answer))
   const names = new Names(report), rows = rowsOf(tally.text)
-  const its = [...new Set(rows.map(it => it.contest))].map(key => contestOf(names, key, rows.filter(it => it.contest === key)))
-  const missing = [...names.contests.keys()].filter(key => !its.some(it => it.key === key))
+  const held = grouped(rows, it => it.contest), its = [...held].map(([key, rows]) => contestOf(names, key, rows))
+  const missing = [...names.contests.keys()].filter(it => !held.has(it))
   at('answer').replaceChildren(head(names.election, command), answer.made ? gatheredOf(answer.made) : '', inputs(answer), warnings(warningsOf(answer, [...names.contests.values()], rows), answer.seen),
     conflictsOf(answer), contests(its),
     missing.length ? text('p', 'No record has these contests: ', missing.join(', '), '.') : '', divided(names, its), signature(answer, rows))

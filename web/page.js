@@ -208,7 +208,7 @@ async function tally() {
     if (failed) throw {fault: failed.status === 4 ? 'memory' : 'program', said: failed.log}
     const is_read = states[0].records !== undefined
     if (made) seeGathered(made, states, seen)
-    show({made, files: all, states, sums, repeated, seen, disagreements, volumes, tally, report: is_read ? JSON.parse(new TextDecoder().decode(first)) : null,
+    show({made, files: all, states, sums, repeated, seen, disagreements, volumes, tally, report: is_read ? valueOf(new TextDecoder().decode(first)) : null,
       command: commandsOf(made, paths)})
     say(is_read ? 'Done.' : 'The definition was refused, so there is no tally.', !is_read)
   })

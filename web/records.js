@@ -7,9 +7,7 @@ const nameOf = it => [it.CreatingDeviceId, it.UniqueId]
 
 // What stands several times, by its key: each key with all that has it.
 function several(values, key) {
-  const held = new Map()
-  for (const it of values) held.has(key(it)) ? held.get(key(it)).push(it) : held.set(key(it), [it])
-  return [...held].sort(([a], [b]) => byText(a, b)).filter(([, its]) => its.length > 1)
+  return [...grouped(values, key)].filter(([, its]) => its.length > 1).sort(([a], [b]) => byText(a, b))
 }
 
 // ---- volume 1 of `cvr merge`
@@ -32,10 +30,10 @@ class Volume {
     let at = has_records ? HEAD.length : 0
     while (this.bytes[at] !== (has_records ? 0x5d : 0x7b)) {        // ] behind the last one
       const end = this.behind(at)
-      yield JSON.parse(this.text(at, end))
+      yield valueOf(this.text(at, end))
       at = end + (this.bytes[end] === 0x2c)
     }
-    this.rest = JSON.parse((has_records ? '{"CVR":[' : '') + this.text(at))
+    this.rest = valueOf((has_records ? '{"CVR":[' : '') + this.text(at))
   }
 
   // The place behind the object that begins at a place.
@@ -109,7 +107,7 @@ class Seen {
     if (contests) this.waiting.push(['waiting', ...[...name, ...contests].map(spelled)])
     if (!current.CVRContest?.length) this.empty.push(['record', ...name.map(spelled)])
     if (record.BallotAuditId !== undefined) this.ballots.push([record.BallotAuditId, name])
-    for (const [contest, ranks] of ranksIn(current)) for (const it of ranks) this.greatest.set(contest, Math.max(it, this.greatest.get(contest) ?? it))
+    for (const [contest, ranks] of ranksIn(current)) for (const it of ranks) if (!(it <= this.greatest.get(contest))) this.greatest.set(contest, it)
     for (const it of record.CVRSnapshot) this.takeStated(it)
     this.conflicts.shows({CVR: [record]})
   }
@@ -195,7 +193,8 @@ class Conflicts {
 
   // Each name with its texts: first the one of volume 1, then the others, the greatest first.
   ended() {
-    return [...this.held.values()].map(({name, count, first, is_current, texts}) => ({name, count, is_current, is_known: first !== null,
+    if ([...this.held.values()].some(it => it.texts.size !== it.count)) throw new Error('the files have other texts than cvr conflicts counts')
+    return [...this.held.values()].map(({name, first, is_current, texts}) => ({name, is_current, is_known: first !== null,
       texts: [...texts].sort(([a], [b]) => a === first ? -1 : b === first ? 1 : byText(b, a)).map(([, it]) => it)}))
   }
 }
@@ -213,7 +212,7 @@ function looked(paths, read, check, printed, volume) {
   conflicts.shows(volume ? {ReportingDevice: volume.rest.ReportingDevice} : {})
   const repeated = paths.map((path, at) => {
     if (states[at].records === undefined) return []
-    const report = JSON.parse(new TextDecoder().decode(read(at)))
+    const report = valueOf(new TextDecoder().decode(read(at)))
     conflicts.take(path, at ? report : {ReportingDevice: report.ReportingDevice})
     if (at) seen?.takeFile(path, report)
     return repeatedIn(report)

@@ -13,6 +13,13 @@ function linesOf(text) {
   return text.split('\n').slice(0, -1)
 }
 
+// All that has a key together, by that key, in the order in which the keys first stand.
+function grouped(values, key) {
+  const held = new Map()
+  for (const it of values) held.has(key(it)) ? held.get(key(it)).push(it) : held.set(key(it), [it])
+  return held
+}
+
 // The rows of `cvr tally`: contest, unit, batch, then the numbers of the columns and of the selections.
 function rowsOf(text) {
   return linesOf(text).map(partsOf).map(([contest, unit, batch, ...rest]) => {
@@ -49,7 +56,7 @@ function judged(paths, text, log) {
       printed += path.length + records[0].length + 2
       return {records: BigInt(records[0])}
     }
-    const fault = log.startsWith(path + ': ', logged) ? log.slice(logged + path.length + 2).split('\n')[0] : ''
+    const fault = log.startsWith(path + ': ', logged) ? log.slice(logged + path.length + 2, log.indexOf('\n', logged + path.length)) : ''
     if (!FAULT.test(fault)) return {}
     logged += path.length + fault.length + 3
     return {fault}
@@ -81,7 +88,16 @@ function csvOf(rows) {
 
 // ---- JSON
 
-const spelled = it => JSON.stringify(it)
+const LONG = /[:,[]\s*-?\d{16}/      // where a number may be too long for JavaScript; perhaps in a text
+
+// A value of a file that cvr accepts. Numbers are whole there, and one that JavaScript would round is a BigInt.
+function valueOf(text) {
+  const exact = (_, it, {source}) => typeof it === 'number' && !Number.isSafeInteger(it) ? BigInt(source) : it
+  return JSON.parse(text, LONG.test(text) ? exact : null)
+}
+
+const isNumber = it => typeof it === 'number' || typeof it === 'bigint'
+const spelled = it => typeof it === 'bigint' ? `${it}` : JSON.stringify(it)
 const isObject = it => it !== null && typeof it === 'object' && !Array.isArray(it)
 const pointed = step => '/' + String(step).replace(/~/g, '~0').replace(/\//g, '~1')       // a step of a JSON Pointer
 
@@ -116,8 +132,7 @@ class Names {
   }
 
   // The name of a selection, and the names of its parties.
-  selection(contest, key) {
-    const its = byId(this.contests.get(contest)?.ContestSelection).get(key) ?? {}
+  selection(its) {
     const held = textsIn(its, 'CandidateIds').filter(it => this.candidates.has(it))
     const parties = held.map(it => this.candidates.get(it).PartyId).filter(it => it)
     const names = its['@type'] === 'CVR.PartySelection' ? this.parties_of(textsIn(its, 'PartyIds')) : held.map(it => this.named(this.candidates, it) ?? it)

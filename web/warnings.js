@@ -31,15 +31,16 @@ function* rowWarnings(rows, allowed) {
 
 // Of the definition's contests: those of ranks, those that no row has, and the numbers that no file states.
 function* contestWarnings(contests, rows, seen) {
+  const shown = new Set(rows.map(it => it.contest))
   for (const it of contests) {
     const key = it['@id'], greatest = seen?.greatest.get(key)
     if (RANKED.includes(it.VoteVariation) || greatest > 1) yield ['ranked', spelled(key), it.VoteVariation ?? ABSENT, greatest ?? ABSENT]
-    if (!rows.some(row => row.contest === key)) yield ['contest', spelled(key)]
+    if (!shown.has(key)) yield ['contest', spelled(key)]
     else for (const name of seen ? ['Overvotes', 'Undervotes'] : []) if (!seen.stated.has(spelled([key, name]))) yield ['unstated', spelled(key), name]
   }
 }
 
 function warningsOf({files, states, sums, repeated, seen}, contests, rows) {
-  const allowed = new Map(contests.filter(it => Number.isInteger(it.VotesAllowed) && it.VotesAllowed > 0).map(it => [it['@id'], BigInt(it.VotesAllowed)]))
+  const allowed = new Map(contests.filter(it => isNumber(it.VotesAllowed) && it.VotesAllowed > 0).map(it => [it['@id'], BigInt(it.VotesAllowed)]))
   return [...fileWarnings(files, states, sums, repeated, seen), ...rowWarnings(rows, allowed), ...contestWarnings(contests, rows, seen), ...seen?.lines ?? []]
 }

@@ -39,5 +39,7 @@ WAYS = [
     Way('takes_any_bytes_of_a_zip', 'zip.js', 'throw fault instanceof Unfit ? fault : new Unfit(path, RULES.DAMAGED)', 'return bytes', 'gather'),
     Way('counts_a_file_that_decides_nothing', 'records.js', 'decides: files > having.length', 'decides: files > 1', 'warnings'),
     Way('asks_for_one_earlier_file', 'records.js', 'having.every(it => moment', 'having.some(it => moment', 'warnings'),
+    Way('rounds_long_numbers', 'texts.js', 'LONG.test(text) ? exact : null', 'null', 'warnings'),
+    Way('forgets_rows_of_a_contest_after_the_first', 'texts.js', 'held.get(key(it)).push(it)', 'held.get(key(it))'),
     Way('takes_any_text_for_the_one_that_counts', 'records.js', 'taken === null || compact(it) === taken', 'true', 'warnings'),
 ]
