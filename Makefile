@@ -8,13 +8,13 @@ SHARE = $(DESTDIR)$(PREFIX)/share
 DOCUMENTS = README.md CHANGELOG.md LICENSE SECURITY.md examples/README.md docs/reference/README.md \
 	$(wildcard docs/*.* examples/*/*.* examples/exports/*/*.* examples/exports/*/*/*.*)
 # What the repository alone has: of a link to it, an installed document has the text.
-ALONE = CONTRIBUTING\.md|(bench|crates|library|man|python|tests|web)/
+ALONE = CONTRIBUTING\.md|(bench|crates|dist|library|man|python|tests|web)/
 
 # Copies the documents to a folder, and makes the pages of the reference there.
 copied = for file in $(DOCUMENTS); do install -D -m 644 "$$file" "$(1)/$$file" || exit; done && tools/reference "$(1)" && \
 	cd "$(1)" && sed -zEi 's:\[([^][]*)\]\((\.\./)*($(ALONE))[^)]*\):\1:g' $(filter %.md,$(DOCUMENTS))
 
-.PHONY: all docs install uninstall package
+.PHONY: all docs install uninstall package release
 
 all:
 	./cvr --help >/dev/null
@@ -54,3 +54,10 @@ endif
 
 package: all
 	tools/package
+
+# Once CHANGELOG has the heading of a release: writes its version and date where they stand, builds the program, and makes
+# the page in dist/ of it.
+release:
+	tools/release
+	$(MAKE) all
+	tools/dist

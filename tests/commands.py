@@ -116,7 +116,7 @@ def main():
     words.add_argument('files', nargs='*', default=FILES, help='texts below the top of the repository')
     words = words.parse_args()
     with tempfile.TemporaryDirectory() as folder:
-        copy = shutil.copytree(TOP, os.path.join(folder, 'cvr'), ignore=shutil.ignore_patterns('.git', 'out', 'dist'))
+        copy = shutil.copytree(TOP, os.path.join(folder, 'cvr'), ignore=shutil.ignore_patterns('.git', 'out'))
         found = [try_all(name, os.path.abspath(words.cvr), copy) for name in words.files or FILES]
     right, wrong = map(sum, zip(*found))
     print('commands: %d right, %d wrong' % (right, wrong))

@@ -17,7 +17,7 @@ from concurrent.futures import ThreadPoolExecutor
 from pathlib import Path
 
 TOP = Path(__file__).resolve().parent.parent
-NOT_COPIED = shutil.ignore_patterns('.git', 'out', 'dist', '__pycache__')
+NOT_COPIED = shutil.ignore_patterns('.git', 'out', '__pycache__')
 # By the first words of a row, what is put in by hand: (file, a line of it, a line to stand below that, or nothing where
 # that line is left out).
 PLAYS = {

@@ -210,6 +210,15 @@ def see_made(trial, folder):
     trial.see('nothing in it comes from elsewhere', its.names & {'src', 'href', 'srcset', 'action', 'onclick', 'onload'}, set())
 
 
+def see_dist(trial, page):
+    """The page of the release is the one that is made here, where it was made of the same sources by the same tools."""
+    tool = runpy.run_path(os.path.join(TOP, 'tools/dist'))
+    if tool['is_of_these']():
+        trial.see('the page of the release', sum_of(os.path.join(tool['DIST'], tool['PAGE'])), sum_of(page))
+    else:
+        print('dist has no page of these sources, this kit and these tools: its bytes are not compared')
+
+
 def started(browser, trial, page):
     browser.open(page)
     trial.see('the page starts', browser.value(SETTLED), READY)
@@ -573,10 +582,11 @@ def main():
     page, own = FOLDER + '/cvr.html', Trial('page', os.path.abspath(words.cvr))
     with tempfile.TemporaryDirectory() as folder:
         see_made(own, folder)
-    right, wrong = own.right, own.wrong
     subprocess.run([sys.executable, 'tools/targets', 'wasm'], cwd=TOP, check=True)
     if os.path.exists(FOLDER + '/cvr.wasm'):
         subprocess.run([sys.executable, 'tools/html'], cwd=TOP, check=True)
+        see_dist(own, page)
+    right, wrong = own.right, own.wrong
     for name, kind in [('chromium', chromium), ('firefox', firefox)] if os.path.exists(FOLDER + '/cvr.wasm') else []:
         if words.only in (None, name) and not kind.program():
             print('%s is left out: it is not there' % name)
