@@ -53,14 +53,15 @@ function gatheredOf({files, count, left, notes}) {
 
 const FEW = 6, MOST = 200       // more places of one kind are folded, and more than the most left out
 
-function warnings(lines, seen) {
+function warnings(lines, unseen) {
   const places = its => element('details', {open: its.length <= FEW}, text('summary', its.length === 1 ? '1 place' : `${its.length.toLocaleString('en')} places`),
     its.length > MOST ? text('p', `The first ${MOST}: cvr-audit warnings prints all.`) : null,
     element('ul', {className: 'places'}, ...its.slice(0, MOST).map(it => text('li', text('code', text('bdi', it.join(' ')))))))
   const kinds = Object.entries(HELD.kinds).map(([kind, title]) => [kind, title, lines.filter(it => it[0] === kind).map(it => it.slice(1))]).filter(it => it[2].length)
   const said = kinds.map(([kind, title, its]) => text('li', text('strong', title), `: ${HELD.advice[kind]} `, places(its)))
-  return section('Warnings', said.length ? element('ul', {className: 'warnings'}, ...said) : text('p', 'None.'),
-    text('p', text('small', `${seen ? '' : 'The definition has no device, so no current snapshot was looked at. '}cvr-audit warnings also looks at a batch manifest.`)))
+  return section('Warnings', unseen ? text('p', text('strong', unseen), ', so no current snapshot was looked at.') : null,
+    said.length ? element('ul', {className: 'warnings'}, ...said) : text('p', unseen ? 'No others.' : 'None.'),
+    text('p', text('small', 'cvr-audit warnings also looks at a batch manifest.')))
 }
 
 // ---- conflicts
@@ -83,7 +84,7 @@ function membersOf(texts) {
 
 // Which text is taken, and by which rule.
 function ruleOf({name: [kind], is_current, is_known, texts}) {
-  if (!is_known) return 'Which of them cvr takes isn\'t known here, since the definition has no device.'
+  if (!is_known) return 'Which of them cvr takes isn\'t known here, since no current snapshot was looked at.'
   const several = valuesOf => new Set(texts.map(it => compact(valuesOf(it.value)))).size > 1
   const rule = several(it => (it.Annotation ?? []).map(one => one.TimeStamp ?? null)) ? 'by its latest TimeStamp, or, where these are one moment, by its bytes' : 'by its bytes'
   return HELD.taken[kind === 'snapshot' && !is_current ? 'other' : kind].replace('{}', several(it => it.Type ?? null) ? 'by its Type' : rule)
@@ -183,7 +184,7 @@ function show(answer) {
   const names = new Names(report), rows = rowsOf(tally.text)
   const held = grouped(rows, it => it.contest), its = [...held].map(([key, rows]) => contestOf(names, key, rows))
   const missing = [...names.contests.keys()].filter(it => !held.has(it))
-  at('answer').replaceChildren(head(names.election, command), answer.made ? gatheredOf(answer.made) : '', inputs(answer), warnings(warningsOf(answer, [...names.contests.values()], rows), answer.seen),
+  at('answer').replaceChildren(head(names.election, command), answer.made ? gatheredOf(answer.made) : '', inputs(answer), warnings(warningsOf(answer, [...names.contests.values()], rows), answer.unseen),
     conflictsOf(answer), contests(its),
     missing.length ? text('p', 'No record has these contests: ', missing.join(', '), '.') : '', divided(names, its), signature(answer, rows))
   document.title = 'UNOFFICIAL: ' + names.election

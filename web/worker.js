@@ -2,6 +2,8 @@
 // Reads files into the module's memory, one after the other, and then runs commands over them.
 
 const HELD = 67108865           // the most bytes that cvr reads of a file
+const WHOLE = 2 ** 32           // bytes that a module's memory can have
+const NO_DEVICE = 'The definition has no device', NO_ROOM = 'Memory does not suffice to look at all records, as cvr-audit warnings does'
 let RULES                       // of the page: what cvr-audit gather goes by
 
 async function digest(bytes) {
@@ -37,15 +39,27 @@ class Files {
     return this.module.bytes(this.place + this.room + this.ends[2 * at], this.ends[2 * at + 1] - this.ends[2 * at])
   }
 
-  // Runs a command: its words stand before the files, and end where these begin.
+  // Runs a command: its words stand before the files, and end where these begin. A volume may be as long as all files.
   run(words) {
-    const text = Math.max(1 << 20, this.size >> 4), pieces = words.map(it => new TextEncoder().encode(it)), ends = []
+    const text = Math.max(1 << 20, words[0] === 'merge' ? this.size : this.size >> 4), pieces = words.map(it => new TextEncoder().encode(it)), ends = []
     const count = pieces.reduce((sum, it) => (ends.push(sum + it.length), sum + it.length), 0)
     const all = [...ends, ...this.ends.map(it => it + count)], input = {place: this.place + this.room - count, count: count + this.size}
     pieces.forEach((it, at) => this.module.bytes(input.place + ends[at] - it.length, it.length).set(it))
     const table = {place: this.module.take(8 * all.length), count: all.length}
     this.module.numbers(table.place, all.length).set(all.map(BigInt))
     return this.answered(input, table, words.length, {text, log: 1 << 16})
+  }
+
+  // Volume 1 by a command; null where it has no text, or where memory lacks: cvr then holds it twice besides the rest.
+  volume(words) {
+    if (this.module.its.memory.buffer.byteLength + 2 * this.size > WHOLE) return null
+    try {
+      const {status, text} = this.run(words)
+      return status > 1 || !text.length ? null : new Volume(text)
+    } catch (fault) {
+      if (!isOfMemory(fault)) throw fault
+      return null
+    }
   }
 
   // One call, and a second where the text or the log needs more room.
@@ -80,7 +94,7 @@ async function withDevice(runs, definition) {
 }
 
 // Reads, and runs each of the commands; tells each step, and why it stops. Answers also the bytes of the first file, of each
-// its SHA-256, where cvr reads it whole, and what the records say.
+// its SHA-256, where cvr reads it whole, and what the records say; or why no current snapshot was looked at.
 async function answered(compiled, files, runs, tell) {
   const all = await withDevice(runs, files[0]), held = new Files(new Module(compiled), files, all), sums = [], answers = []
   const looks = all.some(([task]) => task === 'conflicts')     // at the records; then volume 1 is for that alone
@@ -93,22 +107,23 @@ async function answered(compiled, files, runs, tell) {
   }
   for (const words of all) {
     tell(null, `Running cvr ${words[0]}`)
-    const answer = held.run(words)
-    if (words[0] !== 'merge' || !looks) answers.push({...answer, sum: await digest(answer.text)})
-    else if (answer.status === 4) throw new Refused()
-    else if (answer.text.length) volume = new Volume(answer.text)
+    if (words[0] === 'merge' && looks) volume = held.volume(words)
+    else answers.push(held.run(words))
   }
+  for (const it of answers) it.sum = await digest(it.text)
   const [check, conflicts] = ['check', 'conflicts'].map(it => answers[all.findIndex(([task]) => task === it)])
   if (!looks || answers.some(it => it.status > 1)) return {answers, sums}
   tell(null, 'Reading the records once more')
-  const printed = its => new TextDecoder().decode(its.text)
-  return {first, sums, answers, ...looked(files.map(it => it.path), at => held.bytes(at), {...check, text: printed(check)}, printed(conflicts), volume)}
+  const printed = its => new TextDecoder().decode(its.text), unseen = volume ? null : all.length < runs.length ? NO_DEVICE : NO_ROOM
+  return {first, sums, answers, unseen, ...looked(files.map(it => it.path), at => held.bytes(at), {...check, text: printed(check)}, printed(conflicts), volume)}
 }
+
+const isOfMemory = fault => fault instanceof Refused || fault instanceof RangeError
 
 // What a fault is: that of a source, want of memory, that of the file that is read, or that of the program.
 function faultOf(fault, path) {
   if (fault instanceof Unfit) return {fault: 'unfit', said: fault.message}
-  return {fault: fault instanceof Refused || fault instanceof RangeError ? 'memory' : path === null ? 'program' : 'file', path, said: String(fault)}
+  return {fault: isOfMemory(fault) ? 'memory' : path === null ? 'program' : 'file', path, said: String(fault)}
 }
 
 // Without commands the files are an export, which is gathered.

@@ -52,6 +52,7 @@ TABLES = '''[...document.querySelectorAll('#answer table')].map(it => [it.captio
   [...row.cells].map(cell => cell.textContent))])'''
 LISTS = '''[...document.querySelectorAll('#answer dl')].map(it => [...it.children].map(one => one.textContent))'''
 PAGES = 200         # of 64 KiB, for a browser with little memory
+SOME = 2400         # records that it tallies, but can't look at
 CHOSEN = 12         # how many slips are tried without --all
 READY = 'The page has tallied its own example rightly. It waits for files.'
 ODD = {'Iris Vale': '<img src="x" onerror="document.title = 1">', 'Omar Field': 'عمر فيلد', 'County Council': 'x' * 300,
@@ -375,6 +376,20 @@ def see_cancel(browser, trial, folder, seconds=1):
     trial.see('and stays', browser.value(TEXTS % 'text'), text)
 
 
+UNSEEN = 'Memory does not suffice to look at all records'
+
+
+def see_unseen(browser, trial, folder):
+    """Files for whose tally memory suffices, and not for volume 1."""
+    many(folder, SOME)
+    shutil.copy(os.path.join(COUNTY, 'definition.json'), folder)
+    names = ['definition.json', 'many.json']
+    trial.see('files without volume 1', tallied(browser, folder, names), 'Done.')
+    trial.see('what was not looked at', UNSEEN in browser.value(TEXTS % 'answer'), True)
+    text = trial.printed('tally', *(os.path.join(folder, it) for it in names))
+    trial.see('their tally', browser.value(TEXTS % 'text'), text.decode())
+
+
 def see_memory(trial, page):
     """A browser whose modules get little memory: files that need more are refused, and fewer are tallied then."""
     with tempfile.TemporaryDirectory() as folder:
@@ -388,6 +403,8 @@ def see_memory(trial, page):
             trial.see('files for which memory does not suffice', browser.value(SETTLED), said)
             trial.see('fewer files then', tallied(browser, COUNTY, FILES[:3]), 'Done.')
             trial.see('their text', browser.value(TEXTS % 'text'), trial.printed('tally', *FILES[:3]).decode())
+            trial.see('they are looked at', UNSEEN in browser.value(TEXTS % 'answer'), False)
+            see_unseen(browser, trial, folder)
         finally:
             browser.end()
 
@@ -526,6 +543,7 @@ def see_ways(browser, trial, folder, saved, is_all):
     page, seen = os.path.join(folder, 'slip.html'), {
         'county': lambda own: see_county(browser, own, page), 'warnings': lambda own: see_warnings(browser, own),
         'odd': lambda own: see_odd(browser, own, tempfile.mkdtemp(dir=folder)), 'cancel': lambda own: see_cancel(browser, own, folder, 240),
+        'no device': lambda own: see_no_device(browser, own, tempfile.mkdtemp(dir=folder)),
         'gather': lambda own: exports.see_exports(browser, own, folder, saved, True),
         'volume': lambda own: (tallied(browser, COUNTY, FILES), see_volume(browser, own, saved)),
         'saved': lambda own: (tallied(browser, COUNTY, FILES), see_saved(browser, own, saved))}

@@ -41,5 +41,6 @@ WAYS = [
     Way('asks_for_one_earlier_file', 'records.js', 'having.every(it => moment', 'having.some(it => moment', 'warnings'),
     Way('rounds_long_numbers', 'texts.js', 'LONG.test(text) ? exact : null', 'null', 'warnings'),
     Way('forgets_rows_of_a_contest_after_the_first', 'texts.js', 'held.get(key(it)).push(it)', 'held.get(key(it))'),
+    Way('says_nothing_of_records_not_looked_at', 'answer.js', "unseen ? text('p', text('strong', unseen)", "false ? text('p', text('strong', unseen)", 'no device'),
     Way('takes_any_text_for_the_one_that_counts', 'records.js', 'taken === null || compact(it) === taken', 'true', 'warnings'),
 ]
