@@ -1,11 +1,16 @@
 """wasm.py: what tests/targets.py tries of the module of WebAssembly: a module, not a command.
 
-Small texts show how LLVM's text and that of the module are changed, and what is refused. One process of Node has the module. The command line over the library, tests/library/driver.c, calls it through ask.c, so
-each row of tests/rows goes through it; so does calls.c. heap.c tries its heap, and refuse.js the page's worker with little
-memory."""
+Small texts show how LLVM's text and that of the module are changed, and what is refused. One process of Node has the
+module. The command line over the library, tests/library/driver.c, calls it through ask.c, so each row of tests/rows goes
+through it; so does calls.c. heap.c tries its heap, and refuse.js the page's worker with little memory. Where `jsc` is
+installed, the engine of Safari without the browser, it reads the worker's scripts, and tallies the county by engine.js."""
 import contextlib
+import hashlib
+import json
 import os
 import re
+import runpy
+import shutil
 import subprocess
 import time
 from functools import partial
@@ -155,8 +160,22 @@ def fault(name, command):
     return None if re.fullmatch(name + r': [1-9]\d* right, 0 wrong', last) and not ran.returncode else ran.stdout
 
 
+def jsc_fault(module):
+    """What is wrong with the county's tally in the engine of Safari, or None."""
+    html, scripts = runpy.run_path(os.path.join(TOP, 'tools/html')), ['-e', 'globalThis.onmessage = null']      # which a worker has
+    for name in html['WORKER']:
+        scripts.append(os.path.join(TOP, 'web', name))
+    ran = subprocess.run(['jsc', *scripts, os.path.join(HERE, 'engine.js'), '--', module, *FILES], cwd=COUNTY, stdout=subprocess.PIPE, stderr=subprocess.STDOUT)
+    is_right = hashlib.sha256(ran.stdout).hexdigest() == json.loads(html['carried']())['sum']
+    return None if is_right else 'jsc: %r' % ran.stdout
+
+
 def trials(module, folder):
     """Yields the trials of the module besides its rows: functions that answer what is wrong, or None."""
+    if shutil.which('jsc'):
+        yield partial(jsc_fault, module)
+    else:
+        print('the engine of Safari is left out: there is no jsc. On Debian: apt-get install libjavascriptcoregtk-4.0-bin', flush=True)
     yield partial(fault, 'heap', [compiled(folder, 'heap', 'targets/heap.c', words=LOW)])
     yield partial(fault, 'calls', [compiled(folder, 'calls', 'library/calls.c', 'targets/ask.c', words=['-DAPART']), *FILES])
     yield partial(fault, 'refuse', ['node', '--wasm-max-mem-pages=%d' % PAGES, os.path.join(HERE, 'refuse.js'), module, *FILES])
