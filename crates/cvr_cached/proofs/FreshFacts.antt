@@ -146,3 +146,19 @@ put_fresh old more new put = record {
   ];
   set = put.set ∙ fresh_set old more;
 }
+
+-- what was put into nothing is put in as a whole
+pub put_listed : (none more list old new : List AnyFact) → none ≡ [] → IsPut none more list
+    → IsPut old list new → IsPut old more new
+put_listed none more list old new empty listed put = record {
+  rises = put.rises;
+  from = λ x at. elim (put.from x at) [
+    | inl a ↦ inl a
+    | inr b ↦ elim (listed.from x b) [
+      | inl c ↦ absurd (none_listed x (subst (λ xs. Contains xs x) empty c))
+      | inr d ↦ inr d
+    ]
+  ];
+  set = put.set ∙ ap (union (set_of old)) (listed.set
+      ∙ (ap (λ xs. union (set_of xs) (set_of more)) empty ∙ sym (set_both [] more)));
+}

@@ -5,6 +5,7 @@ pub mod Naming
 pub mod Searched
 pub mod Places
 pub mod FreshFacts
+pub mod MergedFacts
 pub mod Chosen
 pub mod ShownFacts
 pub mod Pairs

@@ -5,6 +5,7 @@ mod cached;
 mod commit;
 mod content;
 pub mod examples;
+mod growth;
 pub mod law;
 mod listing;
 mod names;

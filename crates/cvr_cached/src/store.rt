@@ -1,6 +1,6 @@
 use crate::content::RecordContent;
 use crate::plan::{Plan, plan_of, plan_of_contents};
-use crate::taking::{devices_with, put_in, replace};
+use crate::taking::{devices_growth, grow_devices, put_in};
 use cdf_definition::Definition;
 use cdf_types::Memory;
 use cvr_facts::RecordName;
@@ -109,7 +109,7 @@ impl Store {
         ensures unchanged { OnErr result (self.new ≡ self.old) }
     {
         let alloc = *self.devices.allocator();
-        let (aside, longer) = devices_with(alloc, &self.devices, devices)?;
+        let (growth, longer) = devices_growth(alloc, &self.devices, devices)?;
         let new_facts = match longer.checked_add(plan.new_facts) {
             Some(sum) => sum,
             None => return Err(Memory),
@@ -123,7 +123,7 @@ impl Store {
         let _ = self.records.len();
         self.totals.are_whole();
         put?;
-        replace(&mut self.devices, aside);
+        grow_devices(&mut self.devices, growth);
         self.count = count;
         Ok(new_facts)
     }

@@ -2,7 +2,7 @@
 ghost use Rattle.std.specs.Prelude.{◌≡◌, ◌+◌, OnOk, OnErr, IfOk, length};
 ghost use Rattle.std.specs.List.{sum_by};
 ghost use Rattle.std.specs.List.Sorted.{IsStrictlySortedBy};
-ghost use Rattle.std.specs.Option.{option_map_or};
+ghost use Rattle.std.specs.Option.{IfSome};
 ghost use Rattle.std.specs.Map.{values_of};
 ghost use Rattle.std.specs.BTreeMap.{get};
 ghost use Rattle.cvr_fact_types.specs.declared.name.RecordName.{RecordName};
@@ -11,49 +11,53 @@ ghost use Rattle.cvr_office.specs.Place.{any_cmp};
 ghost use Rattle.cvr_office.specs.Plain.{IsPut};
 ghost use Rattle.cvr_cached.specs.Contents.{facts_at};
 ghost use Rattle.cvr_cached.specs.Cells.{total, IsTableOf};
+ghost use Rattle.cvr_cached.specs.Growths.{IsGrowth, grown};
 ghost use Rattle.cvr_cached.specs.Plans.{content_with, all_moves, AreTallied, IsRoomy};
 
 use crate::commit::commit_all;
 use crate::content::RecordContent;
+use crate::growth::{Growth, grow, growth_of};
 use crate::names::{close_names, open_names};
-use crate::plan::has_all;
+use crate::plan::{fresh_of, has_all};
 use crate::rows::{add_rows, close_rows, open_rows};
 use cdf_types::Memory;
 use cvr_facts::RecordName;
-use cvr_lists::putting::{copies, put_copies};
+use cvr_lists::putting::put_copies;
 use cvr_lists::shared::SharedFact;
 use cvr_tally::Totals;
 use std::alloc::Global;
 use std::collections::BTreeMap;
 
-// A copy of the devices with others put in, unless these are all among them, and by how many it is
-// longer.
-pub(crate) fn devices_with(
+// What others bring to the devices, unless these are all among them, and how many they are.
+pub(crate) fn devices_growth(
     alloc: Global,
     devices: &[SharedFact],
     theirs: &[SharedFact],
-) -> Result<(Option<Vec<SharedFact>>, usize), Memory>
+) -> Result<(Option<Growth>, usize), Memory>
     requires { IsStrictlySortedBy any_cmp devices.now }
-    ensures put { IfOk result (λ r.
-        IsPut devices.now theirs.now (option_map_or (λ v. v.items) r.0 devices.now)) }
+    ensures growth { IfOk result (λ r. IfSome r.0 (IsGrowth devices.now)) }
+    ensures put { IfOk result (λ r. IsPut devices.now theirs.now (grown devices.now r.0)) }
     ensures longer { IfOk result (λ r.
-        length devices.now + r.1 ≡ length (option_map_or (λ v. v.items) r.0 devices.now)) }
+        length devices.now + r.1 ≡ length (grown devices.now r.0)) }
 {
     if has_all(devices, theirs) {
         return Ok((None, 0));
     }
-    let mut aside = copies(alloc, devices)?;
-    put_copies(&mut aside, theirs)?;
-    let longer = aside.len() - devices.len();
-    Ok((Some(aside), longer))
+    let mut more = Vec::new(alloc);
+    put_copies(&mut more, theirs)?;
+    let growth = growth_of(alloc, devices, fresh_of(devices, more))?;
+    let longer = growth.fresh.len();
+    Ok((Some(growth), longer))
 }
 
-// Puts a copy, if there is one, in the place of the devices. Takes no memory.
-pub(crate) fn replace(devices: &mut Vec<SharedFact>, aside: Option<Vec<SharedFact>>)
-    ensures { devices.new.items ≡ option_map_or (λ v. v.items) aside devices.old.items }
+// Puts what comes among the devices, if anything does. Takes no memory.
+pub(crate) fn grow_devices(devices: &mut Vec<SharedFact>, growth: Option<Growth>)
+    requires rises { IsStrictlySortedBy any_cmp devices.old.items }
+    requires growth { IfSome growth (IsGrowth devices.old.items) }
+    ensures { devices.new.items ≡ grown devices.old.items growth }
 {
-    if let Some(aside) = aside {
-        *devices = aside;
+    if let Some(growth) = growth {
+        grow(devices, growth);
     }
 }
 

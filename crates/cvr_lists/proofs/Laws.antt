@@ -4,7 +4,6 @@ pub use Rattle.cvr_lists.proofs.ConflictLists.{conflicts-is, greatest_count-is}
 pub use Rattle.cvr_lists.proofs.CurrentSums.{currents_are_sums, facts_are_sums}
 pub use Rattle.cvr_lists.proofs.OneRecord.{current_is, header_is}
 pub use Rattle.cvr_lists.proofs.PlainLists.{plain_start, spelled_put, start_is}
-pub use Rattle.cvr_lists.proofs.Puts.{put_growth}
 pub use Rattle.cvr_lists.proofs.RecordGroups.{rises_by_id}
 pub use Rattle.cvr_lists.proofs.SameFacts.{same_facts}
 pub use Rattle.cvr_lists.proofs.WholeRecord.{facts_are, none_of}

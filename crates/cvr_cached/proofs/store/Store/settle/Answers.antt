@@ -46,35 +46,35 @@ returns-in_err-put-clause-unchanged c =
 
 pub invariant_of-self-2 : goal.invariant_of-self-2
 invariant_of-self-2 c =
-    let put = rw c.deref.ensures.value at c.in_ok-aside.ensures.put in
-    let longer = rw c.deref.ensures.value at c.in_ok-aside.ensures.longer in
+    let put = rw c.deref.ensures.value at c.in_ok-growth.ensures.put in
+    let longer = rw c.deref.ensures.value at c.in_ok-growth.ensures.longer in
     let devices =
-    subst (IsPut c.self.inside.devices.items c.args.devices.now) (sym c.replace.ensures) put in
+    subst (IsPut c.self.inside.devices.items c.args.devices.now) (sym c.grow_devices.ensures) put in
     let sum = c.in-Some.ensures.1 in
     let count = c.in-Some-checked_add.ensures in
     let done = c.in_ok-put.ensures in
     let now : Stored = record {
-      devices = c.replace.new.devices.items;
+      devices = c.grow_devices.new.devices.items;
       records = c.put_in-put.new.records.entries;
       totals = c.put_in-put.new.totals;
     } in
     held_settled _ _ c.self.invariant _ _ c.args.plan (rw (← c.self.view_is) at c.requires.1) now
     c.in-Some-checked_add.sum c.in-Some.sum
     devices c.len.ensures.ordered done.records done.counted done.contests
-    (omega (arith, longer, sum, ap length c.replace.ensures)) (sym count.1) done.agrees
+    (omega (arith, longer, sum, ap length c.grow_devices.ensures)) (sym count.1) done.agrees
     c.are_whole.ensures (omega (arith, count.0, count.1))
 
 pub returns-clause-taken : goal.returns-clause-taken
 returns-clause-taken c more of =
-    let put = rw c.deref.ensures.value at c.in_ok-aside.ensures.put in
-    let longer = rw c.deref.ensures.value at c.in_ok-aside.ensures.longer in
+    let put = rw c.deref.ensures.value at c.in_ok-growth.ensures.put in
+    let longer = rw c.deref.ensures.value at c.in_ok-growth.ensures.longer in
     let devices =
-    subst (IsPut c.self.inside.devices.items c.args.devices.now) (sym c.replace.ensures) put in
+    subst (IsPut c.self.inside.devices.items c.args.devices.now) (sym c.grow_devices.ensures) put in
     let sum = c.in-Some.ensures.1 in
     let count = c.in-Some-checked_add.ensures in
     let done = c.in_ok-put.ensures in
     let now : Stored = record {
-      devices = c.replace.new.devices.items;
+      devices = c.grow_devices.new.devices.items;
       records = c.put_in-put.new.records.entries;
       totals = c.put_in-put.new.totals;
     } in
@@ -82,5 +82,5 @@ returns-clause-taken c more of =
     (taken_settled _ _ c.self.invariant more _ c.args.plan (rw (← c.self.view_is) at of) now
     c.in-Some-checked_add.sum c.in-Some.sum
     devices c.len.ensures.ordered done.records done.counted done.contests
-    (omega (arith, longer, sum, ap length c.replace.ensures)) (sym count.1) (omega (arith, sum))
+    (omega (arith, longer, sum, ap length c.grow_devices.ensures)) (sym count.1) (omega (arith, sum))
     done.moves)
