@@ -28,6 +28,7 @@ pub mod Opening
 pub mod Committing
 pub mod Importing
 pub mod Growing
+pub mod Grown
 pub mod Theirs
 pub mod Apart
 pub mod SameContents

@@ -36,7 +36,7 @@ use Rattle.cvr_cached.specs.Contents.{Entries, content_at, facts_at, fact_list, 
 use Rattle.cvr_cached.specs.Contents.{current_in, pairs_of}
 use Rattle.cvr_cached.specs.Held.{Stored, facts_of, AreOwn, IsHeld, CanTake}
 use Rattle.cvr_cached.specs.Moves.{contests_at, move_count}
-use Rattle.cvr_cached.specs.Plans.{has_content, is_name_of, content_with, all_moves, IsPlan}
+use Rattle.cvr_cached.specs.Plans.{planned, has_content, is_name_of, content_with, all_moves, IsPlan}
 use Rattle.cvr_cached.proofs.KeyTests.{own_name, same_name}
 use Rattle.cvr_cached.proofs.Listed.{at_name, each_of, len-set_of, less_other}
 use Rattle.cvr_cached.proofs.Moving.{headed}
@@ -186,9 +186,9 @@ module _ (s : Stored) (count : ℕ) (more : List AnyFact) (held : IsHeld s count
     → Contains (g k) f ↔ (Contains more f × (record_of (fact_of f) ≡ Some k)))
     (made : Plan) (plan : IsPlan (content_at s.records) g made)
     (done : (k : RecordName) → content_at s'.records k
-    ≡ content_with made.contents.items (content_at s.records) k) where
+    ≡ content_with (planned (content_at s.records) made) (content_at s.records) k) where
   abbrev cs : Entries
-  cs = made.contents.items
+  cs = planned (content_at s.records) made
 
   abbrev d : List AnyFact
   d = s.devices

@@ -41,7 +41,7 @@ use Rattle.cvr_tally.specs.Rows.{ballot_limit}
 use Rattle.cvr_tally.proofs.Lemmas.{below_limits}
 use Rattle.cvr_cached.specs.Cells.{shares, total, AreFit}
 use Rattle.cvr_cached.specs.Held.{IsSummed}
-use Rattle.cvr_cached.specs.Plans.{all_moves, IsPlan, IsRoomy}
+use Rattle.cvr_cached.specs.Plans.{planned, all_moves, IsPlan, IsRoomy}
 use Rattle.cvr_cached.proofs.Listed.{at_name, found_listed}
 use Rattle.cvr_cached.proofs.Pairs.{pairs_are}
 use Rattle.cvr_cached.proofs.RowLink.{sum_pairs, share_found}
@@ -201,7 +201,7 @@ module _ (contests : List Contest) (es : Entries) (made : Plan) (g : RecordName 
     → IsSummed contests x) (new : (k : RecordName) (x : AnyFact) → Contains (g k) x
     → IsSummed contests x) where
   abbrev cs : Entries
-  cs = made.contents.items
+  cs = planned (content_at es) made
 
   abbrev n : ℕ
   n = made.new_facts

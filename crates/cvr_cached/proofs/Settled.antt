@@ -13,7 +13,8 @@ use Rattle.cvr_cached.specs.declared.plan.Plan.{Plan}
 use Rattle.cvr_cached.specs.Contents.{Entries, content_at, facts_at}
 use Rattle.cvr_cached.specs.Cells.{total, IsTableOf}
 use Rattle.cvr_cached.specs.Held.{Stored, facts_of, AreOwn, IsHeld}
-use Rattle.cvr_cached.specs.Plans.{content_with, all_moves, AreTallied, IsRoomy}
+use Rattle.cvr_cached.specs.Growths.{AreGrowing}
+use Rattle.cvr_cached.specs.Plans.{planned, content_with, all_moves, AreTallied, IsRoomy}
 use Rattle.cvr_cached.specs.Taking.{IsPlanOf, IsTaken}
 use Rattle.cvr_cached.proofs.After.{own_after, put_after}
 use Rattle.cvr_cached.proofs.Moved.{moved_is}
@@ -23,13 +24,16 @@ use Rattle.cvr_cached.proofs.Taken.{held_after, growth_after}
 module _ (s : Stored) (count : ℕ) (held : IsHeld s count) (more devices : List AnyFact)
     (plan : Plan) (of : IsPlanOf s more devices plan) where
   abbrev cs : Entries
-  cs = plan.contents.items
+  cs = planned (content_at s.records) plan
 
   abbrev n : ℕ
   n = plan.new_facts
 
   pub tallied : AreTallied s.records s.totals.rows
   tallied = tallied_before s count more held of.allowed
+
+  pub growing : AreGrowing (content_at s.records) plan.contents.items plan.growths.items
+  growing = of.planned.growing
 
   pub room : count + n < 2 ^ 64 → IsRoomy s.totals.contests s.records cs
   room few =

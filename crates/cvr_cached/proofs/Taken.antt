@@ -37,7 +37,7 @@ use Rattle.cvr_cached.specs.declared.plan.Plan.{Plan}
 use Rattle.cvr_cached.specs.Contents.{Entries, content_at, facts_at, some_unless_empty, fact_list}
 use Rattle.cvr_cached.specs.Cells.{total, IsTableOf}
 use Rattle.cvr_cached.specs.Held.{Stored, facts_of, AreOwn, IsHeld, IsCached, CanTake, IsSummed}
-use Rattle.cvr_cached.specs.Plans.{IsPlan, all_moves, AreTallied, IsRoomy}
+use Rattle.cvr_cached.specs.Plans.{planned, IsPlan, all_moves, AreTallied, IsRoomy}
 use Rattle.cvr_cached.specs.Taking.{AreSplit, IsPlanOf}
 use Rattle.cvr_cached.proofs.Listed.{len-set_of, at_name, found_own, sorted_nil, own_each}
 use Rattle.cvr_cached.proofs.Listed.{run_listed}
@@ -166,7 +166,7 @@ module _ (s : Stored) (count : ℕ) (more : List AnyFact) (held : IsHeld s count
       (among : (k : RecordName) (x : AnyFact) → Contains (g k) x → Contains more x) (made : Plan)
       (plan : IsPlan (content_at es) g made) where
     abbrev cs : Entries
-    cs = made.contents.items
+    cs = planned (content_at es) made
 
     -- a plan of what comes to records has room
     pub room_before : sum_by length (values_of es) + made.new_facts < 2 ^ 64

@@ -17,9 +17,9 @@ use Rattle.cvr_office.specs.Plain.{IsPut}
 use Rattle.cvr_office.proofs.Laws.{name_exact, name_total}
 use Rattle.cvr_cached.specs.declared.plan.Plan.{Plan}
 use Rattle.cvr_cached.specs.Contents.{Entries, facts_at}
-use Rattle.cvr_cached.specs.Plans.{IsPassed, IsPlanned, IsStep}
+use Rattle.cvr_cached.specs.Plans.{IsPassed, IsMade, IsStep}
 use Rattle.cvr_cached.proofs.Listed.{at_name, each_of, all_of_each, less_other, turned}
-use Rattle.cvr_cached.proofs.Passing.{planned_none, planned_step}
+use Rattle.cvr_cached.proofs.Passing.{made_none, planned_step}
 use Rattle.cvr_lists.proofs.Lemmas.{put_nothing}
 use Rattle.cvr_cached.proofs.KeyTests.{own_name}
 
@@ -88,9 +88,11 @@ module _ (f : RecordName → Option (List AnyFact))
       → IsPut (facts_at (f q)) (theirs q) (facts_at (f q))
   nothing_put q none = put_nothing (facts_at (f q)) (theirs q) (rise q) (ap facts_at none)
 
-  pub theirs_begin : IsStrictlySortedBy name_cmp (keys_of all)
-      → IsPlanned f (λ q. facts_at (at_name q all)) (first_name all) [] 0
-  theirs_begin rises = planned_none f theirs (first_name all)
+  pub theirs_begin : IsStrictlySortedBy name_cmp (keys_of all) → (plan : Plan)
+      → plan.contents.items ≡ [] → plan.growths.items ≡ [] → plan.new_facts ≡ 0
+      → IsMade f (λ q. facts_at (at_name q all)) (first_name all) plan
+  theirs_begin rises plan none none_grow zero =
+      made_none f theirs (first_name all) plan none none_grow zero
       (λ q passed. nothing_put q (none_before all q rises passed))
 
   module _ (e : RecordName × List AnyFact) (rest : Entries) (are : AreLeft all (e ∷ rest)) where
@@ -129,11 +131,9 @@ module _ (f : RecordName → Option (List AnyFact))
           ] refl;
     }
 
-    pub theirs_go_on : (plan : Plan) → IsPlanned f (λ q. facts_at (at_name q all)) (Some e.0)
-        plan.contents.items plan.new_facts → (plan' : Plan)
-        → IsStep (facts_at (f e.0)) e.1 e.0 plan plan'
-        → IsPlanned f (λ q. facts_at (at_name q all)) (first_name rest) plan'.contents.items
-        plan'.new_facts
+    pub theirs_go_on : (plan : Plan) → IsMade f (λ q. facts_at (at_name q all)) (Some e.0) plan
+        → (plan' : Plan) → IsStep (facts_at (f e.0)) e.1 e.0 plan plan'
+        → IsMade f (λ q. facts_at (at_name q all)) (first_name rest) plan'
     theirs_go_on plan was plan' step =
         planned_step f theirs e.0 plan was (first_name rest) up
         (λ q passed above. nothing_put q

@@ -11,13 +11,14 @@ ghost use Rattle.cvr_office.specs.Place.{any_cmp, any_total};
 ghost use Rattle.cvr_office.specs.Plain.{IsPut};
 ghost use Rattle.cvr_office.specs.declared.any_fact.AnyFact.{AnyFact};
 ghost use Rattle.cvr_cached.specs.Fresh.{AreApart};
+ghost use Rattle.cvr_cached.specs.Growths.{IsGrowing, grown_content};
 ghost use Rattle.cvr_cached.specs.Contents.{header_in, current_in, pairs_of};
 ghost use Rattle.cvr_cached.specs.Shown.{HasChosen, IsShown};
 ghost use Rattle.cvr_fact_types.specs.Columns.{Column};
 ghost use Rattle.cvr_cached.specs.Cells.{cell, shares, has_row, is_row_of};
 ghost use Rattle.cvr_cached.specs.Cells.{AreFit};
 
-use crate::plan::fresh_of;
+use crate::growth::{Growth, grow, growth_of};
 use crate::remembered::{
     current_place, header_fact_at, header_place, key_at, no_key, place_among, push_at, snapshot_at,
     votes_at,
@@ -29,6 +30,7 @@ use cvr_lists::shared::SharedFact;
 use cvr_tally::{RowKey, Totals};
 use std::alloc::Global;
 use std::marker::Model;
+use std::mem::replace;
 
 // The facts of one record, each once and in order, with the places of its header and its current
 // snapshot, and a key of its rows. Contracts see it as the list of its facts.
@@ -93,19 +95,60 @@ impl RecordContent {
         })
     }
 
-    // Its facts with more put in, which are in order.
-    pub(crate) fn with(&self, alloc: Global, more: Vec<SharedFact>) -> Result<RecordContent, Memory>
-        requires { IsStrictlySortedBy any_cmp more.items }
-        ensures { IfOk result (λ c. IsPut self.now more.items c) }
+    // What others bring, which aren't among its facts, and a few facts that show what it does then.
+    pub(crate) fn growing(
+        &self,
+        alloc: Global,
+        fresh: Vec<SharedFact>,
+    ) -> Result<(RecordContent, Growth), Memory>
+        requires rises { IsStrictlySortedBy any_cmp fresh.items }
+        requires apart { AreApart self.now fresh.items }
+        ensures growing { IfOk result (λ r. IsGrowing self.now r.0 r.1) }
+        ensures put { IfOk result
+            (λ r. IsPut self.now fresh.items (grown_content self.now r.0 r.1)) }
+        ensures long { IfOk result (λ r. length (grown_content self.now r.0 r.1)
+            ≡ length self.now + length fresh.items) }
     {
         if self.facts.is_empty() {
-            return RecordContent::of(more);
+            let none = Growth {
+                fresh: Vec::new(alloc),
+                room: Vec::new(alloc),
+            };
+            let all = RecordContent::of(fresh)?;
+            return Ok((all, none));
         }
-        let fresh = fresh_of(&self.facts, more);
-        let shown = self.shown_with(alloc, &fresh)?;
-        let mut facts = copies(alloc, &self.facts)?;
-        put_in(&mut facts, fresh)?;
-        Ok(shown.among(facts))
+        let few = self.shown_with(alloc, &fresh)?;
+        let growth = growth_of(alloc, &self.facts, fresh)?;
+        Ok((few, growth))
+    }
+
+    // Takes in what comes, by a few facts that show what it does then. Takes no memory.
+    pub(crate) fn grow(&mut self, few: RecordContent, growth: Growth)
+        requires { IsGrowing self.old few growth }
+        ensures { self.new ≡ grown_content self.old few growth }
+    {
+        if self.facts.is_empty() {
+            *self = few;
+            return;
+        }
+        let alloc = *self.facts.allocator();
+        let mut facts = replace(self, RecordContent::empty(alloc)).into_facts();
+        grow(&mut facts, growth);
+        *self = few.among(facts);
+    }
+
+    // Its facts alone.
+    fn into_facts(self) -> Vec<SharedFact>
+        ensures is { result.items ≡ self }
+        ensures rises { IsStrictlySortedBy any_cmp self }
+    {
+        let RecordContent {
+            facts,
+            header: _,
+            current: _,
+            key: _,
+        } = self;
+        facts
     }
 
     // A few facts that show what it does once others are put in, which aren't among its own.

@@ -1,7 +1,9 @@
-//! Laws of parts that are joined, of offices of two kinds, and of how often rows are changed.
+//! Laws of parts that are joined, of lists that are merged, of offices of two kinds, and of how
+//! often rows are changed.
 ghost use Rattle.std.specs.FinSet.{empty, union};
 ghost use Rattle.cvr_office.specs.Plain.{set_of};
 ghost use Rattle.cvr_cached.specs.Kinds.{KindsLaw};
+ghost use Rattle.cvr_cached.specs.Merged.{MergedLaw};
 ghost use Rattle.cvr_cached.specs.Moves.{NothingMovesLaw, RowsOfRecordLaw};
 ghost use Rattle.cvr_cached.specs.Wholes.{WholesLaw};
 
@@ -15,6 +17,12 @@ use cvr_office::Office;
 pub fn wholes_are_joined<J: Join>()
     ensures parts { WholesLaw J.held J.joined J.nothing }
     ensures contents { WholesLaw set_of union empty }
+{}
+
+/// A list of facts in order, merged with another that has none of them, is in order and has the
+/// facts of both.
+pub fn lists_are_merged()
+    ensures { MergedLaw }
 {}
 
 /// Offices of one kind and of another that held the same facts, place by place, and played the same

@@ -15,6 +15,7 @@ ghost use Rattle.cvr_cached.specs.Fresh.{fresh, is_fresh};
 ghost use Rattle.cvr_cached.specs.Plans.{IsAdded, IsPlan, IsStep};
 
 use crate::content::RecordContent;
+use crate::growth::Growth;
 use cdf_types::Memory;
 use cvr_facts::RecordName;
 use cvr_lists::putting::copies;
@@ -23,10 +24,13 @@ use cvr_lists::shared::SharedFact;
 use std::alloc::Global;
 use std::collections::{BTreeMap, VecDeque};
 
-// New contents under their names, by place.
+// What changes in contents. Those that stand are left as they are till it is carried out.
 #[derive(Drop)]
 pub(crate) struct Plan {
+    // Of each record that gains facts a few, which show what all do then.
     pub(crate) contents: Vec<(RecordName, RecordContent)>,
+    // What comes to each of these, by place.
+    pub(crate) growths: Vec<Growth>,
     // How many facts are new.
     pub(crate) new_facts: usize,
 }
@@ -46,6 +50,7 @@ pub(crate) fn plan_of(
 {
     let mut plan = Plan {
         contents: Vec::new(alloc),
+        growths: Vec::new(alloc),
         new_facts: 0,
     };
     let mut rest = VecDeque::from(more);
@@ -70,6 +75,7 @@ pub(crate) fn plan_of_contents(
 {
     let mut plan = Plan {
         contents: Vec::new(alloc),
+        growths: Vec::new(alloc),
         new_facts: 0,
     };
     for (name, content) in theirs.iter() {
@@ -118,7 +124,7 @@ fn add_join(
     push_change(alloc, plan, name.copy()?, old, more)
 }
 
-// Adds to a plan a record's content with more facts put in, of which some are new.
+// Adds to a plan what more facts change in a record's content, of which some are new.
 fn push_change(
     alloc: Global,
     plan: &mut Plan,
@@ -131,13 +137,14 @@ fn push_change(
         × (contains (set_of old.now) (fact_of x) ≡ false) }
     ensures { OnOk result (IsAdded old.now more.items name plan.old plan.new) }
 {
-    let content = old.with(alloc, more)?;
-    let grown = content.facts().len() - old.facts().len();
-    let new_facts = match plan.new_facts.checked_add(grown) {
+    let fresh = fresh_of(old.facts(), more);
+    let new_facts = match plan.new_facts.checked_add(fresh.len()) {
         Some(sum) => sum,
         None => return Err(Memory),
     };
-    plan.contents.push((name, content))?;
+    let (few, growth) = old.growing(alloc, fresh)?;
+    plan.contents.push((name, few))?;
+    plan.growths.push(growth)?;
     plan.new_facts = new_facts;
     Ok(())
 }

@@ -118,7 +118,7 @@ impl Store {
             Some(sum) => sum,
             None => return Err(Memory),
         };
-        let put = put_in(alloc, &mut self.records, &mut self.totals, plan.contents);
+        let put = put_in(alloc, &mut self.records, &mut self.totals, plan);
         // Called for their contracts: names rise in every map, and rows of totals are whole.
         let _ = self.records.len();
         self.totals.are_whole();

@@ -11,14 +11,14 @@ ghost use Rattle.cvr_office.specs.Place.{any_cmp};
 ghost use Rattle.cvr_office.specs.Plain.{IsPut};
 ghost use Rattle.cvr_cached.specs.Contents.{facts_at};
 ghost use Rattle.cvr_cached.specs.Cells.{total, IsTableOf};
-ghost use Rattle.cvr_cached.specs.Growths.{IsGrowth, grown};
-ghost use Rattle.cvr_cached.specs.Plans.{content_with, all_moves, AreTallied, IsRoomy};
+ghost use Rattle.cvr_cached.specs.Growths.{IsGrowth, AreGrowing, grown};
+ghost use Rattle.cvr_cached.specs.Plans.{planned, content_with, all_moves, AreTallied, IsRoomy};
 
 use crate::commit::commit_all;
 use crate::content::RecordContent;
 use crate::growth::{Growth, grow, growth_of};
 use crate::names::{close_names, open_names};
-use crate::plan::{fresh_of, has_all};
+use crate::plan::{Plan, fresh_of, has_all};
 use crate::rows::{add_rows, close_rows, open_rows};
 use cdf_types::Memory;
 use cvr_facts::RecordName;
@@ -61,27 +61,36 @@ pub(crate) fn grow_devices(devices: &mut Vec<SharedFact>, growth: Option<Growth>
     }
 }
 
-// Puts in what was planned: all of it, or nothing.
+// Carries out a plan: all of it, or nothing.
 pub(crate) fn put_in(
     alloc: Global,
     records: &mut BTreeMap<RecordName, RecordContent>,
     totals: &mut Totals,
-    mut contents: Vec<(RecordName, RecordContent)>,
+    plan: Plan,
 ) -> Result<(), Memory>
     requires tallied { AreTallied records.old.entries totals.old.rows }
-    requires room { IsRoomy totals.old.contests records.old.entries contents.items }
-    ensures records { OnOk result ((q : RecordName)
-        → get name_cmp records.new q ≡ content_with contents.items (get name_cmp records.old) q) }
+    requires growing { AreGrowing (get name_cmp records.old) plan.contents.items
+        plan.growths.items }
+    requires room { IsRoomy totals.old.contests records.old.entries
+        (planned (get name_cmp records.old) plan) }
+    ensures records { OnOk result ((q : RecordName) → get name_cmp records.new q
+        ≡ content_with (planned (get name_cmp records.old) plan) (get name_cmp records.old) q) }
     ensures counted { OnOk result (sum_by length (values_of records.new.entries)
-        + sum_by (λ c. length (facts_at (get name_cmp records.old c.0))) contents.items
-        ≡ sum_by length (values_of records.old.entries) + sum_by (λ c. length c.1) contents.items) }
+        + sum_by (λ c. length (facts_at (get name_cmp records.old c.0)))
+        (planned (get name_cmp records.old) plan) ≡ sum_by length (values_of records.old.entries)
+        + sum_by (λ c. length c.1) (planned (get name_cmp records.old) plan)) }
     ensures agrees { OnOk result (IsTableOf (total records.new.entries) totals.new.rows) }
-    ensures moves { OnOk result (totals.new.moves
-        ≡ totals.old.moves + all_moves (get name_cmp records.old) contents.items) }
+    ensures moves { OnOk result (totals.new.moves ≡ totals.old.moves
+        + all_moves (get name_cmp records.old) (planned (get name_cmp records.old) plan)) }
     ensures contests { totals.new.contests ≡ totals.old.contests }
     ensures unchanged { OnErr result ((totals.new ≡ totals.old)
         × ((q : RecordName) → get name_cmp records.new q ≡ get name_cmp records.old q)) }
 {
+    let Plan {
+        mut contents,
+        growths,
+        new_facts: _,
+    } = plan;
     if let Err(refused) = open_names(alloc, records, &contents) {
         close_names(records, &contents);
         return Err(refused);
@@ -92,6 +101,6 @@ pub(crate) fn put_in(
         return Err(refused);
     }
     add_rows(totals, &mut contents);
-    commit_all(records, totals, contents);
+    commit_all(records, totals, contents, growths);
     Ok(())
 }

@@ -11,7 +11,7 @@ pub returns-clause-agrees : goal.returns-clause-agrees
 returns-clause-agrees c = λ u zeros agrees.
     let n = c.take_votes.new.totals.rows in
     let o = c.close_rows.new.totals.rows in
-    agrees_after c.args.content u c.args.totals.now.rows n o zeros agrees c.take_votes.ensures.cells
+    agrees_after c.args.content.now u c.args.totals.now.rows n o zeros agrees c.take_votes.ensures.cells
     c.take_votes.ensures.stand
     (subst (λ (facts : List AnyFact). (q : RowKey)
     → get o q ≡ cond (is_row_of facts q) (row_closed (get n q)) (get n q))

@@ -1,5 +1,5 @@
-use Rattle.std.proofs.Common.{◌≡◌, ◌+◌, ◌≤◌, ◌-◌, ◌++◌, take, drop}
-use Rattle.std.specs.Vec.{vec_len, vec_capacity}
+use Rattle.std.proofs.Common.{◌≡◌, ◌++◌, take, drop}
+use Rattle.std.specs.Vec.{vec_capacity}
 use Rattle.cvr_cached.proofs.growth.move_front.Given as goal
 
 abbrev pub invariant-loop-place : goal.invariant-loop-place

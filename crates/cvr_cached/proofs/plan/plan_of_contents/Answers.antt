@@ -1,4 +1,4 @@
-use Rattle.std.proofs.Common.{◌≡◌, ◌∙◌, List, ap, subst}
+use Rattle.std.proofs.Common.{◌≡◌, ◌∙◌, List, refl, ap, subst}
 use Rattle.std.proofs.lemmas.Map.Iter.{rest_more, rest_all}
 use Rattle.std.specs.BTreeMap.{get}
 use Rattle.std.specs.Map.Iter.{deref_pair}
@@ -6,7 +6,7 @@ use Rattle.cvr_fact_types.specs.declared.name.RecordName.{RecordName}
 use Rattle.cvr_fact_types.specs.Facts.{name_cmp}
 use Rattle.cvr_office.specs.declared.any_fact.AnyFact.{AnyFact}
 use Rattle.cvr_cached.specs.Contents.{facts_at}
-use Rattle.cvr_cached.specs.Plans.{IsPlanned}
+use Rattle.cvr_cached.specs.Plans.{IsMade}
 use Rattle.cvr_cached.proofs.Passing.{all_planned}
 use Rattle.cvr_cached.proofs.Theirs.{first_name, AreLeft, all_left, theirs_begin, theirs_go_on}
 use Rattle.cvr_cached.proofs.Theirs.{rest_left}
@@ -19,8 +19,8 @@ loop-name-init c =
     c.into_iter-name-iterator.ensures.into_iter_gives ∙ c.iter-name-items.ensures.rest in
     let ordered = c.iter-name-items.ensures.ordered in
     record {
-      planned = rw (c.new.ensures.items, is)
-          (theirs_begin (get name_cmp c.args.records.now) c.requires all ordered);
+      planned = rw is (theirs_begin (get name_cmp c.args.records.now) c.requires all ordered _
+          c.new.ensures.items c.new-2.ensures.items refl);
       left = rw is (all_left all ordered);
     }
 
@@ -33,9 +33,8 @@ loop-name-preserved c =
     let is = rest_more deref_pair c.loop-name.name-iterator c.next.new.self c.next.result _
     c.in-Some.is c.next.ensures.steps in
     let are = subst (AreLeft all) is c.loop-name.invariant.left in
-    let was = subst (λ left. IsPlanned f (λ k. facts_at (get name_cmp c.args.theirs.now k))
-    (first_name left) c.loop-name.plan.contents.items c.loop-name.plan.new_facts) is
-    c.loop-name.invariant.planned in
+    let was = subst (λ left. IsMade f (λ k. facts_at (get name_cmp c.args.theirs.now k))
+    (first_name left) c.loop-name.plan) is c.loop-name.invariant.planned in
     record {
       planned = theirs_go_on f c.requires all e rest are c.loop-name.plan was c.add_join.new.plan
           c.in_ok-add_join.ensures;

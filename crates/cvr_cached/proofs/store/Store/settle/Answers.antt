@@ -3,12 +3,16 @@ use Rattle.std.proofs.lemmas.Map.Lookups.{btree_map_from_get}
 use Rattle.cvr_office.specs.Plain.{IsPut}
 use Rattle.cvr_office.proofs.Laws.{name_exact, name_total}
 use Rattle.cvr_cached.specs.Held.{Stored}
-use Rattle.cvr_cached.proofs.Settled.{tallied, room, held_still, held_settled, taken_settled}
+use Rattle.cvr_cached.proofs.Settled.{tallied, growing, room, held_still, held_settled, taken_settled}
 use Rattle.cvr_cached.proofs.store.Store.settle.Goals as goal
 
 pub put_in-put-requires-clause-tallied : goal.put_in-put-requires-clause-tallied
 put_in-put-requires-clause-tallied c =
     tallied _ _ c.self.invariant _ _ c.args.plan (rw (← c.self.view_is) at c.requires.1)
+
+pub put_in-put-requires-clause-growing : goal.put_in-put-requires-clause-growing
+put_in-put-requires-clause-growing c =
+    growing _ _ c.self.invariant _ _ c.args.plan (rw (← c.self.view_is) at c.requires.1)
 
 pub put_in-put-requires-clause-room : goal.put_in-put-requires-clause-room
 put_in-put-requires-clause-room c =
