@@ -8,8 +8,9 @@ standard error is no terminal, it gets the log and not a byte more, also beside 
 
 - Runs over files that are accepted, refused or missing, of each command, and of help and refused words: on a terminal
 each, on one terminal for both, and on pipes.
-- Notes: where a file is no JSON, and what it seems to be, as stated below by hand; records of the definition's own;
-names with several texts; no files; what the system says of a file that can't be read.
+- Notes, as stated below by hand: of a file that is no JSON, where it stops, and what it seems to be; records of the definition's own; names with several texts; no files; what the system says of a file that
+can't be read. Of more than ten refused files, ten and how many more; of 100,000, too, and with no more memory than the
+same run takes where there is no terminal.
 - A file that is read slowly, by a named pipe: the line stays while the run waits for it.
 - The terminal fails at each call of the line, with one byte a call (devices.c): output, log and status are as usual.
 
@@ -35,6 +36,18 @@ import damage  # noqa: E402 (it stands here)
 
 SECONDS = 60
 MARK = b'\0'         # no run prints it
+NAMED = 10          # refused files that have a note
+MANY = 100000       # refused files of a long run, and the most memory, in KiB, that its notes may take
+SPARE = 1024
+# A program that runs another, and writes to the file `most` how much memory it took, in KiB.
+MEASURED = '''#!%s -S
+import os, sys
+child = os.spawnv(os.P_NOWAIT, %r, ['cvr'] + sys.argv[1:])
+_, ended, usage = os.wait4(child, 0)
+with open('most', 'w') as file:
+    file.write(str(usage.ru_maxrss))
+sys.exit(os.waitstatus_to_exitcode(ended))
+'''
 ENDS = ('terminal', 'pipe')
 F2 = damage.rows.VECTORS['f2.json']
 DEF = damage.rows.VECTORS['def.json']
@@ -49,12 +62,40 @@ NO_JSON = {
     'blank': (b' \r\n\t', 2, 1, '; it is empty'),
     'utf16': (F2.decode('utf-8').encode('utf-16'), 1, 1, '; it seems to be UTF-16'),
     'utf16-le': (F2.decode('utf-8').encode('utf-16-le'), 1, 2, '; it seems to be UTF-16'),
+    'utf16-mark-be': (b'\xfe\xff' + F2.decode('utf-8').encode('utf-16-be'), 1, 1, '; it seems to be UTF-16'),
     'utf16-be': (F2.decode('utf-8').encode('utf-16-be'), 1, 1, '; it seems to be UTF-16'),
     'mark': (b'\xef\xbb\xbf' + F2, 1, 1, '; it begins with a byte order mark'),
     'more': (F2 + b'\n}', 2, 1, ''),
     'latin': (F2.replace(b'"p1"', b'"p\xe9"', 1), 1, 85, ''),
     'twice': (F2.replace(b':', b'::', 1), 1, 10, ''),
+    'red\x1b[31m': (b'', 1, 0, '; it is empty'),
     'lines': (b'{\n  "\xc3\xa9": nul\n}', 2, 9, ''),
+}
+
+def changed(old, new):
+    """A file that is accepted, with another text in the place of one."""
+    return damage.rows.replaced(F2.decode('utf-8'), old, new).encode('utf-8')
+
+
+# Files that are refused, each with its fault as a log line has it.
+ONE = '/CVR/0/CVRSnapshot/0'
+# The definition with records of its own.
+OWN = json.dumps(dict(json.loads(DEF), CVR=json.loads(F2)['CVR'] * 3)).encode('utf-8')
+BAD = {
+    'bad': (damage.BAD, 'E3 /CVR/0/UniqueId 2'),
+    'long': (b' ' * 67108865, 'E1'),
+    'large': (changed('"NumberVotes":1', '"NumberVotes":1e999'), 'E2'),
+    'array': (b'[]', 'E3  1'),
+    'number': (changed('"u1"', '1'), 'E3 /CVR/0/UniqueId 3'),
+    'version': (changed('"1.0.0"', '"1.0.1"'), 'E3 /Version 4'),
+    'class': (changed('"CVR.CVR"', '"CVR.Election"'), 'E3 /CVR/0/@type 5'),
+    'no-name': (changed('"u1"', '""'), 'E3 /CVR/0/UniqueId 6'),
+    'below': (changed('"NumberVotes":1', '"NumberVotes":-1'), 'E3 %s/CVRContest/0/CVRContestSelection/0/SelectionPosition/0/NumberVotes 7' % ONE),
+    'moment': (changed('2024-11-05T20:00:00Z', '2024-11-05'), 'E3 /GeneratedDate 11'),
+    'twice-contest': (changed('"ContestId":"mayor"}', '"ContestId":"mayor"},{"@type":"CVR.CVRContest","ContestId":"mayor"}'), 'E3 %s/CVRContest/1/ContestId 13' % ONE),
+    'half-vote': (changed('"NumberVotes":1', '"NumberVotes":0.5'), 'E3 %s/CVRContest/0/CVRContestSelection/0/SelectionPosition/0/NumberVotes 14' % ONE),
+    'stranger': (changed('"ContestSelectionId":"ann"', '"ContestSelectionId":"eve"'), 'E4 %s/CVRContest/0/CVRContestSelection/0/ContestSelectionId' % ONE),
+    'other': (changed('"Selection":"Yes"', '"Selection":"Aye"'), 'E5 /Election/0'),
 }
 
 # Options of other programs, each with what there is in its place.
@@ -150,9 +191,9 @@ class End:
 class Run:
     """A run of the program whose output and log are ends; one for both where they are the same."""
 
-    def __init__(self, program, words, out, log, device=None):
+    def __init__(self, program, words, out, log, device=None, given=subprocess.DEVNULL):
         self.out, self.log = out, log
-        self.process = subprocess.Popen([program.cvr] + words, cwd=program.folder, env=damage.with_device(device), stdin=subprocess.DEVNULL,
+        self.process = subprocess.Popen([program.cvr] + words, cwd=program.folder, env=damage.with_device(device), stdin=given,
                                         stdout=out.theirs, stderr=log.theirs)
 
     def left(self):
@@ -170,6 +211,15 @@ def differs(got, wanted):
     return '' if got == wanted else 'status %r, expected %r' % (got, wanted) if isinstance(wanted, int) else 'took %r, expected %r' % (got, wanted)
 
 
+def note_on(named, fault):
+    """The note on a refused file, or on the step that imports it. Control characters are escaped."""
+    path, (code, _, _) = named.split('=')[-1], fault.partition(' ')
+    name = re.sub('[\0-\x1f\x7f-\x9f]', lambda it: '\\u{%x}' % ord(it[0]), named)
+    if code == 'E2' and path in NO_JSON:
+        return 'note: %s: no JSON at line %d, byte %d%s\n' % ((name,) + NO_JSON[path][1:])
+    return ''
+
+
 def notes(program, asked):
     """The notes of a run, by its log and by the table above."""
     log = asked.log.decode('utf-8')
@@ -181,10 +231,11 @@ def notes(program, asked):
     if asked.words[0] not in damage.printed.TASKS or asked.status > 1:
         return ''
     path, *given = damage.printed.paths(asked.words)
-    found = ''.join('note: %s: no JSON at line %d, byte %d%s\n' % ((one,) + NO_JSON[one][1:])
-                    for one in re.findall(r'^(.*): E2$', log, re.M) if one in NO_JSON)
+    refused = [note_on(*one) for one in re.findall(r'^(.*?): (E[1-5].*)$', log, re.M)]
     if log.startswith(path + ': '):
-        return found
+        return refused[0]
+    more = len(re.findall(r': [EN]\d', log)) - NAMED
+    found = ''.join(refused[:NAMED]) + ('note: %d more were refused\n' % more if more > 0 else '')
     with open(program.path(path), 'rb') as file:
         records = len(json.load(file)['CVR'])
     if records and path not in given:
@@ -240,6 +291,52 @@ def failing(program, asked):
         yield differs(out, asked.out.decode('utf-8')) or differs(status, asked.status) or ('' if is_whole else 'call %d: took %r' % (call, got))
 
 
+def piped(program):
+    """What is wrong with a run whose definition comes through a pipe, or nothing: it is named as it was given."""
+    asked = damage.case('check', [('half', 'E2')] + damage.held('f2.json'))
+    ours, theirs = os.pipe()
+    with open(theirs, 'wb') as pipe:
+        pipe.write(DEF)
+    with open(ours, 'rb') as pipe:
+        out, log, status = Run(program, ['check', '/dev/stdin'] + asked.words[2:], End('pipe'), End('terminal'), given=pipe).left()
+    return differs(out, asked.out.decode('utf-8')) or wrong_of(log, 2, asked.log.decode('utf-8') + note_on('half', 'E2')) or differs(status, asked.status)
+
+
+def lacking(program):
+    """What is wrong with a run for which memory is refused once a file was refused, or nothing: it has no notes."""
+    words = ['tally', 'def.json', 'half', 'f2.json', 'f6.json']
+    out, log, status = Run(program, words, End('pipe'), End('terminal'), '3 4 lacking').left()
+    return differs(out, '') or wrong_of(log, 2, 'f6.json: K2\n') or differs(status, 4)
+
+
+def many(program):
+    """Yields what is wrong with a run over many refused files, or nothing."""
+    program.put('many', b'half\n' * MANY)
+    program.put('measured', (MEASURED % (sys.executable, program.cvr)).encode('utf-8'))
+    os.chmod(program.path('measured'), 0o755)
+    measured = argparse.Namespace(cvr=program.path('measured'), folder=program.folder)
+    told, most = note_on('half', 'E2') * NAMED + 'note: %d more were refused\n' % (MANY - NAMED), {}
+    for kind, notes_of in ('pipe', ''), ('terminal', told):
+        out, log, status = Run(measured, ['check', 'def.json', '--files-from', 'many'], End('pipe'), End(kind)).left()
+        with open(program.path('most'), encoding='ascii') as file:
+            most[kind] = int(file.read())
+        yield differs(out, '') or differs(status, 1) or differs(log.rpartition('\r')[2], 'half: E2\n' * MANY + notes_of)
+    taken = most['terminal'] - most['pipe']
+    yield 'notes took %d KiB' % taken if taken > SPARE else ''
+
+
+def refused_runs():
+    """Runs over files that are refused for each cause, and over files that are accepted and print nothing."""
+    refused, accepted = [(name, fault) for name, (_, fault) in BAD.items()], damage.held('f2.json')
+    for one in refused:
+        yield damage.case('tally', [one] + accepted), 2
+    yield damage.case('check', refused), len(refused)
+    yield damage.case('check', [('long', 'E1'), ('half', 'E2')]), 2
+    yield damage.drill(['drill', 'def.json', '2', '1=f2.json', '2=bad', '1>3', '1>2']), 2
+    yield damage.case('currents', damage.held('def.json', 'def.json')), 2
+    yield damage.case('check', accepted * 1001), 1001
+
+
 def asked_runs(program):
     """Runs, each with the number of files that it reads beside the definition."""
     held = damage.held('f2.json', 'f6.json', 'f8.json')
@@ -260,6 +357,9 @@ def asked_runs(program):
     for files in [], held:
         asked = damage.case('tally', files)
         yield asked._replace(words=['tally', 'own'] + asked.words[2:]), len(files)
+    own = damage.case('tally', [('own', damage.reading(OWN))])
+    yield own._replace(words=['tally', 'own', 'own']), 1
+    yield from refused_runs()
     for name in 'help-drill', 'no-command-taly-alone', 'no-step-x', 'option-json', 'option-o', 'option-format', 'option-output-of-a-path':
         yield damage.stated(name), 0
 
@@ -274,14 +374,19 @@ def main():
             program = damage.Program(cvr, folder)
             for name, (data, *_) in NO_JSON.items():
                 program.put(name, data)
-            program.put('bad', damage.BAD)
-            program.put('own', json.dumps(dict(json.loads(DEF), CVR=json.loads(F2)['CVR'] * 3)).encode('utf-8'))
+            for name, (data, _) in BAD.items():
+                program.put(name, data)
+            program.put('own', OWN)
             for asked, files in asked_runs(program):
                 found += [(' '.join(asked.words), one) for one in wrongs(program, asked, files, notes(program, asked))]
             given = damage.case('tally', damage.held('f2.json', 'f8.json') + [('half', 'E2')])
             program.put('list', '\n'.join(given.words[2:]).encode('utf-8'))
             listed = given._replace(words=given.words[:2] + ['--files-from', 'list'])
             found += [('a list', one) for one in wrongs(program, listed, 4, notes(program, given))]
+            refused = damage.case('tally', [('half', 'E2')])._replace(words=['tally', 'half', '--files-from', 'list'])
+            found += [('a refused definition and a list', one) for one in wrongs(program, refused._replace(out=b''), 4, note_on('half', 'E2'))]
+            found += [('a definition by a pipe', piped(program)), ('want of memory', lacking(program))]
+            found += [('many files', one) for one in many(program)]
             found.append(('a slow file', slow(program, ['f2.json', 'f6.json', 'f8.json'])))
             refused = damage.case('currents', damage.held('f2.json', 'f6.json') + [('half', 'E2')])
             found += [('a terminal that fails', one) for one in failing(program, refused)]

@@ -17,7 +17,7 @@ ghost use Rattle.cvr.specs.Ended.{ended};
 
 use crate::choices::behind_the_name;
 use cdf_types::Sink;
-use cvr_cli::{Open, respond};
+use cvr_cli::{Happened, Open, respond};
 use cvr_screen::{Notes, Progress};
 use std::alloc::Global;
 use std::process::ExitCode;
@@ -72,8 +72,10 @@ pub fn answer<O: Open, W: Sink, L: Sink, R: Eprint + AllocGlobal>(
         ⊎ ((asked : List (List ℕ)) × AsksCode (map string_bytes (drop 1 words.now)) asked)
         → Opens (O.state opener.old) (O.state opener.new) [] }
 {
-    let status = respond(alloc, opener, behind_the_name(words), out, log);
+    let mut happened = Happened::new(alloc, notes.is_terminal());
+    let behind = behind_the_name(words);
+    let status = respond(alloc, opener, behind, out, log, &mut happened);
     progress.clear();
-    notes.print(words, &status);
+    notes.print(words, &status, &happened);
     ExitCode::from(status.code())
 }

@@ -34,7 +34,7 @@ impl<'a, R: Files + Eprint + AllocGlobal> Open for System<'a, R> {
     fn open(&mut self, path: &str) -> Result<OverRead<Watched<'a, R::File, R>>, FileFault> {
         match fs::open(self.rt, path) {
             Ok(file) => {
-                let file = Watched::new(file, path, self.progress, self.notes);
+                let file = Watched::new(file, self.progress, self.notes);
                 Ok(OverRead::new(file))
             }
             Err(e) => {
@@ -57,7 +57,6 @@ fn all_words<R: Env + AllocGlobal>(rt: &R) -> Result<Vec<String>, Status> {
 fn devices<'a>(
     rt: &'a HostRuntime,
     progress: &'a Progress<'a, HostRuntime>,
-    notes: &'a Notes<'a, HostRuntime>,
 ) -> (
     OverWrite<Cleared<'a, Stdout, HostRuntime>>,
     Log<'a, Stderr, HostRuntime>,
@@ -66,7 +65,7 @@ fn devices<'a>(
     ensures log_working { result.1.inner.failed ≡ false }
 {
     let out = Cleared::new(rt.stdout(), progress);
-    (OverWrite::new(out), Log::new(rt.stderr(), progress, notes))
+    (OverWrite::new(out), Log::new(rt.stderr(), progress))
 }
 
 // Answers all words, with the files and the devices of the system.
@@ -75,7 +74,7 @@ fn answer_here(rt: &HostRuntime, words: &[String]) -> ExitCode {
     let has_list = listing_of(behind_the_name(words)).is_some();
     let progress = Progress::new(rt, is_terminal);
     let notes = Notes::new(rt, is_terminal, has_list as usize);
-    let (mut out, mut log) = devices(rt, &progress, &notes);
+    let (mut out, mut log) = devices(rt, &progress);
     let mut system = System {
         rt,
         progress: &progress,

@@ -8,7 +8,7 @@ use crate::files::GivenFiles;
 use crate::pieces::pieces_in;
 use crate::words::words_in;
 use cdf_types::{MemorySink, Sink};
-use cvr_cli::{Status, respond};
+use cvr_cli::{Happened, Status, respond};
 use std::alloc::Global;
 
 // Does what the words ask for, over the files that a call is given.
@@ -34,7 +34,8 @@ fn answer(
         })
         (out.new ≡ out.old) }
 {
-    respond(alloc, files, words, out, log)
+    let mut happened = Happened::new(alloc, false);
+    respond(alloc, files, words, out, log, &mut happened)
 }
 
 /// Does what the words of an input ask for, over its files.

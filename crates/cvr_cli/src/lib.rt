@@ -4,9 +4,9 @@
 mod running;
 
 pub use cvr_run::{
-    FileFault, HELD, Listing, MemoryFile, MemoryFiles, MergeFault, Open, OverRead, OverWrite,
-    PrintFault, Status, conflicts_text, currents_text, examples, law, listing_of, print_volume,
-    read_file, rows,
+    FileFault, HELD, Happened, Listing, MemoryFile, MemoryFiles, MergeFault, Open, OverRead,
+    OverWrite, PrintFault, Status, conflicts_text, currents_text, examples, law, listing_of,
+    print_volume, read_file, rows,
 };
 pub use cvr_words::{Act, Request, Step, Task, WordFault, read_words};
 pub use running::{respond, run, work};

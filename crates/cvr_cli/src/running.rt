@@ -5,6 +5,7 @@ ghost use Rattle.cvr_words.specs.declared.request.Request.{Request};
 ghost use Rattle.cvr_run.specs.Answered.{Answers, IsGiven};
 ghost use Rattle.cvr_run.specs.Ends.{Ran};
 ghost use Rattle.cvr_run.specs.Explained.{AsksCode, Explains};
+ghost use Rattle.cvr_run.specs.Happened.{IsNoted};
 ghost use Rattle.cvr_run.specs.Job.{Job};
 ghost use Rattle.cvr_run.specs.Listed.{AnswersListed, AsksListed, IsGivenEither, ListedRequest};
 ghost use Rattle.cvr_run.specs.Opening.{Opens, SaysTheSame};
@@ -14,7 +15,7 @@ ghost use Rattle.cvr_run.specs.declared.status.Status.TheVariants.{CommandLine};
 
 use cdf_types::Sink;
 use cvr_cached::CachedOffice;
-use cvr_run::{Open, Status};
+use cvr_run::{Happened, Open, Status};
 use cvr_words::Request;
 use std::alloc::Global;
 
@@ -81,13 +82,17 @@ pub fn work<O: Open, W: Sink, L: Sink>(
         → IsRequest (with_program (map string_bytes words.now)) request → result ≢ CommandLine }
     ensures says { SaysTheSame (O.state opener.old) (O.state opener.new) }
 {
-    cvr_run::work::<CachedOffice, O, W, L>(alloc, opener, words, out, log)
+    let mut happened = Happened::new(alloc, false);
+    cvr_run::work::<CachedOffice, O, W, L>(alloc, opener, words, out, log, &mut happened)
 }
 
 /// Does what the words after the program's name ask for. Where they ask for the version, or what a
 /// code means, that is printed, and no file is opened. Where they name a list of files, the list is
 /// read, and the request is done over the files at its paths. All other words go to `work`, and
 /// what its clauses say of words that ask for a request holds here, too.
+///
+/// What happened is kept where the status is `Done` or `Refused`: what was asked for, why the
+/// definition was refused, and what became of each file or step.
 ///
 /// It is only tested that words with a list ask for no other request, and that the texts of codes
 /// are those of docs/FAULTS.md.
@@ -97,6 +102,7 @@ pub fn respond<O: Open, W: Sink, L: Sink>(
     words: &[String],
     out: &mut W,
     log: &mut L,
+    happened: &mut Happened,
 ) -> Status
     requires working { (W.taken out.old).failed ≡ false }
     requires log_working { (L.taken log.old).failed ≡ false }
@@ -125,6 +131,9 @@ pub fn respond<O: Open, W: Sink, L: Sink>(
         → IsWhole result → Ran job result
         (record { out = W.taken out.old; log = L.taken log.old })
         (record { out = W.taken out.new; log = L.taken log.new }) }
+    ensures happened { (job : Job)
+        → IsGivenEither (O.state opener.old).at (map string_bytes words.now) job
+        → IsWhole result → IsNoted job happened.new }
     ensures asked { (request : Request)
         → IsRequest (with_program (map string_bytes words.now)) request → result ≢ CommandLine }
     ensures says { SaysTheSame (O.state opener.old) (O.state opener.new) }
@@ -132,5 +141,5 @@ pub fn respond<O: Open, W: Sink, L: Sink>(
         ⊎ ((asked : List (List ℕ)) × AsksCode (map string_bytes words.now) asked)
         → Opens (O.state opener.old) (O.state opener.new) [] }
 {
-    cvr_run::respond::<CachedOffice, O, W, L>(alloc, opener, words, out, log)
+    cvr_run::respond::<CachedOffice, O, W, L>(alloc, opener, words, out, log, happened)
 }

@@ -17,8 +17,11 @@ none_refuses definition bytes valid = (valid_file definition bytes).1 valid
 
 -- ---- a run beside a sound definition
 
+pub sound_first : (def : List ℕ) → Sound def → first_unsound def ≡ None
+sound_first def s = (sound_file def).1 s
+
 pub is_sound : (def : List ℕ) → Sound def → is_unsound def ≡ false
-is_sound def s = rw ((sound_file def).1 s) refl
+is_sound def s = rw (sound_first def s) refl
 
 pub text_beside : (task : Task) (def : List ℕ) (definition : Frame) (paths files : List (List ℕ))
     → Sound def → definition ≡ frame_in def

@@ -12,11 +12,13 @@ use Rattle.cdf_definition.specs.Frame.{Frame}
 use Rattle.cdf_definition.specs.Acceptance.{own_refusal, first_unsound, frame_in}
 use Rattle.cvr_facts.specs.Reports.{facts}
 use Rattle.cvr_office.specs.Keeps.{starting_content}
+use Rattle.cvr_office.specs.Names.{conflicts}
 use Rattle.cvr_office.specs.Reach.{union_over}
 use Rattle.cvr_words.specs.declared.request.Task.{Task}
 use Rattle.cvr_words.specs.declared.request.Task.TheVariants.{Check, Drill}
 use Rattle.cvr_run.specs.Accepted.{is_unsound, is_refused}
 use Rattle.cvr_run.specs.Drill.{office_lines}
+use Rattle.cvr_run.specs.Happened.{run_conflicts, run_dues}
 use Rattle.cvr_run.specs.HeldBytes.{held_part, HeldTextLaw, HeldLinesLaw, HeldFaultLaw}
 use Rattle.cvr_run.specs.HeldBytes.{HeldRefusedLaw}
 use Rattle.cvr_run.specs.Outcome.{accepted_facts, content_of_files, count_line, check_line}
@@ -140,3 +142,23 @@ held_refused task def files =
     (λ d long. ap (λ unsound. unsound || task_refused (frame_in d) task (map held_part files))
     (unsound_long d long)) def
     ∙ ap (λ refused. is_unsound def || refused) (same_refused (frame_in def) task files)
+
+pub held_unsound : (def : List ℕ) → first_unsound (held_part def) ≡ first_unsound def
+held_unsound = same_for first_unsound (Some TooLong) (too_long own_refusal)
+
+pub held_dues : (task : Task) (def : List ℕ) (paths files : List (List ℕ))
+    → run_dues task (held_part def) paths (map held_part files) ≡ run_dues task def paths files
+held_dues task def paths files =
+    same_for (λ d. run_dues task d paths (map held_part files)) []
+    (λ d long. ap (λ unsound. if unsound then []
+    else (task_dues (frame_in d) task paths (map held_part files)).dues) (unsound_long d long)) def
+    ∙ ap (λ (of : Dues). if is_unsound def then [] else of.dues)
+    (same_told (frame_in def) task paths files)
+
+pub held_conflicts : (def : List ℕ) (files : List (List ℕ))
+    → run_conflicts (held_part def) (map held_part files) ≡ run_conflicts def files
+held_conflicts def files =
+    same_for (λ d. run_conflicts d (map held_part files)) []
+    (λ d long. ap (λ unsound. if unsound then []
+    else conflicts (content_of_files (frame_in d) (map held_part files))) (unsound_long d long)) def
+    ∙ ap (λ held. if is_unsound def then [] else conflicts held) (same_held (frame_in def) files)

@@ -4,6 +4,7 @@ use Rattle.std.proofs.Common.{sym, arith}
 use Rattle.cvr_words.specs.declared.request.Request.{Request}
 use Rattle.cvr_run.specs.declared.status.Status.{Status}
 use Rattle.cvr_run.specs.declared.status.Status.TheVariants.{CommandLine, Device, Memory}
+use Rattle.cvr_run.specs.declared.file.FileFault.{FileFault}
 use Rattle.cvr_run.specs.declared.file.FileFault.TheVariants as fault
 use Rattle.cvr_run.specs.Answered.{Does}
 use Rattle.cvr_run.specs.Devices.{Devices, outputs}
@@ -15,6 +16,7 @@ use Rattle.cvr_run.specs.Opening.{At, Opener, Has, IsRead, AreRead, AreAt}
 use Rattle.cvr_run.specs.Outcome.{run_text, run_fault, any_refused, IsWhole}
 use Rattle.cvr_run.specs.Told.{run_lines, last_lines}
 use Rattle.cvr_run.specs.Worked.{Runs, Stop, Stops, Unread, NoRoom, stop_status}
+use Rattle.cvr_run.specs.Worked.{unread_status}
 use Rattle.cvr_run.proofs.HeldBytes.{held_text, held_lines, held_fault, held_refused}
 
 -- ---- a run that has printed its text has not failed
@@ -22,9 +24,17 @@ use Rattle.cvr_run.proofs.HeldBytes.{held_text, held_lines, held_fault, held_ref
 pub not_whole : (answer : Status) → (answer ≡ Device) ⊎ (answer ≡ Memory) → IsWhole answer → ⊥
 not_whole answer h h' = grind arith
 
+unread_stops : (cause : FileFault) → (unread_status cause ≡ Device) ⊎ (unread_status cause ≡ Memory)
+unread_stops fault.Device = inl refl
+unread_stops fault.Memory = inr refl
+
+pub unread_answer : (cause : FileFault) (answer : Status) → answer ≡ unread_status cause
+    → (answer ≡ Device) ⊎ (answer ≡ Memory)
+unread_answer cause answer is =
+    subst (λ s. (s ≡ Device) ⊎ (s ≡ Memory)) (sym is) (unread_stops cause)
+
 stop_answer : (stop : Stop) → (stop_status stop ≡ Device) ⊎ (stop_status stop ≡ Memory)
-stop_answer (Unread path fault.Device) = inl refl
-stop_answer (Unread path fault.Memory) = inr refl
+stop_answer (Unread path cause) = unread_stops cause
 stop_answer NoRoom = inr refl
 
 -- nor has one that stops
@@ -35,7 +45,7 @@ stopped old new paths answer line stops =
 
 -- ---- what was read is what is held of the files
 
-read_known : (at : List ℕ → At) (paths read files : List (List ℕ)) → AreRead at paths read
+pub read_known : (at : List ℕ → At) (paths read files : List (List ℕ)) → AreRead at paths read
     → AreAt at paths files → read ≡ map held_part files
 read_known at [] [] [] are there = refl
 read_known at [] [] (file ∷ files) are there = absurd (cc)

@@ -28,6 +28,8 @@ pub mod SaysTheSame
 pub mod ListedPaths
 pub mod ListWords
 pub mod Known
+pub mod Happenings
+pub mod RefusedPlaces
 pub mod Unasked
 pub mod VersionWords
 pub mod CodeWords

@@ -437,7 +437,7 @@ unsound_lines task what def paths files fault due =
     ap (λ o. if is_some o then refusal_line what (option_map Read (first_unsound def))
     else refusal_lines of.texts of.dues) due
 
-status_whole : (l u s : Bool) → ((if l || u then status.Memory
+pub status_whole : (l u s : Bool) → ((if l || u then status.Memory
     else (if s then status.Refused else status.Done)) ≡ status.Memory → ⊥)
     → (l ≡ false) × (u ≡ false)
 status_whole true u s whole = absurd (whole refl)

@@ -1,7 +1,7 @@
 -- What a run logs, by the first faults of its files.
 use Rattle.std.proofs.Common.{◌≡◌, ℕ, zero, suc, ◌==◌, ◌||◌, List, [], ◌∷◌, map, get_or, true}
 use Rattle.std.proofs.Common.{Option, Some, None, refl, sym, ap, ◌∙◌, arith}
-use Rattle.std.specs.Prelude.{is_some, nat_le, if◌then◌else◌}
+use Rattle.std.specs.Prelude.{option_map, is_some, nat_le, if◌then◌else◌}
 use Rattle.std.proofs.lemmas.Bool.{le-leb}
 use Rattle.cdf_types.specs.declared.fault.ReadFault.{ReadFault}
 use Rattle.cdf_definition.specs.Frame.{Frame}
@@ -13,6 +13,7 @@ use Rattle.cvr_words.specs.declared.request.Step.{Step}
 use Rattle.cvr_words.specs.declared.request.Task.TheVariants.{Currents, Drill}
 use Rattle.cvr_run.specs.Drill.{event_of, step_texts, certain_due, exchange_due, event_due}
 use Rattle.cvr_run.specs.Drill.{step_dues}
+use Rattle.cvr_run.specs.Happened.{causes, run_dues}
 use Rattle.cvr_run.specs.Refusals.{Due, no_due, file_due}
 use Rattle.cvr_run.specs.Told.{refusal_line, refusal_lines, run_lines, file_dues}
 
@@ -43,6 +44,16 @@ told_of_three what def path path2 path3 file file2 file3 fault fault2 fault3 tex
     (λ i. if is_some (sound i) then refusal_line what (file_due (sound i)).cause
     else refusal_lines (path ∷ path2 ∷ path3 ∷ [])
     (file_due (is i) ∷ file_due (is2 i) ∷ file_due (is3 i) ∷ [])) ∙ e
+
+pub causes_of_three : (def : List ℕ) (paths : List (List ℕ)) (file file2 file3 : List ℕ)
+    (fault fault2 fault3 : Option ReadFault) → first_unsound def ≡ None
+    → first_refusal (frame_in def) file ≡ fault → first_refusal (frame_in def) file2 ≡ fault2
+    → first_refusal (frame_in def) file3 ≡ fault3
+    → causes (run_dues Currents def paths (file ∷ file2 ∷ file3 ∷ []))
+    ≡ option_map Read fault ∷ option_map Read fault2 ∷ option_map Read fault3 ∷ []
+causes_of_three def paths file file2 file3 fault fault2 fault3 sound is is2 is3 =
+    λ i. causes (if is_some (sound i) then []
+    else file_due (is i) ∷ file_due (is2 i) ∷ file_due (is3 i) ∷ [])
 
 -- ---- a drill over three files
 

@@ -8,7 +8,7 @@ use Rattle.cvr_run.specs.declared.status.Status.TheVariants.{Memory}
 use Rattle.cvr_run.specs.Devices.{Devices}
 use Rattle.cvr_run.specs.Log.{memory_line}
 use Rattle.cvr_run.specs.Opening.{Opener, AreRead, IsRead, Opens}
-use Rattle.cvr_run.specs.Outcome.{files_of}
+use Rattle.cvr_run.specs.Outcome.{files_of, IsWhole}
 use Rattle.cvr_run.specs.Told.{LogsSome}
 use Rattle.cvr_run.specs.Worked.{Stops}
 
@@ -59,3 +59,9 @@ abbrev pub StopsOr : Files → List (List ℕ) → Status → Devices → Device
 StopsOr from paths answer old new unchanged P =
     (unchanged × LogsSome (StopsBehind from old.opener new.opener paths answer) old.log new.log)
     ⊎ ((files : List (List ℕ)) × AreHad from old.opener new.opener paths files × P files)
+
+-- a run that is whole had these files, and of them this holds
+abbrev pub HadWhole : Files → List (List ℕ) → Status → Opener → Opener → (List (List ℕ) → Type 0)
+    → Type 0
+HadWhole from paths answer old new P =
+    IsWhole answer → (files : List (List ℕ)) × AreHad from old new paths files × P files

@@ -9,6 +9,7 @@ pub mod Merge
 pub mod Status
 pub mod Job
 pub mod Told
+pub mod Happened
 pub mod CutShort
 pub mod Printing
 pub mod Opening

@@ -1,11 +1,15 @@
 -- Worked examples: what a run logs of refused files, and what a drill prints. (This project's
 -- own.)
-use Rattle.std.specs.Prelude.{◌≡◌, ℕ, List, [], ◌∷◌, ◌++◌, codes}
+use Rattle.std.specs.Prelude.{◌≡◌, ℕ, List, [], ◌∷◌, ◌++◌, codes, Some, None}
+use Rattle.cdf_types.specs.declared.fault.ReadFault.TheVariants.{Schema, Reference}
+use Rattle.cdf_types.specs.declared.rule.Rule.TheVariants.{Missing}
 use Rattle.cdf_definition.specs.Acceptance.{frame_in}
 use Rattle.cdf_check.specs.Rows as file
 use Rattle.cvr_words.specs.declared.request.Task.TheVariants.{Currents, Check, Drill}
 use Rattle.cvr_words.specs.declared.request.Act.TheVariants.{Import, Exchange}
 use Rattle.cvr_words.specs.declared.request.Step.{Step}
+use Rattle.cvr_office.specs.declared.event.Cause.TheVariants.{Read}
+use Rattle.cvr_run.specs.Happened.{causes, run_dues}
 use Rattle.cvr_run.specs.Laws.{HaveSameValues}
 use Rattle.cvr_run.specs.Outcome.{run_text}
 use Rattle.cvr_run.specs.Told.{run_lines}
@@ -25,6 +29,13 @@ TwoRefused =
     ≡ codes "a.json: E3 /CVR/0/UniqueId 2\n"
     ++ codes
     "c.json: E4 /CVR/0/CVRSnapshot/0/CVRContest/0/CVRContestSelection/0/ContestSelectionId\n"
+
+-- why each was: the second was not
+abbrev pub CausesOfThree : Type 0
+CausesOfThree = causes (run_dues Currents file.definition_file three_paths three_files)
+    ≡ Some (Read (Schema (codes "/CVR/0/UniqueId") Missing)) ∷ None
+    ∷ Some (Read (Reference (codes
+    "/CVR/0/CVRSnapshot/0/CVRContest/0/CVRContestSelection/0/ContestSelectionId"))) ∷ []
 
 -- and of one with another election
 abbrev pub OtherElection : Type 0

@@ -5,12 +5,14 @@ ghost use Rattle.cvr_words.specs.declared.request.Request.{Request};
 ghost use Rattle.cvr_run.specs.declared.status.Status.TheVariants.{CommandLine};
 ghost use Rattle.cvr_run.specs.Answered.{bad_step_line, Answers, IsGiven, TellsWords};
 ghost use Rattle.cvr_run.specs.Ends.{Ran};
+ghost use Rattle.cvr_run.specs.Happened.{IsNoted};
 ghost use Rattle.cvr_run.specs.Job.{Job};
 ghost use Rattle.cvr_run.specs.Log.{Logs};
 ghost use Rattle.cvr_run.specs.Opening.{SaysTheSame};
 ghost use Rattle.cvr_run.specs.Outcome.{IsWhole};
 
 use crate::ending::{end_in_memory, end_with};
+use crate::happened::Happened;
 use crate::log::say;
 use crate::opening::Open;
 use crate::printing::print_text;
@@ -73,6 +75,7 @@ pub fn work<C: Office + Drop, O: Open, W: Sink, L: Sink>(
     words: &[String],
     out: &mut W,
     log: &mut L,
+    happened: &mut Happened,
 ) -> Status
     requires working { (W.taken out.old).failed ≡ false }
     requires log_working { (L.taken log.old).failed ≡ false }
@@ -85,12 +88,19 @@ pub fn work<C: Office + Drop, O: Open, W: Sink, L: Sink>(
         → IsWhole result → Ran job result
         (record { out = W.taken out.old; log = L.taken log.old })
         (record { out = W.taken out.new; log = L.taken log.new }) }
+    ensures happened { (job : Job)
+        → IsGiven (O.state opener.old).at (map string_bytes words.now) job
+        → IsWhole result → IsNoted job happened.new }
     ensures asked { (request : Request)
         → IsRequest (with_program (map string_bytes words.now)) request → result ≢ CommandLine }
     ensures says { SaysTheSame (O.state opener.old) (O.state opener.new) }
 {
     match read_line(alloc, words) {
-        Ok(request) => run_request::<C, O, W, L>(alloc, opener, &request, out, log),
+        Ok(request) => {
+            let status = run_request::<C, O, W, L>(alloc, opener, &request, out, log, happened);
+            happened.request = Some(request);
+            status
+        }
         Err(fault) => tell_fault(&fault, out, log),
     }
 }

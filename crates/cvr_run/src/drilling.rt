@@ -1,17 +1,20 @@
 ghost use Rattle.std.specs.Prelude.{◌≡◌, false, length, map, replicate, Option, None, IfOk, IfErr};
-ghost use Rattle.std.specs.Prelude.{List, option_map, OnErr};
+ghost use Rattle.std.specs.Prelude.{List, option_map, OnOk, OnErr};
 ghost use Rattle.std.specs.List.{list_any};
+ghost use Rattle.cvr_fact_types.specs.Facts.{Facts};
 ghost use Rattle.cvr_office.specs.declared.event.Event.{Event};
 ghost use Rattle.cvr_run.specs.Drill.{place_of, event_of, events_of, new_offices, drill_refused};
 ghost use Rattle.cvr_run.specs.Drill.{drill_text, drill_contents, step_texts, AreOfOne};
 ghost use Rattle.cvr_run.specs.declared.status.Status.TheVariants.{Memory as NoMemory};
 ghost use Rattle.cvr_run.specs.declared.merge.MergeFault.{MergeFault};
 ghost use Rattle.cvr_run.specs.Ends.{Ends};
-ghost use Rattle.cvr_run.specs.Outcome.{files_of};
+ghost use Rattle.cvr_run.specs.Happened.{Keeps};
+ghost use Rattle.cvr_run.specs.Outcome.{files_of, IsWhole};
 ghost use Rattle.cvr_run.specs.Refusals.{cause_in, is_refusal, is_want, AreDue, Due};
 ghost use Rattle.cvr_run.specs.Told.{drill_dues, LogsFirst, TellsRun, IsCutShort, LogsSome};
 
 use crate::ending::{end_in_memory, end_with};
+use crate::happened::Happened;
 use crate::noting::note_refused;
 use crate::offices::print_offices;
 use crate::refusals::Refusals;
@@ -91,6 +94,7 @@ fn drill<O: Office + Drop, L: Sink>(
     steps: &[Step],
     files: &[Vec<u8>],
     log: &mut L,
+    happened: &mut Happened,
 ) -> Result<(Vec<O>, Refusals), Memory>
     ensures of_one { IfOk result (λ r. AreOfOne (map O.defined r.0.items)) }
     ensures contents { IfOk result (λ r. r.1.file_lacking ≡ false
@@ -101,12 +105,16 @@ fn drill<O: Office + Drop, L: Sink>(
     ensures log { IfOk result (λ r. LogsFirst
         (drill_dues definition.now count (files_of files.now) steps.now) (length steps.now) r.1
         (L.taken log.old) (L.taken log.new)) }
+    ensures happened { IfOk result (λ r. r.1.file_lacking ≡ false
+        → (facts : Facts) → Keeps happened.new
+        (drill_dues definition.now count (files_of files.now) steps.now).dues facts) }
     ensures unchanged { OnErr result (log.new ≡ log.old) }
 {
     let mut offices = new_offices::<O>(alloc, definition, count)?;
     let events = events_of(alloc, count, steps)?;
     let outcomes = play(alloc, offices.as_mut_slice(), files, events.as_slice())?;
     let refusals = note_refused(alloc, steps, outcomes.as_slice(), log);
+    happened.keep(outcomes, None);
     Ok((offices, refusals))
 }
 
@@ -118,6 +126,7 @@ fn drill_all<O: Office + Drop, L: Sink>(
     steps: &[Step],
     files: &[Vec<u8>],
     log: &mut L,
+    happened: &mut Happened,
 ) -> Result<(Vec<O>, Refusals), Status>
     ensures of_one { IfOk result (λ r. AreOfOne (map O.defined r.0.items)) }
     ensures contents { IfOk result (λ r.
@@ -129,11 +138,14 @@ fn drill_all<O: Office + Drop, L: Sink>(
     ensures log { IfOk result (λ r. LogsFirst
         (drill_dues definition.now count (files_of files.now) steps.now) (length steps.now) r.1
         (L.taken log.old) (L.taken log.new)) }
+    ensures happened { OnOk result ((facts : Facts) → Keeps happened.new
+        (drill_dues definition.now count (files_of files.now) steps.now).dues facts) }
     ensures cut_short { OnErr result ((fault : Option MergeFault) → LogsSome
         (IsCutShort (drill_dues definition.now count (files_of files.now) steps.now) fault false)
         (L.taken log.old) (L.taken log.new)) }
 {
-    let Ok((offices, refusals)) = drill::<O, L>(alloc, definition, count, steps, files, log) else {
+    let made = drill::<O, L>(alloc, definition, count, steps, files, log, happened);
+    let Ok((offices, refusals)) = made else {
         return Err(end_in_memory(log));
     };
     if refusals.file_lacking {
@@ -151,6 +163,7 @@ pub fn run_drill<O: Office + Drop, W: Sink, L: Sink>(
     files: &[Vec<u8>],
     out: &mut W,
     log: &mut L,
+    happened: &mut Happened,
 ) -> Status
     requires { (W.taken out.old).failed ≡ false }
     ensures ends { Ends (W.taken out.old) (W.taken out.new)
@@ -160,8 +173,10 @@ pub fn run_drill<O: Office + Drop, W: Sink, L: Sink>(
         result
         (record { out = W.taken out.old; log = L.taken log.old })
         (record { out = W.taken out.new; log = L.taken log.new }) }
+    ensures happened { IsWhole result → (facts : Facts) → Keeps happened.new
+        (drill_dues definition.now count (files_of files.now) steps.now).dues facts }
 {
-    match drill_all::<O, L>(alloc, definition, count, steps, files, log) {
+    match drill_all::<O, L>(alloc, definition, count, steps, files, log, happened) {
         Ok((offices, refusals)) => {
             let printed = print_offices(alloc, offices.as_slice(), out);
             end_with(printed, refusals, log)

@@ -1,6 +1,7 @@
 ghost use Rattle.std.specs.Prelude.{◌≡◌, ◌∷◌, [], ℕ, List, IfOk, IfErr, OnOk, IfSome, IfNone};
 ghost use Rattle.std.specs.Prelude.{false};
 ghost use Rattle.cvr_run.specs.Ends.{Ran};
+ghost use Rattle.cvr_run.specs.Happened.{IsNoted};
 ghost use Rattle.cvr_run.specs.Job.{Job};
 ghost use Rattle.cvr_run.specs.Listed.{bad_list_line, list_place, DoesListed, HasNoList, IsList};
 ghost use Rattle.cvr_run.specs.Listed.{ListsFiles};
@@ -11,6 +12,7 @@ ghost use Rattle.cvr_run.specs.Outcome.{IsWhole};
 ghost use Rattle.cvr_run.specs.Told.{LogsSome};
 
 use crate::file::HELD;
+use crate::happened::Happened;
 use crate::listed_paths::read_paths;
 use crate::log::{say, say_memory};
 use crate::opening::{Open, read_told};
@@ -97,6 +99,7 @@ pub fn run_listed<C: Office + Drop, O: Open, W: Sink, L: Sink>(
     by_null: bool,
     out: &mut W,
     log: &mut L,
+    happened: &mut Happened,
 ) -> Status
     requires working { (W.taken out.old).failed ≡ false }
     requires log_working { (L.taken log.old).failed ≡ false }
@@ -110,12 +113,17 @@ pub fn run_listed<C: Office + Drop, O: Open, W: Sink, L: Sink>(
         → IsWhole result → Ran job result
         (record { out = W.taken out.old; log = L.taken log.old })
         (record { out = W.taken out.new; log = L.taken log.new }) }
+    ensures happened { (job : Job) → ListsFiles (O.state opener.old).at
+        (record { request = request; list = list.now; by_null = by_null }) job
+        → IsWhole result → IsNoted job happened.new }
 {
     let Request { task, def, .. } = request;
     match paths_at(alloc, opener, place_of(list), by_null, log) {
         Ok(paths) => {
             let request = Request { task, def, paths };
-            run_request::<C, O, W, L>(alloc, opener, &request, out, log)
+            let status = run_request::<C, O, W, L>(alloc, opener, &request, out, log, happened);
+            happened.request = Some(request);
+            status
         }
         Err(status) => status,
     }

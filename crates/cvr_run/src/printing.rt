@@ -1,4 +1,4 @@
-ghost use Rattle.std.specs.Prelude.{◌≡◌, false, None, IfErr};
+ghost use Rattle.std.specs.Prelude.{◌≡◌, false, length, None, IfErr, IfSome};
 ghost use Rattle.cvr_run.specs.declared.printing.PrintFault.TheVariants as print_fault;
 ghost use Rattle.cvr_run.specs.Currents.{currents, conflict_text};
 ghost use Rattle.cvr_run.specs.Log.{Logs};
@@ -144,14 +144,23 @@ fn print_tally<O: Office, W: Sink>(alloc: Global, office: &O, out: &mut W) -> Re
     print_text(text.as_str(), out)
 }
 
-/// Shows how many names have several bodies, where somebody watches, and they aren't what is
-/// printed.
-pub fn show_several<O: Office, L: Sink>(alloc: Global, office: &O, task: &Task, log: &L) {
-    if !log.is_watched() || matches!(task, Task::Conflicts) {
-        return;
+/// How many names have several bodies, where that is asked for, and they aren't what is printed.
+/// None, too, where a growth was refused.
+pub fn count_several<O: Office>(
+    alloc: Global,
+    office: &O,
+    task: &Task,
+    is_asked: bool,
+) -> Option<usize>
+    ensures counted { IfSome result (λ n. n ≡ length (conflicts (O.held office.now))) }
+    ensures unasked { is_asked ≡ false → result ≡ None }
+{
+    if !is_asked || matches!(task, Task::Conflicts) {
+        return None;
     }
-    if let Ok(list) = office.conflicts(alloc) {
-        log.show_several(list.as_slice().len());
+    match office.conflicts(alloc) {
+        Ok(list) => Some(list.as_slice().len()),
+        Err(_) => None,
     }
 }
 

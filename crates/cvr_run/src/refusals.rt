@@ -67,20 +67,6 @@ impl Refusals {
         }
     }
 
-    /// Notes that a file was refused, as `note` does.
-    pub fn note_file<L: Sink>(&mut self, alloc: Global, log: &mut L, what: &str, fault: ReadFault)
-        ensures any_refusal { self.new.any_refusal ≡ true }
-        ensures file_lacking { self.new.file_lacking
-            ≡ (self.old.file_lacking || wants_memory (Read fault)) }
-        ensures told { (self.new.path_unspelled ≡ self.old.path_unspelled)
-            × Logs (L.taken log.old) (L.taken log.new) (cause_line what.now (Read fault))
-            ⊎ (has_path_in (Read fault) ≡ true) × (self.new.path_unspelled ≡ true)
-            × Logs (L.taken log.old) (L.taken log.new) memory_line }
-    {
-        let cause = Cause::Read(fault);
-        self.note(alloc, log, what, &cause);
-    }
-
     /// The status of a run that printed its text. Takes no memory.
     pub fn status(&self) -> Status
         ensures { result ≡ status_of self.now }

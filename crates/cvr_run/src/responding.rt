@@ -6,6 +6,7 @@ ghost use Rattle.cvr_run.specs.declared.status.Status.TheVariants.{CommandLine};
 ghost use Rattle.cvr_run.specs.Answered.{Answers};
 ghost use Rattle.cvr_run.specs.Ends.{Ran};
 ghost use Rattle.cvr_run.specs.Explained.{AsksCode, Explains};
+ghost use Rattle.cvr_run.specs.Happened.{IsNoted};
 ghost use Rattle.cvr_run.specs.Job.{Job};
 ghost use Rattle.cvr_run.specs.Listed.{AnswersListed, AsksListed, IsBefore, IsGivenEither};
 ghost use Rattle.cvr_run.specs.Listed.{ListedRequest, list_words};
@@ -16,6 +17,7 @@ ghost use Rattle.cvr_run.specs.OwnWords.{AsksVersion, PrintsOwn, version_text};
 use crate::answering::work;
 use crate::ending::end_in_memory;
 use crate::explaining::{asked_code, explain};
+use crate::happened::Happened;
 use crate::listed::run_listed;
 use crate::listed_request::listed_request;
 use crate::listing::{Listing, listing_of};
@@ -34,6 +36,7 @@ fn respond_listed<C: Office + Drop, O: Open, W: Sink, L: Sink>(
     listing: &Listing<'_>,
     out: &mut W,
     log: &mut L,
+    happened: &mut Happened,
 ) -> Status
     requires working { (W.taken out.old).failed ≡ false }
     requires log_working { (L.taken log.old).failed ≡ false }
@@ -56,6 +59,9 @@ fn respond_listed<C: Office + Drop, O: Open, W: Sink, L: Sink>(
         → IsWhole result → Ran job result
         (record { out = W.taken out.old; log = L.taken log.old })
         (record { out = W.taken out.new; log = L.taken log.new }) }
+    ensures happened { (job : Job)
+        → IsGivenEither (O.state opener.old).at (map string_bytes words.now) job
+        → IsWhole result → IsNoted job happened.new }
     ensures asked { (request : Request)
         → IsRequest (with_program (map string_bytes words.now)) request → result ≢ CommandLine }
     ensures says { SaysTheSame (O.state opener.old) (O.state opener.new) }
@@ -70,9 +76,10 @@ fn respond_listed<C: Office + Drop, O: Open, W: Sink, L: Sink>(
                 listing.by_null,
                 out,
                 log,
+                happened,
             )
         }
-        Ok(None) => work::<C, O, W, L>(alloc, opener, words, out, log),
+        Ok(None) => work::<C, O, W, L>(alloc, opener, words, out, log, happened),
         Err(_) => end_in_memory(log),
     }
 }
@@ -88,6 +95,7 @@ pub fn respond<C: Office + Drop, O: Open, W: Sink, L: Sink>(
     words: &[String],
     out: &mut W,
     log: &mut L,
+    happened: &mut Happened,
 ) -> Status
     requires working { (W.taken out.old).failed ≡ false }
     requires log_working { (L.taken log.old).failed ≡ false }
@@ -116,6 +124,9 @@ pub fn respond<C: Office + Drop, O: Open, W: Sink, L: Sink>(
         → IsWhole result → Ran job result
         (record { out = W.taken out.old; log = L.taken log.old })
         (record { out = W.taken out.new; log = L.taken log.new }) }
+    ensures happened { (job : Job)
+        → IsGivenEither (O.state opener.old).at (map string_bytes words.now) job
+        → IsWhole result → IsNoted job happened.new }
     ensures asked { (request : Request)
         → IsRequest (with_program (map string_bytes words.now)) request → result ≢ CommandLine }
     ensures says { SaysTheSame (O.state opener.old) (O.state opener.new) }
@@ -129,8 +140,10 @@ pub fn respond<C: Office + Drop, O: Open, W: Sink, L: Sink>(
     match asked_code(words) {
         Some(asked) => explain(asked, out, log),
         None => match listing_of(words) {
-            Some(listing) => respond_listed::<C, O, W, L>(alloc, opener, words, &listing, out, log),
-            None => work::<C, O, W, L>(alloc, opener, words, out, log),
+            Some(listing) => {
+                respond_listed::<C, O, W, L>(alloc, opener, words, &listing, out, log, happened)
+            }
+            None => work::<C, O, W, L>(alloc, opener, words, out, log, happened),
         },
     }
 }

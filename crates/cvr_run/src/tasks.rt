@@ -1,5 +1,5 @@
-ghost use Rattle.std.specs.Prelude.{◌≡◌, List, ℕ, length, false, Option, Some, IfOk, IfErr, OnErr};
-ghost use Rattle.std.specs.Prelude.{string_bytes};
+ghost use Rattle.std.specs.Prelude.{◌≡◌, ◌≢◌, List, ℕ, length, false, Option, Some};
+ghost use Rattle.std.specs.Prelude.{IfOk, IfErr, OnErr, string_bytes};
 ghost use Rattle.std.specs.List.{list_any};
 ghost use Rattle.cdf_definition.specs.Acceptance.{first_unsound};
 ghost use Rattle.cdf_definition.specs.Frame.{Frame};
@@ -7,12 +7,14 @@ ghost use Rattle.cdf_form.specs.Reading.{IsMemory};
 ghost use Rattle.cdf_types.specs.Device.{Taken};
 ghost use Rattle.cvr_run.specs.Accepted.{is_refused};
 ghost use Rattle.cvr_run.specs.Ends.{Ran, RanBeside, RanOver};
-ghost use Rattle.cvr_run.specs.Given.{AreAsMany, StopsOr};
+ghost use Rattle.cvr_run.specs.Given.{AreAsMany, HadWhole, StopsOr};
+ghost use Rattle.cvr_run.specs.Happened.{Happens, Keeps};
 ghost use Rattle.cvr_run.specs.Outcome.{content_of_files, check_lines, facts_text, files_of};
-ghost use Rattle.cvr_run.specs.Outcome.{files_refused, task_fault};
+ghost use Rattle.cvr_run.specs.Outcome.{files_refused, task_fault, IsWhole};
 ghost use Rattle.cvr_run.specs.Refusals.{is_want, AreDue};
 ghost use Rattle.cvr_run.specs.Taken.{AreTaken};
-ghost use Rattle.cvr_run.specs.Told.{file_dues, import_dues, IsCutShort, LogsFirst, LogsSome};
+ghost use Rattle.cvr_run.specs.Told.{drill_dues, file_dues, import_dues, task_dues};
+ghost use Rattle.cvr_run.specs.Told.{IsCutShort, LogsFirst, LogsSome};
 ghost use Rattle.cvr_run.specs.declared.merge.MergeFault.{MergeFault};
 ghost use Rattle.cvr_run.specs.declared.status.Status.TheVariants.{Memory as NoMemory};
 ghost use Rattle.cvr_words.specs.declared.request.Task.TheVariants.{Check, Drill};
@@ -21,15 +23,16 @@ use crate::collecting::{Collected, Counted, Kept, take_all};
 use crate::drilling::run_drill;
 use crate::ending::{end_in_memory, end_with};
 use crate::given::Files;
+use crate::happened::Happened;
 use crate::memory_files::MemoryFiles;
 use crate::noting::note_refused;
 use crate::opening::Open;
-use crate::printing::{print_office, print_text, show_several};
+use crate::printing::{count_several, print_office, print_text};
 use crate::refusals::Refusals;
 use crate::status::Status;
 use cdf_check::Definition;
 use cdf_types::{Body, ReadFault, Sink};
-use cvr_office::{Office, Outcome};
+use cvr_office::{Cause, Office, Outcome};
 use cvr_words::{Request, Step, Task};
 use std::alloc::Global;
 
@@ -76,7 +79,7 @@ fn end_office<C: Office, W: Sink, L: Sink>(
 ) -> Status
     requires working { (W.taken out.old).failed ≡ false }
     requires named { length paths.now ≡ length outcomes.now }
-    ensures { (definition : Frame) (files : List (List ℕ)) → C.defined office.now ≡ definition
+    ensures ran { (definition : Frame) (files : List (List ℕ)) → C.defined office.now ≡ definition
         → AreTaken definition paths.now files outcomes.now
         (C.held office.now ≡ content_of_files definition files)
         → RanOver (facts_text definition task.now (content_of_files definition files))
@@ -85,10 +88,10 @@ fn end_office<C: Office, W: Sink, L: Sink>(
         (task_fault definition task.now files) result
         (record { out = W.taken out.old; log = L.taken log.old })
         (record { out = W.taken out.new; log = L.taken log.new }) }
+    ensures lacking { result ≢ NoMemory → list_any is_want outcomes.now ≡ false }
 {
     match note_files(alloc, paths, outcomes, log) {
         Ok(refusals) => {
-            show_several(alloc, office, task, log);
             let printed = print_office(alloc, office, task, out);
             end_with(printed, refusals, log)
         }
@@ -106,10 +109,11 @@ fn run_office<C: Office + Drop, O: Open, W: Sink, L: Sink>(
     opener: &mut O,
     out: &mut W,
     log: &mut L,
+    happened: &mut Happened,
 ) -> Status
     requires working { (W.taken out.old).failed ≡ false }
     requires many { AreAsMany from paths.now }
-    ensures { StopsOr from.entry paths.now result
+    ensures ran { StopsOr from.entry paths.now result
         (record { opener = O.state opener.old; out = W.taken out.old; log = L.taken log.old })
         (record { opener = O.state opener.new; out = W.taken out.new; log = L.taken log.new })
         (out.new ≡ out.old)
@@ -120,6 +124,9 @@ fn run_office<C: Office + Drop, O: Open, W: Sink, L: Sink>(
         (task_fault definition task.now files) result
         (record { out = W.taken out.old; log = L.taken log.old })
         (record { out = W.taken out.new; log = L.taken log.new })) }
+    ensures happened { HadWhole from.entry paths.now result
+        (O.state opener.old) (O.state opener.new) (λ files. Keeps happened.new
+        (import_dues definition paths.now files).dues (content_of_files definition files)) }
 {
     let Ok(mut taker) = Collected::<C>::new(alloc, definition) else {
         return end_in_memory(log);
@@ -127,7 +134,10 @@ fn run_office<C: Office + Drop, O: Open, W: Sink, L: Sink>(
     match take_all(alloc, &mut taker, from, opener, paths, log) {
         Ok(rs) => {
             let office = &taker.offices[0];
-            end_office(alloc, office, task, paths, rs.as_slice(), out, log)
+            let status = end_office(alloc, office, task, paths, rs.as_slice(), out, log);
+            let several = count_several(alloc, office, task, happened.counts_several);
+            happened.keep(rs, several);
+            status
         }
         Err(status) => status,
     }
@@ -144,12 +154,13 @@ fn end_check<W: Sink, L: Sink>(
 ) -> Status
     requires working { (W.taken out.old).failed ≡ false }
     requires named { length paths.now ≡ length outcomes.now }
-    ensures { (definition : Frame) (files : List (List ℕ))
+    ensures ran { (definition : Frame) (files : List (List ℕ))
         → AreTaken definition paths.now files outcomes.now
         (text.now ≡ check_lines definition paths.now files)
         → RanBeside definition Check paths.now files result
         (record { out = W.taken out.old; log = L.taken log.old })
         (record { out = W.taken out.new; log = L.taken log.new }) }
+    ensures lacking { result ≢ NoMemory → list_any is_want outcomes.now ≡ false }
 {
     match note_files(alloc, paths, outcomes, log) {
         Ok(refusals) => end_with(print_text(text, out), refusals, log),
@@ -166,23 +177,32 @@ fn run_check<O: Open, W: Sink, L: Sink>(
     opener: &mut O,
     out: &mut W,
     log: &mut L,
+    happened: &mut Happened,
 ) -> Status
     requires working { (W.taken out.old).failed ≡ false }
     requires many { AreAsMany from paths.now }
-    ensures { StopsOr from.entry paths.now result
+    ensures ran { StopsOr from.entry paths.now result
         (record { opener = O.state opener.old; out = W.taken out.old; log = L.taken log.old })
         (record { opener = O.state opener.new; out = W.taken out.new; log = L.taken log.new })
         (out.new ≡ out.old)
         (λ files. RanBeside definition Check paths.now files result
         (record { out = W.taken out.old; log = L.taken log.old })
         (record { out = W.taken out.new; log = L.taken log.new })) }
+    ensures happened { HadWhole from.entry paths.now result
+        (O.state opener.old) (O.state opener.new) (λ files. Keeps happened.new
+        (import_dues definition paths.now files).dues (content_of_files definition files)) }
 {
     let mut taker = Counted {
         definition,
         text: String::new(alloc),
     };
     match take_all(alloc, &mut taker, from, opener, paths, log) {
-        Ok(rs) => end_check(alloc, taker.text.as_str(), paths, rs.as_slice(), out, log),
+        Ok(outcomes) => {
+            let lines = taker.text.as_str();
+            let status = end_check(alloc, lines, paths, outcomes.as_slice(), out, log);
+            happened.keep(outcomes, None);
+            status
+        }
         Err(status) => status,
     }
 }
@@ -198,16 +218,21 @@ fn run_steps<C: Office + Drop, O: Open, W: Sink, L: Sink>(
     opener: &mut O,
     out: &mut W,
     log: &mut L,
+    happened: &mut Happened,
 ) -> Status
     requires working { (W.taken out.old).failed ≡ false }
     requires many { AreAsMany from paths.now }
-    ensures { StopsOr from.entry paths.now result
+    ensures ran { StopsOr from.entry paths.now result
         (record { opener = O.state opener.old; out = W.taken out.old; log = L.taken log.old })
         (record { opener = O.state opener.new; out = W.taken out.new; log = L.taken log.new })
         (out.new ≡ out.old)
         (λ files. RanBeside definition.now (Drill count steps.now) paths.now files result
         (record { out = W.taken out.old; log = L.taken log.old })
         (record { out = W.taken out.new; log = L.taken log.new })) }
+    ensures happened { HadWhole from.entry paths.now result
+        (O.state opener.old) (O.state opener.new) (λ files. Keeps happened.new
+        (drill_dues definition.now count files steps.now).dues
+        (content_of_files definition.now files)) }
 {
     let mut taker = Kept {
         files: Vec::new(alloc),
@@ -221,6 +246,7 @@ fn run_steps<C: Office + Drop, O: Open, W: Sink, L: Sink>(
             taker.files.as_slice(),
             out,
             log,
+            happened,
         ),
         Err(status) => status,
     }
@@ -236,22 +262,28 @@ pub fn run_task<C: Office + Drop, O: Open, W: Sink, L: Sink>(
     opener: &mut O,
     out: &mut W,
     log: &mut L,
+    happened: &mut Happened,
 ) -> Status
     requires working { (W.taken out.old).failed ≡ false }
     requires many { AreAsMany from paths.now }
-    ensures { StopsOr from.entry paths.now result
+    ensures ran { StopsOr from.entry paths.now result
         (record { opener = O.state opener.old; out = W.taken out.old; log = L.taken log.old })
         (record { opener = O.state opener.new; out = W.taken out.new; log = L.taken log.new })
         (out.new ≡ out.old)
         (λ files. RanBeside definition task.now paths.now files result
         (record { out = W.taken out.old; log = L.taken log.old })
         (record { out = W.taken out.new; log = L.taken log.new })) }
+    ensures happened { HadWhole from.entry paths.now result
+        (O.state opener.old) (O.state opener.new) (λ files. Keeps happened.new
+        (task_dues definition task.now paths.now files).dues (content_of_files definition files)) }
 {
     match task {
         Task::Currents | Task::Conflicts | Task::Tally | Task::Merge { .. } => {
-            run_office::<C, O, W, L>(alloc, definition, task, paths, from, opener, out, log)
+            run_office::<C, O, W, L>(
+                alloc, definition, task, paths, from, opener, out, log, happened,
+            )
         }
-        Task::Check => run_check(alloc, definition, paths, from, opener, out, log),
+        Task::Check => run_check(alloc, definition, paths, from, opener, out, log, happened),
         Task::Drill { offices, steps } => run_steps::<C, O, W, L>(
             alloc,
             &definition,
@@ -262,20 +294,32 @@ pub fn run_task<C: Office + Drop, O: Open, W: Sink, L: Sink>(
             opener,
             out,
             log,
+            happened,
         ),
     }
 }
 
 /// Reports a definition that is refused. Nothing else is done.
-pub fn refuse<L: Sink>(alloc: Global, request: &Request, fault: ReadFault, log: &mut L) -> Status
-    ensures { (def : List ℕ) (files : List (List ℕ)) (out : Taken) → out.failed ≡ false
+pub fn refuse<L: Sink>(
+    alloc: Global,
+    request: &Request,
+    fault: ReadFault,
+    log: &mut L,
+    happened: &mut Happened,
+) -> Status
+    ensures ran { (def : List ℕ) (files : List (List ℕ)) (out : Taken) → out.failed ≡ false
         → (¬ IsMemory fault → first_unsound def ≡ Some fault)
         → Ran (record { request = request.now; def = def; files = files }) result
         (record { out = out; log = L.taken log.old })
         (record { out = out; log = L.taken log.new }) }
+    ensures happened { (def : List ℕ) (files : List (List ℕ)) → IsWhole result
+        → (¬ IsMemory fault → first_unsound def ≡ Some fault)
+        → Happens (record { request = request.now; def = def; files = files }) happened.new }
 {
     let mut refusals = Refusals::none();
-    refusals.note_file(alloc, log, request.def.as_str(), fault);
+    let cause = Cause::Read(fault);
+    refusals.note(alloc, log, request.def.as_str(), &cause);
+    happened.refuse(alloc, cause);
     refusals.status()
 }
 
@@ -301,8 +345,9 @@ pub fn run<C: Office + Drop, W: Sink, L: Sink>(
         (record { out = W.taken out.new; log = L.taken log.new }) }
 {
     let mut none = MemoryFiles { files: &[] };
+    let mut happened = Happened::new(alloc, false);
     match Definition::read(alloc, def) {
-        Err(fault) => refuse(alloc, request, fault, log),
+        Err(fault) => refuse(alloc, request, fault, log, &mut happened),
         Ok(definition) => run_task::<C, MemoryFiles, W, L>(
             alloc,
             definition,
@@ -312,6 +357,7 @@ pub fn run<C: Office + Drop, W: Sink, L: Sink>(
             &mut none,
             out,
             log,
+            &mut happened,
         ),
     }
 }

@@ -6,13 +6,15 @@ ghost use Rattle.cvr_run.specs.declared.given.Files.TheVariants.{Opened};
 ghost use Rattle.cvr_run.specs.declared.status.Status.TheVariants.{CommandLine};
 ghost use Rattle.cvr_run.specs.Answered.{Does};
 ghost use Rattle.cvr_run.specs.Ends.{Ran};
-ghost use Rattle.cvr_run.specs.Given.{StopsOr};
+ghost use Rattle.cvr_run.specs.Given.{HadWhole, StopsOr};
+ghost use Rattle.cvr_run.specs.Happened.{Happens};
 ghost use Rattle.cvr_run.specs.Job.{Job};
 ghost use Rattle.cvr_run.specs.Opening.{AreAt};
 ghost use Rattle.cvr_run.specs.Outcome.{IsWhole};
 
 use crate::collecting::{Ignored, take_all};
 use crate::given::Files;
+use crate::happened::Happened;
 use crate::opening::{Open, read_told};
 use crate::status::Status;
 use crate::tasks::{refuse, run_task};
@@ -29,8 +31,9 @@ fn refuse_last<O: Open, L: Sink>(
     request: &Request,
     fault: ReadFault,
     log: &mut L,
+    happened: &mut Happened,
 ) -> Status
-    ensures { (def : List ℕ) (out : Taken) → out.failed ≡ false
+    ensures ran { (def : List ℕ) (out : Taken) → out.failed ≡ false
         → (¬ IsMemory fault → first_unsound def ≡ Some fault)
         → StopsOr Opened request.now.paths result
         (record { opener = O.state opener.old; out = out; log = L.taken log.old })
@@ -39,10 +42,14 @@ fn refuse_last<O: Open, L: Sink>(
         (λ files. Ran (record { request = request.now; def = def; files = files }) result
         (record { out = out; log = L.taken log.old })
         (record { out = out; log = L.taken log.new })) }
+    ensures happened { (def : List ℕ) → (¬ IsMemory fault → first_unsound def ≡ Some fault)
+        → HadWhole Opened request.now.paths result (O.state opener.old) (O.state opener.new)
+        (λ files. Happens (record { request = request.now; def = def; files = files })
+        happened.new) }
 {
     let paths = request.paths.as_slice();
     match take_all(alloc, &mut Ignored, Files::Opened, opener, paths, log) {
-        Ok(_) => refuse(alloc, request, fault, log),
+        Ok(_) => refuse(alloc, request, fault, log, happened),
         Err(status) => status,
     }
 }
@@ -55,18 +62,23 @@ fn run_behind<C: Office + Drop, O: Open, W: Sink, L: Sink>(
     def: &[u8],
     out: &mut W,
     log: &mut L,
+    happened: &mut Happened,
 ) -> Status
     requires working { (W.taken out.old).failed ≡ false }
-    ensures { StopsOr Opened request.now.paths result
+    ensures ran { StopsOr Opened request.now.paths result
         (record { opener = O.state opener.old; out = W.taken out.old; log = L.taken log.old })
         (record { opener = O.state opener.new; out = W.taken out.new; log = L.taken log.new })
         (out.new ≡ out.old)
         (λ files. Ran (record { request = request.now; def = def.now; files = files }) result
         (record { out = W.taken out.old; log = L.taken log.old })
         (record { out = W.taken out.new; log = L.taken log.new })) }
+    ensures happened { HadWhole Opened request.now.paths result
+        (O.state opener.old) (O.state opener.new)
+        (λ files. Happens (record { request = request.now; def = def.now; files = files })
+        happened.new) }
 {
     match Definition::read(alloc, def) {
-        Err(fault) => refuse_last(alloc, opener, request, fault, log),
+        Err(fault) => refuse_last(alloc, opener, request, fault, log, happened),
         Ok(definition) => run_task::<C, O, W, L>(
             alloc,
             definition,
@@ -76,6 +88,7 @@ fn run_behind<C: Office + Drop, O: Open, W: Sink, L: Sink>(
             opener,
             out,
             log,
+            happened,
         ),
     }
 }
@@ -89,6 +102,7 @@ pub fn run_request<C: Office + Drop, O: Open, W: Sink, L: Sink>(
     request: &Request,
     out: &mut W,
     log: &mut L,
+    happened: &mut Happened,
 ) -> Status
     requires working { (W.taken out.old).failed ≡ false }
     requires log_working { (L.taken log.old).failed ≡ false }
@@ -101,11 +115,17 @@ pub fn run_request<C: Office + Drop, O: Open, W: Sink, L: Sink>(
         → IsWhole result → Ran job result
         (record { out = W.taken out.old; log = L.taken log.old })
         (record { out = W.taken out.new; log = L.taken log.new }) }
+    ensures happened { (job : Job) → job.request ≡ request.now
+        → AreAt (O.state opener.old).at (job.request.def ∷ job.request.paths) (job.def ∷ job.files)
+        → IsWhole result → Happens job happened.new }
     ensures no_words { result ≢ CommandLine }
 {
     let mut bytes = Vec::new(alloc);
     match read_told(opener, request.def.as_str(), &mut bytes, log) {
-        Ok(()) => run_behind::<C, O, W, L>(alloc, opener, request, bytes.as_slice(), out, log),
+        Ok(()) => {
+            let def = bytes.as_slice();
+            run_behind::<C, O, W, L>(alloc, opener, request, def, out, log, happened)
+        }
         Err(fault) => Status::from(fault),
     }
 }

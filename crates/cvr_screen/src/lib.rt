@@ -2,9 +2,11 @@
 //! files are read, and notes at the end of a run.
 #![tactic(auto)]
 
+mod naming;
 mod notes;
 mod progress;
 mod seen;
+mod shown;
 mod tried;
 mod watched;
 

@@ -1,14 +1,19 @@
+use crate::naming::{named, uncounted, unnamed};
 use crate::seen::{Flaw, Seen, see};
+use crate::shown::Shown;
 use crate::tried::tried;
-use cvr_run::{HELD, Status};
+use cdf_types::ReadFault;
+use cvr_office::{Cause, Outcome};
+use cvr_run::{HELD, Happened, NAMED, Status, first_refused};
+use cvr_words::Request;
 use std::cell::{Cell, RefCell};
 use std::io;
 
-// A file that was read.
+// A file that is no JSON: its place, 0 for the definition, and where it stops being JSON.
 #[derive(Drop)]
-struct File {
-    path: String,
-    seen: Seen,
+struct Flawed {
+    place: usize,
+    flaw: Flaw,
 }
 
 /// The notes that are printed at the end of a run where standard error is a terminal. Elsewhere
@@ -20,17 +25,14 @@ pub struct Notes<'a, R> {
     is_terminal: bool,
     // How many files stand before the definition: a list of the others, or none.
     before: usize,
-    // The files that were read, in order; and whether memory was refused for one of them.
-    files: RefCell<Vec<File>>,
-    is_lacking: Cell<bool>,
+    // How many files were read.
+    closed: Cell<usize>,
+    // The first that are no JSON: the definition, and as many as are named.
+    flawed: RefCell<Vec<Flawed>>,
+    // How many cast vote records the definition has.
+    own: Cell<usize>,
     // What the system answered where a file could not be opened or read.
     code: Cell<Option<i32>>,
-    // The log has a line; the first is of the definition; one of them is E2.
-    has_log: Cell<bool>,
-    is_def_refused: Cell<bool>,
-    has_e2: Cell<bool>,
-    // How many names have several bodies.
-    several: Cell<usize>,
 }
 
 impl<'a, R: Eprint + AllocGlobal> Notes<'a, R> {
@@ -41,13 +43,10 @@ impl<'a, R: Eprint + AllocGlobal> Notes<'a, R> {
             rt,
             is_terminal,
             before,
-            files: RefCell::new(Vec::new(rt.alloc())),
-            is_lacking: Cell::new(false),
+            closed: Cell::new(0),
+            flawed: RefCell::new(Vec::new(rt.alloc())),
+            own: Cell::new(0),
             code: Cell::new(None),
-            has_log: Cell::new(false),
-            is_def_refused: Cell::new(false),
-            has_e2: Cell::new(false),
-            several: Cell::new(0),
         }
     }
 
@@ -56,34 +55,44 @@ impl<'a, R: Eprint + AllocGlobal> Notes<'a, R> {
         self.is_terminal
     }
 
-    /// The path of a file that was opened, and no bytes yet, to keep those that are read. None
-    /// where nothing is kept, or memory was refused.
-    pub fn open(&self, path: &str) -> Option<(String, Vec<u8>)> {
-        if !self.is_terminal {
-            return None;
-        }
-        let path = String::from_str(self.rt.alloc(), path).ok();
-        self.is_lacking.set(self.is_lacking.get() || path.is_none());
-        Some((path?, Vec::new(self.rt.alloc())))
-    }
-
-    /// Keeps the path of a file that was read, and what its bytes seem to be.
-    pub fn close(&self, path: String, bytes: &[u8]) {
-        let seen = if bytes.len() < HELD {
-            see(self.rt.alloc(), bytes)
+    /// No bytes yet of a file that was opened, to keep those that are read. None where nothing is
+    /// kept.
+    pub fn open(&self) -> Option<Vec<u8>> {
+        if self.is_terminal {
+            Some(Vec::new(self.rt.alloc()))
         } else {
-            Seen::Other
-        };
-        let is_kept = match self.files.try_borrow_mut() {
-            Ok(mut files) => files.push(File { path, seen }).is_ok(),
-            Err(_) => false,
-        };
-        self.is_lacking.set(self.is_lacking.get() || !is_kept);
+            None
+        }
     }
 
-    /// Keeps that memory was refused for a file: no note on a file is printed then.
-    pub fn lack(&self) {
-        self.is_lacking.set(true);
+    /// Keeps what the bytes of a file that was read seem to be; None where they weren't kept.
+    pub fn close(&self, bytes: Option<&[u8]>) {
+        let closed = self.closed.get();
+        self.closed.set(closed.saturating_add(1));
+        if let (Some(bytes), Some(place)) = (bytes, closed.checked_sub(self.before)) {
+            if bytes.len() < HELD {
+                self.look(place, bytes);
+            }
+        }
+    }
+
+    // Looks at the bytes of the file at this place.
+    fn look(&self, place: usize, bytes: &[u8]) {
+        match see(self.rt.alloc(), bytes) {
+            Seen::Flaw(flaw) => self.keep(Flawed { place, flaw }),
+            Seen::Records(records) if place == 0 => self.own.set(records),
+            _ => {}
+        }
+    }
+
+    // Keeps a file that is no JSON, if it can be among those that are named. Where memory is
+    // refused for it, it has no note.
+    fn keep(&self, flawed: Flawed) {
+        if let Ok(mut all) = self.flawed.try_borrow_mut() {
+            if all.len() <= NAMED {
+                let _ = all.push(flawed);
+            }
+        }
     }
 
     /// Keeps why a file could not be opened or read.
@@ -91,44 +100,14 @@ impl<'a, R: Eprint + AllocGlobal> Notes<'a, R> {
         self.code.set(fault.raw_os_error());
     }
 
-    // Whether this is the line on a definition that is refused, or its path.
-    fn is_def(&self, bytes: &[u8]) -> bool {
-        match self.files.try_borrow() {
-            Ok(files) => match files.get(self.before) {
-                Some(def) => match bytes.strip_prefix(def.path.as_bytes()) {
-                    Some(rest) => rest.is_empty() || rest.starts_with(b": E"),
-                    None => false,
-                },
-                None => false,
-            },
-            Err(_) => false,
-        }
-    }
-
-    /// Takes note of bytes of the log, which comes line by line, and where a line is long path by
-    /// path and code by code: whether the definition was refused, and whether a file was E2.
-    pub fn hear(&self, bytes: &[u8]) {
-        if !self.has_log.replace(true) {
-            self.is_def_refused.set(self.is_def(bytes));
-        }
-        if bytes.ends_with(b": E2\n") {
-            self.has_e2.set(true);
-        }
-    }
-
-    /// Takes note of how many names have several bodies.
-    pub fn hear_several(&self, names: usize) {
-        self.several.set(names);
-    }
-
     /// Prints the notes of a run of these words that ended with this status. What the terminal
     /// answers is ignored.
-    pub fn print(&self, words: &[String], status: &Status) {
+    pub fn print(&self, words: &[String], status: &Status, happened: &Happened) {
         if !self.is_terminal {
             return;
         }
         match status {
-            Status::Done | Status::Refused => self.print_files(),
+            Status::Done | Status::Refused => self.print_run(happened),
             Status::Device => self.print_code(),
             Status::CommandLine => self.print_tried(words),
             Status::Memory => {}
@@ -148,71 +127,79 @@ impl<'a, R: Eprint + AllocGlobal> Notes<'a, R> {
         }
     }
 
-    fn print_files(&self) {
-        if self.is_lacking.get() {
-            return;
-        }
-        if let Ok(files) = self.files.try_borrow() {
-            let (_, files) = files.split_at(self.before.min(files.len()));
-            if let Some((def, given)) = files.split_first() {
-                self.print_given(def, given);
+    // Where the definition is refused, no other file was judged.
+    fn print_run(&self, happened: &Happened) {
+        if let Some(request) = &happened.request {
+            match &happened.definition {
+                Some(cause) => self.print_refused(request.def.as_str(), 0, cause),
+                None => self.print_judged(request, happened),
             }
         }
     }
 
-    // Where the definition is refused, no other file was judged.
-    fn print_given(&self, def: &File, given: &[File]) {
-        self.print_flaw(def);
-        if self.is_def_refused.get() {
-            return;
+    fn print_judged(&self, request: &Request, happened: &Happened) {
+        let outcomes = happened.outcomes.as_slice();
+        let places = first_refused(outcomes);
+        for place in places.as_slice() {
+            if let Some(Outcome::Refused(cause)) = outcomes.get(*place) {
+                if let Some((text, file)) = named(request, *place) {
+                    self.print_refused(text, file.saturating_add(1), cause);
+                }
+            }
         }
-        for file in given {
-            self.print_flaw(file);
-        }
-        self.print_records(def, given);
-        self.print_several();
-        if given.is_empty() {
+        self.print_more(unnamed(outcomes));
+        self.print_own(request);
+        self.print_several(happened.several);
+        if request.paths.as_slice().is_empty() {
             let _ = eprintln!(self.rt; "note: no files were given");
         }
     }
 
-    fn print_flaw(&self, file: &File) {
-        if !self.has_e2.get() {
-            return;
+    // Where a file that was refused stops being JSON. The definition has place 0.
+    fn print_refused(&self, text: &str, place: usize, cause: &Cause) {
+        match (cause, self.flaw_at(place)) {
+            (Cause::Read(ReadFault::NotJson), Some(flaw)) => self.print_flaw(text, flaw),
+            _ => {}
         }
-        if let Seen::Flaw(
-            Flaw {
-                line,
-                column,
-                seeming,
-            },
-        ) = file.seen
-        {
-            let path = file.path.as_str();
+    }
+
+    // Where a file stops being JSON.
+    fn print_flaw(&self, text: &str, flaw: Flaw) {
+        let Flaw {
+            line,
+            column,
+            seeming,
+        } = flaw;
+        let text = Shown::new(text);
+        let _ = eprintln!(self.rt; "note: {text}: no JSON at line {line}, byte {column}{seeming}");
+    }
+
+    fn print_more(&self, unnamed: usize) {
+        if unnamed > 0 {
+            let _ = eprintln!(self.rt; "note: {unnamed} more were refused");
+        }
+    }
+
+    fn flaw_at(&self, place: usize) -> Option<Flaw> {
+        let flawed = self.flawed.try_borrow().ok()?;
+        let found = flawed.iter().find(|flawed| flawed.place == place)?;
+        Some(found.flaw)
+    }
+
+    fn print_own(&self, request: &Request) {
+        if let Some(records) = uncounted(self.own.get(), request) {
+            let def = Shown::new(request.def.as_str());
             let _ = eprintln!(self.rt;
-                "note: {path}: no JSON at line {line}, byte {column}{seeming}"
+                "note: {def}: records of its own, which are not counted: {records}"
             );
         }
     }
 
-    fn print_several(&self) {
-        let names = self.several.get();
-        if names > 0 {
-            let _ = eprintln!(self.rt;
-                "note: names with several texts, which cvr conflicts lists: {names}"
-            );
-        }
-    }
-
-    fn print_records(&self, def: &File, given: &[File]) {
-        if given.iter().any(|file| file.path == def.path) {
-            return;
-        }
-        if let Seen::Records(records) = def.seen {
-            if records > 0 {
-                let path = def.path.as_str();
+    fn print_several(&self, several: Option<usize>) {
+        if let Some(names) = several {
+            if names > 0 {
                 let _ = eprintln!(self.rt;
-                    "note: {path}: records of its own, which are not counted: {records}"
+                    "note: names with several texts, which cvr conflicts lists: {names}"
                 );
             }
         }

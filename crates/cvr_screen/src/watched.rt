@@ -12,37 +12,34 @@ use std::io::{Read, Write};
 /// A file that counts as read when it is closed, and whose bytes are kept for the notes.
 pub struct Watched<'a, F, R: Eprint + AllocGlobal> {
     file: F,
-    // Its path, and its bytes; None where they aren't kept.
-    kept: Option<(String, Vec<u8>)>,
+    // Its bytes; None where they aren't kept.
+    kept: Option<Vec<u8>>,
     progress: &'a Progress<'a, R>,
     notes: &'a Notes<'a, R>,
 }
 
 impl<'a, F, R: Eprint + AllocGlobal> Watched<'a, F, R> {
-    /// The file that was opened at this path.
+    /// A file that was opened.
     pub fn new(
         file: F,
-        path: &str,
         progress: &'a Progress<'a, R>,
         notes: &'a Notes<'a, R>,
     ) -> Watched<'a, F, R> {
         Watched {
             file,
-            kept: notes.open(path),
+            kept: notes.open(),
             progress,
             notes,
         }
     }
 
-    // Keeps bytes that were read.
+    // Keeps bytes that were read. Where memory is refused for them, none are kept.
     fn keep(&mut self, read: &[u8])
         ensures { self.new.file ≡ self.old.file }
     {
-        if let Some((path, mut bytes)) = self.kept.take() {
+        if let Some(mut bytes) = self.kept.take() {
             if bytes.extend_from_slice(read).is_ok() {
-                self.kept = Some((path, bytes));
-            } else {
-                self.notes.lack();
+                self.kept = Some(bytes);
             }
         }
     }
@@ -71,31 +68,30 @@ impl<F: Drop, R: Eprint + AllocGlobal> Drop for Watched<'_, F, R> {
         } = self;
         drop(file);
         progress.count();
-        if let Some((path, bytes)) = kept {
-            notes.close(path, bytes.as_slice());
+        match kept {
+            Some(bytes) => notes.close(Some(bytes.as_slice())),
+            None => notes.close(None),
         }
     }
 }
 
-/// The log: it removes the line before it takes bytes, and the notes take note of them. It shows
-/// the bytes that the writer holds, if the writer shows them.
+/// The log: it removes the line before it takes bytes. It shows the bytes that the writer holds, if
+/// the writer shows them.
 #[derive(Drop)]
 pub struct Log<'a, W: Write, R> {
     inner: OverWrite<W>,
     progress: &'a Progress<'a, R>,
-    notes: &'a Notes<'a, R>,
 }
 
 impl<'a, W: Write + Drop, R: Eprint + AllocGlobal> Log<'a, W, R> {
     /// The log over a writer; it hasn't failed.
-    pub fn new(output: W, progress: &'a Progress<'a, R>, notes: &'a Notes<'a, R>) -> Log<'a, W, R>
+    pub fn new(output: W, progress: &'a Progress<'a, R>) -> Log<'a, W, R>
         ensures working { result.inner.failed ≡ false }
         ensures shown { (⟦<OverWrite<W> as Sink>⟧.taken result.inner).bytes ≡ W.contents output }
     {
         Log {
             inner: OverWrite::new(output),
             progress,
-            notes,
         }
     }
 }
@@ -115,19 +111,10 @@ impl<W: Write + Drop, R: Eprint + AllocGlobal> Sink for Log<'_, W, R> {
             (W.contents self.old.inner.inner) (W.contents self.new.inner.inner) result bytes.now }
     {
         self.progress.clear();
-        self.notes.hear(bytes);
         self.inner.write(bytes)
     }
 
     fn failed(&self) -> bool {
         self.inner.failed()
-    }
-
-    fn is_watched(&self) -> bool {
-        self.notes.is_terminal()
-    }
-
-    fn show_several(&self, names: usize) {
-        self.notes.hear_several(names);
     }
 }

@@ -7,7 +7,7 @@ pub returns : goal.returns
 returns g c =
     let code = c.from.ensures ∙ c.code.ensures in
     let e = ended-status _ _ code in
-    let w = c.behind_the_name.ensures in
+    let w = c.behind_the_name-behind.ensures in
     let said = c.respond-status.ensures in
     record {
       code = rw e code;

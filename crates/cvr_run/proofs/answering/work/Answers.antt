@@ -2,6 +2,7 @@ use Rattle.std.proofs.Common.{inl, inr, map, string_bytes, refl}
 use Rattle.cvr_words.specs.Line.{with_program}
 use Rattle.cvr_words.proofs.Laws.{one_request}
 use Rattle.cvr_run.proofs.Unasked.{told_memory, not_asked, not_command_line}
+use Rattle.cvr_run.proofs.Happenings.{noted}
 use Rattle.cvr_run.proofs.Opened.{opens_none}
 use Rattle.cvr_run.proofs.SaysTheSame.{does_same}
 use Rattle.cvr_run.proofs.answering.work.Goals as goal
@@ -10,11 +11,15 @@ pub returns-in-Ok : goal.returns-in-Ok
 returns-in-Ok g c =
     let words = with_program (map string_bytes c.args.words.now) in
     let asked = c.in-Ok.ensures.request in
-    let told = c.run_request.ensures in
+    let told = c.run_request-status.ensures in
     record {
       answers = inl (c.in-Ok.request, asked, told.does);
       given = λ job given whole. told.given job
           (one_request words job.request c.in-Ok.request given.asked asked) given.there whole;
+      happened = λ job given whole.
+          let is = one_request words job.request c.in-Ok.request given.asked asked in
+          noted job c.run_request-status.new.happened _ c.in-Ok.request is refl refl refl refl
+          (told.happened job is given.there whole);
       asked = λ r is. told.no_words;
       says = does_same _ _ _ _ _ told.does;
     }
@@ -30,6 +35,8 @@ returns-in-Err g c =
     record {
       answers = inr (fault, is, opens_none (g.O.Open.state c.args.opener.now), told);
       given = λ job given whole. absurd
+          (not_asked words job.request fault answer failed given.asked is told.status whole);
+      happened = λ job given whole. absurd
           (not_asked words job.request fault answer failed given.asked is told.status whole);
       asked = λ r asks. not_command_line answer
           (told_memory words r fault answer failed asks is told.status);

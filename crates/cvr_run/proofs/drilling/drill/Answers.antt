@@ -10,6 +10,7 @@ use Rattle.cvr_run.specs.Drill.{event_of, events_of, new_offices, step_dues}
 use Rattle.cvr_run.specs.Outcome.{files_of}
 use Rattle.cvr_run.specs.Refusals.{is_refusal, is_want, AreDue}
 use Rattle.cvr_run.specs.Told.{drill_dues, LogsFirst}
+use Rattle.cvr_run.proofs.Happenings.{keeps_due, uncounted}
 use Rattle.cvr_run.proofs.SameOffices.{of_one}
 use Rattle.cvr_run.proofs.Steps.{steps_due, drill_refused_is, drilled_is}
 use Rattle.cvr_run.proofs.drilling.drill.Goals as goal
@@ -75,5 +76,9 @@ returns g c =
           (told.log (step_dues def n files steps)
           (subst (AreDue (step_dues def n files steps)) (sym c.as_slice-2.ensures.value)
           (steps_due def n files steps rs count out)));
+      happened = λ working facts. keeps_due c.keep.new.self (drill_dues def n files steps).dues
+          facts rs (steps_due def n files steps rs count out) (wants working)
+          c.keep.ensures.definition c.keep.ensures.outcomes
+          (uncounted c.keep.new.self.several _ c.keep.ensures.several);
       unchanged = tt;
     }

@@ -14,3 +14,6 @@ returns-then-refusals-clause-cut_short g c = λ fault.
     lacks (drill_dues definition c.args.count files steps) (length steps) c.in-Ok.refusals _ _
     c.in-Ok.ensures.log
     (sym (length-map steps (step_due definition c.args.count files))) c.if-refusals.true fault false
+
+pub returns-clause-happened : goal.returns-clause-happened
+returns-clause-happened g c facts = c.in-Ok.ensures.happened c.if-refusals.false facts

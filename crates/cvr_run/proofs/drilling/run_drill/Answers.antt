@@ -1,10 +1,11 @@
-use Rattle.std.proofs.Common.{None, length, sym, rules}
+use Rattle.std.proofs.Common.{inr, None, length, sym, rules}
 use Rattle.std.proofs.lemmas.List.{length-map}
 use Rattle.cvr_run.specs.Drill.{step_due, drill_text, drill_refused}
 use Rattle.cvr_run.specs.Outcome.{files_of}
 use Rattle.cvr_run.specs.Printing.{Prints}
 use Rattle.cvr_run.specs.Told.{drill_dues}
 use Rattle.cvr_run.proofs.Endings.{ends_in_memory}
+use Rattle.cvr_run.proofs.Known.{not_whole}
 use Rattle.cvr_run.proofs.Printed.{ends_after, tells_after}
 use Rattle.cvr_run.proofs.Telling.{wanted_unprinted}
 use Rattle.cvr_run.proofs.drilling.run_drill.Goals as goal
@@ -46,3 +47,7 @@ returns-in-Err-clause-log g c =
     wanted_unprinted (drill_dues definition c.args.count (files_of c.args.files.now) steps) None _ _
     (g.W.Sink.taken c.args.out.now) _ _ c.in-Err.ensures.status c.requires
     (c.in-Err.ensures.cut_short None)
+
+pub returns-in-Err-clause-happened : goal.returns-in-Err-clause-happened
+returns-in-Err-clause-happened g c whole =
+    absurd (not_whole c.in-Err.status (inr c.in-Err.ensures.status) whole)

@@ -6,6 +6,7 @@ use Rattle.cvr_run.specs.Ends.{Ran}
 use Rattle.cvr_run.specs.Listed.{HasNoList, ListedRequest}
 use Rattle.cvr_run.specs.Opening.{AreAt}
 use Rattle.cvr_run.specs.Told.{LogsSome}
+use Rattle.cvr_run.proofs.Happenings.{noted}
 use Rattle.cvr_run.proofs.ListWords.{listed_done, no_list_ends, request_known}
 use Rattle.cvr_run.proofs.Opened.{opens_same}
 use Rattle.cvr_run.proofs.listed.run_listed.Goals as goal
@@ -15,21 +16,21 @@ returns-in-Ok g c =
     let old = g.O.Open.state c.args.opener.now in
     let between = g.O.Open.state c.paths_at.new.opener in
     let new : Devices = record {
-      opener = g.O.Open.state c.run_request.new.opener;
-      out = g.W.Sink.taken c.run_request.new.out;
-      log = g.L.Sink.taken c.run_request.new.log;
+      opener = g.O.Open.state c.run_request-status.new.opener;
+      out = g.W.Sink.taken c.run_request-status.new.out;
+      log = g.L.Sink.taken c.run_request-status.new.log;
     } in
     let before = g.W.Sink.taken c.args.out.now in
     let b = g.L.Sink.taken c.args.log.now in
-    let unchanged = c.run_request.new.out ≡ c.args.out.now in
-    let answer = c.run_request.result in
+    let unchanged = c.run_request-status.new.out ≡ c.args.out.now in
+    let answer = c.run_request-status.result in
     let asked : ListedRequest =
     record { request = c.args.request; list = c.args.list.now; by_null = c.args.by_null } in
     let request : Request =
     record { task = c.args.request.task; def = c.args.request.def; paths = c.in-Ok.paths } in
     let place = c.place_of.result.now in
     let found = c.in-Ok.ensures in
-    let told = c.run_request.ensures in
+    let told = c.run_request-status.ensures in
     record {
       does = listed_done asked answer (record { opener = old; out = before; log = b }) new unchanged
           place c.in-Ok.paths between c.place_of.ensures found.paths found.opens
@@ -44,6 +45,14 @@ returns-in-Ok g c =
           (record { out = new.out; log = new.log })) found.quiet
           (told.given job (request_known old.at asked job place c.in-Ok.paths c.place_of.ensures
           found.paths lists) there whole);
+      happened = λ job lists whole.
+          let there = subst (λ at. AreAt at (job.request.def ∷ job.request.paths)
+          (job.def ∷ job.files)) (sym (opens_same old between (place ∷ []) found.opens).at)
+          lists.there in
+          let is = request_known old.at asked job place c.in-Ok.paths c.place_of.ensures found.paths
+          lists in
+          noted job c.run_request-status.new.happened _ request is refl refl refl refl
+          (told.happened job is there whole);
     }
 
 pub returns : goal.returns
@@ -60,5 +69,7 @@ returns g c =
             c.place_of.ensures none,
       );
       given = λ job lists whole. absurd
+          (no_list_ends old new c.place_of.result.now c.in-Err.status b a none whole);
+      happened = λ job lists whole. absurd
           (no_list_ends old new c.place_of.result.now c.in-Err.status b a none whole);
     }

@@ -18,6 +18,13 @@ returns-then-asks_version-clause-given g c job given whole =
     absurd (few_give_none (g.O.Open.state c.args.opener.now).at words job
     (version_few words version) (version_asks_none words version) given)
 
+pub returns-then-asks_version-clause-happened : goal.returns-then-asks_version-clause-happened
+returns-then-asks_version-clause-happened g c job given whole =
+    let words = map string_bytes c.args.words.now in
+    let version = c.asks_version.ensures.yes c.if-asks_version.true in
+    absurd (few_give_none (g.O.Open.state c.args.opener.now).at words job
+    (version_few words version) (version_asks_none words version) given)
+
 pub returns-then-asks_version-clause-asked : goal.returns-then-asks_version-clause-asked
 returns-then-asks_version-clause-asked g c request asks =
     absurd (version_asks_none (map string_bytes c.args.words.now)
@@ -30,6 +37,12 @@ returns-in-Some-clause-listed g c asked asks =
 
 pub returns-in-Some-clause-given : goal.returns-in-Some-clause-given
 returns-in-Some-clause-given g c job given whole =
+    absurd (code_gives_none (g.O.Open.state c.args.opener.now).at
+    (map string_bytes c.args.words.now) (map string_bytes c.in-Some.asked.now) job
+    c.in-Some.ensures.some given)
+
+pub returns-in-Some-clause-happened : goal.returns-in-Some-clause-happened
+returns-in-Some-clause-happened g c job given whole =
     absurd (code_gives_none (g.O.Open.state c.args.opener.now).at
     (map string_bytes c.args.words.now) (map string_bytes c.in-Some.asked.now) job
     c.in-Some.ensures.some given)
@@ -64,4 +77,11 @@ returns-in-None-listing_of-clause-given g c job given whole =
     let words = map string_bytes c.args.words.now in
     let none = none_listed words c.in-None-listing_of.ensures.none in
     c.work.ensures.given job (only_paths (g.O.Open.state c.args.opener.now).at words job none given)
+    whole
+
+pub returns-in-None-listing_of-clause-happened : goal.returns-in-None-listing_of-clause-happened
+returns-in-None-listing_of-clause-happened g c job given whole =
+    let words = map string_bytes c.args.words.now in
+    let none = none_listed words c.in-None-listing_of.ensures.none in
+    c.work.ensures.happened job (only_paths (g.O.Open.state c.args.opener.now).at words job none given)
     whole

@@ -37,6 +37,8 @@ returns-in-Ok-Some g c =
       works = λ none. absurd (none asked asks);
       given = λ job given whole. told.given job
           (given_lists old.opener.at words asked job asks given) whole;
+      happened = λ job given whole. told.happened job
+          (given_lists old.opener.at words asked job asks given) whole;
       asked = λ r is. absurd (asks.free r is);
       says = does_listed_same asked c.run_listed.result old new unchanged told.does;
     }
@@ -50,6 +52,8 @@ returns-in-Ok-None g c =
       listed = λ asked asks. absurd (none asked asks);
       works = λ _. told.answers;
       given = λ job given whole. told.given job
+          (only_paths (g.O.Open.state c.args.opener.now).at words job none given) whole;
+      happened = λ job given whole. told.happened job
           (only_paths (g.O.Open.state c.args.opener.now).at words job none given) whole;
       asked = told.asked;
       says = told.says;
@@ -68,6 +72,7 @@ returns-in-Err g c =
       listed = λ asked asks. inl (unopened, tells);
       works = λ none. inr (Memory, tt, unopened, tells);
       given = λ job given whole. absurd (not_whole answer (inr is) whole);
+      happened = λ job given whole. absurd (not_whole answer (inr is) whole);
       asked = λ r asks. not_command_line answer is;
       says = record { at = refl; may_fail = refl };
     }

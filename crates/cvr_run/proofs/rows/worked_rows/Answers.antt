@@ -13,7 +13,7 @@ use Rattle.cvr_run.specs.Rows as row
 use Rattle.cvr_run.proofs.GivenDrills.{three_devices, of_one_file, with_second, second-given}
 use Rattle.cvr_run.proofs.GivenDrills.{starts-given, facts-given, drill-given, run-given}
 use Rattle.cvr_run.proofs.ToldRows.{told_of_definition, told_of_one, told_of_three, told_of_drill}
-use Rattle.cvr_run.proofs.ToldRows.{due_by, due_is, first_of}
+use Rattle.cvr_run.proofs.ToldRows.{causes_of_three, due_by, due_is, first_of}
 use Rattle.cvr_run.proofs.rows.worked_rows.Goals as goal
 
 pub returns : goal.returns
@@ -27,6 +27,13 @@ returns c = record {
       (ascii_refusal file.definition_file file.one_file _ refl refl refl refl)
       (ascii_refusal file.definition_file file.other_selection_file _ refl refl refl refl)
       refl;
+  causes_of_three =
+      causes_of_three file.definition_file row.three_paths file.two_faults_file file.one_file
+      file.other_selection_file _ _ _
+      (ascii_unsound file.definition_file _ refl refl refl)
+      (ascii_refusal file.definition_file file.two_faults_file _ refl refl refl refl)
+      (ascii_refusal file.definition_file file.one_file _ refl refl refl refl)
+      (ascii_refusal file.definition_file file.other_selection_file _ refl refl refl refl);
   other_election =
       told_of_one (codes "def.json") file.definition_file (codes "d.json") file.other_election_file
       _ _

@@ -9,8 +9,8 @@ use Rattle.cvr_run.proofs.Printed.{ends_after, tells_after}
 use Rattle.cvr_run.proofs.Telling.{wanted_unprinted, all_due}
 use Rattle.cvr_run.proofs.tasks.end_check.Goals as goal
 
-pub returns-in-Ok : goal.returns-in-Ok
-returns-in-Ok g c = λ definition files taken.
+pub returns-in-Ok-clause-ran : goal.returns-in-Ok-clause-ran
+returns-in-Ok-clause-ran g c = λ definition files taken.
     let paths = c.args.paths.now in
     let lines = check_lines definition paths files in
     let before = g.W.Sink.taken c.args.out.now in
@@ -28,10 +28,16 @@ returns-in-Ok g c = λ definition files taken.
           printed None lines _ prints c.end_with.ensures.status c.end_with.ensures.log;
     }
 
-pub returns-in-Err : goal.returns-in-Err
-returns-in-Err g c = λ definition files taken. record {
+pub returns-in-Err-clause-ran : goal.returns-in-Err-clause-ran
+returns-in-Err-clause-ran g c = λ definition files taken. record {
   ends = ends_in_memory _ _ _ _ c.requires.working c.in-Err.ensures.status;
   log = wanted_unprinted (import_dues definition c.args.paths.now files) None _ _
       (g.W.Sink.taken c.args.out.now) _ _ c.in-Err.ensures.status c.requires.working
       (c.in-Err.ensures.cut_short definition files None taken.due);
 }
+
+pub returns-in-Ok-clause-lacking : goal.returns-in-Ok-clause-lacking
+returns-in-Ok-clause-lacking g c whole = c.in-Ok.ensures.working
+
+pub returns-in-Err-clause-lacking : goal.returns-in-Err-clause-lacking
+returns-in-Err-clause-lacking g c whole = absurd (whole c.in-Err.ensures.status)

@@ -10,8 +10,8 @@ use Rattle.cvr_run.proofs.Printed.{ends_after, tells_after}
 use Rattle.cvr_run.proofs.Telling.{wanted_unprinted, all_due}
 use Rattle.cvr_run.proofs.tasks.end_office.Goals as goal
 
-pub returns-in-Ok : goal.returns-in-Ok
-returns-in-Ok g c = λ definition files is taken.
+pub returns-in-Ok-clause-ran : goal.returns-in-Ok-clause-ran
+returns-in-Ok-clause-ran g c = λ definition files is taken.
     let task = c.args.task.now in
     let held = g.C.Office.held c.args.office.now in
     let before = g.W.Sink.taken c.args.out.now in
@@ -36,8 +36,8 @@ returns-in-Ok g c = λ definition files is taken.
           c.end_with.ensures.status c.end_with.ensures.log;
     }
 
-pub returns-in-Err : goal.returns-in-Err
-returns-in-Err g c = λ definition files is taken.
+pub returns-in-Err-clause-ran : goal.returns-in-Err-clause-ran
+returns-in-Err-clause-ran g c = λ definition files is taken.
     let fault = task_fault definition c.args.task.now files in
     record {
       ends = ends_in_memory _ _ _ _ c.requires.working c.in-Err.ensures.status;
@@ -45,3 +45,9 @@ returns-in-Err g c = λ definition files is taken.
           (g.W.Sink.taken c.args.out.now) _ _ c.in-Err.ensures.status c.requires.working
           (c.in-Err.ensures.cut_short definition files fault taken.due);
     }
+
+pub returns-in-Ok-clause-lacking : goal.returns-in-Ok-clause-lacking
+returns-in-Ok-clause-lacking g c whole = c.in-Ok.ensures.working
+
+pub returns-in-Err-clause-lacking : goal.returns-in-Err-clause-lacking
+returns-in-Err-clause-lacking g c whole = absurd (whole c.in-Err.ensures.status)

@@ -2,18 +2,19 @@ use Rattle.std.proofs.Common.{◌∙◌, [], sym}
 use Rattle.cvr_run.specs.Outcome.{run_fault}
 use Rattle.cvr_run.specs.Told.{last_lines}
 use Rattle.cvr_run.proofs.Accepted.{none_last}
+use Rattle.cvr_run.proofs.Happenings.{happens_refused}
 use Rattle.cvr_run.proofs.Printed.{ends_unsound}
 use Rattle.cvr_run.proofs.Telling.{definition_log, definition_cut_short}
 use Rattle.cvr_run.proofs.tasks.refuse.Goals as goal
 
-pub returns : goal.returns
-returns g c = λ def files out working first.
+pub returns-clause-ran : goal.returns-clause-ran
+returns-clause-ran g c = λ def files out working first.
     let task = c.args.request.now.task in
     let what = c.args.request.now.def in
     let paths = c.args.request.now.paths in
     let fault = c.args.fault in
     let none = c.none-refusals in
-    let noted = c.note_file in
+    let noted = c.note in
     record {
       ends = ends_unsound task def paths files out fault none.result.file_lacking
           noted.new.self.file_lacking noted.new.self.path_unspelled noted.new.self.any_refusal _
@@ -31,3 +32,10 @@ returns g c = λ def files out working first.
           none.ensures.path_unspelled noted.ensures.file_lacking out.failed noted.ensures.told
           (sym c.status.ensures ∙ want);
     }
+
+pub returns-clause-happened : goal.returns-clause-happened
+returns-clause-happened g c def files whole first =
+    happens_refused c.args.request.now def files c.args.fault c.none-refusals.result c.note.new.self
+    c.status.result c.refuse.new.self whole first c.none-refusals.ensures.file_lacking
+    c.note.ensures.file_lacking c.status.ensures c.refuse.ensures.definition
+    c.refuse.ensures.outcomes c.refuse.ensures.several

@@ -7,8 +7,8 @@ use Rattle.cvr_run.proofs.Beside.{ran_at_once, ran_beside}
 use Rattle.cvr_run.proofs.Had.{had_all}
 use Rattle.cvr_run.proofs.tasks.run.Goals as goal
 
-pub returns-in-Ok : goal.returns-in-Ok
-returns-in-Ok g c =
+pub returns : goal.returns
+returns g c =
     let request = c.args.request.now in
     let def = c.args.def.now in
     let answer = c.run_task.result in
@@ -20,7 +20,7 @@ returns-in-Ok g c =
     } in
     let sound = c.in-Ok.ensures.sound in
     record {
-      ran = elim c.run_task.ensures [
+      ran = elim c.run_task.ensures.ran [
         | inl stops ↦ ran_at_once request def (files_of c.args.files.now) answer old new sound
             c.requires.working (ap g.W.Sink.taken stops.0) stops.1.1.0
             (subst (Logs old.log new.log) stops.1.1.1 stops.1.2)
@@ -37,6 +37,6 @@ returns-in-Ok g c =
 
 pub returns-in-Err : goal.returns-in-Err
 returns-in-Err g c = record {
-  ran = c.refuse.ensures c.args.def.now (files_of c.args.files.now) (g.W.Sink.taken c.args.out.now)
+  ran = c.refuse.ensures.ran c.args.def.now (files_of c.args.files.now) (g.W.Sink.taken c.args.out.now)
       c.requires.working c.in-Err.ensures.first;
 }

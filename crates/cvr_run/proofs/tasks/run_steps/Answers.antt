@@ -3,13 +3,15 @@ use Rattle.cvr_office.specs.Outcomes.{no_frame}
 use Rattle.cvr_run.specs.Devices.{Outputs}
 use Rattle.cvr_run.specs.Drill.{drill_refused, drill_text}
 use Rattle.cvr_run.specs.Ends.{Ends}
-use Rattle.cvr_run.specs.Outcome.{files_of}
+use Rattle.cvr_run.specs.Happened.{Keeps}
+use Rattle.cvr_run.specs.Outcome.{content_of_files, files_of}
 use Rattle.cvr_run.specs.Told.{drill_dues, TellsRun}
 use Rattle.cvr_run.proofs.Had.{stops_behind}
+use Rattle.cvr_run.proofs.Happenings.{stops_not_whole}
 use Rattle.cvr_run.proofs.tasks.run_steps.Goals as goal
 
-pub returns-in-Ok : goal.returns-in-Ok
-returns-in-Ok g c =
+pub returns-in-Ok-clause-ran : goal.returns-in-Ok-clause-ran
+returns-in-Ok-clause-ran g c =
     let definition = c.args.definition.now in
     let n = c.args.count in
     let steps = c.args.steps.now in
@@ -38,7 +40,28 @@ returns-in-Ok g c =
       },
     )
 
-pub returns : goal.returns
-returns g c =
+pub returns-clause-ran : goal.returns-clause-ran
+returns-clause-ran g c =
     let some = c.in-Err.ensures.stops in
     inl (refl, (some.0, stops_behind _ _ _ _ _ _ some.1, some.2))
+
+pub returns-in-Ok-clause-happened : goal.returns-in-Ok-clause-happened
+returns-in-Ok-clause-happened g c whole =
+    let definition = c.args.definition.now in
+    let had = c.in-Ok.ensures.taken no_frame (ap files_of c.new.ensures.items) in
+    let files : files_of c.as_slice.result.now ≡ had.0 =
+    ap files_of c.as_slice.ensures.value ∙ had.2 in
+    let facts = content_of_files definition had.0 in (
+      had.0,
+      had.1,
+      subst (λ fs. Keeps c.run_drill.new.happened
+          (drill_dues definition c.args.count fs c.args.steps.now).dues facts) files
+          (c.run_drill.ensures.happened whole facts),
+    )
+
+pub returns-clause-happened : goal.returns-clause-happened
+returns-clause-happened g c whole =
+    let some = c.in-Err.ensures.stops in
+    let old = g.O.Open.state c.args.opener.now in
+    let new = g.O.Open.state c.take_all.new.opener in
+    absurd (stops_not_whole c.args.from old new c.args.paths.now c.in-Err.status some.0 some.1 whole)

@@ -4,11 +4,12 @@ use Rattle.cvr_run.specs.Ends.{Ran}
 use Rattle.cvr_run.specs.Given.{AreHad, StopsAmong}
 use Rattle.cvr_run.specs.Told.{LogsSome}
 use Rattle.cvr_run.specs.declared.given.Files.TheVariants.{Opened}
+use Rattle.cvr_run.proofs.Happenings.{stops_not_whole}
 use Rattle.cvr_run.proofs.Had.{stops_behind}
 use Rattle.cvr_run.proofs.working.refuse_last.Goals as goal
 
-pub returns-in-Ok : goal.returns-in-Ok
-returns-in-Ok g c = λ def out working first.
+pub returns-in-Ok-clause-ran : goal.returns-in-Ok-clause-ran
+returns-in-Ok-clause-ran g c = λ def out working first.
     let old = g.O.Open.state c.args.opener.now in
     let new = g.O.Open.state c.take_all.new.opener in
     let had = c.in-Ok.ensures.taken no_frame tt in
@@ -18,11 +19,11 @@ returns-in-Ok g c = λ def out working first.
       subst (λ l. Ran (record { request = c.args.request.now; def = def; files = had.0 })
           c.refuse.result (record { out = out; log = g.L.Sink.taken l })
           (record { out = out; log = g.L.Sink.taken c.refuse.new.log })) c.in-Ok.ensures.quiet
-          (c.refuse.ensures def had.0 out working first),
+          (c.refuse.ensures.ran def had.0 out working first),
     )
 
-pub returns-in-Err : goal.returns-in-Err
-returns-in-Err g c = λ def out working first.
+pub returns-in-Err-clause-ran : goal.returns-in-Err-clause-ran
+returns-in-Err-clause-ran g c = λ def out working first.
     let old = g.O.Open.state c.args.opener.now in
     let new = g.O.Open.state c.take_all.new.opener in
     let b = g.L.Sink.taken c.args.log.now in
@@ -30,3 +31,21 @@ returns-in-Err g c = λ def out working first.
     let some = subst (λ ps. LogsSome (StopsAmong Opened old new ps c.in-Err.status) b a)
     c.as_slice-paths.ensures c.in-Err.ensures.stops in
     inl (tt, (some.0, stops_behind Opened old new _ _ _ some.1, some.2))
+
+pub returns-in-Ok-clause-happened : goal.returns-in-Ok-clause-happened
+returns-in-Ok-clause-happened g c def first whole =
+    let old = g.O.Open.state c.args.opener.now in
+    let new = g.O.Open.state c.take_all.new.opener in
+    let had = c.in-Ok.ensures.taken no_frame tt in (
+      had.0,
+      subst (λ ps. AreHad Opened old new ps had.0) c.as_slice-paths.ensures had.1,
+      c.refuse.ensures.happened def had.0 whole first,
+    )
+
+pub returns-in-Err-clause-happened : goal.returns-in-Err-clause-happened
+returns-in-Err-clause-happened g c def first whole =
+    let some = c.in-Err.ensures.stops in
+    let old = g.O.Open.state c.args.opener.now in
+    let new = g.O.Open.state c.take_all.new.opener in
+    absurd (stops_not_whole Opened old new c.as_slice-paths.result.now c.in-Err.status some.0 some.1
+    whole)

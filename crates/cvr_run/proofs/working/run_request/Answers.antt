@@ -4,7 +4,8 @@ use Rattle.cvr_run.specs.Devices.{Devices}
 use Rattle.cvr_run.specs.Log.{Logs}
 use Rattle.cvr_run.specs.Opening.{AreRead, IsRead, Opens}
 use Rattle.cvr_run.specs.Worked.{unread_line, Runs, Stops}
-use Rattle.cvr_run.proofs.Known.{done_by_words, done_known}
+use Rattle.cvr_run.proofs.Happenings.{happens_known}
+use Rattle.cvr_run.proofs.Known.{done_by_words, done_known, not_whole, unread_answer}
 use Rattle.cvr_run.proofs.Opened.{opens_both, opens_same, stops_first}
 use Rattle.cvr_run.proofs.working.run_request.Goals as goal
 
@@ -24,16 +25,16 @@ returns-in-Ok g c =
       log = g.L.Sink.taken c.run_behind.new.log;
     } in
     let unchanged = c.run_behind.new.out ≡ c.args.out.now in
-    let def = c.as_slice.result.now in
+    let def = c.as_slice-def.result.now in
     let path = c.as_str.result.now in
     let told = c.in-Ok.ensures in
     let read : IsRead (old.opener.at request.def) def =
     subst (λ p. IsRead (old.opener.at p) def) c.as_str.ensures
-    (subst (IsRead (old.opener.at path)) (sym c.as_slice.ensures.value) told.bytes) in
+    (subst (IsRead (old.opener.at path)) (sym c.as_slice-def.ensures.value) told.bytes) in
     let opened : Opens old.opener between (request.def ∷ []) =
     subst (λ p. Opens old.opener between (p ∷ [])) c.as_str.ensures told.opens in
     let quiet : c.read_told.new.log ≡ c.args.log.now = c.in-Ok.ensures.quiet in
-    let does : Does request answer old new unchanged = elim c.run_behind.ensures [
+    let does : Does request answer old new unchanged = elim c.run_behind.ensures.ran [
       | inl stops ↦ inl (
         stops.0,
         (
@@ -59,6 +60,13 @@ returns-in-Ok g c =
     record {
       does = does;
       given = done_known request answer old new unchanged does;
+      happened = λ job is there whole.
+          let had = c.run_behind.ensures.happened whole in
+          happens_known old.opener.at request def had.0 c.run_behind.new.happened (
+            read,
+            subst (λ at. AreRead at request.paths had.0)
+                (opens_same old.opener between (request.def ∷ []) opened).at had.1.0,
+          ) had.2 job is there;
       no_words = done_by_words request answer old new unchanged does;
     }
 
@@ -93,5 +101,6 @@ returns g c =
     record {
       does = does;
       given = done_known request answer old new unchanged does;
+      happened = λ job is there whole. absurd (not_whole answer (unread_answer cause answer c.from.ensures) whole);
       no_words = done_by_words request answer old new unchanged does;
     }

@@ -1,0 +1,23 @@
+use Rattle.std.proofs.Common.{inl, inr, sym}
+use Rattle.cvr_run.proofs.tasks.run_task.Goals as goal
+
+pub returns-in-Currents-clause-happened : goal.returns-in-Currents-clause-happened
+returns-in-Currents-clause-happened g c =
+    let told = c.run_office.ensures.happened in
+    elim c.in-Currents.is [
+      | inl currents ↦ rw currents told
+      | inr other ↦ elim other [
+        | inl conflicts ↦ rw conflicts told
+        | inr other ↦ elim other [
+          | inl tally ↦ rw tally told
+          | inr merge ↦ rw merge.3 told
+        ]
+      ]
+    ]
+
+pub returns-in-Check-clause-happened : goal.returns-in-Check-clause-happened
+returns-in-Check-clause-happened g c = rw c.in-Check.is c.run_check.ensures.happened
+
+pub returns-in-Drill-clause-happened : goal.returns-in-Drill-clause-happened
+returns-in-Drill-clause-happened g c =
+    rw c.in-Drill.is (rw (sym c.as_slice.ensures) c.run_steps.ensures.happened)
