@@ -8,7 +8,8 @@ standard error is no terminal, it gets the log and not a byte more, also beside 
 
 - Runs over files that are accepted, refused or missing, of each command, and of help and refused words: on a terminal
 each, on one terminal for both, and on pipes.
-- Notes, as stated below by hand: of a file that is no JSON, where it stops, and what it seems to be; records of the definition's own; names with several texts; no files; what the system says of a file that
+- Notes, as stated below by hand: why a file is refused, of each code; of one that is no JSON, where it stops, and what it
+seems to be; records of the definition's own; names with several texts; no files; what the system says of a file that
 can't be read. Of more than ten refused files, ten and how many more; of 100,000, too, and with no more memory than the
 same run takes where there is no terminal.
 - A file that is read slowly, by a named pipe: the line stays while the run waits for it.
@@ -71,6 +72,22 @@ NO_JSON = {
     'red\x1b[31m': (b'', 1, 0, '; it is empty'),
     'lines': (b'{\n  "\xc3\xa9": nul\n}', 2, 9, ''),
 }
+
+# What is wrong with a refused file, by code, and by rule.
+WORDS = {
+    'E1': 'The file is longer than 67,108,864 bytes. Have the tool that wrote it write several files.',
+    'E2': 'The file is no JSON text. Look whether it was cut off, or is of another kind, as XML; take away a byte order mark.',
+    'E4': 'A text of it has to be the id of something in the file, and is not. Look the id up in the file, and have it exported again.',
+    'E5': "Its election, a unit or a party of it is not the definition's. Was it exported under another version of the election? "
+          'Use the definition that it was made under, or have it exported again.',
+}
+RULES = {
+    '1': 'an object is needed', '2': 'a required member is absent', '3': 'a value is of another kind', '4': 'a text is none of those listed',
+    '5': 'an object of another class stands there', '6': 'a name is empty', '7': 'a count is out of range', '8': 'an array has too few items',
+    '9': 'an array has too many items', '10': 'fractional votes are not counted', '11': 'a text is no date and time with an offset',
+    '12': 'an id stands twice', '13': 'a contest stands twice in a snapshot', '14': 'a number is not whole',
+}
+
 
 def changed(old, new):
     """A file that is accepted, with another text in the place of one."""
@@ -213,11 +230,12 @@ def differs(got, wanted):
 
 def note_on(named, fault):
     """The note on a refused file, or on the step that imports it. Control characters are escaped."""
-    path, (code, _, _) = named.split('=')[-1], fault.partition(' ')
+    path, (code, _, rest) = named.split('=')[-1], fault.partition(' ')
     name = re.sub('[\0-\x1f\x7f-\x9f]', lambda it: '\\u{%x}' % ord(it[0]), named)
     if code == 'E2' and path in NO_JSON:
         return 'note: %s: no JSON at line %d, byte %d%s\n' % ((name,) + NO_JSON[path][1:])
-    return ''
+    place, rule = rest.rsplit(' ', 1) if code == 'E3' else (rest, None)
+    return 'note: %s: %s\n' % (name, (place and 'at %s: ' % place) + (RULES[rule] if rule else WORDS[code]))
 
 
 def notes(program, asked):

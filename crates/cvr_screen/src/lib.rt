@@ -9,6 +9,7 @@ mod seen;
 mod shown;
 mod tried;
 mod watched;
+mod words;
 
 pub use notes::Notes;
 pub use progress::{Cleared, Progress};

@@ -3,6 +3,7 @@ ghost use Rattle.std.specs.Prelude.{◌≡◌, ◌<◌, ◌-◌, length, IfSome}
 ghost use Rattle.std.specs.List.{filter};
 ghost use Rattle.cvr_run.specs.Refusals.{is_refusal};
 
+use cdf_types::ReadFault;
 use cvr_office::Outcome;
 use cvr_run::{NAMED, count_refused};
 use cvr_words::{Act, Request, Step, Task};
@@ -29,6 +30,16 @@ pub fn unnamed(outcomes: &[Outcome]) -> usize
     ensures { result ≡ length (filter is_refusal outcomes.now) - 10 }
 {
     count_refused(outcomes).saturating_sub(NAMED)
+}
+
+/// The path of a fault in its file, where it has one.
+pub fn path_of(fault: &ReadFault) -> Option<&str> {
+    match fault {
+        ReadFault::Schema { path, .. }
+        | ReadFault::Reference { path }
+        | ReadFault::Disagrees { path } => Some(path.as_str()),
+        _ => None,
+    }
 }
 
 // Whether the definition is among the files, too.

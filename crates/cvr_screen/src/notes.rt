@@ -1,7 +1,8 @@
-use crate::naming::{named, uncounted, unnamed};
+use crate::naming::{named, path_of, uncounted, unnamed};
 use crate::seen::{Flaw, Seen, see};
 use crate::shown::Shown;
 use crate::tried::tried;
+use crate::words::fault_words;
 use cdf_types::ReadFault;
 use cvr_office::{Cause, Outcome};
 use cvr_run::{HELD, Happened, NAMED, Status, first_refused};
@@ -155,10 +156,11 @@ impl<'a, R: Eprint + AllocGlobal> Notes<'a, R> {
         }
     }
 
-    // Where a file that was refused stops being JSON. The definition has place 0.
+    // Why a file was refused. The definition has place 0.
     fn print_refused(&self, text: &str, place: usize, cause: &Cause) {
         match (cause, self.flaw_at(place)) {
             (Cause::Read(ReadFault::NotJson), Some(flaw)) => self.print_flaw(text, flaw),
+            (Cause::Read(fault), _) => self.print_fault(text, fault),
             _ => {}
         }
     }
@@ -172,6 +174,20 @@ impl<'a, R: Eprint + AllocGlobal> Notes<'a, R> {
         } = flaw;
         let text = Shown::new(text);
         let _ = eprintln!(self.rt; "note: {text}: no JSON at line {line}, byte {column}{seeming}");
+    }
+
+    // The fault of a file in words, and its path.
+    fn print_fault(&self, text: &str, fault: &ReadFault) {
+        let (text, words) = (Shown::new(text), fault_words(fault));
+        match path_of(fault) {
+            Some(path) if !path.is_empty() => {
+                let path = Shown::new(path);
+                let _ = eprintln!(self.rt; "note: {text}: at {path}: {words}");
+            }
+            _ => {
+                let _ = eprintln!(self.rt; "note: {text}: {words}");
+            }
+        }
     }
 
     fn print_more(&self, unnamed: usize) {
