@@ -24,11 +24,16 @@ abbrev pub AsksCode : List (List ℕ) → List (List ℕ) → Type 0
 AsksCode words asked = (words ≡ codes "explain" ∷ asked)
     ⊎ ((words ≡ codes "help" ∷ codes "explain" ∷ []) × (asked ≡ []))
 
--- no command of the line has that name
-abbrev pub NoExplainLaw : Type 0
-NoExplainLaw = (words asked : List (List ℕ)) → AsksCode words asked
-    → (fault_of cvr_line (with_program words) ≡ UnknownArgument ∷ InvalidSubcommand ∷ [])
-    ⊎ (fault_of cvr_line (with_program words) ≡ DisplayHelp ∷ InvalidSubcommand ∷ [])
+-- no command of the line has that name: whatever is asked, the first word is unknown
+abbrev pub ExplainUnknownLaw : Type 0
+ExplainUnknownLaw = (asked : List (List ℕ))
+    → fault_of cvr_line (with_program (codes "explain" ∷ asked))
+    ≡ UnknownArgument ∷ InvalidSubcommand ∷ []
+
+-- and there is no help on it
+abbrev pub HelpUnknownLaw : Type 0
+HelpUnknownLaw = fault_of cvr_line (with_program (codes "help" ∷ codes "explain" ∷ []))
+    ≡ DisplayHelp ∷ InvalidSubcommand ∷ []
 
 -- ---- codes
 

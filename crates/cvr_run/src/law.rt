@@ -1,6 +1,7 @@
 ghost use Rattle.std.specs.Prelude.{◌≡◌, ◌+◌};
 ghost use Rattle.cdf_form.specs.Reading.{max_file};
-ghost use Rattle.cvr_run.specs.Explained.{CodesOfLines, EachCodeLaw, NoExplainLaw};
+ghost use Rattle.cvr_run.specs.Explained.{ExplainUnknownLaw, HelpUnknownLaw};
+ghost use Rattle.cvr_run.specs.Explained.{CodesOfLines, EachCodeLaw};
 ghost use Rattle.cvr_run.specs.File.{held_bytes};
 ghost use Rattle.cvr_run.specs.HeldBytes.{HeldTextLaw, HeldLinesLaw, HeldFaultLaw, HeldRefusedLaw};
 ghost use Rattle.cvr_run.specs.Laws.{HeldLaw, ByBytesLaw, SameFactsLaw, SameCurrentsLaw};
@@ -106,7 +107,8 @@ pub fn words_for_the_version_are_unknown()
 
 /// No command of the line is called `explain`: without `respond` the words for a code are refused.
 pub fn words_for_a_code_name_no_command()
-    ensures { NoExplainLaw }
+    ensures explain { ExplainUnknownLaw }
+    ensures help { HelpUnknownLaw }
 {}
 
 /// Each code is found by its name. As examples, the codes of a line, as one word and as several, of

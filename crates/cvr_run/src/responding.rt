@@ -88,7 +88,7 @@ fn respond_listed<C: Office + Drop, O: Open, W: Sink, L: Sink>(
 /// code means, that is printed, and no file is opened. Where a list stands in the place of the
 /// files, it is read, and the request is done over the files of its paths. All other words go to
 /// `work`. What `work` says of words that ask for a request holds as it stands.
-#[tactic(auto, using(crate::proofs::CodeWords::version_no_code, crate::proofs::CodeWords::one_asked))]
+#[tactic(auto, using(crate::proofs::CodeWords::not_both, crate::proofs::CodeWords::one_asked))]
 pub fn respond<C: Office + Drop, O: Open, W: Sink, L: Sink>(
     alloc: Global,
     opener: &mut O,
