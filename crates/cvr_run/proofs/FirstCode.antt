@@ -5,7 +5,7 @@ use Rattle.std.specs.List.{position_or_len}
 use Rattle.std.specs.Option.{option_or}
 use Rattle.cvr_run.specs.declared.code.Code.{Code}
 use Rattle.cvr_run.specs.Explained.{code_of, first_code, parts_of}
-use Rattle.cvr_run.specs.ListedPaths.{listed_paths}
+use Rattle.cvr_run.specs.ListedPaths.{parts_at}
 use Rattle.cvr_run.proofs.ListedPaths.{last_path}
 
 pub found : (name : List ℕ) (names : List (List ℕ)) (code : Code) → code_of name ≡ Some code
@@ -29,8 +29,8 @@ alone name = or_none (code_of name)
 
 -- of a text without a blank
 pub last_code : (text : List ℕ) → position_or_len (λ b. b == 32) text ≡ length text
-    → first_code (listed_paths 32 text) ≡ code_of text
-unfolding first_code listed_paths
+    → first_code (parts_at 32 text) ≡ code_of text
+unfolding first_code parts_at
 last_code [] all = refl
 last_code (byte ∷ text) all =
     ap first_code (last_path 32 (byte ∷ text) (λ is. cc) all) ∙ alone (byte ∷ text)

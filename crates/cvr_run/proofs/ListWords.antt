@@ -21,7 +21,7 @@ use Rattle.cvr_run.specs.Job.{Job}
 use Rattle.cvr_run.specs.Listed.{AsksListed, DoesListed, HasNoList, IsBefore, IsGivenEither, IsList}
 use Rattle.cvr_run.specs.Listed.{ListedRequest, ListsFiles, list_place, list_tail, list_words}
 use Rattle.cvr_run.specs.Listed.{over_list}
-use Rattle.cvr_run.specs.ListedPaths.{end_of, listed_paths}
+use Rattle.cvr_run.specs.ListedPaths.{end_of, parts_at}
 use Rattle.cvr_run.specs.Opening.{At, Has, Opener, IsRead, Opens}
 use Rattle.cvr_run.specs.Outcome.{IsWhole}
 use Rattle.cvr_run.specs.OwnWords.{AsksVersion}
@@ -179,7 +179,7 @@ no_list_ends old new path answer b a (line, inr none, logs) (inr refused) =
 pub listed_done : (asked : ListedRequest) (answer : Status) (old new : Devices) (unchanged : Type 0)
     (path : List ℕ) (found : List (List ℕ)) (between : Opener)
     → path ≡ list_place asked.list → ((text : List ℕ) × IsRead (old.opener.at path) text
-    × IsList text × (found ≡ listed_paths (end_of asked.by_null) text))
+    × IsList text × (found ≡ parts_at (end_of asked.by_null) text))
     → Opens old.opener between (path ∷ [])
     → Does (record { task = asked.request.task; def = asked.request.def; paths = found }) answer
     (record old { opener = between }) new unchanged
@@ -213,14 +213,14 @@ read_whole at text all read is short =
 pub request_known : (at : List ℕ → At) (asked : ListedRequest) (job : Job) (path : List ℕ)
     (found : List (List ℕ))
     → path ≡ list_place asked.list → ((text : List ℕ) × IsRead (at path) text × IsList text
-    × (found ≡ listed_paths (end_of asked.by_null) text))
+    × (found ≡ parts_at (end_of asked.by_null) text))
     → ListsFiles at asked job → job.request
     ≡ record { task = asked.request.task; def = asked.request.def; paths = found }
 request_known at asked job path found is read lists =
     let there : at path ≡ Has lists.text = ap at is ∙ lists.at_place in
     let same : read.0 ≡ lists.text = read_whole (at path) read.0 lists.text read.1 there read.2.1 in
-    let paths : found ≡ listed_paths (end_of asked.by_null) lists.text =
-    read.3 ∙ ap (listed_paths (end_of asked.by_null)) same in
+    let paths : found ≡ parts_at (end_of asked.by_null) lists.text =
+    read.3 ∙ ap (parts_at (end_of asked.by_null)) same in
     lists.listed ∙ (λ i. record {
       task = asked.request.task;
       def = asked.request.def;

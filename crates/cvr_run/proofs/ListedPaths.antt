@@ -6,7 +6,7 @@ use Rattle.std.proofs.lemmas.Bool.{eqb-true, eqb-false, eq-eqb, ne_eqb}
 use Rattle.std.specs.Prelude.{◌⊎◌}
 use Rattle.std.specs.List.{AllByRecursion, after_first, before_first, position_or_len}
 use Rattle.cvr_run.specs.ListedPaths.{NoEndLaw, ReadBackLaw, ThreePaths, WholeListLaw, before_paths}
-use Rattle.cvr_run.specs.ListedPaths.{ended_paths, listed_paths}
+use Rattle.cvr_run.specs.ListedPaths.{ended_paths, parts_at}
 
 -- ---- reading from the front
 
@@ -30,12 +30,12 @@ cut_later false byte text n f lt more =
 
 -- at the first end a path is cut off
 pub cut_first : (end : ℕ) (text : List ℕ) → at end text < length text
-    → listed_paths end text ≡ before_first (λ b. b == end) text
-    ∷ listed_paths end (after_first (λ b. b == end) text)
-unfolding listed_paths
+    → parts_at end text ≡ before_first (λ b. b == end) text
+    ∷ parts_at end (after_first (λ b. b == end) text)
+unfolding parts_at
 cut_first end [] lt = absurd (omega (arith, lt))
 cut_first end (byte ∷ text) lt =
-    cut_later (byte == end) byte text (at end text) (listed_paths end) lt (cut_first end text)
+    cut_later (byte == end) byte text (at end text) (parts_at end) lt (cut_first end text)
 
 last_byte : (b : Bool) (byte n m : ℕ) → cond (not b) (1 + n) 0 ≡ suc m
     → cond b ([] ∷ []) (before_paths byte []) ≡ (byte ∷ []) ∷ []
@@ -50,22 +50,22 @@ last_later true byte text n paths all more = absurd (omega (arith, all))
 last_later false byte text n paths all more = ap (before_paths byte) (more (omega (arith, all)))
 
 last_one : (end byte : ℕ) (text : List ℕ) → at end (byte ∷ text) ≡ suc (length text)
-    → listed_paths end (byte ∷ text) ≡ (byte ∷ text) ∷ []
-unfolding listed_paths
+    → parts_at end (byte ∷ text) ≡ (byte ∷ text) ∷ []
+unfolding parts_at
 last_one end byte [] all = last_byte (byte == end) byte (at end []) 0 all
 last_one end byte (next ∷ text) all = last_later (byte == end) byte (next ∷ text)
-    (at end (next ∷ text)) (listed_paths end (next ∷ text)) all (last_one end next text)
+    (at end (next ∷ text)) (parts_at end (next ∷ text)) all (last_one end next text)
 
 -- where no end is left, what is left is a path
 pub last_path : (end : ℕ) (text : List ℕ) → text ≢ [] → at end text ≡ length text
-    → listed_paths end text ≡ text ∷ []
+    → parts_at end text ≡ text ∷ []
 last_path end [] some all = absurd (some refl)
 last_path end (byte ∷ text) some all = last_one end byte text all
 
 -- where nothing is left, there is none
 pub no_path : (end : ℕ) (text : List ℕ) (empty : Bool) → not empty ≡ false
-    → empty ≡ (length text == 0) → listed_paths end text ≡ []
-unfolding listed_paths
+    → empty ≡ (length text == 0) → parts_at end text ≡ []
+unfolding parts_at
 no_path end [] empty is all = refl
 no_path end (byte ∷ text) true is all =
     absurd (let none = eqb-true (length (byte ∷ text)) 0 (sym all) in omega (arith, none))
@@ -88,9 +88,9 @@ whole_later false end byte text (path ∷ paths) is (inl whole) = inl (ap (λ t.
 whole_later false end byte text (path ∷ paths) is (inr whole) = inr (ap (λ t. byte ∷ t) whole)
 
 pub whole_list : WholeListLaw
-unfolding listed_paths
+unfolding parts_at
 whole_list end [] = inl refl
-whole_list end (byte ∷ text) = whole_later (byte == end) end byte text (listed_paths end text)
+whole_list end (byte ∷ text) = whole_later (byte == end) end byte text (parts_at end text)
     (eqb-true byte end) (whole_list end text)
 
 no_end_later : (b : Bool) (end byte : ℕ) (paths : List (List ℕ)) → (b ≡ false → byte ≢ end)
@@ -102,30 +102,30 @@ no_end_later false end byte [] is all = ((is refl, tt), tt)
 no_end_later false end byte (path ∷ paths) is all = ((is refl, all.0), all.1)
 
 pub no_end : NoEndLaw
-unfolding listed_paths
+unfolding parts_at
 no_end end [] = tt
-no_end end (byte ∷ text) = no_end_later (byte == end) end byte (listed_paths end text)
+no_end end (byte ∷ text) = no_end_later (byte == end) end byte (parts_at end text)
     (eqb-false byte end) (no_end end text)
 
 read_first : (end : ℕ) (path more : List ℕ) → AllByRecursion (λ x. x ≢ end) path
-    → listed_paths end (path ++ end ∷ more) ≡ path ∷ listed_paths end more
-unfolding listed_paths
+    → parts_at end (path ++ end ∷ more) ≡ path ∷ parts_at end more
+unfolding parts_at
 read_first end [] more all = ap (λ (b : Bool).
-    cond b ([] ∷ listed_paths end more) (before_paths end (listed_paths end more)))
+    cond b ([] ∷ parts_at end more) (before_paths end (parts_at end more)))
     (eq-eqb end end refl)
 read_first end (byte ∷ path) more all =
-    ap (λ (b : Bool). cond b ([] ∷ listed_paths end (path ++ end ∷ more))
-    (before_paths byte (listed_paths end (path ++ end ∷ more)))) (ne_eqb byte end all.0)
+    ap (λ (b : Bool). cond b ([] ∷ parts_at end (path ++ end ∷ more))
+    (before_paths byte (parts_at end (path ++ end ∷ more)))) (ne_eqb byte end all.0)
     ∙ ap (before_paths byte) (read_first end path more all.1)
 
 pub read_back : ReadBackLaw
-unfolding listed_paths
+unfolding parts_at
 read_back end [] all = refl
 read_back end (path ∷ paths) all =
-    ap (listed_paths end) (append_assoc path (end ∷ []) (ended_paths end paths))
+    ap (parts_at end) (append_assoc path (end ∷ []) (ended_paths end paths))
     ∙ (read_first end path (ended_paths end paths) all.0
     ∙ ap (λ ps. path ∷ ps) (read_back end paths all.1))
 
 pub three_paths : ThreePaths
-unfolding listed_paths
+unfolding parts_at
 three_paths = refl

@@ -13,7 +13,7 @@ use Rattle.cvr_run.specs.declared.status.Status.{Status}
 use Rattle.cvr_run.specs.declared.status.Status.TheVariants.{CommandLine}
 use Rattle.cvr_run.specs.Code.{all_codes, code_name, code_text, explain_text, no_code_text}
 use Rattle.cvr_run.specs.Devices.{Outputs}
-use Rattle.cvr_run.specs.ListedPaths.{listed_paths}
+use Rattle.cvr_run.specs.ListedPaths.{parts_at}
 use Rattle.cvr_run.specs.Log.{Logs}
 use Rattle.cvr_run.specs.OwnWords.{PrintsOwn}
 
@@ -48,7 +48,7 @@ first_code (name ∷ names) = option_or (code_of name) (first_code names)
 
 -- the parts of what is asked: each word, cut at its blanks
 abbrev pub parts_of : List (List ℕ) → List (List ℕ)
-parts_of asked = flat_map (listed_paths 32) asked
+parts_of asked = flat_map (parts_at 32) asked
 
 -- each code is found by its name
 abbrev pub EachCodeLaw : Type 0

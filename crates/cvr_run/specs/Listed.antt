@@ -14,7 +14,7 @@ use Rattle.cvr_run.specs.Answered.{Does, IsGiven, TellsWords}
 use Rattle.cvr_run.specs.Devices.{Devices, outputs}
 use Rattle.cvr_run.specs.File.{held_bytes}
 use Rattle.cvr_run.specs.Job.{Job}
-use Rattle.cvr_run.specs.ListedPaths.{end_of, listed_paths}
+use Rattle.cvr_run.specs.ListedPaths.{end_of, parts_at}
 use Rattle.cvr_run.specs.Opening.{At, Has, Opener, AreAt, IsRead, Opens, opened_more}
 use Rattle.cvr_run.specs.Told.{LogsSome}
 use Rattle.cvr_run.specs.Worked.{Stops}
@@ -70,7 +70,7 @@ over_list asked text =
     record {
       task = asked.request.task;
       def = asked.request.def;
-      paths = listed_paths (end_of asked.by_null) text;
+      paths = parts_at (end_of asked.by_null) text;
     }
 
 -- what was read at a path is no list: that is logged, and nothing else is opened

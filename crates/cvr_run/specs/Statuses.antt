@@ -15,7 +15,7 @@ use Rattle.cvr_run.specs.Answered.{words_line, words_status}
 use Rattle.cvr_run.specs.Devices.{Outputs}
 use Rattle.cvr_run.specs.Explained.{Explains}
 use Rattle.cvr_run.specs.Listed.{IsNoList}
-use Rattle.cvr_run.specs.ListedPaths.{end_of, listed_paths}
+use Rattle.cvr_run.specs.ListedPaths.{end_of, parts_at}
 use Rattle.cvr_run.specs.Opening.{Opener}
 use Rattle.cvr_run.specs.Printing.{status_after}
 use Rattle.cvr_run.specs.Status.{code_of}
@@ -105,5 +105,5 @@ E3IsExplained = (answer : Status) (old new : Outputs)
 -- one text of a list, by lines and by NUL bytes
 abbrev pub TwoEnds : Type 0
 TwoEnds = let text = 97 ∷ 0 ∷ 98 ∷ 10 ∷ 99 ∷ [] in
-    (listed_paths (end_of false) text ≡ (97 ∷ 0 ∷ 98 ∷ []) ∷ (99 ∷ []) ∷ [])
-    × (listed_paths (end_of true) text ≡ (97 ∷ []) ∷ (98 ∷ 10 ∷ 99 ∷ []) ∷ [])
+    (parts_at (end_of false) text ≡ (97 ∷ 0 ∷ 98 ∷ []) ∷ (99 ∷ []) ∷ [])
+    × (parts_at (end_of true) text ≡ (97 ∷ []) ∷ (98 ∷ 10 ∷ 99 ∷ []) ∷ [])

@@ -1,7 +1,7 @@
 ghost use Rattle.std.specs.Prelude.{◌≡◌, ◌≢◌, ℕ, List, [], ◌∷◌, codes, map, true, false, IfSome};
 ghost use Rattle.std.specs.Prelude.{IfNone, string_bytes};
 ghost use Rattle.std.specs.Str.{str_eq_ignore_ascii_case};
-ghost use Rattle.cvr_run.specs.ListedPaths.{listed_paths};
+ghost use Rattle.cvr_run.specs.ListedPaths.{parts_at};
 ghost use Rattle.cvr_run.specs.Code.{code_name};
 ghost use Rattle.cvr_run.specs.Explained.{AsksCode, AsksUse, Explains, code_of, first_code};
 ghost use Rattle.cvr_run.specs.Explained.{parts_of};
@@ -60,7 +60,7 @@ fn code_of(name: &str) -> Option<Code>
 
 // The first code that a part of the word names.
 fn code_in(word: &str) -> Option<Code>
-    ensures { result ≡ first_code (listed_paths 32 word.now) }
+    ensures { result ≡ first_code (parts_at 32 word.now) }
 {
     let mut rest = word;
     'parts: while let Some((part, more)) = rest.split_once(' ') {

@@ -5,7 +5,7 @@ ghost use Rattle.cvr_run.specs.Happened.{IsNoted};
 ghost use Rattle.cvr_run.specs.Job.{Job};
 ghost use Rattle.cvr_run.specs.Listed.{bad_list_line, list_place, DoesListed, HasNoList, IsList};
 ghost use Rattle.cvr_run.specs.Listed.{ListsFiles};
-ghost use Rattle.cvr_run.specs.ListedPaths.{end_of, listed_paths};
+ghost use Rattle.cvr_run.specs.ListedPaths.{end_of, parts_at};
 ghost use Rattle.cvr_run.specs.Log.{Logs};
 ghost use Rattle.cvr_run.specs.Opening.{IsRead, Opens};
 ghost use Rattle.cvr_run.specs.Outcome.{IsWhole};
@@ -63,7 +63,7 @@ fn paths_at<O: Open, L: Sink>(
 ) -> Result<Seq<Body>, Status>
     ensures paths { IfOk result (λ paths. (text : List ℕ)
         × IsRead ((O.state opener.old).at path.now) text
-        × IsList text × (paths ≡ listed_paths (end_of by_null) text)) }
+        × IsList text × (paths ≡ parts_at (end_of by_null) text)) }
     ensures quiet { OnOk result (log.new ≡ log.old) }
     ensures opens { OnOk result
         (Opens (O.state opener.old) (O.state opener.new) (path.now ∷ [])) }

@@ -1,5 +1,5 @@
 ghost use Rattle.std.specs.Prelude.{◌≡◌, ◌<◌, IfOk};
-ghost use Rattle.cvr_run.specs.ListedPaths.{end_of, listed_paths};
+ghost use Rattle.cvr_run.specs.ListedPaths.{end_of, parts_at};
 
 use cdf_types::{Body, Memory, Seq};
 use std::alloc::Global;
@@ -25,7 +25,7 @@ fn end_byte(by_null: bool) -> char
 /// # Errors
 /// `Memory` where a growth was refused.
 pub fn read_paths(alloc: Global, text: &str, by_null: bool) -> Result<Seq<Body>, Memory>
-    ensures { IfOk result (λ paths. paths ≡ listed_paths (end_of by_null) text.now) }
+    ensures { IfOk result (λ paths. paths ≡ parts_at (end_of by_null) text.now) }
 {
     let end = end_byte(by_null);
     let mut paths = Seq::empty(alloc);

@@ -4,7 +4,7 @@ use Rattle.cvr_run.specs.declared.code.Code.TheVariants as code
 use Rattle.cvr_run.specs.declared.status.Status.{Status}
 use Rattle.cvr_run.specs.declared.status.Status.TheVariants.{Done, Device}
 use Rattle.cvr_run.specs.Explained.{first_code}
-use Rattle.cvr_run.specs.ListedPaths.{listed_paths}
+use Rattle.cvr_run.specs.ListedPaths.{parts_at}
 use Rattle.cvr_run.specs.Statuses.{E3IsExplained}
 use Rattle.cvr_run.proofs.examples.runs_end_by_their_status.Goals as goal
 
@@ -14,7 +14,7 @@ by_output true answer is = (λ no. absurd (cc), λ yes. is)
 by_output false answer is = (λ no. is, λ yes. absurd (cc))
 
 e3_is_explained : E3IsExplained
-unfolding first_code listed_paths
+unfolding first_code parts_at
 e3_is_explained answer old new (inl prints) =
     by_output new.out.failed answer prints.printed.status
 e3_is_explained answer old new (inr (inl own)) =
@@ -23,7 +23,7 @@ e3_is_explained answer old new (inr (inr none)) =
     let bad : Some code.E3 ≡ None = none.unknown in absurd (cc)
 
 pub returns : goal.returns
-unfolding listed_paths
+unfolding parts_at
 returns c = record {
   numbers = (refl, refl, refl, refl, refl);
   printed = (refl, refl, refl, refl);

@@ -1,7 +1,7 @@
 use Rattle.std.proofs.Common.{rules, ◌≡◌, ◌∙◌, ◌==◌, ◌∷◌, ap, arith, sym}
 use Rattle.std.specs.List.{before_first}
 use Rattle.cvr_run.specs.Explained.{first_code}
-use Rattle.cvr_run.specs.ListedPaths.{listed_paths}
+use Rattle.cvr_run.specs.ListedPaths.{parts_at}
 use Rattle.cvr_run.proofs.FirstCode.{found, last_code, passed}
 use Rattle.cvr_run.proofs.ListedPaths.{cut_first}
 use Rattle.cvr_run.proofs.explaining.code_in.Goals as goal
@@ -12,11 +12,11 @@ returns-in-Some-code_of c =
     let part = c.in-Some.part.now in
     let more = c.in-Some.more.now in
     let cut = c.in-Some.ensures.byte (omega arith) (λ w o f. f) in
-    let parts : part ∷ listed_paths 32 more ≡ listed_paths 32 rest =
-    ap (λ p. p ∷ listed_paths 32 more) cut.0
-    ∙ (ap (λ m. before_first (λ b. b == 32) rest ∷ listed_paths 32 m) cut.1
+    let parts : part ∷ parts_at 32 more ≡ parts_at 32 rest =
+    ap (λ p. p ∷ parts_at 32 more) cut.0
+    ∙ (ap (λ m. before_first (λ b. b == 32) rest ∷ parts_at 32 m) cut.1
     ∙ sym (cut_first 32 rest cut.2)) in
-    sym (found part (listed_paths 32 more) c.in-Some-code_of.code
+    sym (found part (parts_at 32 more) c.in-Some-code_of.code
     (sym c.code_of.ensures ∙ c.in-Some-code_of.is))
     ∙ (ap first_code parts ∙ c.parts.invariant.1)
 
@@ -26,12 +26,12 @@ parts-preserved c =
     let part = c.in-Some.part.now in
     let more = c.in-Some.more.now in
     let cut = c.in-Some.ensures.byte (omega arith) (λ w o f. f) in
-    let parts : part ∷ listed_paths 32 more ≡ listed_paths 32 rest =
-    ap (λ p. p ∷ listed_paths 32 more) cut.0
-    ∙ (ap (λ m. before_first (λ b. b == 32) rest ∷ listed_paths 32 m) cut.1
+    let parts : part ∷ parts_at 32 more ≡ parts_at 32 rest =
+    ap (λ p. p ∷ parts_at 32 more) cut.0
+    ∙ (ap (λ m. before_first (λ b. b == 32) rest ∷ parts_at 32 m) cut.1
     ∙ sym (cut_first 32 rest cut.2)) in (
       search rules,
-      sym (passed part (listed_paths 32 more) (sym c.code_of.ensures ∙ c.in_default-code_of.is))
+      sym (passed part (parts_at 32 more) (sym c.code_of.ensures ∙ c.in_default-code_of.is))
           ∙ (ap first_code parts ∙ c.parts.invariant.1),
     )
 

@@ -1,7 +1,7 @@
 use Rattle.std.proofs.Common.{rules, ◌≡◌, ◌∙◌, ◌++◌, ◌==◌, ℕ, [], ◌∷◌, ap, sym, append-nil}
 use Rattle.std.proofs.Common.{append_assoc}
 use Rattle.std.specs.List.{before_first}
-use Rattle.cvr_run.specs.ListedPaths.{end_of, listed_paths}
+use Rattle.cvr_run.specs.ListedPaths.{end_of, parts_at}
 use Rattle.cvr_run.proofs.ListedPaths.{cut_first, last_path, no_path}
 use Rattle.cvr_run.proofs.listed_paths.read_paths.Goals as goal
 use Rattle.cvr_run.proofs.listed_paths.read_paths.Goals.{then-not-is_empty+in_ok-path_of-2+in_ok-push-2}
@@ -16,10 +16,10 @@ ends-preserved c =
     let cut = c.in-Some.ensures.byte c.end_byte-end.ensures.ascii (λ w o f. f) in
     let pushed : c.push.new.self ≡ c.ends.paths ++ path ∷ [] = search rules in (
       search rules,
-      ap (λ ps. ps ++ listed_paths end more) pushed
-          ∙ (append_assoc c.ends.paths (path ∷ []) (listed_paths end more)
-          ∙ (ap (λ p. c.ends.paths ++ p ∷ listed_paths end more) cut.0
-          ∙ (ap (λ m. c.ends.paths ++ before_first (λ b. b == end) rest ∷ listed_paths end m) cut.1
+      ap (λ ps. ps ++ parts_at end more) pushed
+          ∙ (append_assoc c.ends.paths (path ∷ []) (parts_at end more)
+          ∙ (ap (λ p. c.ends.paths ++ p ∷ parts_at end more) cut.0
+          ∙ (ap (λ m. c.ends.paths ++ before_first (λ b. b == end) rest ∷ parts_at end m) cut.1
           ∙ (ap (λ ps. c.ends.paths ++ ps) (sym (cut_first end rest cut.2))
           ∙ c.ends.invariant.1)))),
     )
@@ -30,8 +30,8 @@ returns c =
     let rest = c.ends.rest.now in
     let text = c.args.text.now in
     let all = c.in_default.ensures.byte c.end_byte-end.ensures.ascii (λ w o f. f) in
-    let whole : c.ends.paths ++ listed_paths end rest ≡ listed_paths (end_of c.args.by_null) text =
-    c.ends.invariant.1 ∙ ap (λ (e : ℕ). listed_paths e text) c.end_byte-end.ensures.end in
+    let whole : c.ends.paths ++ parts_at end rest ≡ parts_at (end_of c.args.by_null) text =
+    c.ends.invariant.1 ∙ ap (λ (e : ℕ). parts_at e text) c.end_byte-end.ensures.end in
     elim c.if-not-is_empty.branch [
       | then-not-is_empty+in_ok-path_of-2+in_ok-push-2 w ↦
           let pushed : c.if-not-is_empty.paths ≡ c.ends.paths ++ rest ∷ [] = search rules in
