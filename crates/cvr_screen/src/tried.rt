@@ -1,11 +1,11 @@
+// What there is in the place of an option that asks for tables.
+const TABLES: &str =
+    "cvr prints lines; cvr-audit totals DEF FILE.. --format json, or csv, prints tables";
+
 // What there is in the place of an option that people try.
 fn instead_of(option: &str) -> Option<&'static str> {
     match option {
-        "--json" | "--csv" | "--format" => {
-            Some(
-                "cvr prints lines; cvr-audit totals DEF FILE.. --format json, or csv, prints tables",
-            )
-        }
+        "--json" | "--csv" | "--format" => Some(TABLES),
         "-o" | "--out" | "--output" => {
             Some("cvr prints to standard output, which > OUT saves in a file")
         }
