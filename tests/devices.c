@@ -2,7 +2,8 @@
 
    DEVICE=`STREAM CALL HOW`. STREAM is 0 for the files that are read, 1 for standard output, 2 for standard error. Each
    call on it reads or writes one byte. HOW says what happens at call number CALL, counted from 1 over all files:
-   `fails` answers an error, `nothing` reads or writes nothing, and `killed` ends the program by SIGKILL. Where STREAM is
+   `fails` answers an error, `nothing` reads or writes nothing, `killed` ends the program by SIGKILL; and before the byte
+   is read `grows` puts a blank behind the file, and `rewritten` writes its first byte again. Where STREAM is
    3, the call is one that opens a file: `denied` answers that it may not be read, `lacking` that there is no memory.
    Other calls are as usual. */
 #include <errno.h>
@@ -17,11 +18,26 @@ static int stream = -1;
 static long last, calls;
 static char how[16];
 
+/* Writes to the file that is being read, as another program may. */
+static void change(int file) {
+    char path[40], byte = ' ';
+    snprintf(path, sizeof path, "/proc/self/fd/%d", file);
+    int to = syscall(SYS_openat, AT_FDCWD, path, how[0] == 'g' ? O_WRONLY | O_APPEND : O_RDWR, 0);
+    if (how[0] == 'r' && syscall(SYS_pread64, to, &byte, 1, 0L) != 1)
+        _exit(97);
+    if (syscall(SYS_pwrite64, to, &byte, 1, 0L) != 1)
+        _exit(97);
+    syscall(SYS_close, to);
+}
+
 /* A call of the system, for one byte where it is on the stream. */
 static ssize_t call(long number, int is_on_stream, int file, const void *bytes, size_t size) {
     if (!is_on_stream)
         return syscall(number, file, bytes, size);
-    if (++calls != last)
+    int is_last = ++calls == last, is_changed = how[0] == 'g' || how[0] == 'r';
+    if (is_last && is_changed)
+        change(file);
+    if (!is_last || is_changed)
         return syscall(number, file, bytes, size < 1 ? size : 1);
     if (how[0] == 'k')
         kill(getpid(), SIGKILL);

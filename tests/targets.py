@@ -6,8 +6,9 @@ qemu-user, Windows' under Wine, with a server that stays. Output, log and status
 states. The rows that a system can't run, such as those with names that Windows forbids, stand by their names and
 reasons in tests/targets/windows.txt; one that differs and doesn't stand there is wrong, and so is one that stands there
 and doesn't differ. Each also reads random files (tests/rows/random_files.py), and is tried on what no row has: standard
-input and a closed pipe, and on Windows also paths. None needs a library of the system but those in NEEDED. Before that,
-small texts show what tools/targets changes in LLVM's text, and what it refuses.
+input and a closed pipe, and on Windows also paths, and what tools/system.c says of open files (targets/looks.c). None
+needs a library of the system but those in NEEDED. Before that, small texts show what tools/targets changes in LLVM's
+text, and what it refuses.
 
 On a busy machine Wine gives a wrong answer once in some thousand runs, also to a few lines of C (tests/rows/README.md says
 more). So under Wine a trial that differs is tried once more, alone. How many are right only then is printed, with what
@@ -212,6 +213,8 @@ def own_trials(target, cvr, folder):
             file.write(rows.VECTORS[name])
     for given in INPUTS:
         yield partial(input_fault, cvr, folder, *given)
+    if target.is_windows:
+        yield partial(looks_fault, target, folder)
     if not target.is_wasm:      # a closed pipe ends the driver, which isn't the program; serve.js sees what is imported
         yield partial(pipe_fault, cvr, folder)
         yield partial(needed_fault, target.path)
@@ -222,6 +225,18 @@ def input_fault(cvr, folder, more, *wanted):
     got = subprocess.run([cvr, 'check', 'def.json', '/dev/stdin'], cwd=folder, input=rows.VECTORS['f2.json'] + more,
                          stdout=subprocess.PIPE, stderr=subprocess.PIPE)
     return None if (got.returncode, got.stdout, got.stderr) == wanted else 'standard input with %r: %r' % (more, got)
+
+
+def looks_fault(target, folder):
+    """What is wrong with what tools/system.c says of a file and of a pipe, as looks.c prints it, or None."""
+    looks, path = os.path.join(folder, 'looks.exe'), os.path.join(folder, 'f2.json')
+    sources = [os.path.join(HERE, 'targets/looks.c'), os.path.join(TOP, 'tools/system.c')]
+    subprocess.run([*COMPILED, '-o', looks, *sources, '-lshell32'], check=True)
+    os.utime(path, ns=(0, 1234567890123456700))
+    with subprocess.Popen([target.script(folder, looks)], cwd=folder, stdin=subprocess.PIPE, stdout=subprocess.PIPE, text=True) as ran:
+        got = ran.communicate()[0].split('\n')
+    wanted = ['8000 %d 12345678901234567' % os.path.getsize(path), 'no file', '']
+    return None if [it.rstrip() for it in got] == wanted else 'looks.c: %r, expected %r' % (got, wanted)
 
 
 def pipe_fault(cvr, folder):

@@ -12,6 +12,8 @@ each, on one terminal for both, and on pipes.
 seems to be; records of the definition's own; names with several texts; no files; what the system says of a file that
 can't be read. Of more than ten refused files, ten and how many more; of 100,000, too, and with no more memory than the
 same run takes where there is no terminal.
+- A file that another program writes to while it is read (devices.c), DEF or another: its length grows, or it has a later
+time; and where the definition is refused, too.
 - A file that is read slowly, by a named pipe: the line stays while the run waits for it.
 - The terminal fails at each call of the line, with one byte a call (devices.c): output, log and status are as usual.
 
@@ -296,6 +298,24 @@ def slow(program, names):
         or wrong_of(log, len(names), asked.log.decode('utf-8') + notes(program, asked)) or differs(status, asked.status)
 
 
+def written_to(program):
+    """Yields what is wrong with a run, or nothing, while which a file is written to."""
+    asked = damage.case('tally', damage.held('f2.json', 'f6.json'))
+    refused = asked._replace(words=['tally', 'half', 'f2.json'], out=b'', log=b'half: E2\n', status=1)
+    behind = lambda *names: 1 + sum(os.path.getsize(program.path(name)) + 1 for name in names)
+    for name, call in ('def.json', 1), ('f2.json', behind('def.json')), ('f6.json', behind('def.json', 'f2.json')), ('half', 1):
+        run_of = refused if name == 'half' else asked
+        for how in 'grows', 'rewritten':
+            with open(program.path(name), 'rb') as file:
+                held = file.read()
+            os.utime(program.path(name), (0, 0))
+            out, log, status = Run(program, run_of.words, End('pipe'), End('terminal'), '0 %d %s' % (call, how)).left()
+            program.put(name, held)
+            told = notes(program, run_of) + 'note: %s: it was written to while it was read\n' % name
+            yield differs(out, run_of.out.decode('utf-8')) or wrong_of(log, len(run_of.words) - 2, run_of.log.decode('utf-8') + told) \
+                or differs(status, run_of.status)
+
+
 def failing(program, asked):
     """Yields what is wrong with a run, or nothing. Its terminal fails at a call that writes or removes the line. The
     log is whole in each, and stands alone unless the line could not be removed."""
@@ -405,6 +425,7 @@ def main():
             found += [('a refused definition and a list', one) for one in wrongs(program, refused._replace(out=b''), 4, note_on('half', 'E2'))]
             found += [('a definition by a pipe', piped(program)), ('want of memory', lacking(program))]
             found += [('many files', one) for one in many(program)]
+            found += [('a file that is written to', one) for one in written_to(program)]
             found.append(('a slow file', slow(program, ['f2.json', 'f6.json', 'f8.json'])))
             refused = damage.case('currents', damage.held('f2.json', 'f6.json') + [('half', 'E2')])
             found += [('a terminal that fails', one) for one in failing(program, refused)]

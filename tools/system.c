@@ -1,7 +1,7 @@
 /* What the program calls of a system, on systems for which the kit has no C library of its own: Windows, and Linux on
-   ARM. It passes on words, memory, the opening and reading of files, and writing; tools/targets links it. On Windows
-   paths and words are UTF-8 here, and no end of a line is changed. Of errno the program tells apart EINTR and ENOMEM,
-   whose numbers are those of Linux. With LIBRARY it has memory alone, which is all that the library calls. */
+   ARM. It passes on words, memory, the opening and reading of files, what they are, and writing; tools/targets links it.
+   On Windows paths and words are UTF-8 here, and no end of a line is changed. Of errno the program tells apart EINTR and
+   ENOMEM, whose numbers are those of Linux. With LIBRARY it has memory alone, which is all that the library calls. */
 #include <errno.h>
 #include <stdint.h>
 #include <stdlib.h>
@@ -106,6 +106,41 @@ int cvr_close(int file) { return _close(file); }
 int cvr_isatty(int file) {
     DWORD mode;
     return GetConsoleMode((HANDLE)_get_osfhandle(file), &mode) != 0;
+}
+
+/* Linux's struct statx, and one of its times. */
+typedef struct { int64_t seconds; uint32_t nanoseconds, unused; } Time;
+
+typedef struct {
+    uint32_t mask, block;
+    uint64_t attributes;
+    uint32_t links, user, group;
+    uint16_t mode, unused;
+    uint64_t number, size, blocks, attributes_mask;
+    Time read, created, changed, written;
+    uint64_t more[16];
+} Found;
+
+_Static_assert(sizeof(Found) == 256, "struct statx");
+
+enum { IS_FILE = 0x8000, TO_1970 = 11644473600 };
+
+/* Of an open file the length, the time at which it was written to last, and that it is a file. The program asks for no
+   other, and by no path. */
+int cvr_statx(int file, const char *path, int flags, unsigned mask, Found *found) {
+    BY_HANDLE_FILE_INFORMATION has;
+    HANDLE handle = (HANDLE)_get_osfhandle(file);
+    (void)path, (void)flags, (void)mask;
+    if (GetFileType(handle) != FILE_TYPE_DISK || !GetFileInformationByHandle(handle, &has)) {
+        errno = EBADF;
+        return -1;
+    }
+    uint64_t ticks = (uint64_t)has.ftLastWriteTime.dwHighDateTime << 32 | has.ftLastWriteTime.dwLowDateTime;
+    memset(found, 0, sizeof *found);
+    found->mode = IS_FILE;
+    found->size = (uint64_t)has.nFileSizeHigh << 32 | has.nFileSizeLow;
+    found->written = (Time){(int64_t)(ticks / 10000000) - TO_1970, (uint32_t)(ticks % 10000000) * 100, 0};
+    return 0;
 }
 
 int cvr_strerror(int number, char *into, int64_t room) { return strerror_s(into, (size_t)room, number); }

@@ -25,6 +25,14 @@ pub fn named(request: &Request, place: usize) -> Option<(&str, usize)> {
     }
 }
 
+/// The path of the file at this place: of the definition at 0, and then of the files in order.
+pub fn file_at(request: &Request, place: usize) -> Option<&str> {
+    match place.checked_sub(1) {
+        None => Some(request.def.as_str()),
+        Some(behind) => Some(request.paths.as_slice().get(behind)?.as_str()),
+    }
+}
+
 /// How many of the files or steps that were refused aren't among the first ten.
 pub fn unnamed(outcomes: &[Outcome]) -> usize
     ensures { result ≡ length (filter is_refusal outcomes.now) - 10 }

@@ -1,4 +1,4 @@
-use crate::naming::{named, path_of, uncounted, unnamed};
+use crate::naming::{file_at, named, path_of, uncounted, unnamed};
 use crate::seen::{Flaw, Seen, see};
 use crate::shown::Shown;
 use crate::tried::tried;
@@ -30,6 +30,8 @@ pub struct Notes<'a, R> {
     closed: Cell<usize>,
     // The first that are no JSON: the definition, and as many as are named.
     flawed: RefCell<Vec<Flawed>>,
+    // The places of the first that were written to while they were read.
+    changed: RefCell<Vec<usize>>,
     // How many cast vote records the definition has.
     own: Cell<usize>,
     // What the system answered where a file could not be opened or read.
@@ -46,6 +48,7 @@ impl<'a, R: Eprint + AllocGlobal> Notes<'a, R> {
             before,
             closed: Cell::new(0),
             flawed: RefCell::new(Vec::new(rt.alloc())),
+            changed: RefCell::new(Vec::new(rt.alloc())),
             own: Cell::new(0),
             code: Cell::new(None),
         }
@@ -66,13 +69,18 @@ impl<'a, R: Eprint + AllocGlobal> Notes<'a, R> {
         }
     }
 
-    /// Keeps what the bytes of a file that was read seem to be; None where they weren't kept.
-    pub fn close(&self, bytes: Option<&[u8]>) {
+    /// Keeps what the bytes of a file that was read seem to be, where they were kept, and whether
+    /// others wrote to it meanwhile.
+    pub fn close(&self, bytes: Option<&[u8]>, has_changed: bool) {
         let closed = self.closed.get();
         self.closed.set(closed.saturating_add(1));
-        if let (Some(bytes), Some(place)) = (bytes, closed.checked_sub(self.before)) {
-            if bytes.len() < HELD {
-                self.look(place, bytes);
+        if let Some(place) = closed.checked_sub(self.before) {
+            if has_changed {
+                self.keep_change(place);
+            }
+            match bytes {
+                Some(bytes) if bytes.len() < HELD => self.look(place, bytes),
+                _ => {}
             }
         }
     }
@@ -92,6 +100,15 @@ impl<'a, R: Eprint + AllocGlobal> Notes<'a, R> {
         if let Ok(mut all) = self.flawed.try_borrow_mut() {
             if all.len() <= NAMED {
                 let _ = all.push(flawed);
+            }
+        }
+    }
+
+    // Keeps that a file was written to, of as many as are named.
+    fn keep_change(&self, place: usize) {
+        if let Ok(mut all) = self.changed.try_borrow_mut() {
+            if all.len() < NAMED {
+                let _ = all.push(place);
             }
         }
     }
@@ -132,7 +149,10 @@ impl<'a, R: Eprint + AllocGlobal> Notes<'a, R> {
     fn print_run(&self, happened: &Happened) {
         if let Some(request) = &happened.request {
             match &happened.definition {
-                Some(cause) => self.print_refused(request.def.as_str(), 0, cause),
+                Some(cause) => {
+                    self.print_refused(request.def.as_str(), 0, cause);
+                    self.print_changes(request, 1);
+                }
                 None => self.print_judged(request, happened),
             }
         }
@@ -149,6 +169,7 @@ impl<'a, R: Eprint + AllocGlobal> Notes<'a, R> {
             }
         }
         self.print_more(unnamed(outcomes));
+        self.print_changes(request, usize::MAX);
         self.print_own(request);
         self.print_several(happened.several);
         if request.paths.as_slice().is_empty() {
@@ -193,6 +214,18 @@ impl<'a, R: Eprint + AllocGlobal> Notes<'a, R> {
     fn print_more(&self, unnamed: usize) {
         if unnamed > 0 {
             let _ = eprintln!(self.rt; "note: {unnamed} more were refused");
+        }
+    }
+
+    // The files that were written to, of those before this place.
+    fn print_changes(&self, request: &Request, end: usize) {
+        if let Ok(changed) = self.changed.try_borrow() {
+            for place in changed.iter().filter(|place| **place < end) {
+                if let Some(path) = file_at(request, *place) {
+                    let path = Shown::new(path);
+                    let _ = eprintln!(self.rt; "note: {path}: it was written to while it was read");
+                }
+            }
         }
     }
 

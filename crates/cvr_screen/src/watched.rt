@@ -1,4 +1,4 @@
-ghost use Rattle.std.specs.Prelude.{◌≡◌, ◌<◌, ◌≤◌, length, false, take};
+ghost use Rattle.std.specs.Prelude.{◌≡◌, ◌<◌, ◌≤◌, length, false, take, None};
 ghost use Rattle.std.specs.Io.KnownBytes.{WriteAppends};
 ghost use Rattle.cdf_types.specs.Device.{Appends, count, fails_write};
 
@@ -6,27 +6,36 @@ use crate::notes::Notes;
 use crate::progress::Progress;
 use cdf_types::{DeviceFault, Sink};
 use cvr_run::OverWrite;
+use std::fs::{Metadata, OpenFile};
 use std::io;
 use std::io::{Read, Write};
 
 /// A file that counts as read when it is closed, and whose bytes are kept for the notes.
-pub struct Watched<'a, F, R: Eprint + AllocGlobal> {
+pub struct Watched<'a, F: OpenFile, R: Eprint + AllocGlobal> {
     file: F,
+    // What the system says of it as it is opened; None where no note needs it.
+    opened: Option<Metadata>,
     // Its bytes; None where they aren't kept.
     kept: Option<Vec<u8>>,
     progress: &'a Progress<'a, R>,
     notes: &'a Notes<'a, R>,
 }
 
-impl<'a, F, R: Eprint + AllocGlobal> Watched<'a, F, R> {
+impl<'a, F: OpenFile, R: Eprint + AllocGlobal> Watched<'a, F, R> {
     /// A file that was opened.
     pub fn new(
         file: F,
         progress: &'a Progress<'a, R>,
         notes: &'a Notes<'a, R>,
     ) -> Watched<'a, F, R> {
+        let opened = if notes.is_terminal() {
+            file.metadata().ok()
+        } else {
+            None
+        };
         Watched {
             file,
+            opened,
             kept: notes.open(),
             progress,
             notes,
@@ -45,7 +54,23 @@ impl<'a, F, R: Eprint + AllocGlobal> Watched<'a, F, R> {
     }
 }
 
-impl<F: Read, R: Eprint + AllocGlobal> Read for Watched<'_, F, R> {
+// Whether a file was written to since then, as far as its length and its time say. Of what is no
+// file, such as a pipe, they say nothing.
+fn has_changed<F: OpenFile>(file: &F, opened: Option<Metadata>) -> bool
+    ensures { opened ≡ None → result ≡ false }
+{
+    let Some(before) = opened else {
+        return false;
+    };
+    match file.metadata() {
+        Ok(now) if before.is_file() => {
+            before.len() != now.len() || before.modified().ok() != now.modified().ok()
+        }
+        _ => false,
+    }
+}
+
+impl<F: Read + OpenFile, R: Eprint + AllocGlobal> Read for Watched<'_, F, R> {
     ghost remaining = { λ s. F.remaining s.file };
 
     fn read(&mut self, buffer: &mut [u8]) -> io::Result<usize> {
@@ -58,19 +83,21 @@ impl<F: Read, R: Eprint + AllocGlobal> Read for Watched<'_, F, R> {
     }
 }
 
-impl<F: Drop, R: Eprint + AllocGlobal> Drop for Watched<'_, F, R> {
+impl<F: OpenFile + Drop, R: Eprint + AllocGlobal> Drop for Watched<'_, F, R> {
     fn drop(self) {
         let Watched {
             file,
+            opened,
             kept,
             progress,
             notes,
         } = self;
+        let has_changed = has_changed(&file, opened);
         drop(file);
         progress.count();
         match kept {
-            Some(bytes) => notes.close(Some(bytes.as_slice())),
-            None => notes.close(None),
+            Some(bytes) => notes.close(Some(bytes.as_slice()), has_changed),
+            None => notes.close(None, has_changed),
         }
     }
 }
