@@ -43,7 +43,8 @@ typedef struct {
 
    The text stands in `text` and the log in `log`, as far as they fit, without a NUL behind them; the rest of a room
    stays as it was. `sizes` says how long both are. Where one is longer than its room, the status is CVR_NO_ROOM, and a
-   second call with so much room answers the rest: give `input_len` bytes for each at first, and ask again once.
+   second call with so much room answers the rest: give `input_len` bytes for each at first, and ask again once. Where
+   memory ran out, the rooms and `sizes` have what was printed and logged before.
 
    All that is passed stays the caller's. Input and ends are only read; the rooms and `sizes` are written, and may not
    overlap each other or what is read. No pointer may be NULL, even where its length is 0. Nothing is kept between
@@ -89,7 +90,8 @@ uint8_t cvr_office_new(CvrOffice *office, const uint8_t *definition, size_t defi
                        CvrRefusal *refusal);
 
 /* Has the office take in a file. Where it is refused, the status is CVR_REFUSED, with `refusal` and `path` as above, and
-   the office stays as it was. `receipt` is written where the status is CVR_DONE, `refusal` and `path` where it isn't. */
+   the office stays as it was. `receipt` is written where the status is CVR_DONE; `refusal` and `path` where it is
+   CVR_REFUSED, or CVR_MEMORY, which has the code of E6 and no path. */
 uint8_t cvr_office_import(CvrOffice *office, const uint8_t *file, size_t file_len, CvrReceipt *receipt, uint8_t *path,
                           size_t path_len, CvrRefusal *refusal);
 
@@ -98,7 +100,8 @@ uint8_t cvr_office_import(CvrOffice *office, const uint8_t *file, size_t file_le
 uint8_t cvr_office_join(CvrOffice *office, CvrOffice *other, size_t *new_facts);
 
 /* What the commands `tally`, `currents` and `conflicts` print of all that the office holds. The text stands in `text` as
-   far as it fits, and `size` says how long it is: where it is longer, the status is CVR_NO_ROOM. */
+   far as it fits, and `size` says how long it is: where it is longer, the status is CVR_NO_ROOM. Both are written where
+   the status is CVR_DONE or CVR_NO_ROOM. */
 uint8_t cvr_office_tally(CvrOffice *office, uint8_t *text, size_t text_len, size_t *size);
 uint8_t cvr_office_currents(CvrOffice *office, uint8_t *text, size_t text_len, size_t *size);
 uint8_t cvr_office_conflicts(CvrOffice *office, uint8_t *text, size_t text_len, size_t *size);

@@ -43,14 +43,23 @@ abbrev pub fits : Answer → Rooms → Bool
 fits answer rooms = nat_le (length answer.text) (length rooms.text)
     && nat_le (length answer.log) (length rooms.log)
 
--- the caller gets an answer: text and log stand in their rooms as far as they fit, with their
--- lengths beside them; the status is the program's where both fit
+-- a text and a log were put into rooms, with their lengths beside them
+pub record Puts (text log : List ℕ) (old new : Rooms) (sizes : CvrSizes) : Type 0 where
+  pub text_put : new.text ≡ put_into old.text text
+  pub log_put : new.log ≡ put_into old.log log
+  pub text_size : sizes.text ≡ length text
+  pub log_size : sizes.log ≡ length log
+
+-- so they were, whatever they are
+pub record HasPut (old new : Rooms) (sizes : CvrSizes) : Type 0 where
+  pub text : List ℕ
+  pub log : List ℕ
+  pub put : Puts text log old new sizes
+
+-- the caller gets an answer: its text and log are put; the status is the program's where both fit
 pub record Tells (answer : Answer) (old new : Rooms) (sizes : CvrSizes) (result : ℕ) : Type 0 where
   pub status : result ≡ (if fits answer old then code_of answer.status else no_room)
-  pub text : new.text ≡ put_into old.text answer.text
-  pub log : new.log ≡ put_into old.log answer.log
-  pub text_size : sizes.text ≡ length answer.text
-  pub log_size : sizes.log ≡ length answer.log
+  pub put : Puts answer.text answer.log old new sizes
 
 -- the caller gets none: the rooms stay as they were, and the sizes are 0
 pub record IsUntold (old new : Rooms) (sizes : CvrSizes) : Type 0 where

@@ -3,7 +3,8 @@ ghost use Rattle.std.specs.Prelude.{if◌then◌else◌};
 ghost use Rattle.cvr_run.specs.Status.{code_of};
 ghost use Rattle.cvr_call.specs.Given.{Given, IsInput};
 ghost use Rattle.cvr_call.specs.Responds.{Answer, IsAnswer};
-ghost use Rattle.cvr_call.specs.Told.{IsUntold, Tells, no_input, no_memory, no_room, put_into};
+ghost use Rattle.cvr_call.specs.Told.{HasPut, IsUntold, Tells, no_input, no_memory, no_room};
+ghost use Rattle.cvr_call.specs.Told.{put_into};
 
 use crate::answer::answer_input;
 use cdf_types::MemorySink;
@@ -52,7 +53,7 @@ pub fn code_told(status: Status, text_fits: bool, log_fits: bool) -> u8
 /// stand in their rooms as far as they fit; `sizes` says how long they are. Answers the program's
 /// status, 0 to 4; 5 where the input isn't words and files, and nothing is done; and 6 where the
 /// text or the log is longer than its room. A refused growth is answered by 4: what then stands in
-/// the rooms is what was printed and logged so far.
+/// the rooms, with its lengths in `sizes`, is what was printed and logged so far.
 #[unsafe(no_mangle)]
 pub extern "C" fn cvr_call(
     alloc: Global,
@@ -71,6 +72,8 @@ pub extern "C" fn cvr_call(
         → ¬ IsInput input.now ends.now words given }
     ensures bad_input { ((given : Given) → ¬ IsInput input.now ends.now words given)
         → (result ≡ no_input) ⊎ (result ≡ no_memory) }
+    ensures left { HasPut (record { text = text.old; log = log.old })
+        (record { text = text.new; log = log.new }) sizes.new }
     ensures untold { result ≡ no_input
         → IsUntold (record { text = text.old; log = log.old })
         (record { text = text.new; log = log.new }) sizes.new }

@@ -1,5 +1,6 @@
 ghost use Rattle.std.specs.Prelude.{◌≡◌, ◌≢◌, ◌⊎◌, IfOk, IfErr, IfSome, None, string_bytes};
 ghost use Rattle.std.specs.Prelude.{MatchResult};
+ghost use Rattle.cdf_types.specs.declared.fault.ReadFault.TheVariants.{Memory as NoMemory};
 ghost use Rattle.cdf_form.specs.Reading.{IsMemory};
 ghost use Rattle.cdf_definition.specs.Acceptance.{first_refusal, first_unsound};
 ghost use Rattle.cdf_definition.specs.Frame.{IsSame};
@@ -8,9 +9,9 @@ ghost use Rattle.cvr_office.specs.Tallied.{tally};
 ghost use Rattle.cvr_run.specs.Currents.{conflict_text, currents};
 ghost use Rattle.cvr_call.specs.Handle.{Beside, Does, no_office};
 ghost use Rattle.cvr_call.specs.Offices.{IsAnswered, IsNew, Joined, Shows, ShowsUnless};
-ghost use Rattle.cvr_call.specs.Offices.{TellsFirst, TookIn};
+ghost use Rattle.cvr_call.specs.Offices.{TellsFault, TellsFirst, TookIn};
 ghost use Rattle.cvr_call.specs.Offices.{done, other_definition, refused};
-ghost use Rattle.cvr_call.specs.Told.{no_memory};
+ghost use Rattle.cvr_call.specs.Told.{no_memory, no_room};
 
 use crate::call::{code_told, put};
 use crate::office::CvrOffice;
@@ -62,6 +63,7 @@ pub extern "C" fn cvr_office_new(
     ensures there { result ≡ done → office.new.office ≢ None }
     ensures fault { result ≡ refused
         → TellsFirst (first_unsound definition.now) path.old path.new refusal.new }
+    ensures memory { result ≡ no_memory → TellsFault NoMemory path.old path.new refusal.new }
     ensures unchanged { result ≢ done → office.new.office ≡ office.old.office }
     ensures quiet { result ≡ done → (path.new ≡ path.old) × (refusal.new ≡ refusal.old) }
     ensures answered { IsAnswered refused result }
@@ -86,6 +88,7 @@ fn import_into(
     ensures took_in { result ≡ done → TookIn file.now receipt.new office.old office.new }
     ensures fault { result ≡ refused → TellsFirst
         (first_refusal office.old.content.frame file.now) path.old path.new refusal.new }
+    ensures memory { result ≡ no_memory → TellsFault NoMemory path.old path.new refusal.new }
     ensures unchanged { result ≢ done → office.new.content.facts ≡ office.old.content.facts }
     ensures definition { office.new.content.frame ≡ office.old.content.frame }
     ensures kept { result ≢ done → receipt.new ≡ receipt.old }
@@ -118,6 +121,7 @@ pub extern "C" fn cvr_office_import(
     ensures fault { Does office.old.office office.new.office result
         (λ old new. result ≡ refused → TellsFirst
         (first_refusal old.content.frame file.now) path.old path.new refusal.new) }
+    ensures memory { result ≡ no_memory → TellsFault NoMemory path.old path.new refusal.new }
     ensures unchanged { Does office.old.office office.new.office result
         (λ old new. result ≢ done → new.content.facts ≡ old.content.facts) }
     ensures definition { Does office.old.office office.new.office result
@@ -204,9 +208,11 @@ pub fn tell_bytes(bytes: &[u8], room: &mut [u8], size: &mut usize) -> u8
 
 // Puts a text into a room, with its length, and answers the status of the call.
 fn tell_text(told: Result<String, Memory>, room: &mut [u8], size: &mut usize) -> u8
-    ensures { MatchResult told
+    ensures told { MatchResult told
         (λ text. Shows (string_bytes text) room.old room.new size.new result)
         (λ _. result ≡ no_memory) }
+    ensures quiet { result ≢ done → result ≢ no_room
+        → (room.new ≡ room.old) × (size.new ≡ size.old) }
 {
     match told {
         Ok(text) => tell_bytes(text.as_bytes(), room, size),
@@ -226,7 +232,8 @@ pub extern "C" fn cvr_office_tally(
         (λ old new. ShowsUnless (tally old.content.frame.contests old.content.facts)
         text.old text.new size.new result) }
     ensures unchanged { office.new.office ≡ office.old.office }
-    ensures quiet { result ≡ no_office → (text.new ≡ text.old) × (size.new ≡ size.old) }
+    ensures quiet { result ≢ done → result ≢ no_room
+        → (text.new ≡ text.old) × (size.new ≡ size.old) }
 {
     let Some(held) = office.take(alloc) else {
         return NO_OFFICE;
@@ -247,7 +254,8 @@ pub extern "C" fn cvr_office_currents(
     ensures text { Does office.old.office office.new.office result
         (λ old new. ShowsUnless (currents old.content.facts) text.old text.new size.new result) }
     ensures unchanged { office.new.office ≡ office.old.office }
-    ensures quiet { result ≡ no_office → (text.new ≡ text.old) × (size.new ≡ size.old) }
+    ensures quiet { result ≢ done → result ≢ no_room
+        → (text.new ≡ text.old) × (size.new ≡ size.old) }
 {
     let Some(held) = office.take(alloc) else {
         return NO_OFFICE;
@@ -278,7 +286,8 @@ pub extern "C" fn cvr_office_conflicts(
         (λ old new. ShowsUnless (conflict_text (conflicts old.content.facts))
         text.old text.new size.new result) }
     ensures unchanged { office.new.office ≡ office.old.office }
-    ensures quiet { result ≡ no_office → (text.new ≡ text.old) × (size.new ≡ size.old) }
+    ensures quiet { result ≢ done → result ≢ no_room
+        → (text.new ≡ text.old) × (size.new ≡ size.old) }
 {
     let Some(held) = office.take(alloc) else {
         return NO_OFFICE;

@@ -24,12 +24,38 @@ returns-in-Ok-clause-told c given is = inr (
   c.in-Ok.ensures.answered given is,
   record {
     status = cc;
-    text = cc;
-    log = cc;
-    text_size = ap length c.taken-3.ensures;
-    log_size = ap length c.taken-4.ensures;
+    put = record {
+      text_put = cc;
+      log_put = cc;
+      text_size = ap length c.taken-3.ensures;
+      log_size = ap length c.taken-4.ensures;
+    };
   },
 )
+
+pub returns-in-Ok-clause-left : goal.returns-in-Ok-clause-left
+returns-in-Ok-clause-left c = record {
+  text = c.answer_input-answered.new.out.taken;
+  log = c.answer_input-answered.new.log.taken;
+  put = record {
+    text_put = cc;
+    log_put = cc;
+    text_size = ap length c.taken-3.ensures;
+    log_size = ap length c.taken-4.ensures;
+  };
+}
+
+pub returns-clause-left : goal.returns-clause-left
+returns-clause-left c = record {
+  text = c.answer_input-answered.new.out.taken;
+  log = c.answer_input-answered.new.log.taken;
+  put = record {
+    text_put = cc;
+    log_put = cc;
+    text_size = ap length c.taken-3.ensures;
+    log_size = ap length c.taken-4.ensures;
+  };
+}
 
 pub returns-in-Ok-clause-bad_input : goal.returns-in-Ok-clause-bad_input
 returns-in-Ok-clause-bad_input c none = absurd (none c.in-Ok.ensures.some.0 c.in-Ok.ensures.some.1)
