@@ -5,12 +5,12 @@ Tests the page that tools/html makes of web/ and the module, in Chromium and in 
 own protocol. The county of examples/, with a file that is refused and one that contradicts the others: each table, list
 and sentence of the page is compared with what `cvr` prints, added up here, and with SHA-256 sums of the files; what its
 buttons save, with the command's bytes; its warnings with those of cvr-audit in tests/audit/rows.json; what it makes of
-exports of VxSuite and of ZIPs, with what cvr-audit gather makes, and the faults of tests/gather. Names with markup,
-in Arabic and of 300 characters stand as texts. A run that is cancelled shows nothing, and the next one is right. A page
+exports of VxSuite and of ZIPs, with what cvr-audit gather makes, and the faults of tests/gather. Names with markup, in
+Arabic and of 300 characters stand as texts. A run that is cancelled shows nothing, and the next one is right. A page
 whose module is changed, or that gives another tally of its example, does nothing. Chromium also shows it at the width
-of a phone, in the dark, in forced colours and on paper, with little memory, and keeps what it asks the network for:
-nothing; a server here, which the page is made to call, hears nothing in either. There also slips of the page's own code
-(slips.py) are each found, of which the commit's hash chooses some.
+of a phone, in the dark, in forced colours and on paper, with a script that isn't run, with little memory, and keeps
+what it asks the network for: nothing; a server here, which the page is made to call, hears nothing in either. There
+also slips of the page's own code (slips.py) are each found, of which the commit's hash chooses some.
 
 The page is made twice, and its parts looked at; without the module or a browser only that is tried, which is said. The
 last line is `browser: N right, M wrong`; the status is 0 only where M is 0 and N is not."""
@@ -53,6 +53,7 @@ TABLES = '''[...document.querySelectorAll('#answer table')].map(it => [it.captio
 LISTS = '''[...document.querySelectorAll('#answer dl')].map(it => [...it.children].map(one => one.textContent))'''
 PAGES = 200         # of 64 KiB, for a browser with little memory
 SOME = 2400         # records that it tallies, but can't look at
+UNREAD = 'Starting. If this stays, this browser is too old for the page, or runs no JavaScript.'
 CHOSEN = 12         # how many slips are tried without --all
 READY = 'The page has tallied its own example rightly. It waits for files.'
 ODD = {'Iris Vale': '<img src="x" onerror="document.title = 1">', 'Omar Field': 'عمر فيلد', 'County Council': 'x' * 300,
@@ -458,6 +459,18 @@ def see_changed(browser, trial, page, folder):
         trial.see('a page with ' + what, (said[:38], browser.value("document.getElementById('give').hidden")), ("This page can't work in this browser: ", True))
 
 
+def see_unread(browser, trial, page, folder):
+    """Chromium: a page whose script isn't run, as in a browser that is too old to read it, says so in words."""
+    other = os.path.join(folder, 'unread.html')
+    with open(page, encoding='utf-8', newline='') as file:
+        text = file.read().replace("'use strict'\n// The page: ", "'use strict'\n// Another: ")      # not what its policy has the sum of
+    with open(other, 'w', encoding='utf-8', newline='') as file:
+        file.write(text)
+    browser.open(other)
+    told = browser.value('typeof start'), browser.value(TEXTS % 'state'), browser.value("document.getElementById('give').hidden")
+    trial.see('a script that is not run', told, ('undefined', UNREAD, True))
+
+
 def see_views(browser, trial, page, pictures):
     """How Chromium shows it: on a phone, in the dark, on paper."""
     for width, media, features in (1280, '', []), (390, '', []), (1280, '', [{'name': 'prefers-color-scheme', 'value': 'dark'}]), (800, 'print', []):
@@ -584,6 +597,7 @@ def see_browser(kind, trial, page, words):
                     see_dropped(browser, trial, shown)
                 see_views(browser, trial, page, words.pictures)
                 see_forced(browser, trial, page)
+                see_unread(browser, trial, page, folder)
                 see_ways(browser, trial, folder, saved, words.all)
             see_changed(browser, trial, page, folder)
         finally:
