@@ -1,17 +1,21 @@
 ghost use Rattle.std.specs.Prelude.{◌≡◌, option_map, IfOk, IfErr, OnOk, [], List, ℕ, None, Some};
-ghost use Rattle.cdf_node.specs.View.{view, items_view};
+ghost use Rattle.std.specs.Prelude.{true, unwrap_or};
+ghost use Rattle.serde_json.specs.Data.{no_members};
+ghost use Rattle.serde_json.specs.Find.{as_object};
+ghost use Rattle.cdf_node.specs.View.{view, items_view, members_view};
 ghost use Rattle.cdf_form.specs.declared.table.Key.TheVariants.{Free};
 ghost use Rattle.cdf_form.specs.Form.{first, faults, here, items_faults, length_faults};
 ghost use Rattle.cdf_form.specs.Form.{repeat_faults, row_faults, rows_faults, member_look};
 ghost use Rattle.cdf_form.specs.Form.{key_text, mark_of, add_text};
 ghost use Rattle.cdf_form.specs.Found.{StopsAt};
+ghost use Rattle.cdf_form.specs.Laws.{is_in_order};
 ghost use Rattle.cdf_form.specs.Seen.{HasTexts};
 ghost use Rattle.cdf_form.specs.Tables.{entry_of, entries_of};
 
 use crate::found::{Step, Stop};
 use crate::leaf::{class_of, plain_rule};
 use crate::table::{Group, Key, Kind, Leaf, Member, class_members};
-use cdf_node::Node;
+use cdf_node::{Node, find_from};
 use cdf_types::Rule;
 use std::alloc::{AllocError, Global};
 use std::collections::BTreeSet;
@@ -95,7 +99,7 @@ pub fn walk(alloc: Global, value: &Node<'_>, kind: Kind, mark: Key) -> Result<()
 }
 
 #[cycle(walk)]
-#[tactic(auto, using(crate::proofs::Parts::one_first))]
+#[tactic(auto, using(crate::proofs::Parts::one_first, crate::proofs::FormLaw::in_order))]
 fn walk_one(alloc: Global, value: &Node<'_>, leaf: Leaf, mark: Key) -> Result<(), Stop<'static>>
     ensures none { OnOk result (first (faults (view value.now) (Kind.One leaf) mark) ≡ None) }
     ensures fault { IfErr result (λ s.
@@ -120,23 +124,35 @@ fn walk_one(alloc: Global, value: &Node<'_>, leaf: Leaf, mark: Key) -> Result<()
     }
 }
 
-// Objects have few members, and most names differ in length: looking up each row's member costs
-// little more than walking both in order.
+// The members of an object; anything else has none.
+fn members_of<'t>(value: &Node<'t>) -> &'t [(&'t str, Node<'t>)]
+    ensures { members_view result.now ≡ unwrap_or (as_object (view value.now)) no_members }
+{
+    value.as_object().unwrap_or_default()
+}
+
+// Rows rise by name, and so do the members of what was read. So each row's member is looked for
+// behind those before it, and mostly is the next one.
 #[cycle(walk)]
-#[tactic(auto, using(crate::proofs::Parts::part_is_lighter))]
+#[tactic(auto, using(crate::proofs::Parts::part_is_lighter, crate::proofs::Walking::found_at))]
 fn walk_rows(
     alloc: Global,
     value: &Node<'_>,
     rows: &'static [Member],
     mark: Key,
 ) -> Result<(), Stop<'static>>
+    requires rise { is_in_order (entries_of rows.now) ≡ true }
     ensures none { OnOk result
         (first (rows_faults (member_look (view value.now)) mark (entries_of rows.now)) ≡ None) }
     ensures fault { IfErr result (λ s.
         StopsAt s (first (rows_faults (member_look (view value.now)) mark (entries_of rows.now)))) }
 {
+    let members = members_of(value);
+    let mut place = 0;
     for row in rows {
-        match value.get(row.name) {
+        let (found, next) = find_from(members, place, row.name);
+        place = next;
+        match found {
             None => if row.required {
                 return Err(Stop::at(alloc, Rule::Missing).under(Step::Member(row.name)));
             },

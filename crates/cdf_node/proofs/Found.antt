@@ -1,15 +1,19 @@
 -- What stands at a name among members.
 use Rattle.std.proofs.Common.{◌≡◌, ℕ, List, [], ◌∷◌, Bool, true, false, bytes_eq, Option, Some}
-use Rattle.std.proofs.Common.{option_map, Ordering, is_eq, nat_cmp, refl, ap₂}
-use Rattle.std.proofs.Common.{◌∙◌, arith}
+use Rattle.std.proofs.Common.{option_map, Ordering, Less, Equal, Greater, is_eq, nat_cmp, refl, ap}
+use Rattle.std.proofs.Common.{ap₂, ◌∙◌, ◌+◌, ◌<◌, length, get_or, drop, sym, arith}
 use Rattle.std.specs.Prelude.{if◌then◌else◌}
 use Rattle.std.specs.List.{find}
 use Rattle.std.proofs.lemmas.Map.Text.{is_eq-slice_cmp}
 use Rattle.std.specs.Cmp.Lexicographic.{slice_cmp}
-use Rattle.std.specs.Ordering.{match_ordering}
+use Rattle.std.specs.Ordering.{match_ordering, is_lt, ordering_reverse}
+use Rattle.std.proofs.lemmas.Cmp.{nat_list_cmp_total}
+use Rattle.std.proofs.lemmas.List.{drop_more}
 use Rattle.serde_json.specs.Data.{Data}
 use Rattle.serde_json.specs.Find.{get_member}
 use Rattle.cdf_node.specs.View.{view, members_view}
+use Rattle.cdf_node.specs.Order.{Before}
+use Rattle.cdf_node.proofs.Sorting.{reversed}
 use Rattle.cdf_node.proofs.Views.{Entry}
 
 either : (o : Ordering) (a b : Option Data) → match_ordering o a b a ≡ (if is_eq o then b else a)
@@ -30,3 +34,50 @@ found_member name (e ∷ es) =
     ∙ ap₂ (λ b o. if b then Some (view e.1) else o) (is_eq-slice_cmp name e.0.now)
     (found_member name es)
     ∙ chosen (bytes_eq name e.0.now) e _
+
+-- ---- members are passed
+
+neither : (o : Ordering) → is_lt o ≡ false → is_eq o ≡ false → o ≡ Greater
+neither Less lt eq = cc
+neither Equal lt eq = cc
+neither Greater lt eq = refl
+
+equal : (o : Ordering) → is_eq o ≡ true → o ≡ Equal
+equal Less eq = cc
+equal Equal eq = refl
+equal Greater eq = cc
+
+-- a name that is neither another nor before it stands behind it
+pub behind : (k l : List ℕ) → is_lt (slice_cmp nat_cmp k l) ≡ false → bytes_eq k l ≡ false
+    → slice_cmp nat_cmp k l ≡ Greater
+behind k l lt eq = neither (slice_cmp nat_cmp k l) lt (is_eq-slice_cmp k l ∙ eq)
+
+-- and so does each name behind it
+pub further : (q k l : List ℕ) → slice_cmp nat_cmp k l ≡ Greater → Before k q
+    → slice_cmp nat_cmp q l ≡ Greater
+further q k l g b =
+    let less : Before l k = nat_list_cmp_total.antisymm l k ∙ ap ordering_reverse g in
+    reversed q l (nat_list_cmp_total.trans l k q less b)
+
+-- a member that stands before a name is none of that name
+pub passed : (q : List ℕ) (es : List Entry) (i : ℕ) (e : Entry) → i < length es
+    → slice_cmp nat_cmp q (get_or es i e).0.now ≡ Greater
+    → get_member q (members_view (drop i es)) ≡ get_member q (members_view (drop (i + 1) es))
+passed q es i e h g = rw (drop_more es i e h, g) refl
+
+-- the member of a name, where it stands first
+pub met : (q : List ℕ) (es : List Entry) (i : ℕ) (e : Entry) → i < length es
+    → bytes_eq q (get_or es i e).0.now ≡ true
+    → get_member q (members_view (drop i es)) ≡ Some (view (get_or es i e).1)
+met q es i e h is =
+    rw (drop_more es i e h)
+    (either (slice_cmp nat_cmp q (get_or es i e).0.now) _ _
+    ∙ ap (λ b. if b then Some (view (get_or es i e).1)
+    else get_member q (members_view (drop (i + 1) es)))
+    (is_eq-slice_cmp q (get_or es i e).0.now ∙ is))
+
+-- a name behind that of the first member is none of its
+pub after : (q k l : List ℕ) → bytes_eq k l ≡ true → Before k q → slice_cmp nat_cmp q l ≡ Greater
+after q k l is b =
+    let e = equal (slice_cmp nat_cmp k l) (is_eq-slice_cmp k l ∙ is) in
+    reversed q l (sym (nat_list_cmp_total.congr k l q e) ∙ b)

@@ -11,6 +11,7 @@ mod token;
 mod value;
 mod write;
 
+pub use member::find_from;
 pub use node::Node;
 pub use order::in_order;
 pub use stop::Stop;

@@ -47,10 +47,10 @@ fn last_of_each<'t>(
     }
 }
 
-// The order of two names by their bytes. Most differ in the first, and need no call.
+/// The order of two names by their bytes. Most differ in the first, and need no call.
 #[inline(always)]
 #[tactic(auto, using(crate::proofs::Sorting::first_decides))]
-fn compare(a: &str, b: &str) -> Ordering
+pub fn compare(a: &str, b: &str) -> Ordering
     ensures { result ≡ slice_cmp nat_cmp a.now b.now }
 {
     let (x, y) = (a.as_bytes(), b.as_bytes());

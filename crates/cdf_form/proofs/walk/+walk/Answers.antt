@@ -1,17 +1,21 @@
-use Rattle.std.proofs.Common.{◌≡◌, ◌+◌, ◌<◌, length, get_or, drop, Some, None, option_map, []}
-use Rattle.std.proofs.Common.{false, sym, ap, ◌∙◌, rules}
+use Rattle.std.proofs.Common.{◌≡◌, ◌+◌, ◌<◌, length, get_or, drop, Option, Some, None}
+use Rattle.std.proofs.Common.{option_map, [], false, Bor, refl, sym, ap, ◌∙◌, rules, arith}
+use Rattle.serde_json.specs.Data.{Data}
+use Rattle.cdf_node.specs.declared.node.Node.{Node}
 use Rattle.cdf_node.specs.View.{view, items_view}
 use Rattle.cdf_form.specs.declared.table.Member.{Member}
 use Rattle.cdf_form.specs.declared.table.Kind.TheVariants as kind
 use Rattle.cdf_form.specs.declared.table.Leaf.TheVariants as leaf
 use Rattle.cdf_form.specs.declared.table.Key.TheVariants as key
-use Rattle.cdf_form.specs.Tables.{entry_of}
+use Rattle.cdf_form.specs.Tables.{entry_of, entries_of}
 use Rattle.serde_json.specs.Find.{get}
 use Rattle.cdf_form.specs.Form.{first, at_member, deeper_fault, faults, items_faults, row_faults}
 use Rattle.cdf_form.specs.Form.{member_look, mark_of, key_text, add_text}
-use Rattle.cdf_form.proofs.Parts.{items_go}
-use Rattle.cdf_form.proofs.Walking.{tells_as, rows_stop}
+use Rattle.cdf_form.proofs.Parts.{items_go, part_is_lighter}
+use Rattle.cdf_form.proofs.Walking.{all_members, found_at, found_on, may_lack, rise_on, rows_go}
+use Rattle.cdf_form.proofs.Walking.{rows_stop, tells_as}
 use Rattle.cdf_form.proofs.walk.+walk.Goals as goal
+use Rattle.cdf_form.proofs.walk.+walk.Goals.{walk_rows-in-None+else-row, walk_rows-in-Some+in-Ok}
 
 -- ---- walk_rows
 
@@ -22,19 +26,74 @@ no_row = record {
   kind = kind.One leaf.Text;
 }
 
+pub walk_rows-loop-row-init : goal.walk_rows-loop-row-init
+walk_rows-loop-row-init t c = record {
+  same = refl;
+  rise = c.requires.rise;
+  within = omega arith;
+  there = all_members (view c.args.value.now) _ (entries_of c.args.rows.now)
+      c.members_of-members.ensures;
+}
+
+pub walk_rows-walk_member-requires : goal.walk_rows-walk_member-requires
+walk_rows-walk_member-requires t c =
+    let d = view c.args.value.now in
+    let rs = c.args.rows.now in
+    let i = c.loop-row.row-index in
+    let there : get (get_or rs i no_row).name.now d ≡ Some (view c.in-Some.member.now) =
+    sym (found_at d _ rs i no_row c.loop-row-test.true c.loop-row.invariant.there)
+    ∙ sym c.find_from-next.ensures.value
+    ∙ ap (option_map (λ (v : Bor Node). view v.now)) c.in-Some.is in
+    let lighter = part_is_lighter d (get_or rs i no_row).name.now _ there in
+    search rules
+
+pub walk_rows-loop-row-preserved : goal.walk_rows-loop-row-preserved
+walk_rows-loop-row-preserved t c =
+    let d = view c.args.value.now in
+    let rs = c.args.rows.now in
+    let i = c.loop-row.row-index in
+    let r = get_or rs i no_row in
+    let lt = c.loop-row-test.true in
+    let at : get r.name.now d
+    ≡ option_map (λ (v : Bor Node). view v.now) c.find_from-next.result.0 =
+    sym (found_at d _ rs i no_row lt c.loop-row.invariant.there)
+    ∙ sym c.find_from-next.ensures.value in
+    let looked = λ (o : Option (Bor Node)).
+    first (row_faults c.args.mark (entry_of r) (option_map (λ (e : Data). faults e r.kind key.Free)
+    (option_map (λ (v : Bor Node). view v.now) o))) in
+    let none : first (row_faults c.args.mark (entry_of r) (member_look d r.name.now r.kind))
+    ≡ None =
+    ap (λ (o : Option Data). first (row_faults c.args.mark (entry_of r)
+    (option_map (λ (e : Data). faults e r.kind key.Free) o))) at
+    ∙ elim c.match-found.branch [
+      | walk_rows-in-None+else-row w ↦
+          ap looked w.in-None.is ∙ may_lack c.args.mark (entry_of r) w.if-row.false
+      | walk_rows-in-Some+in-Ok w ↦ ap looked w.in-Some.is ∙ w.in-Ok.ensures.none
+    ] in
+    record {
+      same = rows_go (member_look d) c.args.mark rs i no_row lt none ∙ c.loop-row.invariant.same;
+      rise = rise_on rs i no_row lt c.loop-row.invariant.rise;
+      within = c.find_from-next.ensures.place;
+      there = found_on d _ _ rs i no_row lt c.loop-row.invariant.rise c.loop-row.invariant.there
+          c.find_from-next.ensures.left;
+    }
+
 pub walk_rows-returns-in-Err-clause-fault : goal.walk_rows-returns-in-Err-clause-fault
 walk_rows-returns-in-Err-clause-fault t c =
     let d = view c.args.value.now in
     let rs = c.args.rows.now in
     let i = c.loop-row.row-index in
     let r = get_or rs i no_row in
-    let there : get r.name.now d ≡ Some (view c.in-Some.member.now) = search rules in
+    let there : get r.name.now d ≡ Some (view c.in-Some.member.now) =
+    sym (found_at d _ rs i no_row c.loop-row-test.true c.loop-row.invariant.there)
+    ∙ sym c.find_from-next.ensures.value
+    ∙ ap (option_map (λ (v : Bor Node). view v.now)) c.in-Some.is in
     let found = ap (λ o. option_map (deeper_fault (at_member r.name.now))
     (first (row_faults c.args.mark (entry_of r)
     (option_map (λ e. faults e r.kind key.Free) o)))) there in
     let own = tells_as c.under-in-Err.result _ _ (sym found)
     (c.under-in-Err.ensures _ c.in-Err.ensures.fault) in
-    tells_as c.under-in-Err.result _ _ c.loop-row.invariant
+    tells_as c.under-in-Err.result _ _ c.loop-row.invariant.same
     (rows_stop (member_look d) c.args.mark rs i no_row c.loop-row-test.true
     c.under-in-Err.result own)
 

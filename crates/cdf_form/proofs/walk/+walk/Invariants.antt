@@ -1,9 +1,11 @@
-use Rattle.std.proofs.Common.{◌≡◌, ℕ, ◌+◌, ◌*◌, List, drop, []}
-use Rattle.cdf_node.specs.View.{view, items_view}
+use Rattle.std.proofs.Common.{◌≡◌, ℕ, ◌+◌, ◌*◌, ◌≤◌, List, length, drop, [], true}
+use Rattle.cdf_node.specs.View.{view, items_view, members_view}
 use Rattle.cdf_form.specs.Tables.{entries_of}
 use Rattle.cdf_form.specs.Form.{first, rows_faults, items_faults, member_look}
 use Rattle.cdf_form.specs.Seen.{HasTexts}
+use Rattle.cdf_form.specs.Laws.{is_in_order}
 use Rattle.cdf_form.proofs.Parts.{weight, items_weight}
+use Rattle.cdf_form.proofs.Walking.{AllFound}
 use Rattle.cdf_form.proofs.walk.+walk.Given as goal
 
 abbrev pub decreases-walk : goal.decreases-walk
@@ -21,11 +23,17 @@ decreases-walk_member l = 4 * weight (view l.member.now) + 4
 abbrev pub decreases-walk_items : goal.decreases-walk_items
 decreases-walk_items l = 4 * items_weight (items_view l.items.now)
 
--- the first fault of the rows that are left is that of all
+-- the first fault of the rows that are left is that of all, and their members are among the rest
 abbrev pub invariant-walk_rows-loop-row : goal.invariant-walk_rows-loop-row
-invariant-walk_rows-loop-row l = first (rows_faults (member_look (view l.value)) l.mark
-    (entries_of (drop l.row-index l.rows)))
-    ≡ first (rows_faults (member_look (view l.value)) l.mark (entries_of l.rows))
+invariant-walk_rows-loop-row l = record {
+  same : first (rows_faults (member_look (view l.value)) l.mark
+      (entries_of (drop l.row-index l.rows)))
+      ≡ first (rows_faults (member_look (view l.value)) l.mark (entries_of l.rows));
+  rise : is_in_order (entries_of (drop l.row-index l.rows)) ≡ true;
+  within : l.place ≤ length l.members;
+  there : AllFound (view l.value) (members_view (drop l.place l.members))
+      (entries_of (drop l.row-index l.rows));
+}
 
 abbrev pub invariant-walk_items-loop-place : goal.invariant-walk_items-loop-place
 invariant-walk_items-loop-place l = record {
