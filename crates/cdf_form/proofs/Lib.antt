@@ -4,6 +4,7 @@ pub mod FormLaw
 pub mod Records
 pub mod Whole
 pub mod Walking
+pub mod Rising
 pub mod Apart
 pub mod FormParts
 pub mod Bounds

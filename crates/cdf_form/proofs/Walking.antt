@@ -85,7 +85,7 @@ pub all_members : (d : Data) (ms : Members) (rs : List Entry)
 all_members d ms rs e =
     all_found d ms rs (λ q. ap (λ (m : Members). get_member q m) e ∙ get_members d q)
 
-less : (o : Ordering) → is_lt o ≡ true → o ≡ Less
+pub less : (o : Ordering) → is_lt o ≡ true → o ≡ Less
 less Less e = refl
 less Equal e = cc
 less Greater e = cc

@@ -1,5 +1,6 @@
 ghost use Rattle.std.specs.Prelude.{◌≡◌, option_map, IfOk, IfErr, OnOk, [], List, ℕ, None, Some};
 ghost use Rattle.std.specs.Prelude.{true, unwrap_or};
+ghost use Rattle.std.specs.Bool.{OnTrue};
 ghost use Rattle.serde_json.specs.Data.{no_members};
 ghost use Rattle.serde_json.specs.Find.{as_object};
 ghost use Rattle.cdf_node.specs.View.{view, items_view, members_view};
@@ -9,7 +10,7 @@ ghost use Rattle.cdf_form.specs.Form.{repeat_faults, row_faults, rows_faults, me
 ghost use Rattle.cdf_form.specs.Form.{key_text, mark_of, add_text};
 ghost use Rattle.cdf_form.specs.Found.{StopsAt};
 ghost use Rattle.cdf_form.specs.Laws.{is_in_order};
-ghost use Rattle.cdf_form.specs.Seen.{HasTexts};
+ghost use Rattle.cdf_form.specs.Seen.{HasTexts, is_in_turn};
 ghost use Rattle.cdf_form.specs.Tables.{entry_of, entries_of};
 
 use crate::found::{Step, Stop};
@@ -44,6 +45,24 @@ fn note_key<'t>(seen: &mut BTreeSet<&'t str>, key: Key, item: &Node<'t>) -> Resu
             Ok(key)
         },
     }
+}
+
+// Whether both have a text under the key, the first before the second.
+fn are_in_turn(key: Key, item: &Node<'_>, next: &Node<'_>) -> bool
+    ensures { result ≡ is_in_turn (key_text key (view item.now)) (key_text key (view next.now)) }
+{
+    match (key_text(key, item), key_text(key, next)) {
+        (Some(text), Some(after)) => text.cmp(after).is_lt(),
+        _ => false,
+    }
+}
+
+// Whether the texts under a key rise, as they mostly do. Then none was seen before.
+fn texts_rise(items: &[Node<'_>], key: Key) -> bool
+    ensures { OnTrue result ((leaf : Leaf) → items_faults (items_view items.now) leaf key 0 []
+        ≡ items_faults (items_view items.now) leaf Free 0 []) }
+{
+    items.is_sorted_by(|item, next| are_in_turn(key, item, next))
 }
 
 fn repeat_rule(mark: Key, name: &str) -> Option<Rule>
@@ -92,7 +111,11 @@ pub fn walk(alloc: Global, value: &Node<'_>, kind: Kind, mark: Key) -> Result<()
             None => Err(Stop::at(alloc, Rule::WrongKind)),
             Some(items) => match length_rule(least, most, items.len()) {
                 Some(rule) => Err(Stop::at(alloc, rule)),
-                None => walk_items(alloc, items, leaf, key),
+                None => if texts_rise(items, key) {
+                    walk_items(alloc, items, leaf, Key::Free)
+                } else {
+                    walk_items(alloc, items, leaf, key)
+                },
             },
         },
     }
