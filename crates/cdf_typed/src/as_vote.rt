@@ -1,11 +1,11 @@
 //! Votes that are typed already, or stand in a JSON value: both are read alike.
-ghost use Rattle.std.specs.Prelude.{◌≡◌, List, Option, None, option_map, map, codes};
+ghost use Rattle.std.specs.Prelude.{◌≡◌, List, Option, Some, option_map, unwrap_or, map, codes};
 ghost use Rattle.cdf_node.specs.View.{view};
 ghost use Rattle.cdf_types.specs.declared.report.Position.{Position};
 ghost use Rattle.cdf_types.specs.declared.report.SelectionVote.{SelectionVote};
 ghost use Rattle.cdf_types.specs.declared.report.ContestVote.{ContestVote};
 ghost use Rattle.cdf_parts.specs.Parts.{text_at};
-ghost use Rattle.cdf_parts.specs.Places.{Texts, Contest, selections_of};
+ghost use Rattle.cdf_parts.specs.Places.{Texts, Contest, selections_at, selections_of};
 ghost use Rattle.cdf_typed.specs.Typed.{position_of, selection_place, selection_vote_of};
 ghost use Rattle.cdf_typed.specs.Typed.{contest_vote_of};
 
@@ -52,9 +52,12 @@ pub trait AsContestVote {
     // the ids that its selections are named by, where they are named
     ghost selection_ids: { List Contest → Self → Option Texts };
 
-    /// The place of its contest. Takes no memory.
-    fn contest(&self, contests: &Contests) -> usize
-        ensures { result ≡ (contest_vote contests.now self.now).contest };
+    /// The place of its contest, if it names one of them; else it counts as of the first. Takes no
+    /// memory.
+    fn contest(&self, contests: &Contests) -> Option<usize>
+        ensures place { unwrap_or result 0 ≡ (contest_vote contests.now self.now).contest }
+        ensures ids { option_map (λ place. selections_at contests.now place) result
+            ≡ selection_ids contests.now self.now };
 
     /// Votes lost to overvoting, 0 where absent. Takes no memory.
     fn overvotes(&self) -> u64
@@ -68,10 +71,6 @@ pub trait AsContestVote {
     /// Write-ins, 0 where absent. Takes no memory.
     fn write_ins(&self) -> u64
         ensures { (contests : List Contest) → result ≡ (contest_vote contests self.now).write_ins };
-
-    /// The ids among which its contest selections find theirs. Takes no memory.
-    fn selection_ids<'a>(&self, contests: &'a Contests) -> Option<&'a Ids>
-        ensures { option_map (λ i. i.now) result ≡ selection_ids contests.now self.now };
 
     /// Its contest selections, in order. Takes no memory.
     fn selections(&self) -> &[Self::Selection]
@@ -141,10 +140,10 @@ impl AsContestVote for ContestVote {
 
     ghost contest_vote = { λ _ c. c };
 
-    ghost selection_ids = { λ _ _. None };
+    ghost selection_ids = { λ contests c. Some (selections_at contests c.contest) };
 
-    fn contest(&self, _contests: &Contests) -> usize {
-        self.contest
+    fn contest(&self, _contests: &Contests) -> Option<usize> {
+        Some(self.contest)
     }
 
     fn overvotes(&self) -> u64 {
@@ -157,10 +156,6 @@ impl AsContestVote for ContestVote {
 
     fn write_ins(&self) -> u64 {
         self.write_ins
-    }
-
-    fn selection_ids<'a>(&self, _contests: &'a Contests) -> Option<&'a Ids> {
-        None
     }
 
     fn selections(&self) -> &[SelectionVote] {
@@ -176,8 +171,8 @@ impl<'t> AsContestVote for Node<'t> {
     ghost selection_ids = { λ contests v.
         selections_of contests (text_at (codes "ContestId") (view v)) };
 
-    fn contest(&self, contests: &Contests) -> usize {
-        contests.ids().find(text_at("ContestId", self)).unwrap_or(0)
+    fn contest(&self, contests: &Contests) -> Option<usize> {
+        contests.ids().find(text_at("ContestId", self))
     }
 
     fn overvotes(&self) -> u64 {
@@ -190,10 +185,6 @@ impl<'t> AsContestVote for Node<'t> {
 
     fn write_ins(&self) -> u64 {
         count_at("WriteIns", self)
-    }
-
-    fn selection_ids<'a>(&self, contests: &'a Contests) -> Option<&'a Ids> {
-        contests.selections_of(text_at("ContestId", self))
     }
 
     fn selections(&self) -> &[Node<'t>] {

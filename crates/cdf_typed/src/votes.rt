@@ -6,6 +6,7 @@ use crate::as_vote::{AsContestVote, AsPosition, AsSelectionVote};
 use cdf_node::Node;
 use cdf_parts::contests::Contests;
 use cdf_parts::ids::Ids;
+use cdf_parts::text_at;
 use cdf_types::{ContestVote, Memory, Position, SelectionVote, Seq};
 use std::alloc::Global;
 
@@ -51,12 +52,13 @@ fn read_selections(
 fn read_contest(alloc: Global, contests: &Contests, value: &Node<'_>) -> Result<ContestVote, Memory>
     ensures { IfOk result (λ c. c ≡ contest_vote_of contests.now (view value.now)) }
 {
+    let ids = contests.selections_of(text_at("ContestId", value));
     Ok(ContestVote {
-        contest: value.contest(contests),
+        contest: value.contest(contests).unwrap_or(0),
         overvotes: value.overvotes(),
         undervotes: value.undervotes(),
         write_ins: value.write_ins(),
-        selections: read_selections(alloc, value.selection_ids(contests), value.selections())?,
+        selections: read_selections(alloc, ids, value.selections())?,
     })
 }
 

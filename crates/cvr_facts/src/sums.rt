@@ -1,7 +1,8 @@
-ghost use Rattle.std.specs.Prelude.{◌≡◌, ◌<◌, ◌+◌, [], IfOk, if◌then◌else◌, map, length, is_none};
-ghost use Rattle.std.specs.Prelude.{slice_index, slice_set};
+ghost use Rattle.std.specs.Prelude.{◌≡◌, ◌<◌, ◌+◌, List, [], IfOk, if◌then◌else◌, map, length};
+ghost use Rattle.std.specs.Prelude.{is_none, slice_index, slice_set};
 ghost use Rattle.std.specs.List.{sum_by};
 ghost use Rattle.std.specs.Option.{IfSome, option_map_or};
+ghost use Rattle.cdf_parts.specs.Places.{Contest};
 ghost use Rattle.cdf_typed.specs.Range.{ContestInRange};
 ghost use Rattle.cvr_facts.specs.Sums.{counts, is_pending, votes_among, sums_of, sums_in};
 ghost use Rattle.cvr_facts.specs.Sums.{sum_limit, AreBelow, AreInRange};
@@ -81,16 +82,17 @@ fn add_selection(sums: &mut VoteSums, votes: &mut [u64], place: Option<usize>, a
     }
 }
 
-// The sums of a contest before any of its selections is seen, without their votes.
-fn first_sums<V: AsContestVote>(alloc: Global, contests: &Contests, vote: &V) -> VoteSums
-    ensures { result ≡ record (sums_of contests.now (V.contest_vote contests.now vote.now)) {
-      votes = [];
-      pending = 0;
-      unassigned = 0;
-    } }
+// The sums of the contest at a place before any of its selections is seen, without their votes.
+fn first_sums<V: AsContestVote>(alloc: Global, contest: usize, vote: &V) -> VoteSums
+    ensures { (contests : List Contest) → contest ≡ (V.contest_vote contests vote.now).contest
+        → result ≡ record (sums_of contests (V.contest_vote contests vote.now)) {
+          votes = [];
+          pending = 0;
+          unassigned = 0;
+        } }
 {
     VoteSums {
-        contest: vote.contest(contests),
+        contest,
         votes: Seq::empty(alloc),
         overvotes: vote.overvotes(),
         undervotes: vote.undervotes(),
@@ -109,9 +111,12 @@ fn sums_of<V: AsContestVote>(
     requires { ContestInRange contests.now (V.contest_vote contests.now vote.now) }
     ensures { IfOk result (λ v. v ≡ sums_of contests.now (V.contest_vote contests.now vote.now)) }
 {
-    let mut sums = first_sums(alloc, contests, vote);
-    let mut votes = vec![in alloc; 0; contests.selections(sums.contest).len()]?;
-    let ids = vote.selection_ids(contests);
+    let named = vote.contest(contests);
+    let contest = named.unwrap_or(0);
+    let own = contests.selections(contest);
+    let ids = named.and(Some(own));
+    let mut sums = first_sums(alloc, contest, vote);
+    let mut votes = vec![in alloc; 0; own.len()]?;
     for selection in vote.selections() {
         let added = votes_of(selection.positions());
         add_selection(
