@@ -3,16 +3,11 @@ use Rattle.std.proofs.Common.{◌≡◌, ◌∙◌, ◌<◌, ◌≤◌, ◌^◌,
 use Rattle.std.proofs.Common.{Ok, map, option_map, unwrap_or, ap, sym, subst}
 use Rattle.std.specs.Prelude.{pos}
 use Rattle.std.specs.Str.Parse.{ParsesUnsigned}
+use Rattle.std.proofs.lemmas.Option.{same_Some, none-some}
 use Rattle.clap.specs.Lexer.{without_minus}
 use Rattle.clap.specs.Words.{IsSignedIn, ReadsOne, Row, Text, one_of}
 use Rattle.clap.proofs.CallerReads.{signed_reads}
 use Rattle.cvr_words.specs.Rows.{IsNumber}
-
-some_inj : {X : Type 0} (a b : X) → Some a ≡ Some b → a ≡ b
-some_inj a b h = cc
-
-never : {X : Type 0} (x : X) → None ≡ Some x → ⊥
-never x h = cc
 
 -- the number that is read is the number of the word
 pub number_read : (E : Type 0) (G : List ℕ → Result ℕ E → Type 0) (id : Text) (low high : ℕ)
@@ -23,7 +18,7 @@ pub number_read : (E : Type 0) (G : List ℕ → Result ℕ E → Type 0) (id : 
     → IsNumber id low high rows n
 number_read E G id low high rows word o one read only fits passed n is =
     let got = signed_reads E G 32 low high word o read only fits passed in
-    let same : got.0 ≡ n = some_inj got.0 n (sym got.1 ∙ is) in
+    let same : got.0 ≡ n = same_Some got.0 n (sym got.1 ∙ is) in
     let parsed = only (without_minus word) (Ok n)
     (subst (λ (p : Option ℕ). ReadsOne G (without_minus word) p) is read) in (
       without_minus word,
@@ -41,7 +36,7 @@ pub number_there : (E : Type 0) (G : List ℕ → Result ℕ E → Type 0) (low 
     → IsSignedIn (pos low) (pos high) word → o ≡ None → ⊥
 number_there E G low high word o read only fits passed none =
     let got = signed_reads E G 32 low high word o read only fits passed in
-    never got.0 (sym none ∙ got.1)
+    none-some got.0 (sym none ∙ got.1)
 
 -- the word that stands
 pub word_read : (o : Option (Bor Text)) (t : Bor Text) (v : Option Text) → o ≡ Some t
@@ -52,7 +47,7 @@ word_read o t v is same = sym same ∙ ap (option_map (λ (s : Bor Text). s.now)
 pub word_there : (o : Option (Bor Text)) (v : Option Text) (word : Text)
     → option_map (λ s. s.now) o ≡ v → v ≡ Some word → o ≡ None → ⊥
 word_there o v word same has none =
-    never word (sym (ap (option_map (λ (s : Bor Text). s.now)) none) ∙ (same ∙ has))
+    none-some word (sym (ap (option_map (λ (s : Bor Text). s.now)) none) ∙ (same ∙ has))
 
 -- the words that stand, where no words stand in for none
 pub words_or : (o : Option (Bor (List (Bor Text)))) (t d : Bor (List (Bor Text)))

@@ -6,6 +6,7 @@ use Rattle.std.specs.List.{list_any}
 use Rattle.std.specs.Option.{option_map_or}
 use Rattle.std.specs.Str.{bytes_eq}
 use Rattle.std.proofs.lemmas.Slice.Eq.{bytes_eq-Decides}
+use Rattle.std.proofs.lemmas.Option.{same_Some}
 use Rattle.clap.specs.Words.{Row, Text, fault_of, is_simple, is_simple_and_free, subcommand_of}
 use Rattle.clap.specs.Simple.{Shape, argument_words, built, built_leaf, entered, help_shape}
 use Rattle.clap.specs.Simple.{label_of, names_of, rows_at}
@@ -51,15 +52,12 @@ no_help name other = go (bytes_eq (codes "help") name) refl
         let bad : true ≡ false = sym same ∙ other in cc
     go false is = refl
 
-some_inj : {X : Type 0} (a b : X) → Some a ≡ Some b → a ≡ b
-some_inj a b h = cc
-
 command_at : (words : List Text) (o : Option Shape) (p : Text × List Row) → IfFound IsKnown o
     → option_map (λ s. rows_at s words) o ≡ Some p
     → option_map_or (λ s. level_fault s [] nothing_held words false []) o [] ≡ [] → IsCommand p
 command_at words None p known is fine = cc
 command_at words (Some s) p known is fine =
-    subst (λ (q : Text × List Row). IsCommand q) (some_inj (rows_at s words) p is)
+    subst (λ (q : Text × List Row). IsCommand q) (same_Some (rows_at s words) p is)
     (known.named, known.whole words fine)
 
 entered_at : (stop : Option (Text × List Text)) (p : Text × List Row) → IsOther stop

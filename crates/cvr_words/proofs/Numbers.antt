@@ -1,6 +1,6 @@
 -- One to nine digits are read as a number.
-use Rattle.std.proofs.Common.{◌≡◌, ◌≤◌, ◌<◌, ◌^◌, ◌&&◌, ℕ, Bool, true, false, List, [], ◌∷◌, Result}
-use Rattle.std.proofs.Common.{Ok, Err, length, rules, arith, refl, get_or, lit<}
+use Rattle.std.proofs.Common.{◌≡◌, ◌≤◌, ◌<◌, ◌^◌, ℕ, true, List, [], ◌∷◌, Result}
+use Rattle.std.proofs.Common.{Ok, Err, length, rules, arith, get_or, lit<}
 use Rattle.std.specs.List.{list_all}
 use Rattle.std.specs.Int.{IsInRange}
 use Rattle.std.specs.Char.{is_ascii_digit, digit_value}
@@ -10,6 +10,7 @@ use Rattle.std.proofs.lemmas.Str.{digit_value_digit}
 use Rattle.std.proofs.lemmas.Str.Parse.{without_leading_plus_none}
 use Rattle.std.proofs.lemmas.Int.Digits.{digits_value-lt}
 use Rattle.std.proofs.Math.Nat.{pow-le-pow_right}
+use Rattle.std.proofs.lemmas.Bool.{and_parts}
 use Rattle.cvr_words.specs.Step.{number_of_text}
 
 pub in_range : (c : ℕ) → is_ascii_digit c ≡ true → IsInRange 48 57 c
@@ -19,25 +20,17 @@ small : (c : ℕ) → is_ascii_digit c ≡ true → digit_value c < 10
 small c h =
     let e = digit_value_digit c (in_range c h) in let r = in_range c h in omega (arith, e, r)
 
-and_left : (a b : Bool) → (a && b) ≡ true → a ≡ true
-and_left true b h = refl
-and_left false b h = cc
-
-and_right : (a b : Bool) → (a && b) ≡ true → b ≡ true
-and_right true b h = h
-and_right false b h = cc
-
 pub all_digits : (t : List ℕ) → list_all is_ascii_digit t ≡ true → AllDigits 10 t
 all_digits [] h = search rules
 all_digits (c ∷ cs) h = (
-  small c (and_left (is_ascii_digit c) (list_all is_ascii_digit cs) h),
-  all_digits cs (and_right (is_ascii_digit c) (list_all is_ascii_digit cs) h),
+  small c (and_parts (is_ascii_digit c) (list_all is_ascii_digit cs) h).0,
+  all_digits cs (and_parts (is_ascii_digit c) (list_all is_ascii_digit cs) h).1,
 )
 
 first_digit : (t : List ℕ) → list_all is_ascii_digit t ≡ true → get_or t 0 0 ≡ 43 → ⊥
 first_digit [] h e = cc
 first_digit (c ∷ cs) h e =
-    let r = in_range c (and_left (is_ascii_digit c) (list_all is_ascii_digit cs) h) in
+    let r = in_range c (and_parts (is_ascii_digit c) (list_all is_ascii_digit cs) h).0 in
     let is : c ≡ 43 = e in
     omega (arith, r, is)
 

@@ -4,7 +4,7 @@ use Rattle.std.proofs.Common.{◌∷◌, Some, None, length, arith, refl, ap, ap
 use Rattle.std.specs.Prelude.{if◌then◌else◌, nat_lt}
 use Rattle.std.specs.List.{list_all, position_or_len}
 use Rattle.std.specs.Char.{is_ascii_digit}
-use Rattle.std.proofs.lemmas.Bool.{and_parts, eqb-true}
+use Rattle.std.proofs.lemmas.Bool.{and_parts, eqb-true, not-true}
 use Rattle.std.proofs.lemmas.Bool.Decides.{nat_tests}
 use Rattle.std.proofs.lemmas.List.{drop_all, length-drop}
 use Rattle.std.proofs.lemmas.List.Folds.{list_all-append}
@@ -33,16 +33,12 @@ no_sign_in a c b before is after =
     ∙ ap₂ (λ (x y : Bool). x && y) (no_signs a before)
     (ap₂ (λ (x y : Bool). x && y) sign (no_signs b after))
 
-not_true : (b : Bool) → not b ≡ true → b ≡ false
-not_true true h = cc
-not_true false h = refl
-
 -- nothing stands after a sign that isn't there
 none_after : (t : Text) → list_all (λ c. not (c == 61)) t ≡ true → after 61 t ≡ []
 none_after t h =
     let last : position_or_len (λ b. b == 61) t ≡ length t =
     position_or_len_is (λ (b : ℕ). b == 61) t (length t) 0 (omega arith)
-    (λ k lt. not_true (get_or t k 0 == 61)
+    (λ k lt. not-true (get_or t k 0 == 61)
     (AllPass-from_list_all (λ (c : ℕ). not (c == 61)) t h k 0 lt)) (λ lt. absurd (omega arith))
     in
     ap (λ (n : ℕ). drop (n + 1) t) last ∙ drop_all (length t + 1) t (omega arith)

@@ -4,6 +4,7 @@ use Rattle.std.proofs.Common.{ap, sym, subst, arith}
 use Rattle.std.specs.Int.NonZero.{non_zero_u32_get}
 use Rattle.std.specs.Coded.{le_prop}
 use Rattle.std.specs.Str.Parse.{digits_value, without_leading_plus}
+use Rattle.std.proofs.lemmas.Option.{same_Some}
 use Rattle.clap.specs.Words.{IsAmong, Row, Text, fault_of, subcommand_of}
 use Rattle.clap.specs.Kinds.{Kinds}
 use Rattle.clap.specs.declared.error.ErrorKind.{ErrorKind}
@@ -20,19 +21,16 @@ use Rattle.cvr_words.specs.declared.request.Request.{Request}
 use Rattle.cvr_words.specs.declared.request.Task.{Task}
 use Rattle.cvr_words.specs.declared.request.Task.TheVariants.{Merge, Drill}
 
-some_inj : {X : Type 0} (a b : X) → Some a ≡ Some b → a ≡ b
-some_inj a b h = cc
-
 -- ---- values
 
 one_word : (id : Text) (rows : List Row) (w x : Text) → IsWord id rows w → IsWord id rows x → w ≡ x
-one_word id rows w x a b = some_inj w x (sym a ∙ b)
+one_word id rows w x a b = same_Some w x (sym a ∙ b)
 
 one_number : (id : Text) (low high : ℕ) (rows : List Row) (n m : ℕ) → IsNumber id low high rows n
     → IsNumber id low high rows m → n ≡ m
 one_number id low high rows n m a b =
     a.2 ∙ (ap (λ (t : Text). digits_value 10 (without_leading_plus t))
-    (some_inj a.0 b.0 (sym a.1 ∙ b.1)) ∙ sym b.2)
+    (same_Some a.0 b.0 (sym a.1 ∙ b.1)) ∙ sym b.2)
 
 -- ---- requests
 
@@ -62,7 +60,7 @@ asked_once name rows r s a b =
 
 same_pair : (words : List Text) (p q : Text × List Row) → subcommand_of cvr_line words ≡ Some p
     → subcommand_of cvr_line words ≡ Some q → p ≡ q
-same_pair words p q a b = some_inj p q (sym a ∙ b)
+same_pair words p q a b = same_Some p q (sym a ∙ b)
 
 pub one_request : (words : List Text) (r s : Request) → IsRequest words r → IsRequest words s
     → r ≡ s
