@@ -54,14 +54,6 @@ pub trait Sink {
     /// Whether a write has failed or taken nothing. Takes no memory.
     fn failed(&self) -> bool
         ensures { result ≡ (taken self.now).failed };
-
-    /// Whether somebody watches the run that writes here, and is shown more than what is written.
-    fn is_watched(&self) -> bool {
-        false
-    }
-
-    /// Shows whoever watches how many names have several bodies.
-    fn show_several(&self, _names: usize) {}
 }
 
 /// Writes all of the bytes, unless the sink fails.
