@@ -8,9 +8,9 @@ buttons save, with the command's bytes; its warnings with those of cvr-audit in 
 exports of VxSuite and of ZIPs, with what cvr-audit gather makes, and the faults of tests/gather. Names with markup, in
 Arabic and of 300 characters stand as texts. A run that is cancelled shows nothing, and the next one is right. A page
 whose module is changed, or that gives another tally of its example, does nothing. Chromium also shows it at the width
-of a phone, in the dark, in forced colours and on paper, with a script that isn't run, with little memory, and keeps
-what it asks the network for: nothing; a server here, which the page is made to call, hears nothing in either. There
-also slips of the page's own code (slips.py) are each found, of which the commit's hash chooses some.
+of a phone, in the dark, in forced colours and on paper, without a mouse, with a script that isn't run, with little
+memory, and keeps what it asks the network for: nothing; a server here, which the page is made to call, hears nothing in
+either. There also slips of the page's own code (slips.py) are each found, of which the commit's hash chooses some.
 
 The page is made twice, and its parts looked at; without the module or a browser only that is tried, which is said. The
 last line is `browser: N right, M wrong`; the status is 0 only where M is 0 and N is not."""
@@ -54,6 +54,8 @@ LISTS = '''[...document.querySelectorAll('#answer dl')].map(it => [...it.childre
 PAGES = 200         # of 64 KiB, for a browser with little memory
 SOME = 2400         # records that it tallies, but can't look at
 UNREAD = 'Starting. If this stays, this browser is too old for the page, or runs no JavaScript.'
+REACHED = "[...document.querySelectorAll('input, select, button, summary')].filter(it => it.checkVisibility() && !it.disabled)"    # by the key Tab
+ROLES = {'button', 'combobox', 'textbox', 'spinbutton', 'DisclosureTriangle'}      # of what has to have a name
 CHOSEN = 12         # how many slips are tried without --all
 READY = 'The page has tallied its own example rightly. It waits for files.'
 ODD = {'Iris Vale': '<img src="x" onerror="document.title = 1">', 'Omar Field': 'عمر فيلد', 'County Council': 'x' * 300,
@@ -471,6 +473,41 @@ def see_unread(browser, trial, page, folder):
     trial.see('a script that is not run', told, ('undefined', UNREAD, True))
 
 
+def press(browser, key, number, text=''):
+    """Presses a key, which has a number and may write a text."""
+    its = {'key': key, 'code': key, 'windowsVirtualKeyCode': number}
+    browser.call('Input.dispatchKeyEvent', type='keyDown', text=text, **its)
+    browser.call('Input.dispatchKeyEvent', type='keyUp', **its)
+
+
+def see_keys(browser, trial, page):
+    """Chromium: the page without a mouse. Tab goes to each field, button and fold in turn, and each has a name; Enter has
+    the files tallied, and opens a fold."""
+    browser.open(page)
+    browser.value(SETTLED)
+    given(browser, [os.path.join(COUNTY, it) for it in FILES])
+    browser.value("document.getElementById('definition').focus()")
+    press(browser, 'Tab', 9)
+    trial.see('Tab goes to the button', browser.value('document.activeElement.id'), 'tally')
+    press(browser, 'Enter', 13, '\r')
+    trial.see('Enter has the files tallied', browser.value(SETTLED), 'Done.')
+    wanted, found = browser.value('(%s).length' % REACHED), []
+    for _ in range(2 * wanted):     # it also stops at what can be scrolled, and at the end of the page
+        press(browser, 'Tab', 9)
+        found += [browser.value('(%s).indexOf(document.activeElement)' % REACHED)]
+    found = [it for it in found if it >= 0][:wanted]
+    trial.see('Tab goes to all in turn, from behind the button', found, [*range(4, wanted), *range(4)])
+    browser.call('Accessibility.enable')
+    nodes = [it for it in browser.call('Accessibility.getFullAXTree')['nodes'] if not it['ignored']]
+    nameless = [it['role']['value'] for it in nodes if it['role']['value'] in ROLES and not it.get('name', {}).get('value')]
+    trial.see('all have names', (nameless, {it['role']['value'] for it in nodes} >= ROLES - {'DisclosureTriangle'}), ([], True))
+    browser.call('Accessibility.disable')
+    browser.value("document.querySelector('summary').focus()")
+    before = browser.value("document.querySelector('details').open")
+    press(browser, 'Enter', 13, '\r')
+    trial.see('Enter folds', browser.value("document.querySelector('details').open"), not before)
+
+
 def see_views(browser, trial, page, pictures):
     """How Chromium shows it: on a phone, in the dark, on paper."""
     for width, media, features in (1280, '', []), (390, '', []), (1280, '', [{'name': 'prefers-color-scheme', 'value': 'dark'}]), (800, 'print', []):
@@ -597,6 +634,7 @@ def see_browser(kind, trial, page, words):
                     see_dropped(browser, trial, shown)
                 see_views(browser, trial, page, words.pictures)
                 see_forced(browser, trial, page)
+                see_keys(browser, trial, page)
                 see_unread(browser, trial, page, folder)
                 see_ways(browser, trial, folder, saved, words.all)
             see_changed(browser, trial, page, folder)
