@@ -523,18 +523,19 @@ def see_views(browser, trial, page, pictures):
         shown = browser.value("[...document.querySelectorAll('.ours')].some(it => it.offsetParent !== null)")
         trial.see('the buttons, %s' % what, shown, media != 'print')
         if pictures:
-            write(os.path.join(pictures, 'page-%s.png' % what), browser.picture())
+            keep_picture(browser, pictures, what)
     browser.call('Emulation.setEmulatedMedia', media='', features=[])
     if pictures:        # that of README
         browser.open(page, width=900, height=760)
         browser.value(SETTLED)
         tallied(browser, COUNTY, FILES[:3])
-        write(os.path.join(pictures, 'browser.png'), page_picture.smaller(browser.picture()))
+        keep_picture(browser, pictures, None)
 
 
-def write(path, data):
-    with open(path, 'wb') as file:
-        file.write(data)
+def keep_picture(browser, pictures, what):
+    """Writes what Chromium shows, with fewer colours."""
+    with open(os.path.join(pictures, 'browser%s.png' % ('-' + what if what else '')), 'wb') as file:
+        file.write(page_picture.smaller(browser.picture()))
 
 
 OPTIONS = "[...document.getElementById('definition').options].map(it => it.value)"
@@ -558,7 +559,7 @@ def see_dropped(browser, trial, folder):
     trial.see('its text', browser.value(TEXTS % 'text'), trial.printed('tally', *FILES[:3]).decode())
 
 
-def see_forced(browser, trial, page):
+def see_forced(browser, trial, page, pictures):
     """In forced colours, where a ground may be missing, the bars have an edge that is seen."""
     browser.open(page)
     browser.value(SETTLED)
@@ -566,6 +567,8 @@ def see_forced(browser, trial, page):
     tallied(browser, COUNTY, FILES)
     edges = browser.value("""[...document.querySelectorAll('.bar')].filter(it => it.offsetWidth > 2).map(it => getComputedStyle(it)).map(it =>
       it.borderTopStyle === 'solid' && it.borderTopColor !== getComputedStyle(document.documentElement).backgroundColor)""")
+    if pictures:
+        keep_picture(browser, pictures, 'forced')
     trial.see('forced colours', [browser.value("matchMedia('(forced-colors: active)').matches"), edges != [] and all(edges)], [True, True])
     browser.call('Emulation.setEmulatedMedia', media='', features=[])
 
@@ -633,7 +636,7 @@ def see_browser(kind, trial, page, words):
                 with tempfile.TemporaryDirectory(dir=os.path.join(TOP, 'out')) as shown:
                     see_dropped(browser, trial, shown)
                 see_views(browser, trial, page, words.pictures)
-                see_forced(browser, trial, page)
+                see_forced(browser, trial, page, words.pictures)
                 see_keys(browser, trial, page)
                 see_unread(browser, trial, page, folder)
                 see_ways(browser, trial, folder, saved, words.all)
