@@ -11,6 +11,7 @@ pub mod OneElection
 pub mod Resting
 pub mod Rows
 pub mod Items
+pub mod Contests
 pub mod Depths
 pub mod Texts
 pub mod Kept

@@ -6,7 +6,7 @@ ghost use Rattle.cdf_parts.specs.Parts.{ids_at, id_of};
 ghost use Rattle.cdf_form.specs.Found.{path_of};
 ghost use Rattle.cdf_definition.specs.Paths.{each};
 ghost use Rattle.cdf_definition.specs.Scoped.{scope_view, contests_alone};
-ghost use Rattle.cdf_definition.specs.References.{in_selection_vote, in_contest_vote, in_snapshot};
+ghost use Rattle.cdf_definition.specs.References.{in_contest_vote, in_snapshot};
 ghost use Rattle.cdf_definition.specs.References.{in_cvr, in_selection, in_contest, in_election};
 ghost use Rattle.cdf_definition.specs.References.{in_report, one, missing_paths};
 
@@ -26,34 +26,23 @@ use std::alloc::Global;
 // these members alone, and holds the ids that the value's texts can name.
 
 #[derive(Drop)]
-struct InSelectionVote<'a>(Option<&'a Ids>);
-
-impl Look for InSelectionVote<'_> {
-    ghost missing = { λ s d. in_selection_vote (option_map (λ i. i.now) s.0) d };
-
-    fn look(&self, alloc: Global, value: &Node<'_>) -> Result<Option<Path<'static>>, Memory> {
-        match self.0 {
-            None => Ok(None),
-            Some(ids) => One(ids, "ContestSelectionId").look(alloc, value),
-        }
-    }
-}
-
-#[derive(Drop)]
 struct InContestVote<'a>(&'a Contests);
 
 impl Look for InContestVote<'_> {
     ghost missing = { λ s d. in_contest_vote (contests_alone s.0.now) d };
 
-    // The selections, where their contest is one of the report's; then the contest.
-    #[tactic(auto, using(crate::proofs::Items::first_or))]
+    // The selections, where their contest is one of the report's, and else the contest. So a
+    // contest that is known is looked up once.
+    #[tactic(auto, using(crate::proofs::Contests::in_known, crate::proofs::Contests::in_unknown))]
     fn look(&self, alloc: Global, value: &Node<'_>) -> Result<Option<Path<'static>>, Memory> {
         let contests = self.0;
         let ids = contests.selections_of(text_at("ContestId", value));
-        first_of!(
-            Each(InSelectionVote(ids), "CVRContestSelection").look(alloc, value),
-            One(contests.ids(), "ContestId").look(alloc, value),
-        )
+        match ids {
+            Some(ids) => {
+                Each(One(ids, "ContestSelectionId"), "CVRContestSelection").look(alloc, value)
+            }
+            None => One(contests.ids(), "ContestId").look(alloc, value),
+        }
     }
 }
 
