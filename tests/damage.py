@@ -104,6 +104,10 @@ class Program:
     def path(self, name):
         return os.path.join(self.folder, name)
 
+    def data(self, name):
+        with open(self.path(name), 'rb') as file:
+            return file.read()
+
     def put(self, name, data):
         with open(self.path(name), 'wb') as file:
             file.write(data)

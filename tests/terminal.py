@@ -8,8 +8,8 @@ standard error is no terminal, it gets the log and not a byte more, also beside 
 
 - Runs over files that are accepted, refused or missing, of each command, and of help and refused words: on a terminal
 each, on one terminal for both, and on pipes.
-- Notes, as stated below by hand: why a file is refused, of each code; of one that is no JSON, where it stops, and what it
-seems to be; records of the definition's own; names with several texts; no files; what the system says of a file that
+- Notes, as stated below by hand: why a file is refused, of each code, and what stands there; of one that is no JSON, where
+it stops, and what it is instead; of one that can't be read again, or was written to, only why; records of the definition's own; names with several texts; no files; what the system says of a file that
 can't be read. Of more than ten refused files, ten and how many more; of 100,000, too, and with no more memory than the
 same run takes where there is no terminal.
 - A file that another program writes to while it is read (devices.c), DEF or another: its length grows, or it has a later
@@ -55,24 +55,48 @@ ENDS = ('terminal', 'pipe')
 F2 = damage.rows.VECTORS['f2.json']
 DEF = damage.rows.VECTORS['def.json']
 
-# Files that are no JSON, each with the line and the byte where JSON ends in it, and what it seems to be.
+# What a file is instead of a report, and what to do.
+EXPORTS = ' cvr-audit gather makes reports of the exports that it knows.'
+KINDS = {
+    'nothing': 'It is empty. Copy it again.',
+    'cut': 'It is JSON that ends too soon. Copy it again, and compare the lengths.',
+    'mark': 'It has a byte order mark before its text. Have it written without one.',
+    'utf-16': 'It is a text in UTF-16. Have it written in UTF-8.',
+    'zip': 'It is a ZIP, or a workbook, which is one. Unpack it, or have the records of a workbook exported as CSV.' + EXPORTS,
+    'gzip': 'It is packed by gzip. Unpack it.',
+    'pdf': 'It is a PDF, which has no records. Ask for the export that it was printed from.',
+    'xml': 'It is XML or a page of the web. Have the records exported as JSON.' + EXPORTS,
+    'table': 'It is a table such as CSV.' + EXPORTS,
+    'json': 'It is JSON of another kind than a report.' + EXPORTS,
+    'damaged': 'It is JSON that is damaged. Have it exported again.',
+    'unknown': 'It is of no kind that is known here. Ask the maker of the tool that wrote it for JSON of the standard.',
+    'strange': 'It is JSON that not every reader takes: it is nested too deep, or has a number that is too large, half a sign, or a word such as NaN. '
+               'Have it exported again.',
+}
+
+# Files that are no JSON, each with the line and the byte where JSON ends in it, and what it is.
 NO_JSON = {
-    'half': (F2[:100], 1, 88, '; it seems to be cut off'),
-    'word': (b'{"a": tru', 1, 7, '; it seems to be cut off'),
-    'gz': (gzip.compress(F2, mtime=0), 1, 2, '; it seems to be packed by gzip'),
-    'xml': (b'\n <CastVoteRecordReport/>', 2, 2, '; it seems to be XML'),
-    'empty': (b'', 1, 0, '; it is empty'),
-    'blank': (b' \r\n\t', 2, 1, '; it is empty'),
-    'utf16': (F2.decode('utf-8').encode('utf-16'), 1, 1, '; it seems to be UTF-16'),
-    'utf16-le': (F2.decode('utf-8').encode('utf-16-le'), 1, 2, '; it seems to be UTF-16'),
-    'utf16-mark-be': (b'\xfe\xff' + F2.decode('utf-8').encode('utf-16-be'), 1, 1, '; it seems to be UTF-16'),
-    'utf16-be': (F2.decode('utf-8').encode('utf-16-be'), 1, 1, '; it seems to be UTF-16'),
-    'mark': (b'\xef\xbb\xbf' + F2, 1, 1, '; it begins with a byte order mark'),
-    'more': (F2 + b'\n}', 2, 1, ''),
-    'latin': (F2.replace(b'"p1"', b'"p\xe9"', 1), 1, 85, ''),
-    'twice': (F2.replace(b':', b'::', 1), 1, 10, ''),
-    'red\x1b[31m': (b'', 1, 0, '; it is empty'),
-    'lines': (b'{\n  "\xc3\xa9": nul\n}', 2, 9, ''),
+    'half': (F2[:100], 1, 100, 'cut'),
+    'word': (b'{"a": tru', 1, 7, 'cut'),
+    'gz': (gzip.compress(F2, mtime=0), 1, 2, 'gzip'),
+    'zip': (b'PK\x03\x04', 1, 1, 'zip'),
+    'pdf': (b'%PDF-1.7', 1, 1, 'pdf'),
+    'xml': (b'\n <CastVoteRecordReport/>', 2, 2, 'xml'),
+    'csv': (b'Cast Vote Record,Precinct\n1,P\n', 1, 1, 'table'),
+    'tabs': (b'Record\tPrecinct\n1\tP\n', 1, 1, 'table'),
+    'prose': (b'Dear office\nhere are, as you asked\n', 1, 1, 'unknown'),
+    'empty': (b'', 1, 0, 'nothing'),
+    'blank': (b' \r\n\t', 2, 1, 'nothing'),
+    'utf16': (F2.decode('utf-8').encode('utf-16'), 1, 1, 'utf-16'),
+    'utf16-le': (F2.decode('utf-8').encode('utf-16-le'), 1, 2, 'utf-16'),
+    'utf16-mark-be': (b'\xfe\xff' + F2.decode('utf-8').encode('utf-16-be'), 1, 1, 'utf-16'),
+    'utf16-be': (F2.decode('utf-8').encode('utf-16-be'), 1, 1, 'utf-16'),
+    'mark': (b'\xef\xbb\xbf' + F2, 1, 1, 'mark'),
+    'more': (F2 + b'\n}', 2, 1, 'damaged'),
+    'latin': (F2.replace(b'"p1"', b'"p\xe9"', 1), 1, 85, 'damaged'),
+    'twice': (F2.replace(b':', b'::', 1), 1, 10, 'damaged'),
+    'red\x1b[31m': (b'', 1, 0, 'nothing'),
+    'lines': (b'{\n  "\xc3\xa9": nul\n}', 2, 9, 'damaged'),
 }
 
 # What is wrong with a refused file, by code, and by rule.
@@ -100,21 +124,40 @@ def changed(old, new):
 ONE = '/CVR/0/CVRSnapshot/0'
 # The definition with records of its own.
 OWN = json.dumps(dict(json.loads(DEF), CVR=json.loads(F2)['CVR'] * 3)).encode('utf-8')
+POSITION = ONE + '/CVRContest/0/CVRContestSelection/0/SelectionPosition/0'
+SAID = 'record: "s1" "u1")'
 BAD = {
-    'bad': (damage.BAD, 'E3 /CVR/0/UniqueId 2'),
-    'long': (b' ' * 67108865, 'E1'),
-    'large': (changed('"NumberVotes":1', '"NumberVotes":1e999'), 'E2'),
-    'array': (b'[]', 'E3  1'),
-    'number': (changed('"u1"', '1'), 'E3 /CVR/0/UniqueId 3'),
-    'version': (changed('"1.0.0"', '"1.0.1"'), 'E3 /Version 4'),
-    'class': (changed('"CVR.CVR"', '"CVR.Election"'), 'E3 /CVR/0/@type 5'),
-    'no-name': (changed('"u1"', '""'), 'E3 /CVR/0/UniqueId 6'),
-    'below': (changed('"NumberVotes":1', '"NumberVotes":-1'), 'E3 %s/CVRContest/0/CVRContestSelection/0/SelectionPosition/0/NumberVotes 7' % ONE),
-    'moment': (changed('2024-11-05T20:00:00Z', '2024-11-05'), 'E3 /GeneratedDate 11'),
-    'twice-contest': (changed('"ContestId":"mayor"}', '"ContestId":"mayor"},{"@type":"CVR.CVRContest","ContestId":"mayor"}'), 'E3 %s/CVRContest/1/ContestId 13' % ONE),
-    'half-vote': (changed('"NumberVotes":1', '"NumberVotes":0.5'), 'E3 %s/CVRContest/0/CVRContestSelection/0/SelectionPosition/0/NumberVotes 14' % ONE),
-    'stranger': (changed('"ContestSelectionId":"ann"', '"ContestSelectionId":"eve"'), 'E4 %s/CVRContest/0/CVRContestSelection/0/ContestSelectionId' % ONE),
-    'other': (changed('"Selection":"Yes"', '"Selection":"Aye"'), 'E5 /Election/0'),
+    'bad': (damage.BAD, 'E3 /CVR/0/UniqueId 2', ' (value: -; record: "s1" -)'),
+    'long': (b' ' * 67108865, 'E1', ''),
+    'large': (changed('"NumberVotes":1', '"NumberVotes":1e999'), 'E2', ''),
+    'array': (b'[]', 'E3  1', ' (value: []). ' + KINDS['json']),
+    'number': (changed('"u1"', '1'), 'E3 /CVR/0/UniqueId 3', ' (value: 1; record: "s1" 1)'),
+    'version': (changed('"1.0.0"', '"1.0.1"'), 'E3 /Version 4', ' (value: "1.0.1")'),
+    'class': (changed('"CVR.CVR"', '"CVR.Election"'), 'E3 /CVR/0/@type 5', ' (value: "CVR.Election"; ' + SAID),
+    'no-name': (changed('"u1"', '""'), 'E3 /CVR/0/UniqueId 6', ' (value: ""; record: "s1" "")'),
+    'below': (changed('"NumberVotes":1', '"NumberVotes":-1'), 'E3 %s/NumberVotes 7' % POSITION, ' (value: -1; ' + SAID),
+    'deep': (changed('"ReportGeneratingDeviceIds":["s1"]', '"ReportGeneratingDeviceIds":["s1"],"x":{"y":[1.5]}'), 'E3 /x/y/0 14', ' (value: 1.5)'),
+    'few': (json.dumps(dict(json.loads(F2), Election=[])).encode('utf-8'), 'E3 /Election 8', ' (value: [])'),
+    'many-of-one': (json.dumps(dict(json.loads(F2), Election=json.loads(F2)['Election'] * 2)).encode('utf-8'), 'E3 /Election 9',
+                    ' (value: [{"@id":"e","@type":"CVR.Election","Contest":[{"@id":"mayor"…)'),
+    'fraction': (changed('"NumberVotes":1', '"FractionalVotes":"0.5","NumberVotes":1'), 'E3 %s/FractionalVotes 10' % POSITION, ' (value: "0.5"; ' + SAID),
+    'moment': (changed('2024-11-05T20:00:00Z', '2024-11-05'), 'E3 /GeneratedDate 11', ' (value: "2024-11-05")'),
+    'twice-id': (changed('"GpUnit":[', '"GpUnit":[{"@id":"p2","@type":"CVR.GpUnit","Type":"precinct"},'), 'E3 /GpUnit/2/@id 12', ' (value: "p2")'),
+    'twice-contest': (changed('"ContestId":"mayor"}', '"ContestId":"mayor"},{"@type":"CVR.CVRContest","ContestId":"mayor"}'), 'E3 %s/CVRContest/1/ContestId 13' % ONE,
+                      ' (value: "mayor"; ' + SAID),
+    'half-vote': (changed('"NumberVotes":1', '"NumberVotes":0.5'), 'E3 %s/NumberVotes 14' % POSITION, ' (value: 0.5; ' + SAID),
+    'name': (changed('"UniqueId":"u1"', '"UniqueId":"u1","a/b~":0.5'), 'E3 /CVR/0/a~1b~0 14', ' (value: 0.5; ' + SAID),
+    'stranger': (changed('"ContestSelectionId":"ann"', '"ContestSelectionId":"eve"'), 'E4 %s/CVRContest/0/CVRContestSelection/0/ContestSelectionId' % ONE,
+                 ' (value: "eve"; ' + SAID),
+    'red': (changed('"ContestSelectionId":"ann"', '"ContestSelectionId":"\\u001b[31m\\u009b\u009b%s"' % ('e' * 60)), 'E4 %s/CVRContest/0/CVRContestSelection/0/ContestSelectionId' % ONE,
+            ' (value: "\\u001b[31m\\u{9b}\\u{9b}%s…; %s' % ('e' * 47, SAID)),
+    'other': (changed('"Selection":"Yes"', '"Selection":"Aye"'), 'E5 /Election/0',
+              ' (first difference: /Election/0/Contest/1/ContestSelection/0/Selection: "Aye", in the definition "Yes")'),
+    'fewer': (changed(',{"@id":"no","@type":"CVR.BallotMeasureSelection","Selection":"No"}', ''), 'E5 /Election/0',
+              ' (first difference: /Election/0/Contest/1/ContestSelection/1: -, in the definition {"@id":"no","@type":"CVR.BallotMeasureSelection","Selection"…)'),
+    'named': (changed('"ElectionScopeId":"p1"', '"ElectionScopeId":"p1","Name":"A/~"'), 'E5 /Election/0', ' (first difference: /Election/0/Name: "A/~", in the definition -)'),
+    'unit': (changed('"GpUnit":[', '"GpUnit":[{"@id":"p3","@type":"CVR.GpUnit","Type":"precinct"},'), 'E5 /GpUnit/0',
+             ' (first difference: /GpUnit/0/@id: "p3", in the definition -)'),
 }
 
 # Options of other programs, each with what there is in its place.
@@ -232,12 +275,21 @@ def differs(got, wanted):
 
 def note_on(named, fault):
     """The note on a refused file, or on the step that imports it. Control characters are escaped."""
-    path, (code, _, rest) = named.split('=')[-1], fault.partition(' ')
+    path, code = named.split('=')[-1], fault.split(' ')[0]
     name = re.sub('[\0-\x1f\x7f-\x9f]', lambda it: '\\u{%x}' % ord(it[0]), named)
-    if code == 'E2' and path in NO_JSON:
-        return 'note: %s: no JSON at line %d, byte %d%s\n' % ((name,) + NO_JSON[path][1:])
+    if path in NO_JSON:
+        line, byte, kind = NO_JSON[path][1:]
+        return 'note: %s: no JSON at line %d, byte %d. %s\n' % (name, line, byte, KINDS[kind])
+    if code == 'E2':
+        return 'note: %s: %s\n' % (name, KINDS['strange'])
+    return 'note: %s: %s%s\n' % (name, words_on(fault), BAD[path][2])
+
+
+def words_on(fault):
+    """What is wrong in general, and where."""
+    code, _, rest = fault.partition(' ')
     place, rule = rest.rsplit(' ', 1) if code == 'E3' else (rest, None)
-    return 'note: %s: %s\n' % (name, (place and 'at %s: ' % place) + (RULES[rule] if rule else WORDS[code]))
+    return (place and 'at %s: ' % place) + (RULES[rule] if rule else WORDS[code])
 
 
 def notes(program, asked):
@@ -301,13 +353,12 @@ def slow(program, names):
 def written_to(program):
     """Yields what is wrong with a run, or nothing, while which a file is written to."""
     asked = damage.case('tally', damage.held('f2.json', 'f6.json'))
-    refused = asked._replace(words=['tally', 'half', 'f2.json'], out=b'', log=b'half: E2\n', status=1)
+    refused = asked._replace(words=['tally', 'twice', 'f2.json'], out=b'', log=b'twice: E2\n', status=1)
     behind = lambda *names: 1 + sum(os.path.getsize(program.path(name)) + 1 for name in names)
-    for name, call in ('def.json', 1), ('f2.json', behind('def.json')), ('f6.json', behind('def.json', 'f2.json')), ('half', 1):
-        run_of = refused if name == 'half' else asked
+    for name, call in ('def.json', 1), ('f2.json', behind('def.json')), ('f6.json', behind('def.json', 'f2.json')), ('twice', 1):
+        run_of = refused if name == 'twice' else asked
         for how in 'grows', 'rewritten':
-            with open(program.path(name), 'rb') as file:
-                held = file.read()
+            held = program.data(name)
             os.utime(program.path(name), (0, 0))
             out, log, status = Run(program, run_of.words, End('pipe'), End('terminal'), '0 %d %s' % (call, how)).left()
             program.put(name, held)
@@ -330,14 +381,36 @@ def failing(program, asked):
 
 
 def piped(program):
-    """What is wrong with a run whose definition comes through a pipe, or nothing: it is named as it was given."""
-    asked = damage.case('check', [('half', 'E2')] + damage.held('f2.json'))
+    """What is wrong with a run whose definition comes through a pipe, or nothing: notes are as those of a file."""
+    refused = [('half', 'E2'), ('other', BAD['other'][1])]
+    asked = damage.case('check', refused + damage.held('f2.json'))
+    told = ''.join(note_on(*one) for one in refused) + 'note: /dev/stdin: records of its own, which are not counted: 3\n'
+    with given(OWN) as pipe:
+        out, log, status = Run(program, ['check', '/dev/stdin'] + asked.words[2:], End('pipe'), End('terminal'), given=pipe).left()
+    return differs(out, asked.out.decode('utf-8')) or wrong_of(log, 3, asked.log.decode('utf-8') + told) or differs(status, asked.status)
+
+
+def given(data):
+    """A pipe through which this comes."""
     ours, theirs = os.pipe()
     with open(theirs, 'wb') as pipe:
-        pipe.write(DEF)
-    with open(ours, 'rb') as pipe:
-        out, log, status = Run(program, ['check', '/dev/stdin'] + asked.words[2:], End('pipe'), End('terminal'), given=pipe).left()
-    return differs(out, asked.out.decode('utf-8')) or wrong_of(log, 2, asked.log.decode('utf-8') + note_on('half', 'E2')) or differs(status, asked.status)
+        pipe.write(data)
+    return open(ours, 'rb')
+
+
+def unknown(program):
+    """Yields what is wrong with a run, or nothing. A refused file can't be read again as it was: it came through a pipe,
+    or was written to. Its note has the words on its fault alone."""
+    for name, (code, *_) in ('half', ['E2']), ('number', BAD['number'][1:]):
+        told = 'note: %%s: %s\n' % words_on(code)
+        with given(program.data(name)) as pipe:
+            out, log, status = Run(program, ['check', 'def.json', '/dev/stdin'], End('pipe'), End('terminal'), given=pipe).left()
+        yield differs(out, '') or differs(log, '/dev/stdin: %s\n' % code + told % '/dev/stdin') or differs(status, 1)
+        held, call = program.data(name), 2 + os.path.getsize(program.path('def.json'))
+        os.utime(program.path(name), (0, 0))
+        out, log, status = Run(program, ['check', 'def.json', name], End('pipe'), End('terminal'), '0 %d rewritten' % call).left()
+        program.put(name, held)
+        yield differs(out, '') or differs(log, '%s: %s\n' % (name, code) + told % name + 'note: %s: it was written to while it was read\n' % name) or differs(status, 1)
 
 
 def lacking(program):
@@ -365,7 +438,7 @@ def many(program):
 
 def refused_runs():
     """Runs over files that are refused for each cause, and over files that are accepted and print nothing."""
-    refused, accepted = [(name, fault) for name, (_, fault) in BAD.items()], damage.held('f2.json')
+    refused, accepted = [(name, fault) for name, (_, fault, _) in BAD.items()], damage.held('f2.json')
     for one in refused:
         yield damage.case('tally', [one] + accepted), 2
     yield damage.case('check', refused), len(refused)
@@ -412,7 +485,7 @@ def main():
             program = damage.Program(cvr, folder)
             for name, (data, *_) in NO_JSON.items():
                 program.put(name, data)
-            for name, (data, _) in BAD.items():
+            for name, (data, *_) in BAD.items():
                 program.put(name, data)
             program.put('own', OWN)
             for asked, files in asked_runs(program):
@@ -424,6 +497,7 @@ def main():
             refused = damage.case('tally', [('half', 'E2')])._replace(words=['tally', 'half', '--files-from', 'list'])
             found += [('a refused definition and a list', one) for one in wrongs(program, refused._replace(out=b''), 4, note_on('half', 'E2'))]
             found += [('a definition by a pipe', piped(program)), ('want of memory', lacking(program))]
+            found += [('a file that is not as it was', one) for one in unknown(program)]
             found += [('many files', one) for one in many(program)]
             found += [('a file that is written to', one) for one in written_to(program)]
             found.append(('a slow file', slow(program, ['f2.json', 'f6.json', 'f8.json'])))

@@ -125,12 +125,16 @@ _Static_assert(sizeof(Found) == 256, "struct statx");
 
 enum { IS_FILE = 0x8000, TO_1970 = 11644473600 };
 
-/* Of an open file the length, the time at which it was written to last, and that it is a file. The program asks for no
-   other, and by no path. */
+/* Of a file, which is open or has this path, the length, the time at which it was written to last, and that it is a
+   file. The program asks for no other. */
 int cvr_statx(int file, const char *path, int flags, unsigned mask, Found *found) {
+    if (*path) {
+        int opened = cvr_open(path, 0), answer = opened < 0 ? -1 : cvr_statx(opened, "", flags, mask, found);
+        if (opened >= 0) _close(opened);
+        return answer;
+    }
     BY_HANDLE_FILE_INFORMATION has;
     HANDLE handle = (HANDLE)_get_osfhandle(file);
-    (void)path, (void)flags, (void)mask;
     if (GetFileType(handle) != FILE_TYPE_DISK || !GetFileInformationByHandle(handle, &has)) {
         errno = EBADF;
         return -1;

@@ -20,7 +20,7 @@ def kind_of(data):
     for kind, mark in MARKS:
         if data.startswith(mark):
             return kind
-    if not data:
+    if not data.strip():
         return 'nothing'
     if WIDE.match(data):
         return 'utf-16'

@@ -21,10 +21,11 @@ use cvr_cli::{Happened, Open, respond};
 use cvr_screen::{Notes, Progress};
 use std::alloc::Global;
 use std::process::ExitCode;
+use std::rt::Files;
 
 /// Answers all words, the program's name first, as `respond` does, and ends with the code of its
 /// status. Before it ends, it removes the line about files, and prints the notes.
-pub fn answer<O: Open, W: Sink, L: Sink, R: Eprint + AllocGlobal>(
+pub fn answer<O: Open, W: Sink, L: Sink, R: Files + Eprint + AllocGlobal>(
     alloc: Global,
     opener: &mut O,
     words: &[String],

@@ -2,11 +2,15 @@
 //! files are read, and notes at the end of a run.
 #![tactic(auto)]
 
+mod again;
+mod differing;
 mod naming;
 mod notes;
+mod pointed;
 mod progress;
 mod seen;
 mod shown;
+mod standing;
 mod tried;
 mod watched;
 mod words;

@@ -1,20 +1,25 @@
+use crate::again::read_again;
 use crate::naming::{file_at, named, path_of, uncounted, unnamed};
-use crate::seen::{Flaw, Seen, see};
+use crate::seen::count_records;
 use crate::shown::Shown;
+use crate::standing::standing;
 use crate::tried::tried;
 use crate::words::fault_words;
 use cdf_types::ReadFault;
 use cvr_office::{Cause, Outcome};
-use cvr_run::{HELD, Happened, NAMED, Status, first_refused};
+use cvr_run::{Happened, NAMED, Status, first_refused};
 use cvr_words::Request;
 use std::cell::{Cell, RefCell};
 use std::io;
+use std::rt::Files;
+use std::time::SystemTime;
 
-// A file that is no JSON: its place, 0 for the definition, and where it stops being JSON.
-#[derive(Drop)]
-struct Flawed {
-    place: usize,
-    flaw: Flaw,
+// The bytes that are held, if any are.
+fn held(bytes: &Option<Vec<u8>>) -> Option<&[u8]> {
+    match bytes {
+        Some(bytes) => Some(bytes.as_slice()),
+        None => None,
+    }
 }
 
 /// The notes that are printed at the end of a run where standard error is a terminal. Elsewhere
@@ -28,17 +33,17 @@ pub struct Notes<'a, R> {
     before: usize,
     // How many files were read.
     closed: Cell<usize>,
-    // The first that are no JSON: the definition, and as many as are named.
-    flawed: RefCell<Vec<Flawed>>,
+    // The bytes of the definition.
+    def: RefCell<Option<Vec<u8>>>,
+    // When the one that was written to last of all files was, as they were opened.
+    newest: Cell<Option<SystemTime>>,
     // The places of the first that were written to while they were read.
     changed: RefCell<Vec<usize>>,
-    // How many cast vote records the definition has.
-    own: Cell<usize>,
     // What the system answered where a file could not be opened or read.
     code: Cell<Option<i32>>,
 }
 
-impl<'a, R: Eprint + AllocGlobal> Notes<'a, R> {
+impl<'a, R: Files + Eprint + AllocGlobal> Notes<'a, R> {
     /// The notes of a run that has read nothing. `before` is the number of files that are read
     /// before the definition: 1 where a list names the others, else 0.
     pub fn new(rt: &'a R, is_terminal: bool, before: usize) -> Notes<'a, R> {
@@ -47,9 +52,9 @@ impl<'a, R: Eprint + AllocGlobal> Notes<'a, R> {
             is_terminal,
             before,
             closed: Cell::new(0),
-            flawed: RefCell::new(Vec::new(rt.alloc())),
+            def: RefCell::new(None),
+            newest: Cell::new(None),
             changed: RefCell::new(Vec::new(rt.alloc())),
-            own: Cell::new(0),
             code: Cell::new(None),
         }
     }
@@ -59,48 +64,38 @@ impl<'a, R: Eprint + AllocGlobal> Notes<'a, R> {
         self.is_terminal
     }
 
-    /// No bytes yet of a file that was opened, to keep those that are read. None where nothing is
-    /// kept.
+    /// No bytes yet of a file that was opened, to keep those that are read: of the definition. None
+    /// where nothing is kept.
     pub fn open(&self) -> Option<Vec<u8>> {
-        if self.is_terminal {
+        if self.is_terminal && self.closed.get() == self.before {
             Some(Vec::new(self.rt.alloc()))
         } else {
             None
         }
     }
 
-    /// Keeps what the bytes of a file that was read seem to be, where they were kept, and whether
-    /// others wrote to it meanwhile.
-    pub fn close(&self, bytes: Option<&[u8]>, has_changed: bool) {
+    /// Keeps of a file that was read its bytes, where they were kept, when it had been written to,
+    /// and whether others wrote to it meanwhile.
+    pub fn close(&self, bytes: Option<Vec<u8>>, written: Option<SystemTime>, has_changed: bool) {
         let closed = self.closed.get();
         self.closed.set(closed.saturating_add(1));
+        if written > self.newest.get() {
+            self.newest.set(written);
+        }
         if let Some(place) = closed.checked_sub(self.before) {
             if has_changed {
                 self.keep_change(place);
             }
-            match bytes {
-                Some(bytes) if bytes.len() < HELD => self.look(place, bytes),
-                _ => {}
+            if place == 0 {
+                self.keep_def(bytes);
             }
         }
     }
 
-    // Looks at the bytes of the file at this place.
-    fn look(&self, place: usize, bytes: &[u8]) {
-        match see(self.rt.alloc(), bytes) {
-            Seen::Flaw(flaw) => self.keep(Flawed { place, flaw }),
-            Seen::Records(records) if place == 0 => self.own.set(records),
-            _ => {}
-        }
-    }
-
-    // Keeps a file that is no JSON, if it can be among those that are named. Where memory is
-    // refused for it, it has no note.
-    fn keep(&self, flawed: Flawed) {
-        if let Ok(mut all) = self.flawed.try_borrow_mut() {
-            if all.len() <= NAMED {
-                let _ = all.push(flawed);
-            }
+    // Keeps the bytes of the definition.
+    fn keep_def(&self, bytes: Option<Vec<u8>>) {
+        if let Ok(mut def) = self.def.try_borrow_mut() {
+            *def = bytes;
         }
     }
 
@@ -147,66 +142,70 @@ impl<'a, R: Eprint + AllocGlobal> Notes<'a, R> {
 
     // Where the definition is refused, no other file was judged.
     fn print_run(&self, happened: &Happened) {
-        if let Some(request) = &happened.request {
+        if let (Some(request), Ok(def)) = (&happened.request, self.def.try_borrow()) {
+            let def = held(&def);
             match &happened.definition {
                 Some(cause) => {
-                    self.print_refused(request.def.as_str(), 0, cause);
+                    self.print_refused(request.def.as_str(), cause, def, def);
                     self.print_changes(request, 1);
                 }
-                None => self.print_judged(request, happened),
+                None => self.print_judged(request, happened, def),
             }
         }
     }
 
-    fn print_judged(&self, request: &Request, happened: &Happened) {
+    fn print_judged(&self, request: &Request, happened: &Happened, def: Option<&[u8]>) {
         let outcomes = happened.outcomes.as_slice();
         let places = first_refused(outcomes);
         for place in places.as_slice() {
             if let Some(Outcome::Refused(cause)) = outcomes.get(*place) {
-                if let Some((text, file)) = named(request, *place) {
-                    self.print_refused(text, file.saturating_add(1), cause);
-                }
+                self.print_again(request, *place, cause, def);
             }
         }
         self.print_more(unnamed(outcomes));
         self.print_changes(request, usize::MAX);
-        self.print_own(request);
+        self.print_own(request, def);
         self.print_several(happened.several);
         if request.paths.as_slice().is_empty() {
             let _ = eprintln!(self.rt; "note: no files were given");
         }
     }
 
-    // Why a file was refused. The definition has place 0.
-    fn print_refused(&self, text: &str, place: usize, cause: &Cause) {
-        match (cause, self.flaw_at(place)) {
-            (Cause::Read(ReadFault::NotJson), Some(flaw)) => self.print_flaw(text, flaw),
-            (Cause::Read(fault), _) => self.print_fault(text, fault),
-            _ => {}
+    // Why a file or a step was refused. The file is read again.
+    fn print_again(&self, request: &Request, place: usize, cause: &Cause, def: Option<&[u8]>) {
+        if let Some((text, file)) = named(request, place) {
+            let bytes = match file_at(request, file.saturating_add(1)) {
+                Some(path) => read_again(self.rt, path, self.newest.get()),
+                None => None,
+            };
+            self.print_refused(text, cause, held(&bytes), def);
         }
     }
 
-    // Where a file stops being JSON.
-    fn print_flaw(&self, text: &str, flaw: Flaw) {
-        let Flaw {
-            line,
-            column,
-            seeming,
-        } = flaw;
-        let text = Shown::new(text);
-        let _ = eprintln!(self.rt; "note: {text}: no JSON at line {line}, byte {column}{seeming}");
+    // Why a file was refused, with what stands in it, as far as its bytes are known.
+    fn print_refused(&self, text: &str, cause: &Cause, bytes: Option<&[u8]>, def: Option<&[u8]>) {
+        if let Cause::Read(fault) = cause {
+            let stands = match bytes {
+                Some(bytes) => standing(self.rt.alloc(), fault, bytes, def.unwrap_or(&[])),
+                None => None,
+            };
+            match stands {
+                Some(stands) => self.print_fault(text, fault, stands.as_str()),
+                None => self.print_fault(text, fault, fault_words(fault)),
+            }
+        }
     }
 
-    // The fault of a file in words, and its path.
-    fn print_fault(&self, text: &str, fault: &ReadFault) {
-        let (text, words) = (Shown::new(text), fault_words(fault));
+    // What is said of the fault of a file, behind its path.
+    fn print_fault(&self, text: &str, fault: &ReadFault, said: &str) {
+        let text = Shown::new(text);
         match path_of(fault) {
             Some(path) if !path.is_empty() => {
                 let path = Shown::new(path);
-                let _ = eprintln!(self.rt; "note: {text}: at {path}: {words}");
+                let _ = eprintln!(self.rt; "note: {text}: at {path}: {said}");
             }
             _ => {
-                let _ = eprintln!(self.rt; "note: {text}: {words}");
+                let _ = eprintln!(self.rt; "note: {text}: {said}");
             }
         }
     }
@@ -229,14 +228,12 @@ impl<'a, R: Eprint + AllocGlobal> Notes<'a, R> {
         }
     }
 
-    fn flaw_at(&self, place: usize) -> Option<Flaw> {
-        let flawed = self.flawed.try_borrow().ok()?;
-        let found = flawed.iter().find(|flawed| flawed.place == place)?;
-        Some(found.flaw)
-    }
-
-    fn print_own(&self, request: &Request) {
-        if let Some(records) = uncounted(self.own.get(), request) {
+    fn print_own(&self, request: &Request, def: Option<&[u8]>) {
+        let own = match def {
+            Some(def) => count_records(self.rt.alloc(), def),
+            None => 0,
+        };
+        if let Some(records) = uncounted(own, request) {
             let def = Shown::new(request.def.as_str());
             let _ = eprintln!(self.rt;
                 "note: {def}: records of its own, which are not counted: {records}"

@@ -9,9 +9,10 @@ use cvr_run::OverWrite;
 use std::fs::{Metadata, OpenFile};
 use std::io;
 use std::io::{Read, Write};
+use std::rt::Files;
 
-/// A file that counts as read when it is closed, and whose bytes are kept for the notes.
-pub struct Watched<'a, F: OpenFile, R: Eprint + AllocGlobal> {
+/// A file that counts as read when it is closed. The bytes of the definition are kept for notes.
+pub struct Watched<'a, F: OpenFile, R: Files + Eprint + AllocGlobal> {
     file: F,
     // What the system says of it as it is opened; None where no note needs it.
     opened: Option<Metadata>,
@@ -21,7 +22,7 @@ pub struct Watched<'a, F: OpenFile, R: Eprint + AllocGlobal> {
     notes: &'a Notes<'a, R>,
 }
 
-impl<'a, F: OpenFile, R: Eprint + AllocGlobal> Watched<'a, F, R> {
+impl<'a, F: OpenFile, R: Files + Eprint + AllocGlobal> Watched<'a, F, R> {
     /// A file that was opened.
     pub fn new(
         file: F,
@@ -56,8 +57,8 @@ impl<'a, F: OpenFile, R: Eprint + AllocGlobal> Watched<'a, F, R> {
 
 // Whether a file was written to since then, as far as its length and its time say. Of what is no
 // file, such as a pipe, they say nothing.
-fn has_changed<F: OpenFile>(file: &F, opened: Option<Metadata>) -> bool
-    ensures { opened ≡ None → result ≡ false }
+fn has_changed<F: OpenFile>(file: &F, opened: &Option<Metadata>) -> bool
+    ensures { opened.now ≡ None → result ≡ false }
 {
     let Some(before) = opened else {
         return false;
@@ -70,7 +71,7 @@ fn has_changed<F: OpenFile>(file: &F, opened: Option<Metadata>) -> bool
     }
 }
 
-impl<F: Read + OpenFile, R: Eprint + AllocGlobal> Read for Watched<'_, F, R> {
+impl<F: Read + OpenFile, R: Files + Eprint + AllocGlobal> Read for Watched<'_, F, R> {
     ghost remaining = { λ s. F.remaining s.file };
 
     fn read(&mut self, buffer: &mut [u8]) -> io::Result<usize> {
@@ -83,7 +84,7 @@ impl<F: Read + OpenFile, R: Eprint + AllocGlobal> Read for Watched<'_, F, R> {
     }
 }
 
-impl<F: OpenFile + Drop, R: Eprint + AllocGlobal> Drop for Watched<'_, F, R> {
+impl<F: OpenFile + Drop, R: Files + Eprint + AllocGlobal> Drop for Watched<'_, F, R> {
     fn drop(self) {
         let Watched {
             file,
@@ -92,13 +93,14 @@ impl<F: OpenFile + Drop, R: Eprint + AllocGlobal> Drop for Watched<'_, F, R> {
             progress,
             notes,
         } = self;
-        let has_changed = has_changed(&file, opened);
+        let has_changed = has_changed(&file, &opened);
+        let written = match opened {
+            Some(opened) => opened.modified().ok(),
+            None => None,
+        };
         drop(file);
         progress.count();
-        match kept {
-            Some(bytes) => notes.close(Some(bytes.as_slice()), has_changed),
-            None => notes.close(None, has_changed),
-        }
+        notes.close(kept, written, has_changed);
     }
 }
 

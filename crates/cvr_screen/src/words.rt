@@ -48,3 +48,61 @@ pub fn fault_words(fault: &ReadFault) -> &'static str {
         ReadFault::Memory => "",
     }
 }
+
+/// What a refused file is in place of a report.
+#[derive(Clone, Copy, Drop)]
+pub enum Kind {
+    Nothing,
+    Cut,
+    Mark,
+    Utf16,
+    Zip,
+    Gzip,
+    Pdf,
+    Xml,
+    Table,
+    Json,
+    Damaged,
+    Unknown,
+    Strange,
+}
+
+/// What such a file seems to be, and what to do. Takes no memory.
+pub fn kind_words(kind: Kind) -> &'static str {
+    match kind {
+        Kind::Nothing => "It is empty. Copy it again.",
+        Kind::Cut => "It is JSON that ends too soon. Copy it again, and compare the lengths.",
+        Kind::Mark => "It has a byte order mark before its text. Have it written without one.",
+        Kind::Utf16 => "It is a text in UTF-16. Have it written in UTF-8.",
+        Kind::Zip => {
+            "It is a ZIP, or a workbook, which is one. Unpack it, or have the records of a \
+             workbook exported as CSV. cvr-audit gather makes reports of the exports that it \
+             knows."
+        }
+        Kind::Gzip => "It is packed by gzip. Unpack it.",
+        Kind::Pdf => {
+            "It is a PDF, which has no records. Ask for the export that it was printed from."
+        }
+        Kind::Xml => {
+            "It is XML or a page of the web. Have the records exported as JSON. cvr-audit gather \
+             makes reports of the exports that it knows."
+        }
+        Kind::Table => {
+            "It is a table such as CSV. cvr-audit gather makes reports of the exports that it \
+             knows."
+        }
+        Kind::Json => {
+            "It is JSON of another kind than a report. cvr-audit gather makes reports of the \
+             exports that it knows."
+        }
+        Kind::Damaged => "It is JSON that is damaged. Have it exported again.",
+        Kind::Unknown => {
+            "It is of no kind that is known here. Ask the maker of the tool that wrote it for \
+             JSON of the standard."
+        }
+        Kind::Strange => {
+            "It is JSON that not every reader takes: it is nested too deep, or has a number that \
+             is too large, half a sign, or a word such as NaN. Have it exported again."
+        }
+    }
+}
