@@ -1,11 +1,12 @@
 //! What notes name of what happened.
-ghost use Rattle.std.specs.Prelude.{◌≡◌, ◌<◌, ◌-◌, length, IfSome};
+ghost use Rattle.std.specs.Prelude.{◌≡◌, ◌<◌, ◌-◌, length, false, true, None, Some};
 ghost use Rattle.std.specs.List.{filter};
 ghost use Rattle.cvr_run.specs.Refusals.{is_refusal};
+ghost use Rattle.cvr_screen.specs.Given.{is_given};
 
 use cdf_types::ReadFault;
 use cvr_office::Outcome;
-use cvr_run::{NAMED, count_refused};
+use cvr_run::{NAMED, Status, count_refused};
 use cvr_words::{Act, Request, Step, Task};
 
 // The text of a step, and the place of the file that it imports.
@@ -50,22 +51,53 @@ pub fn path_of(fault: &ReadFault) -> Option<&str> {
     }
 }
 
+/// What the notes at the end of a run are about.
+#[derive(Clone, Copy, Debug, PartialEq, Eq)]
+pub enum Topic {
+    /// What happened in it.
+    Run,
+    /// What the system answered.
+    System,
+    /// The words that it was given.
+    Words,
+}
+
+/// What the notes are about at the end of a run with this status, if there are any.
+pub fn topic_of(is_terminal: bool, status: &Status) -> Option<Topic>
+    ensures quiet { is_terminal ≡ false → result ≡ None }
+    ensures memory { status.now ≡ Status.Memory → result ≡ None }
+    ensures done { is_terminal ≡ true → status.now ≡ Status.Done → result ≡ Some Topic.Run }
+    ensures refused { is_terminal ≡ true → status.now ≡ Status.Refused → result ≡ Some Topic.Run }
+    ensures device { is_terminal ≡ true → status.now ≡ Status.Device → result ≡ Some Topic.System }
+    ensures words { is_terminal ≡ true → status.now ≡ Status.CommandLine
+        → result ≡ Some Topic.Words }
+{
+    if !is_terminal {
+        return None;
+    }
+    match status {
+        Status::Done | Status::Refused => Some(Topic::Run),
+        Status::Device => Some(Topic::System),
+        Status::CommandLine => Some(Topic::Words),
+        Status::Memory => None,
+    }
+}
+
 // Whether the definition is among the files, too.
-fn is_given(request: &Request) -> bool {
-    let def = request.def.as_str();
-    request
-        .paths
-        .as_slice()
-        .iter()
-        .any(|path| path.as_str() == def)
+fn is_among_files(request: &Request) -> bool
+    ensures { result ≡ is_given request.now }
+{
+    request.paths.as_slice().contains(&request.def)
 }
 
 /// How many records of the definition are not counted: all that it has, unless it is among the
 /// files; None where there are none.
 pub fn uncounted(own: usize, request: &Request) -> Option<usize>
-    ensures own { IfSome result (λ records. (records ≡ own) × (0 < records)) }
+    ensures none { own ≡ 0 → result ≡ None }
+    ensures given { is_given request.now ≡ true → result ≡ None }
+    ensures own { is_given request.now ≡ false → 0 < own → result ≡ Some own }
 {
-    if own > 0 && !is_given(request) {
+    if own > 0 && !is_among_files(request) {
         Some(own)
     } else {
         None

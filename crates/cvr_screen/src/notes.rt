@@ -1,5 +1,5 @@
 use crate::again::read_again;
-use crate::naming::{file_at, named, path_of, uncounted, unnamed};
+use crate::naming::{Topic, file_at, named, path_of, topic_of, uncounted, unnamed};
 use crate::seen::count_records;
 use crate::shown::Shown;
 use crate::standing::standing;
@@ -116,14 +116,11 @@ impl<'a, R: Files + Eprint + AllocGlobal> Notes<'a, R> {
     /// Prints the notes of a run of these words that ended with this status. What the terminal
     /// answers is ignored.
     pub fn print(&self, words: &[String], status: &Status, happened: &Happened) {
-        if !self.is_terminal {
-            return;
-        }
-        match status {
-            Status::Done | Status::Refused => self.print_run(happened),
-            Status::Device => self.print_code(),
-            Status::CommandLine => self.print_tried(words),
-            Status::Memory => {}
+        match topic_of(self.is_terminal, status) {
+            Some(Topic::Run) => self.print_run(happened),
+            Some(Topic::System) => self.print_code(),
+            Some(Topic::Words) => self.print_tried(words),
+            None => {}
         }
     }
 

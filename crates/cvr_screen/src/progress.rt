@@ -1,5 +1,9 @@
-ghost use Rattle.std.specs.Prelude.{◌≡◌, ◌<◌, false, true};
+ghost use Rattle.std.specs.Prelude.{◌≡◌, ◌<◌, ◌≤◌, ◌^◌, ℕ, IfOk, false, true, length};
+ghost use Rattle.std.specs.Prelude.{string_bytes};
+ghost use Rattle.cvr_screen.specs.Line.{blanks_text, line_text};
 
+use itoa::Buffer;
+use std::alloc::{AllocError, Global};
 use std::cell::Cell;
 use std::io;
 use std::io::Write;
@@ -16,7 +20,7 @@ pub struct Progress<'a, R> {
     is_shown: Cell<bool>,
 }
 
-impl<'a, R: Eprint> Progress<'a, R> {
+impl<'a, R: Eprint + AllocGlobal> Progress<'a, R> {
     /// No file was read, and there is no line.
     pub fn new(rt: &'a R, is_terminal: bool) -> Progress<'a, R> {
         Progress {
@@ -28,13 +32,16 @@ impl<'a, R: Eprint> Progress<'a, R> {
     }
 
     /// Counts a file, and shows how many there are beside the first, which is the definition or a
-    /// list of files. One alone is not shown. What the terminal answers is ignored.
+    /// list of files. One alone is not shown, nor any where memory is refused for the line. What
+    /// the terminal answers is ignored.
     pub fn count(&self) {
         let files = self.closed.get();
         self.closed.set(files.saturating_add(1));
         if shows(self.is_terminal, files) {
-            self.is_shown.set(true);
-            let _ = eprint!(self.rt; "\rread {files} files");
+            if let Ok(line) = line(self.rt.alloc(), files) {
+                self.is_shown.set(true);
+                let _ = eprint!(self.rt; "\r{line}");
+            }
         }
     }
 
@@ -42,7 +49,8 @@ impl<'a, R: Eprint> Progress<'a, R> {
     /// answers is ignored.
     pub fn clear(&self) {
         if self.is_shown.replace(false) {
-            let _ = eprint!(self.rt; "\r{:31}\r", "");
+            let blanks = blanks();
+            let _ = eprint!(self.rt; "\r{blanks}\r");
         }
     }
 }
@@ -54,14 +62,14 @@ pub struct Cleared<'a, W, R> {
     progress: &'a Progress<'a, R>,
 }
 
-impl<'a, W, R: Eprint> Cleared<'a, W, R> {
+impl<'a, W, R: Eprint + AllocGlobal> Cleared<'a, W, R> {
     /// The output over a writer.
     pub fn new(output: W, progress: &'a Progress<'a, R>) -> Cleared<'a, W, R> {
         Cleared { output, progress }
     }
 }
 
-impl<W: Write, R: Eprint> Write for Cleared<'_, W, R> {
+impl<W: Write, R: Eprint + AllocGlobal> Write for Cleared<'_, W, R> {
     ghost contents = { λ s. W.contents s.output };
 
     fn write(&mut self, bytes: &[u8]) -> io::Result<usize> {
@@ -81,4 +89,25 @@ fn shows(is_terminal: bool, files: usize) -> bool
     ensures shown { is_terminal ≡ true → 1 < files → result ≡ true }
 {
     is_terminal && files > 1
+}
+
+// The line about files, behind the first.
+fn line(alloc: Global, files: usize) -> Result<String, AllocError>
+    ensures { IfOk result (λ line. string_bytes line ≡ line_text files) }
+{
+    let mut line = String::from_str(alloc, "read ")?;
+    let mut digits = Buffer::new();
+    line.push_str(digits.format(files))?;
+    line.push_str(" files")?;
+    Ok(line)
+}
+
+// What the line is overwritten with: blanks, as many as it may have characters.
+#[tactic(auto, using(crate::proofs::Covered::covered))]
+fn blanks() -> &'static str
+    ensures blanks { result.now ≡ blanks_text }
+    ensures covers { (files : ℕ) → files < 2 ^ 64
+        → length (line_text files) ≤ length result.now }
+{
+    "                               "
 }
