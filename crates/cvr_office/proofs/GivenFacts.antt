@@ -39,7 +39,8 @@ use Rattle.cvr_office.specs.Tallied.{unit_of, batch_of, sums_of_body, is_headed,
 use Rattle.cvr_office.specs.Counting.{total_of}
 use Rattle.cvr_office.proofs.InOrder.{in_ordered, from_ordered, keys_in_order-members}
 use Rattle.cvr_office.proofs.NameOrder.{conflict_total, conflict_exact}
-use Rattle.cvr_office.proofs.NextInFacts.{name_total, name_exact}
+use Rattle.cvr_office.proofs.Runs.{name_total}
+use Rattle.cvr_office.proofs.RecordMembers.{name_exact}
 use Rattle.cvr_office.proofs.RecordMembers.{from_filter, in_filter}
 
 -- ---- lists in order
@@ -53,7 +54,7 @@ keys_given : {K : Type 0} (R : K → K → Ordering) (ks : List K)
 keys_given R [] = refl
 keys_given R (k ∷ ks) = ap (λ m. map_of.insert m k tt) (keys_given R ks)
 
-keys_in_order-is : {K : Type 0} {R : K → K → Ordering} → IsTotalOrder R → (ks : List K)
+pub keys_in_order-is : {K : Type 0} {R : K → K → Ordering} → IsTotalOrder R → (ks : List K)
     → keys_in_order R ks ≡ sorted R ks
 keys_in_order-is {R = R} t ks = ap map_of.keys (keys_given R ks)
     ∙ ap (map (λ e. e.0)) (entries-given t (map (λ k. (k, tt {0})) ks))

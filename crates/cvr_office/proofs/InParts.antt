@@ -5,7 +5,7 @@ use Rattle.std.proofs.Common.{inr, refl, sym, ap, ap₂, ◌∙◌, subst, arith
 use Rattle.std.specs.Prelude.{◌⊎◌, slice_get}
 use Rattle.std.specs.List.{filter, find, sum_by, flat_map, list_any}
 use Rattle.std.specs.List.Sorted.{IsPermutation}
-use Rattle.std.specs.FinSet.{union, empty, contains, contains-union, contains-empty}
+use Rattle.std.specs.FinSet.{union, empty, contains, contains-empty}
 use Rattle.std.specs.Option.{option_map_or}
 use Rattle.std.specs.Ordering.{eq_by_cmp}
 use Rattle.std.proofs.lemmas.List.Kept.{IsStrictlySortedBy-filter}
@@ -39,10 +39,10 @@ use Rattle.cvr_office.specs.Parts.{RecordsRiseLaw, RowsOfManyLaw, CurrentsOfMany
 use Rattle.cvr_office.specs.Parts.{HeadersOfManyLaw, RecordsOfManyLaw}
 use Rattle.cvr_office.proofs.ColumnTotals.{sum_by-kept, sum_by-same}
 use Rattle.cvr_office.proofs.GivenFacts.{HaveSame, max_by-same}
-use Rattle.cvr_office.proofs.NextInFacts.{name_total, name_exact}
+use Rattle.cvr_office.proofs.Included.{from_union, left_within, right_within}
+use Rattle.cvr_office.proofs.Runs.{name_total}
 use Rattle.cvr_office.proofs.NextLaws.{listed}
-use Rattle.cvr_office.proofs.RecordMembers.{from_filter, in_filter}
-use Rattle.cvr_office.proofs.Unions.{or_cases, or_left, or_right}
+use Rattle.cvr_office.proofs.RecordMembers.{from_filter, in_filter, name_exact}
 
 -- ---- records
 
@@ -55,33 +55,22 @@ pub rise : RecordsRiseLaw
 rise s = ordered_rises name_cmp _
 
 module _ (s t : Facts) where
-  in_either : (f : Fact) → contains (union s t) f ≡ true
-      → (contains s f ≡ true) ⊎ (contains t f ≡ true)
-  in_either f has =
-      or_cases (contains s f) (contains t f) (sym (contains-union fact_total s t f) ∙ has)
-
-  in_left : (f : Fact) → contains s f ≡ true → contains (union s t) f ≡ true
-  in_left f has = contains-union fact_total s t f ∙ or_left (contains s f) (contains t f) has
-
-  in_right : (f : Fact) → contains t f ≡ true → contains (union s t) f ≡ true
-  in_right f has = contains-union fact_total s t f ∙ or_right (contains s f) (contains t f) has
-
   pub record_of_either : (r : RecordName) → Contains (records (union s t)) r
       → Contains (records s) r ⊎ Contains (records t) r
   record_of_either r at =
       let f = (listed name_total name_exact record_of (union s t) r).0 at in
-      elim (in_either f.0 f.1) [
+      elim (from_union s t f.0 f.1) [
         | inl left ↦ inl (has_record s r f.0 left f.2)
         | inr right ↦ inr (has_record t r f.0 right f.2)
       ]
 
   pub record_of_left : (r : RecordName) → Contains (records s) r → Contains (records (union s t)) r
   record_of_left r at = let f = (listed name_total name_exact record_of s r).0 at in
-      has_record (union s t) r f.0 (in_left f.0 f.1) f.2
+      has_record (union s t) r f.0 (left_within s t f.0 f.1) f.2
 
   pub record_of_right : (r : RecordName) → Contains (records t) r → Contains (records (union s t)) r
   record_of_right r at = let f = (listed name_total name_exact record_of t r).0 at in
-      has_record (union s t) r f.0 (in_right f.0 f.1) f.2
+      has_record (union s t) r f.0 (right_within s t f.0 f.1) f.2
 
 -- ---- facts without a record leave it as it is
 
@@ -91,26 +80,26 @@ module _ (s t : Facts) (r : RecordName) (away : ¬ Contains (records t) r) where
     there = λ b at.
         let fact = (Contains-snapshot_bodies (union s t) r b).0 at in
         let f = Snapshot r.device r.unique fact.0 b in
-        elim (in_either s t f fact.1) [
+        elim (from_union s t f fact.1) [
           | inl left ↦ (Contains-snapshot_bodies s r b).1 (fact.0, left)
           | inr right ↦ absurd (away (has_record t r f right refl))
         ];
     back = λ b at.
         let fact = (Contains-snapshot_bodies s r b).0 at in
         (Contains-snapshot_bodies (union s t) r b).1
-        (fact.0, in_left s t (Snapshot r.device r.unique fact.0 b) fact.1);
+        (fact.0, left_within s t (Snapshot r.device r.unique fact.0 b) fact.1);
   }
 
   same_headers : HaveSame (header_bodies (union s t) r) (header_bodies s r)
   same_headers = record {
     there = λ b at.
         let f = Header r.device r.unique b in
-        elim (in_either s t f ((Contains-header_bodies (union s t) r b).0 at)) [
+        elim (from_union s t f ((Contains-header_bodies (union s t) r b).0 at)) [
           | inl left ↦ (Contains-header_bodies s r b).1 left
           | inr right ↦ absurd (away (has_record t r f right refl))
         ];
     back = λ b at. (Contains-header_bodies (union s t) r b).1
-        (in_left s t (Header r.device r.unique b) ((Contains-header_bodies s r b).0 at));
+        (left_within s t (Header r.device r.unique b) ((Contains-header_bodies s r b).0 at));
   }
 
   pub current_stays : current (union s t) r ≡ current s r

@@ -1,11 +1,12 @@
 -- Sets of facts within others: what their bodies may name, and which of their records are whole.
-use Rattle.std.proofs.Common.{◌≡◌, ℕ, List, Bool, true, false, ◌||◌, Some, Contains, refl, sym, ◌∙◌}
+use Rattle.std.proofs.Common.{◌≡◌, ℕ, List, true, Some, Contains, refl, sym, ◌∙◌}
 use Rattle.std.proofs.Common.{subst, inl, inr}
 use Rattle.std.specs.Prelude.{◌⊎◌}
 use Rattle.std.specs.FinSet.{contains, items, union, contains-union}
 use Rattle.std.proofs.lemmas.Cmp.{nat_list_eq_equiv}
 use Rattle.std.proofs.lemmas.Map.Views.{Contains-from_any, list_any-from_Contains}
 use Rattle.std.proofs.lemmas.Slice.Eq.{bytes_eq-Decides}
+use Rattle.std.proofs.lemmas.Bool.{or_left, or_right, or_cases}
 use Rattle.cdf_parts.specs.Places.{Texts}
 use Rattle.cdf_definition.specs.References.{Scope}
 use Rattle.cdf_check.proofs.Laws.{header_stays, snapshot_stays}
@@ -23,18 +24,6 @@ IsWithin s t = (f : Fact) → contains s f ≡ true → contains t f ≡ true
 
 -- ---- unions
 
-or_left : (a b : Bool) → a ≡ true → (a || b) ≡ true
-or_left true b h = refl
-or_left false b h = absurd (cc)
-
-or_right : (a b : Bool) → b ≡ true → (a || b) ≡ true
-or_right true b h = refl
-or_right false b h = h
-
-or_either : (a b : Bool) → (a || b) ≡ true → (a ≡ true) ⊎ (b ≡ true)
-or_either true b h = inl refl
-or_either false b h = inr h
-
 module _ (s t : Facts) where
   pub left_within : IsWithin s (union s t)
   left_within f h = contains-union fact_total s t f ∙ or_left (contains s f) (contains t f) h
@@ -45,7 +34,7 @@ module _ (s t : Facts) where
   pub from_union : (f : Fact) → contains (union s t) f ≡ true
       → (contains s f ≡ true) ⊎ (contains t f ≡ true)
   from_union f h =
-      or_either (contains s f) (contains t f) (sym (contains-union fact_total s t f) ∙ h)
+      or_cases (contains s f) (contains t f) (sym (contains-union fact_total s t f) ∙ h)
 
   -- what holds of the facts of both holds of those of the union
   pub of_union : (P : Fact → Type 0) → ((f : Fact) → contains s f ≡ true → P f)

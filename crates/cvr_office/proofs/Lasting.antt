@@ -4,13 +4,14 @@ use Rattle.std.proofs.Common.{get_or, refl, sym, ap, ◌∙◌, subst, append-ni
 use Rattle.std.proofs.lemmas.List.{get_or-map}
 use Rattle.std.proofs.lemmas.Option.{slice_get_within, get_or_from_slice_get}
 use Rattle.std.specs.FinSet.{union, empty, items, contains, contains-union}
+use Rattle.std.proofs.lemmas.Bool.{or_right}
 use Rattle.cdf_definition.specs.Frame.{Frame}
 use Rattle.cvr_fact_types.specs.Facts.{Fact, Facts}
 use Rattle.cvr_office.specs.declared.event.Event.TheVariants.{Import, Exchange}
 use Rattle.cvr_office.specs.declared.event.Outcome.TheVariants.{Accepted}
 use Rattle.cvr_office.specs.Reach.{Origin, File, History, origins_at, origin_facts, content}
 use Rattle.cvr_office.specs.Lasting.{HeldLastsLaw, ImportLastsLaw, ExchangeLastsLaw, PlayedLastsLaw}
-use Rattle.cvr_office.proofs.Unions.{or_right, contains-union_over, member_that_passes}
+use Rattle.cvr_office.proofs.Unions.{contains-union_over, member_that_passes}
 use Rattle.cvr_office.proofs.Unions.{passes_by_member}
 use Rattle.cvr_office.proofs.Reached.{origin_total, origin_exact, is_eq, content-none}
 use Rattle.cvr_office.proofs.Ways.{origins_after-stays, brings}

@@ -7,7 +7,7 @@ pub use Rattle.cvr_office.proofs.Keeping.{import_keeps, join_keeps}
 pub use Rattle.cvr_office.proofs.Lasting.{held_lasts, import_lasts}
 pub use Rattle.cvr_office.proofs.NameOrder.{conflict_exact, conflict_total}
 pub use Rattle.cvr_office.proofs.NewOffices.{same_content, same_definition}
-pub use Rattle.cvr_office.proofs.NextInFacts.{name_total}
+pub use Rattle.cvr_office.proofs.Runs.{name_total}
 pub use Rattle.cvr_office.proofs.OwnFrame.{entry_source, own_agrees}
 pub use Rattle.cvr_office.proofs.Reached.{content-none}
 pub use Rattle.cvr_office.proofs.RecordMembers.{name_exact}

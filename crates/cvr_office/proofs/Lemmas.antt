@@ -1,8 +1,9 @@
 -- What proofs of other crates may cite besides its laws: facts on lists, names among facts, truth
 -- values and orders, and ways of computing.
+pub use Rattle.std.proofs.lemmas.Bool.{or_cases, or_left, or_right}
 pub use Rattle.cvr_office.proofs.FileRecords.{records_whole}
 pub use Rattle.cvr_office.proofs.GivenFacts.{conflicts-given, current-given, records-given, sorted}
-pub use Rattle.cvr_office.proofs.GivenFacts.{tally-given}
+pub use Rattle.cvr_office.proofs.GivenFacts.{tally-given, keys_in_order-is}
 pub use Rattle.cvr_office.proofs.InOrder.{from_ordered, in_ordered, map-map, keys_in_order-members}
 pub use Rattle.cvr_office.proofs.InOrder.{rises-distinct}
 pub use Rattle.cvr_office.proofs.NameOrder.{Reaches, bodies_less, has_own_name, name_is}
@@ -26,8 +27,7 @@ pub use Rattle.cvr_office.proofs.RowsOfKeys.{added_sums-no_current, added_sums-n
 pub use Rattle.cvr_office.proofs.RowsOfKeys.{same_key}
 pub use Rattle.cvr_office.proofs.Runs.{not_before, record_order_rises, records_rise}
 pub use Rattle.cvr_office.proofs.Standing.{facts_stand}
-pub use Rattle.cvr_office.proofs.Unions.{contains-union_over, or_cases, or_left, or_right}
-pub use Rattle.cvr_office.proofs.Unions.{over_insert, over_union, tie_is}
+pub use Rattle.cvr_office.proofs.Unions.{contains-union_over, over_insert, over_union, tie_is}
 pub use Rattle.cvr_office.proofs.Upward.{none_last}
 pub use Rattle.cvr_office.proofs.ViewedLists.{map-dedup, map-reverse, pushed, pushed_cases}
 pub use Rattle.cvr_office.proofs.ViewedLists.{sorted-map}

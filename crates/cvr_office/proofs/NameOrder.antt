@@ -1,13 +1,14 @@
 -- The order of facts is that of their names, ties by body.
 use Rattle.std.proofs.Common.{◌≡◌, ℕ, List, [], ◌∷◌, Ordering, Less, Equal, Greater, inl, inr, refl}
 use Rattle.std.proofs.Common.{sym, ap, ◌∙◌, arith}
-use Rattle.std.specs.Prelude.{◌⊎◌, Bool, true, false, ◌&&◌, bytes_eq}
+use Rattle.std.specs.Prelude.{◌⊎◌, true, bytes_eq}
 use Rattle.std.specs.Ordering.{ordering_then}
 use Rattle.std.specs.Cmp.{IsTotalOrder, tied_itself}
 use Rattle.std.specs.Cmp.Lexicographic.{lists_total, nat_list_cmp_total}
 use Rattle.std.proofs.lemmas.Cmp.{on_total}
 use Rattle.std.proofs.lemmas.Slice.Eq.{bytes_eq-Decides}
 use Rattle.std.specs.FinMap.{IsAntisymmetric, nat_cmp-IsAntisymmetric, slice_cmp-IsAntisymmetric}
+use Rattle.std.proofs.lemmas.Bool.{and_parts, and_from}
 use Rattle.cvr_fact_types.specs.declared.name.RecordName.{RecordName}
 use Rattle.cvr_fact_types.specs.Facts.{Fact, Device, Header, Snapshot, text_cmp}
 use Rattle.cvr_facts.specs.Choosing.{is_name}
@@ -15,6 +16,7 @@ use Rattle.cvr_office.specs.declared.conflict.ConflictName.{ConflictName}
 use Rattle.cvr_office.specs.declared.conflict.ConflictName.TheVariants as name
 use Rattle.cvr_office.specs.Names.{name_of, body_of, name_key, conflict_cmp, is_named}
 use Rattle.cvr_office.specs.Place.{place_cmp}
+use Rattle.cvr_office.proofs.RecordNames.{own_text}
 
 -- ---- names are in a total order, and only equal names tie
 
@@ -45,31 +47,18 @@ not_below n m less is =
 
 -- ---- a fact has its name alone
 
-split : (s t : Bool) → (s && t) ≡ true → (s ≡ true) × (t ≡ true)
-split true true e = (refl, refl)
-split true false e = Prim.cc e
-split false t e = Prim.cc e
-
-join : (s t : Bool) → s ≡ true → t ≡ true → (s && t) ≡ true
-join true true a b = refl
-join true false a b = Prim.cc b
-join false t a b = Prim.cc a
-
 record_is : (key : RecordName) (d u : List ℕ) → is_name key d u ≡ true
     → key ≡ record { device = d; unique = u }
 record_is key d u e =
-    let parts = split (bytes_eq key.device d) (bytes_eq key.unique u) e in
+    let parts = and_parts (bytes_eq key.device d) (bytes_eq key.unique u) e in
     let device = (bytes_eq-Decides key.device d).0 parts.0 in
     let unique = (bytes_eq-Decides key.unique u).0 parts.1 in
     λ i. record { device = device i; unique = unique i }
 
-itself : (t : List ℕ) → bytes_eq t t ≡ true
-itself t = (bytes_eq-Decides t t).1 refl
-
 pub has_own_name : (f : Fact) → is_named (name_of f) f ≡ true
-has_own_name (Device i b) = itself i
-has_own_name (Header d u b) = join _ _ (itself d) (itself u)
-has_own_name (Snapshot d u i b) = join _ _ (join _ _ (itself d) (itself u)) (itself i)
+has_own_name (Device i b) = own_text i
+has_own_name (Header d u b) = and_from _ _ (own_text d) (own_text u)
+has_own_name (Snapshot d u i b) = and_from _ _ (and_from _ _ (own_text d) (own_text u)) (own_text i)
 
 pub name_is : (n : ConflictName) (f : Fact) → is_named n f ≡ true → n ≡ name_of f
 name_is (name.Device id) (Device i b) e = ap name.Device ((bytes_eq-Decides id i).0 e)
@@ -81,7 +70,7 @@ name_is (name.Header key) (Snapshot d u i b) e = Prim.cc e
 name_is (name.Snapshot key id) (Device i b) e = Prim.cc e
 name_is (name.Snapshot key id) (Header d u b) e = Prim.cc e
 name_is (name.Snapshot key id) (Snapshot d u i b) e =
-    let parts = split (is_name key d u) (bytes_eq id i) e in
+    let parts = and_parts (is_name key d u) (bytes_eq id i) e in
     let key_is = record_is key d u parts.0 in
     let id_is = (bytes_eq-Decides id i).0 parts.1 in
     λ j. name.Snapshot (key_is j) (id_is j)

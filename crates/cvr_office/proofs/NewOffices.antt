@@ -6,7 +6,7 @@ use Rattle.std.specs.List.{slice_get}
 use Rattle.std.specs.Ordering.{eq_by_cmp}
 use Rattle.std.specs.FinSet.{union, empty, insert, contains, contains-union, contains-insert}
 use Rattle.std.specs.FinSet.{contains-empty}
-use Rattle.std.proofs.lemmas.Bool.{false≢true, cases_lt}
+use Rattle.std.proofs.lemmas.Bool.{false≢true, cases_lt, or_cases}
 use Rattle.std.proofs.lemmas.List.{get_or-map, length-map}
 use Rattle.std.proofs.lemmas.Option.{slice_get_within, get_or_from_slice_get}
 use Rattle.cdf_definition.specs.Frame.{Frame}
@@ -18,7 +18,7 @@ use Rattle.cvr_office.specs.Keeps.{starting_content}
 use Rattle.cvr_office.specs.Reach.{Start, File, origin_cmp, History, origins_at, content}
 use Rattle.cvr_office.specs.Outcomes.{no_frame, AreOutcomes}
 use Rattle.cvr_office.specs.Alike.{AreNewOfOne, ArePlayed, HaveSameFiles, BeganAlike, SameFilesLaw}
-use Rattle.cvr_office.proofs.Unions.{or_cases, tie_is}
+use Rattle.cvr_office.proofs.Unions.{tie_is}
 use Rattle.cvr_office.proofs.Reached.{origin_total, origin_exact}
 use Rattle.cvr_office.proofs.SameFiles.{same_files}
 use Rattle.cvr_office.proofs.AnsweredAlike.{answer_alike}

@@ -5,11 +5,9 @@ use Rattle.std.proofs.Common.{true≢false, arith}
 use Rattle.std.specs.Prelude.{slice_get}
 use Rattle.std.specs.List.Sorted.{IsStrictlySortedBy, IsPartitionedBy, IsPartitionPoint}
 use Rattle.std.specs.Option.{option_cmp, option_map_or}
-use Rattle.std.specs.Ordering.{is_gt, is_le, ordering_then}
-use Rattle.std.specs.Cmp.{IsTotalOrder, upto}
+use Rattle.std.specs.Ordering.{is_gt, is_le}
+use Rattle.std.specs.Cmp.{upto}
 use Rattle.std.specs.Cmp.Lexicographic.{options_total}
-use Rattle.std.specs.FinMap.{IsAntisymmetric}
-use Rattle.std.proofs.lemmas.Cmp.{on_total, then_total}
 use Rattle.std.proofs.lemmas.Option.{none-some}
 use Rattle.cvr_fact_types.specs.declared.name.RecordName.{RecordName}
 use Rattle.cvr_fact_types.specs.Facts.{text_cmp, name_cmp}
@@ -19,26 +17,11 @@ use Rattle.cvr_office.specs.Names.{record_of, records, device_in, devices}
 use Rattle.cvr_office.specs.Readers.{next}
 use Rattle.cvr_office.specs.Place.{fact_of, any_cmp}
 use Rattle.cvr_office.specs.Plain.{set_of}
+use Rattle.cvr_office.proofs.Runs.{name_total}
+use Rattle.cvr_office.proofs.RecordMembers.{name_exact}
 use Rattle.cvr_office.proofs.Upward.{records_up, devices_up, none_last, none_last_total, up_at}
 use Rattle.cvr_office.proofs.NextNames.{Passes}
 use Rattle.cvr_office.proofs.NextNames as names
-
--- ---- names of records
-
-pub name_total : IsTotalOrder name_cmp
-name_total = then_total (on_total (λ k. k.device) text_total) (on_total (λ k. k.unique) text_total)
-
-both_equal : (r s : Ordering) → ordering_then r s ≡ Equal → (r ≡ Equal) × (s ≡ Equal)
-both_equal Less s e = Prim.cc e
-both_equal Equal s e = (refl, e)
-both_equal Greater s e = Prim.cc e
-
-pub name_exact : IsAntisymmetric name_cmp
-name_exact a b e =
-    let parts = both_equal (text_cmp a.device b.device) (text_cmp a.unique b.unique) e in
-    let device = text_exact a.device b.device parts.0 in
-    let unique = text_exact a.unique b.unique parts.1 in
-    λ i. record { device = device i; unique = unique i }
 
 -- ---- tests
 

@@ -1,10 +1,11 @@
 -- The facts under the names of a record.
 use Rattle.std.proofs.Common.{◌≡◌, ℕ, Bool, true, false, List, map, Contains, Some, None, refl, sym}
 use Rattle.std.proofs.Common.{ap, ◌∙◌, subst}
-use Rattle.std.specs.Prelude.{◌&&◌, ◌↔◌, bytes_eq, if◌then◌else◌}
+use Rattle.std.specs.Prelude.{◌↔◌, bytes_eq, if◌then◌else◌}
 use Rattle.std.specs.List.{filter, filter_map}
 use Rattle.std.specs.FinSet.{contains, items}
 use Rattle.std.proofs.lemmas.Slice.Eq.{bytes_eq-Decides}
+use Rattle.std.proofs.lemmas.Bool.{and_parts}
 use Rattle.cvr_fact_types.specs.declared.name.RecordName.{RecordName}
 use Rattle.cvr_fact_types.specs.Facts.{Fact, Device, Header, Snapshot, Facts}
 use Rattle.cvr_facts.specs.Choosing.{is_name}
@@ -14,22 +15,17 @@ use Rattle.cvr_office.specs.declared.conflict.ConflictName.TheVariants as name
 use Rattle.cvr_office.specs.Names.{is_named, body_of, id_in}
 use Rattle.cvr_office.proofs.RecordMembers.{from_filter, in_filter}
 
-both : (s t : Bool) → (s && t) ≡ true → (s ≡ true) × (t ≡ true)
-both true true e = (refl, refl)
-both true false e = Prim.cc e
-both false t e = Prim.cc e
-
 same_text : (a b : List ℕ) → bytes_eq a b ≡ true → a ≡ b
 same_text a b e = (bytes_eq-Decides a b).0 e
 
-own_text : (a : List ℕ) → bytes_eq a a ≡ true
+pub own_text : (a : List ℕ) → bytes_eq a a ≡ true
 own_text a = (bytes_eq-Decides a a).1 refl
 
 module _ (key : RecordName) where
   of_name : (device unique : List ℕ) → is_name key device unique ≡ true
       → (key.device ≡ device) × (key.unique ≡ unique)
   of_name device unique e =
-      let parts = both (bytes_eq key.device device) (bytes_eq key.unique unique) e in
+      let parts = and_parts (bytes_eq key.device device) (bytes_eq key.unique unique) e in
       (same_text key.device device parts.0, same_text key.unique unique parts.1)
 
   header_named : (b : List ℕ) → is_named (name.Header key) (Header key.device key.unique b) ≡ true
@@ -51,7 +47,7 @@ module _ (key : RecordName) where
   named_snapshot id (Device i b) e = Prim.cc e
   named_snapshot id (Header d u b) e = Prim.cc e
   named_snapshot id (Snapshot d u j b) e =
-      let parts = both (is_name key d u) (bytes_eq id j) e in
+      let parts = and_parts (is_name key d u) (bytes_eq id j) e in
       let names = of_name d u parts.0 in
       let ids = same_text id j parts.1 in
       λ i. Snapshot (sym names.0 i) (sym names.1 i) (sym ids i) b

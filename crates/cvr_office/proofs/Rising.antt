@@ -17,6 +17,7 @@ use Rattle.std.proofs.lemmas.List.Elements.{All-contains, All-from_recursion, Co
 use Rattle.std.proofs.lemmas.List.Elements.{Contains-append_right, Contains-append_cases}
 use Rattle.std.proofs.lemmas.List.Kept.{Any-dedup, Contains-from_dedup, IsStrictlySortedBy-dedup}
 use Rattle.std.proofs.lemmas.List.Sorted.{Contains-permutation, IsPermutation-sym}
+use Rattle.std.proofs.lemmas.Bool.{or_cases}
 use Rattle.cvr_facts.proofs.Lemmas.{in_map, from_map, in_set, from_set}
 
 -- ---- tests joined by `||`
@@ -25,10 +26,6 @@ or_true : (a b : Bool) → (a ≡ true) ⊎ (b ≡ true) → (a || b) ≡ true
 or_true true b h = refl
 or_true false b (inl e) = Prim.cc e
 or_true false b (inr e) = e
-
-of_or : (a b : Bool) → (a || b) ≡ true → (a ≡ true) ⊎ (b ≡ true)
-of_or true b h = inl refl
-of_or false b h = inr h
 
 -- ---- sets
 
@@ -46,7 +43,7 @@ module _ {K : Type 0} {S : K → K → Ordering} (st : IsTotalOrder S) (se : IsA
 
   pub from_union : (s t : FinSet S) (k : K) → contains (union s t) k ≡ true
       → (contains s k ≡ true) ⊎ (contains t k ≡ true)
-  from_union s t k h = of_or _ _ (sym (contains-union st s t k) ∙ h)
+  from_union s t k h = or_cases _ _ (sym (contains-union st s t k) ∙ h)
 
   abbrev with_all : FinSet S → List K → FinSet S
   with_all s [] = s
@@ -92,7 +89,7 @@ module _ {K : Type 0} {S : K → K → Ordering} (st : IsTotalOrder S) (se : IsA
 less_alone : (r : Ordering) → r ≡ Less → r ≡ Equal → ⊥
 less_alone r a b = let both : Less ≡ Equal = sym a ∙ b in cc
 
-each_of : {X : Type 0} (T : X → Type 0) (xs : List X) (x : X) → AllByRecursion T xs → Contains xs x
+pub each_of : {X : Type 0} (T : X → Type 0) (xs : List X) (x : X) → AllByRecursion T xs → Contains xs x
     → T x
 each_of T xs x h at = All-contains T xs x (All-from_recursion T xs h) at
 

@@ -9,7 +9,7 @@ use Rattle.std.specs.FinMap as map_of
 use Rattle.std.specs.FinMap.{get, get-from_entries, IsAntisymmetric, nat_cmp-IsAntisymmetric}
 use Rattle.std.specs.Option.{option_map_or}
 use Rattle.std.specs.Ordering.{is_eq, eq_by_cmp, nat_cmp, ordering_then}
-use Rattle.std.proofs.lemmas.Bool.{eqb-true}
+use Rattle.std.proofs.lemmas.Bool.{eqb-true, and_parts}
 use Rattle.std.proofs.lemmas.Cmp.{nat_cmp_total}
 use Rattle.std.proofs.lemmas.Map.Views.{list_any-from_Contains}
 use Rattle.cdf_parts.specs.Places.{Contest}
@@ -159,10 +159,6 @@ module _ (contests : List Contest) (s : Facts) where
 
   -- ---- where a row stands, its key is one of a record's
 
-  both : (a b : Bool) → (a && b) ≡ true → (a ≡ true) × (b ≡ true)
-  both true b e = (refl, e)
-  both false b e = Prim.cc e
-
   there : {X : Type 0} (o : Option X) → is_some o ≡ true → (x : X) × (o ≡ Some x)
   there None e = Prim.cc e
   there (Some x) e = (x, refl)
@@ -182,7 +178,7 @@ module _ (contests : List Contest) (s : Facts) where
       → Contains (keys_at contests s r) q
   key_listed q r stands =
       let parts =
-      both (is_headed q (header s r)) (is_some (sums_at contests s q.contest r)) stands in
+      and_parts (is_headed q (header s r)) (is_some (sums_at contests s q.contest r)) stands in
       let h = head_there q (header s r) parts.0 in
       let c = current_there q.contest (current s r) parts.1 in
       let unit = unit_of h.0 in

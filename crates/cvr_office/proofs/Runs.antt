@@ -25,7 +25,7 @@ name_total = then_total (on_total (λ k. k.device) text_total) (on_total (λ k. 
 abbrev record_in : AnyFact → Option RecordName
 record_in fact = record_of (fact_of fact)
 
-not_past : (q r s : Ordering) → ordering_then q (ordering_then r s) ≡ Less
+pub not_past : (q r s : Ordering) → ordering_then q (ordering_then r s) ≡ Less
     → is_gt (ordering_then q r) ≡ false
 not_past Less r s e = refl
 not_past Equal Less s e = refl

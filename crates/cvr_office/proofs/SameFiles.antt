@@ -3,13 +3,14 @@ use Rattle.std.proofs.Common.{◌≡◌, ℕ, true, List, [], ◌∷◌, get_or,
 use Rattle.std.specs.List.{list_any}
 use Rattle.std.specs.Cmp.{both_ways}
 use Rattle.std.specs.FinSet.{empty, contains, items, same_set, contains-insert, from_list}
+use Rattle.std.proofs.lemmas.Bool.{or_left}
 use Rattle.serde_json.specs.Data.{Data}
 use Rattle.cdf_definition.specs.Acceptance.{value_in}
 use Rattle.cvr_fact_types.specs.Facts.{Fact, Facts, fact_cmp, fact_total, fact_exact}
 use Rattle.cvr_facts.specs.Reports.{report_facts}
 use Rattle.cvr_office.specs.Reach.{Origin, Start, File, History, origins_at, origin_facts, content}
 use Rattle.cvr_office.specs.Alike.{HasReached, HaveSameFiles, BeganAlike, SamePlacesLaw}
-use Rattle.cvr_office.proofs.Unions.{or_left, tie_itself, contains-union_over, member_that_passes}
+use Rattle.cvr_office.proofs.Unions.{tie_itself, contains-union_over, member_that_passes}
 use Rattle.cvr_office.proofs.Unions.{passes_by_member}
 use Rattle.cvr_office.proofs.Reached.{origin_total, origin_exact}
 use Rattle.cvr_office.proofs.Ways.{origins_after-stays}

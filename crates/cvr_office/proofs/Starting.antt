@@ -5,6 +5,7 @@ use Rattle.std.specs.Prelude.{unwrap_or}
 use Rattle.std.specs.FinSet.{contains}
 use Rattle.std.specs.List.{AllByRecursion}
 use Rattle.std.proofs.Math.Logic.{∥∥₁_map}
+use Rattle.std.proofs.lemmas.Str.{IsUtf8-had}
 use Rattle.serde_json.specs.Data.{Data, null}
 use Rattle.cdf_definition.specs.Acceptance.{IsReport, Valid, value_in}
 use Rattle.cdf_definition.specs.Frame.{Frame, frame_of}
@@ -21,7 +22,7 @@ use Rattle.cvr_facts.proofs.Laws.{device_listed, fact_held}
 use Rattle.cvr_office.specs.Keeps.{starting_content, content_scope}
 use Rattle.cvr_office.specs.Laws.{StartLaw}
 use Rattle.cvr_office.proofs.OwnFrame.{own_valid, entry_source}
-use Rattle.cvr_office.proofs.ToldBodies.{IsDeviceBody, told_device, told_utf8}
+use Rattle.cvr_office.proofs.ToldBodies.{IsDeviceBody, told_device}
 
 -- ---- where a definition's device is from
 
@@ -87,7 +88,7 @@ start_keeps frame is = record {
   whole = of_starting frame (IsOfRecord (starting_content frame)) (λ e a. tt);
   started = λ f h. h;
   utf8 = of_starting frame (λ f. AllByRecursion IsUtf8 (texts f)) (λ e a. (
-    told_utf8 e.0 (∥∥₁_map (device_source frame is e a) (source_id frame e)),
-    (told_utf8 e.1 (∥∥₁_map (device_source frame is e a) (source_text frame e)), tt),
+    IsUtf8-had e.0 (∥∥₁_map (device_source frame is e a) (source_id frame e)),
+    (IsUtf8-had e.1 (∥∥₁_map (device_source frame is e a) (source_text frame e)), tt),
   ));
 }

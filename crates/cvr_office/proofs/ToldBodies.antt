@@ -1,11 +1,10 @@
 -- What a device's body is known to be, without being given: its text says it.
-use Rattle.std.proofs.Common.{◌≡◌, ◌≤◌, ℕ, List, [], ◌∷◌, Bool, true, false, Option, Some, None}
-use Rattle.std.proofs.Common.{IsUtf8, codes, nat_le, refl, sym, ap, ◌∙◌, subst, arith}
+use Rattle.std.proofs.Common.{◌≡◌, ℕ, List, [], ◌∷◌, Bool, true, false, Option, Some, None}
+use Rattle.std.proofs.Common.{codes, nat_le, refl, sym, ap, ◌∙◌, subst}
 use Rattle.std.specs.Prelude.{option_and_then, unwrap_or}
 use Rattle.std.proofs.Math.Logic.{∥∥₁_elim}
 use Rattle.std.proofs.Math.Nat.{ℕ_set}
-use Rattle.std.proofs.lemmas.Bool.Decides.{nat_tests}
-use Rattle.std.proofs.lemmas.Str.{is_utf8-from_IsUtf8, IsUtf8-from_is_utf8}
+use Rattle.std.proofs.lemmas.Bool.{leb-true, le-leb}
 use mathlib.Core.Bool.{Bool-set}
 use mathlib.Core.List.{is_set}
 use Rattle.serde_json.specs.Data.{Data, string, depth}
@@ -43,12 +42,6 @@ none_is : (fs : List Fault) → is_none fs ≡ true → fs ≡ []
 none_is [] e = refl
 none_is (f ∷ fs) e = absurd (cc)
 
-at_most : (n m : ℕ) → nat_le n m ≡ true → n ≤ m
-at_most n m e = grind (arith, nat_tests)
-
-is_at_most : (n m : ℕ) → n ≤ m → nat_le n m ≡ true
-is_at_most n m h = grind (arith, nat_tests)
-
 -- what is read from a body that stands, though its value is not given
 module _ (id body : List ℕ) (known : ∥ IsDeviceBody id body ∥₁) (d : Data)
     (is : read body ≡ Some d) where
@@ -65,7 +58,7 @@ module _ (id body : List ℕ) (known : ∥ IsDeviceBody id body ∥₁) (d : Dat
   told_depth : nat_le (depth d) 125 ≡ true
   told_depth = ∥∥₁_elim known (Bool-set _ _)
       (λ q. subst (λ x. nat_le (depth x) 125 ≡ true) (same q)
-      (is_at_most (depth q.0) 125 q.2.proper.shallow))
+      (le-leb (depth q.0) 125 q.2.proper.shallow))
 
   told_none : is_none (faults d device_kind key.Free) ≡ true
   told_none = ∥∥₁_elim known (Bool-set _ _)
@@ -88,7 +81,7 @@ module _ (id body : List ℕ) (known : ∥ IsDeviceBody id body ∥₁) (d : Dat
   told_proper = record {
     well = (proper_read body d is told_whole).well;
     whole = told_whole;
-    shallow = at_most (depth d) 125 told_depth;
+    shallow = leb-true (depth d) 125 told_depth;
   }
 
   told_body : IsDeviceBody id body
@@ -111,8 +104,3 @@ told_read id body known (Some d) is = told_body id body known d is
 -- a body that is known to stand is one that stands
 pub told_device : (id body : List ℕ) → ∥ IsDeviceBody id body ∥₁ → IsDeviceBody id body
 told_device id body known = told_read id body known (read body) refl
-
--- a text that is known to be UTF-8 is UTF-8
-pub told_utf8 : (text : List ℕ) → ∥ IsUtf8 text ∥₁ → IsUtf8 text
-told_utf8 text known =
-    IsUtf8-from_is_utf8 text (∥∥₁_elim known (Bool-set _ _) (λ u. is_utf8-from_IsUtf8 text u))

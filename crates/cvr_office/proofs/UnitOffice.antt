@@ -2,11 +2,11 @@
 use Rattle.std.proofs.Common.{◌≡◌, true, inl, inr, sym, ◌∙◌, subst}
 use Rattle.std.specs.Cmp.{both_ways}
 use Rattle.std.specs.FinSet.{union, contains, contains-union, same_set}
+use Rattle.std.proofs.lemmas.Bool.{or_cases, or_left}
 use Rattle.cvr_fact_types.specs.Facts.{Fact, Facts, fact_total, fact_exact}
 use Rattle.cvr_facts.specs.Unions.{union_comm}
 use Rattle.cvr_office.specs.Keeps.{starting_content}
 use Rattle.cvr_office.specs.Alike.{NewOfficeLaw}
-use Rattle.cvr_office.proofs.Unions.{or_cases, or_left}
 
 -- what is there already changes nothing
 union-within : (s t : Facts) → ((f : Fact) → contains t f ≡ true → contains s f ≡ true)

@@ -1,7 +1,7 @@
 -- In a plain office's list names rise with the facts: devices by id and then none, none and then
 -- records by name.
 use Rattle.std.proofs.Common.{◌≡◌, ℕ, ◌<◌, ◌≤◌, false, List, length, get_or, Option, Ordering, Less}
-use Rattle.std.proofs.Common.{Equal, Greater, inl, inr, refl, ap, subst, arith}
+use Rattle.std.proofs.Common.{inl, inr, refl, ap, subst, arith}
 use Rattle.std.specs.List.Sorted.{IsStrictlySortedBy}
 use Rattle.std.specs.Option.{option_cmp}
 use Rattle.std.specs.Ordering.{is_gt, ordering_then, flip_args}
@@ -12,14 +12,7 @@ use Rattle.std.proofs.Math.Nat.{eq-or-lt_of_le}
 use Rattle.cvr_fact_types.specs.Facts.{Fact, Device, Header, Snapshot, text_cmp, name_cmp}
 use Rattle.cvr_office.specs.Names.{record_of, device_in}
 use Rattle.cvr_office.specs.Place.{place_cmp}
-
-not_gt : (p q r : Ordering) → ordering_then p (ordering_then q r) ≡ Less
-    → is_gt (ordering_then p q) ≡ false
-not_gt Less q r e = refl
-not_gt Equal Less r e = refl
-not_gt Equal Equal r e = refl
-not_gt Equal Greater r e = Prim.cc e
-not_gt Greater q r e = Prim.cc e
+use Rattle.cvr_office.proofs.Runs.{not_past}
 
 first_not_gt : (p q : Ordering) → ordering_then p q ≡ Less → is_gt p ≡ false
 first_not_gt p q e = grind arith
@@ -33,11 +26,11 @@ records_up (Device i b) (Device j c) e = refl
 records_up (Device i b) (Header d u c) e = refl
 records_up (Device i b) (Snapshot d u j c) e = refl
 records_up (Header d u b) (Device j c) e = Prim.cc e
-records_up (Header d u b) (Header d' u' c) e = not_gt (text_cmp d d') (text_cmp u u') _ e
-records_up (Header d u b) (Snapshot d' u' j c) e = not_gt (text_cmp d d') (text_cmp u u') _ e
+records_up (Header d u b) (Header d' u' c) e = not_past (text_cmp d d') (text_cmp u u') _ e
+records_up (Header d u b) (Snapshot d' u' j c) e = not_past (text_cmp d d') (text_cmp u u') _ e
 records_up (Snapshot d u i b) (Device j c) e = Prim.cc e
-records_up (Snapshot d u i b) (Header d' u' c) e = not_gt (text_cmp d d') (text_cmp u u') _ e
-records_up (Snapshot d u i b) (Snapshot d' u' j c) e = not_gt (text_cmp d d') (text_cmp u u') _ e
+records_up (Snapshot d u i b) (Header d' u' c) e = not_past (text_cmp d d') (text_cmp u u') _ e
+records_up (Snapshot d u i b) (Snapshot d' u' j c) e = not_past (text_cmp d d') (text_cmp u u') _ e
 
 -- none behind all
 abbrev pub none_last : {K : Type 0} → (K → K → Ordering) → Option K → Option K → Ordering

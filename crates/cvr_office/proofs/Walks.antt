@@ -8,13 +8,9 @@ use Rattle.std.specs.List.Sorted.{IsStrictlySortedBy}
 use Rattle.std.specs.Ordering.{is_lt, is_gt, ordering_reverse}
 use Rattle.std.specs.Cmp.{IsTotalOrder, tied_itself}
 use Rattle.std.proofs.lemmas.Map.Keys.{sorted_head, sorted_tail}
-use Rattle.std.proofs.lemmas.List.Elements.{All-contains, All-from_recursion}
 use Rattle.cvr_facts.proofs.Lemmas.{none_listed, at_head, at_tail, head_or_tail}
 use Rattle.cvr_office.specs.Readers.{next}
-
-each_of : {X : Type 0} (T : X → Type 0) (xs : List X) (x : X) → AllByRecursion T xs → Contains xs x
-    → T x
-each_of T xs x h at = All-contains T xs x (All-from_recursion T xs h) at
+use Rattle.cvr_office.proofs.Rising.{each_of}
 
 module _ {K : Type 0} (R : K → K → Ordering) where
   -- the list from a given one on, nothing where none is given

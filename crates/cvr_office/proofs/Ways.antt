@@ -2,7 +2,7 @@
 -- there.
 use Rattle.std.proofs.Common.{◌≡◌, ℕ, ◌==◌, true, false, cond, inl, inr, [], ◌∷◌, ◌++◌, refl, sym}
 use Rattle.std.proofs.Common.{ap, ◌∙◌, subst}
-use Rattle.std.proofs.lemmas.Bool.{false≢true}
+use Rattle.std.proofs.lemmas.Bool.{false≢true, or_cases, or_left, or_right}
 use Rattle.std.specs.Ordering.{eq_by_cmp}
 use Rattle.std.specs.FinSet.{union, empty, insert, from_list, contains, contains-union}
 use Rattle.std.specs.FinSet.{contains-insert, contains-empty}
@@ -12,7 +12,7 @@ use Rattle.cvr_office.specs.declared.event.Event.{Event}
 use Rattle.cvr_office.specs.declared.event.Event.TheVariants.{Import, Exchange}
 use Rattle.cvr_office.specs.declared.event.Outcome.{Outcome}
 use Rattle.cvr_office.specs.declared.event.Outcome.TheVariants.{Accepted, Refused}
-use Rattle.cvr_office.proofs.Unions.{or_cases, or_left, or_right, tie_is, tie_itself}
+use Rattle.cvr_office.proofs.Unions.{tie_is, tie_itself}
 use Rattle.cvr_office.proofs.Reached.{origin_total, origin_exact, at_eq, is_eq}
 
 -- what had reached an office stays

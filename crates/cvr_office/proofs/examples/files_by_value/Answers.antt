@@ -1,10 +1,11 @@
 use Rattle.std.proofs.Common.{◌≡◌, ℕ, true, [], ◌∷◌, inl, inr, get_or, refl, sym, ◌∙◌, subst}
 use Rattle.std.specs.Ordering.{eq_by_cmp}
 use Rattle.std.specs.FinSet.{contains, insert, from_list, contains-insert}
+use Rattle.std.proofs.lemmas.Bool.{or_cases, or_left}
 use Rattle.cdf_definition.specs.Acceptance.{value_in}
 use Rattle.cvr_office.specs.Reach.{Start, File, origin_cmp}
 use Rattle.cvr_office.specs.Examples.{SpelledTwice, OtherFiles}
-use Rattle.cvr_office.proofs.Unions.{or_cases, or_left, tie_is, tie_itself}
+use Rattle.cvr_office.proofs.Unions.{tie_is, tie_itself}
 use Rattle.cvr_office.proofs.Reached.{origin_total, origin_exact}
 use Rattle.cvr_office.proofs.Ways.{not_start}
 use Rattle.cvr_office.proofs.examples.files_by_value.Goals as goal

@@ -1,5 +1,5 @@
 use Rattle.cvr_office.proofs.NameOrder.{conflict_total, conflict_exact}
-use Rattle.cvr_office.proofs.NextInFacts.{name_total}
+use Rattle.cvr_office.proofs.Runs.{name_total}
 use Rattle.cvr_office.proofs.RecordMembers.{name_exact}
 use Rattle.cvr_office.proofs.law.names_are_ordered.Goals as goal
 

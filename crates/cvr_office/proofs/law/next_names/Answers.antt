@@ -1,6 +1,7 @@
 use Rattle.cvr_facts.proofs.Laws.{text_total, text_exact}
 use Rattle.cvr_office.specs.Names.{record_of, device_in}
-use Rattle.cvr_office.proofs.NextInFacts.{name_total, name_exact}
+use Rattle.cvr_office.proofs.Runs.{name_total}
+use Rattle.cvr_office.proofs.RecordMembers.{name_exact}
 use Rattle.cvr_office.proofs.NextLaws.{listed, next_is_least, no_next}
 use Rattle.cvr_office.proofs.law.next_names.Goals as goal
 
