@@ -3,7 +3,7 @@
 pub use Rattle.std.proofs.lemmas.Bool.{or_cases, or_left, or_right}
 pub use Rattle.cvr_office.proofs.FileRecords.{records_whole}
 pub use Rattle.cvr_office.proofs.GivenFacts.{conflicts-given, current-given, records-given, sorted}
-pub use Rattle.cvr_office.proofs.GivenFacts.{tally-given, keys_in_order-is}
+pub use Rattle.cvr_office.proofs.GivenFacts.{tally-given}
 pub use Rattle.cvr_office.proofs.InOrder.{from_ordered, in_ordered, map-map, keys_in_order-members}
 pub use Rattle.cvr_office.proofs.InOrder.{rises-distinct}
 pub use Rattle.cvr_office.proofs.NameOrder.{Reaches, bodies_less, has_own_name, name_is}
