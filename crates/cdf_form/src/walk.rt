@@ -65,6 +65,19 @@ fn texts_rise(items: &[Node<'_>], key: Key) -> bool
     items.is_sorted_by(|item, next| are_in_turn(key, item, next))
 }
 
+// The key, unless it is seen at once that no text under it comes twice. In place of two calls of
+// `walk_items`, so that its code stands where it is called.
+fn watched_key(items: &[Node<'_>], key: Key) -> Key
+    ensures { (leaf : Leaf) → items_faults (items_view items.now) leaf result 0 []
+        ≡ items_faults (items_view items.now) leaf key 0 [] }
+{
+    if texts_rise(items, key) {
+        Key::Free
+    } else {
+        key
+    }
+}
+
 fn repeat_rule(mark: Key, name: &str) -> Option<Rule>
     ensures { option_map here result ≡ first (repeat_faults mark name.now) }
 {
@@ -111,11 +124,7 @@ pub fn walk(alloc: Global, value: &Node<'_>, kind: Kind, mark: Key) -> Result<()
             None => Err(Stop::at(alloc, Rule::WrongKind)),
             Some(items) => match length_rule(least, most, items.len()) {
                 Some(rule) => Err(Stop::at(alloc, rule)),
-                None => if texts_rise(items, key) {
-                    walk_items(alloc, items, leaf, Key::Free)
-                } else {
-                    walk_items(alloc, items, leaf, key)
-                },
+                None => walk_items(alloc, items, leaf, watched_key(items, key)),
             },
         },
     }
