@@ -21,7 +21,7 @@ fn member_fraction<'t>(
         return Ok(None);
     };
     match cause.under(Step::Member(name)) {
-        Stop::Memory => Err(Memory),
+        Stop::Memory(refused) => Err(refused),
         Stop::Fault(found) => Ok(Some(pointer(alloc, &found.path)?)),
     }
 }

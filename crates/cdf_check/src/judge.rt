@@ -74,7 +74,7 @@ fn form_fault(
     }
     match first_fault(alloc, left, form) {
         Ok(()) => Ok(None),
-        Err(Stop::Memory) => Err(Memory),
+        Err(Stop::Memory(refused)) => Err(refused),
         Err(Stop::Fault(found)) => Ok(Some(told_fault(alloc, found)?)),
     }
 }
@@ -99,8 +99,10 @@ fn stands(alloc: Global, definition: &Definition, left: &Node<'_>) -> Result<boo
 {
     match check_value(alloc, definition, left) {
         Ok(()) => Ok(true),
-        Err(ReadFault::Memory) => Err(Memory),
-        Err(_) => Ok(false),
+        Err(fault) => {
+            fault.or_memory()?;
+            Ok(false)
+        }
     }
 }
 

@@ -71,7 +71,7 @@ fn form_in(
     match cvr_fault(alloc, cvr) {
         Ok(fraction) => Ok((None, fraction)),
         Err(stop) => match stop.under(Step::Item(place)) {
-            Stop::Memory => Err(AllocError),
+            Stop::Memory(refused) => Err(refused.into()),
             Stop::Fault(found) => Ok((Some(found), true)),
         },
     }
@@ -97,7 +97,7 @@ fn fraction_in(
         return Ok(None);
     };
     match stop.under(Step::Item(place)).under(Step::Member("CVR")) {
-        Stop::Memory => Err(AllocError),
+        Stop::Memory(refused) => Err(refused.into()),
         Stop::Fault(found) => Ok(Some(pointer(alloc, &found.path)?)),
     }
 }

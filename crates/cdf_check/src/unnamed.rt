@@ -85,8 +85,7 @@ fn value_fault(
 {
     match check_value(alloc, definition, value) {
         Ok(()) => unreachable!(),
-        Err(ReadFault::Memory) => Err(Memory),
-        Err(fault) => Ok(fault),
+        Err(fault) => fault.or_memory(),
     }
 }
 
@@ -115,6 +114,6 @@ pub(crate) fn reference_fault(
             None => value_fault(alloc, definition, left),
         },
         Ok(None) => unreachable!(),
-        Err(_) => Err(Memory),
+        Err(refused) => Err(refused.into()),
     }
 }

@@ -44,7 +44,7 @@ fn check_form(alloc: Global, value: &Node<'_>) -> Result<(), ReadFault>
 {
     match document_fault(alloc, value) {
         Ok(()) => Ok(()),
-        Err(Stop::Memory) => Err(ReadFault::Memory),
+        Err(Stop::Memory(refused)) => Err(refused.into()),
         Err(Stop::Fault(found)) => Err(told_fault(alloc, found)?),
     }
 }

@@ -36,7 +36,7 @@ fn has_row(alloc: Global, value: &Node<'_>, row: &Member) -> Result<bool, Memory
     };
     match walk(alloc, member, row.kind, Key::Free) {
         Ok(()) => Ok(true),
-        Err(Stop::Memory) => Err(Memory),
+        Err(Stop::Memory(refused)) => Err(refused),
         Err(Stop::Fault(_)) => Ok(false),
     }
 }

@@ -27,7 +27,7 @@ tells_as s a b e h = subst (StopsAt s) e h
 
 tells_more : (s : Stop) (xs ys : List Fault) → StopsAt s (first xs) → StopsAt s (first (xs ++ ys))
 tells_more (stop.Fault f) xs ys h = first-append_some xs ys _ h
-tells_more stop.Memory xs ys h = tt
+tells_more (stop.Memory m) xs ys h = tt
 
 -- a fault of the row at a place is the first of the rows from there on
 pub rows_stop : (look : List ℕ → Kind → Option (List Fault)) (mark : Key) (rs : List Member) (i : ℕ)

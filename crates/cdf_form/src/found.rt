@@ -1,4 +1,4 @@
-use cdf_types::Rule;
+use cdf_types::{Memory, Rule};
 use std::alloc::{AllocError, Global};
 
 /// A step from a value into one of its parts: a member by name, or an item by place from 0.
@@ -32,17 +32,18 @@ pub enum Stop<'a> {
     /// The first fault.
     Fault(Found<'a>),
     /// Out of memory.
-    Memory,
+    Memory(Memory),
 }
 
 impl<'a> From<AllocError> for Stop<'a> {
-    ghost use Rattle.std.specs.Prelude.{◌≡◌};
-    ghost use Rattle.cdf_form.specs.declared.found.Stop.TheVariants.{Memory};
+    ghost use Rattle.std.specs.Prelude.{Option};
+    ghost use Rattle.cdf_form.specs.Form.{Fault};
+    ghost use Rattle.cdf_form.specs.Found.{StopsAt};
 
-    ghost from_gives = { λ _ s. s ≡ Memory };
+    ghost from_gives = { λ _ s. (o : Option Fault) → StopsAt s o };
 
-    fn from(_refused: AllocError) -> Stop<'a> {
-        Stop::Memory
+    fn from(refused: AllocError) -> Stop<'a> {
+        Stop::Memory(refused.into())
     }
 }
 
@@ -94,10 +95,10 @@ impl<'a> Stop<'a> {
             → StopsAt result (option_map (deeper_fault (step_of step.entry)) o) }
     {
         match self {
-            Stop::Memory => Stop::Memory,
+            Stop::Memory(refused) => Stop::Memory(refused),
             Stop::Fault(Found { rule, path }) => match path.under(step) {
                 Ok(path) => Stop::Fault(Found { rule, path }),
-                Err(_) => Stop::Memory,
+                Err(refused) => Stop::Memory(refused.into()),
             },
         }
     }

@@ -1,4 +1,4 @@
-ghost use Rattle.std.specs.Prelude.{◌≡◌};
+ghost use Rattle.std.specs.Prelude.{◌≡◌, ◌≢◌, ◌+◌, ◌<◌, ◌^◌, OkIff};
 ghost use Rattle.cdf_types.specs.declared.fault.ReadFault.TheVariants.{Memory as NoMemory};
 
 use crate::body::Body;
@@ -6,20 +6,31 @@ use crate::rule::Rule;
 use std::alloc::{AllocError, AllocFailed};
 use thiserror::Error;
 
-/// Out of memory: a growth was refused.
+/// Out of memory: a growth was refused. Its field is private, so other files make none themselves.
 #[derive(Clone, Copy, Debug, PartialEq, Eq, Error)]
 #[error("out of memory")]
-pub struct Memory;
+pub struct Memory(());
+
+/// The sum of two counts, or out of memory where it is past 2^64 - 1: no memory holds so many
+/// things. Takes no memory.
+///
+/// # Errors
+/// `Memory` where the sum is past 2^64 - 1.
+pub fn sum_or_memory(count: usize, more: usize) -> Result<usize, Memory>
+    ensures { OkIff result (count + more < 2 ^ 64) (count + more) }
+{
+    count.checked_add(more).ok_or(Memory(()))
+}
 
 impl From<AllocError> for Memory {
     fn from(_refused: AllocError) -> Memory {
-        Memory
+        Memory(())
     }
 }
 
 impl<T: Drop> From<AllocFailed<T>> for Memory {
     fn from(_refused: AllocFailed<T>) -> Memory {
-        Memory
+        Memory(())
     }
 }
 
@@ -51,6 +62,21 @@ pub enum ReadFault {
     /// Out of memory; it stands in place of any other answer.
     #[error("out of memory")]
     Memory,
+}
+
+impl ReadFault {
+    /// The fault, but out of memory as `Memory`. Takes no memory.
+    ///
+    /// # Errors
+    /// `Memory` where memory ran out.
+    pub fn or_memory(self) -> Result<ReadFault, Memory>
+        ensures { OkIff result (self ≢ NoMemory) self }
+    {
+        match self {
+            ReadFault::Memory => Err(Memory(())),
+            fault => Ok(fault),
+        }
+    }
 }
 
 impl From<AllocError> for ReadFault {

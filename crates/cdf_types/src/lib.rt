@@ -19,7 +19,7 @@ mod vote_variation;
 
 pub use body::Body;
 pub use device::{DeviceFault, Sink, Source, write_all};
-pub use fault::{Memory, ReadFault};
+pub use fault::{Memory, ReadFault, sum_or_memory};
 pub use mark::{Allocation, Indication};
 pub use memory_sink::MemorySink;
 pub use memory_source::MemorySource;

@@ -150,7 +150,7 @@ impl Office for CachedOffice {
         }
         match self.store.take_contents(&other.store) {
             Ok(new_facts) => Ok(new_facts),
-            Err(Memory) => Err(JoinFault::Memory),
+            Err(_) => Err(JoinFault::Memory),
         }
     }
 

@@ -7,7 +7,7 @@ ghost use Rattle.cvr_cached.specs.Fresh.{AreApart};
 ghost use Rattle.cvr_cached.specs.Growths.{IsGrowth};
 ghost use Rattle.cvr_cached.specs.Merged.{is_before, merged};
 
-use cdf_types::Memory;
+use cdf_types::{Memory, sum_or_memory};
 use cvr_lists::shared::SharedFact;
 use std::alloc::Global;
 use std::collections::VecDeque;
@@ -31,9 +31,7 @@ pub(crate) fn growth_of(
     ensures growth { IfOk result (IsGrowth facts.now) }
     ensures fresh { IfOk result (λ g. g.fresh.items ≡ fresh.items) }
 {
-    let Some(count) = facts.len().checked_add(fresh.len()) else {
-        return Err(Memory);
-    };
+    let count = sum_or_memory(facts.len(), fresh.len())?;
     let room = Vec::with_capacity(alloc, count)?;
     Ok(Growth { fresh, room })
 }

@@ -16,7 +16,7 @@ ghost use Rattle.cvr_cached.specs.Plans.{IsAdded, IsPlan, IsStep};
 
 use crate::content::RecordContent;
 use crate::growth::Growth;
-use cdf_types::Memory;
+use cdf_types::{Memory, sum_or_memory};
 use cvr_facts::RecordName;
 use cvr_lists::putting::copies;
 use cvr_lists::records::{first_record, take_run};
@@ -138,10 +138,7 @@ fn push_change(
     ensures { OnOk result (IsAdded old.now more.items name plan.old plan.new) }
 {
     let fresh = fresh_of(old.facts(), more);
-    let new_facts = match plan.new_facts.checked_add(fresh.len()) {
-        Some(sum) => sum,
-        None => return Err(Memory),
-    };
+    let new_facts = sum_or_memory(plan.new_facts, fresh.len())?;
     let (few, growth) = old.growing(alloc, fresh)?;
     plan.contents.push((name, few))?;
     plan.growths.push(growth)?;

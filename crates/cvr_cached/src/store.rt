@@ -2,7 +2,7 @@ use crate::content::RecordContent;
 use crate::plan::{Plan, plan_of, plan_of_contents};
 use crate::taking::{devices_growth, grow_devices, put_in};
 use cdf_definition::Definition;
-use cdf_types::Memory;
+use cdf_types::{Memory, sum_or_memory};
 use cvr_facts::RecordName;
 use cvr_lists::putting;
 use cvr_lists::shared::SharedFact;
@@ -110,14 +110,8 @@ impl Store {
     {
         let alloc = *self.devices.allocator();
         let (growth, longer) = devices_growth(alloc, &self.devices, devices)?;
-        let new_facts = match longer.checked_add(plan.new_facts) {
-            Some(sum) => sum,
-            None => return Err(Memory),
-        };
-        let count = match self.count.checked_add(new_facts) {
-            Some(sum) => sum,
-            None => return Err(Memory),
-        };
+        let new_facts = sum_or_memory(longer, plan.new_facts)?;
+        let count = sum_or_memory(self.count, new_facts)?;
         let put = put_in(alloc, &mut self.records, &mut self.totals, plan);
         // Called for their contracts: names rise in every map, and rows of totals are whole.
         let _ = self.records.len();

@@ -216,7 +216,7 @@ fn tell_text(told: Result<String, Memory>, room: &mut [u8], size: &mut usize) ->
 {
     match told {
         Ok(text) => tell_bytes(text.as_bytes(), room, size),
-        Err(Memory) => Status::Memory.code(),
+        Err(_) => Status::Memory.code(),
     }
 }
 

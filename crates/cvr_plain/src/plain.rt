@@ -73,7 +73,7 @@ impl Office for PlainOffice {
         }
         match put_copies(&mut self.facts, &other.facts) {
             Ok(new_facts) => Ok(new_facts),
-            Err(Memory) => Err(JoinFault::Memory),
+            Err(_) => Err(JoinFault::Memory),
         }
     }
 

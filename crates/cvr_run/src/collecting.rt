@@ -196,7 +196,7 @@ pub fn take_all<T: Take, O: Open, L: Sink>(
         let file = from.at(place, &bytes);
         match take_one(alloc, taker, path, file, &mut outcomes) {
             Ok(()) => {}
-            Err(Memory) => return Err(end_in_memory(log)),
+            Err(_) => return Err(end_in_memory(log)),
         }
     }
     Ok(outcomes)

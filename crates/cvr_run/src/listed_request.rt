@@ -1,5 +1,5 @@
 ghost use Rattle.std.specs.Prelude.{◌≡◌, ◌≢◌, [], map, true, false, string_bytes, IfOk, IfSome};
-ghost use Rattle.std.specs.Prelude.{IfNone, IsTrue, ◌↔◌};
+ghost use Rattle.std.specs.Prelude.{IfNone, IfErr, IsTrue, ◌↔◌};
 ghost use Rattle.cvr_words.specs.declared.fault.LineFault.TheVariants.{Memory as NoMemory};
 ghost use Rattle.cvr_words.specs.declared.request.Request.{Request};
 ghost use Rattle.cvr_words.specs.Line.{with_program};
@@ -7,7 +7,6 @@ ghost use Rattle.cvr_words.specs.Request.{IsRequest, takes_files};
 ghost use Rattle.cvr_run.specs.Listed.{AsksListed, IsBefore, ListedRequest, list_words};
 
 use crate::listing::Listing;
-use cdf_types::Memory;
 use cvr_words::{LineFault, Request, Task, read_line};
 use std::alloc::Global;
 
@@ -34,18 +33,19 @@ fn is_memory(fault: &LineFault) -> bool
     }
 }
 
-// The request that words ask for, if they ask for one.
-fn request_of(alloc: Global, words: &[String]) -> Result<Option<Request>, Memory>
+// The request that words ask for, if they ask for one. No fault but `Memory`.
+fn request_of(alloc: Global, words: &[String]) -> Result<Option<Request>, LineFault>
     ensures some { IfOk result (λ found. IfSome found
         (λ request. IsRequest (with_program (map string_bytes words.now)) request)) }
     ensures none { IfOk result (λ found. IfNone found
         ((request : Request) → ¬ IsRequest (with_program (map string_bytes words.now)) request)) }
+    ensures memory { IfErr result (λ fault. fault ≡ NoMemory) }
 {
     match read_line(alloc, words) {
         Ok(request) => Ok(Some(request)),
         Err(fault) => {
             if is_memory(&fault) {
-                Err(Memory)
+                Err(fault)
             } else {
                 Ok(None)
             }
@@ -53,10 +53,11 @@ fn request_of(alloc: Global, words: &[String]) -> Result<Option<Request>, Memory
     }
 }
 
-// Whether words ask for a request.
-fn is_request(alloc: Global, words: &[String]) -> Result<bool, Memory>
-    ensures { IfOk result (λ is. IsTrue is ↔ ((request : Request)
+// Whether words ask for a request. No fault but `Memory`.
+fn is_request(alloc: Global, words: &[String]) -> Result<bool, LineFault>
+    ensures is { IfOk result (λ is. IsTrue is ↔ ((request : Request)
         × IsRequest (with_program (map string_bytes words.now)) request)) }
+    ensures memory { IfErr result (λ fault. fault ≡ NoMemory) }
 {
     Ok(request_of(alloc, words)?.is_some())
 }
@@ -83,7 +84,7 @@ pub fn listed_request(
     alloc: Global,
     words: &[String],
     listing: &Listing<'_>,
-) -> Result<Option<Request>, Memory>
+) -> Result<Option<Request>, LineFault>
     requires short { IsBefore (map string_bytes listing.now.before.now) }
     requires words { map string_bytes words.now
         ≡ list_words (map string_bytes listing.now.before.now) listing.now.list.now
@@ -96,6 +97,7 @@ pub fn listed_request(
         }))) }
     ensures none { IfOk result (λ found. IfNone found
         ((asked : ListedRequest) → ¬ AsksListed (map string_bytes words.now) asked)) }
+    ensures memory { IfErr result (λ fault. fault ≡ NoMemory) }
 {
     if is_request(alloc, words)? {
         return Ok(None);

@@ -61,7 +61,7 @@ impl Refusals {
         if wants_memory(cause) {
             self.file_lacking = true;
         }
-        if let Err(Memory) = tell(alloc, log, what, cause) {
+        if let Err(_) = tell(alloc, log, what, cause) {
             self.path_unspelled = true;
             say_memory(log);
         }

@@ -39,6 +39,6 @@ returns c =
         c.in_ok-few.ensures.long,
         c.len.ensures,
         c.fresh_of-fresh.result.ok.0,
-        c.in-Some.ensures,
+        c.in_ok-new_facts.ensures,
       );
     }

@@ -8,7 +8,7 @@ use Rattle.cvr_run.proofs.listed_request.listed_request.Goals as goal
 
 pub returns-then-branch-clause-none : goal.returns-then-branch-clause-none
 returns-then-branch-clause-none c asked asks =
-    let there = c.in_ok-is_request.ensures.0 c.if-branch.true in asks.free there.0 there.1
+    let there = c.in_ok-is_request.ensures.is.0 c.if-branch.true in asks.free there.0 there.1
 
 pub returns-in-Some-clause-some : goal.returns-in-Some-clause-some
 returns-in-Some-clause-some c =
@@ -16,7 +16,7 @@ returns-in-Some-clause-some c =
       before = map string_bytes c.args.listing.now.before.now;
       short = c.requires.short;
       split = c.requires.words;
-      free = λ other is. true≢false (sym (c.in_ok-is_request.ensures.1 (other, is))
+      free = λ other is. true≢false (sym (c.in_ok-is_request.ensures.is.1 (other, is))
           ∙ c.if-branch.false);
       request = rw (given.0) (rw c.in-Some.is at c.in_ok-request.ensures.some);
       files = rw (given.0) given.1;

@@ -59,8 +59,8 @@ returns-in-Ok-None g c =
       says = told.says;
     }
 
-pub returns-in-Err : goal.returns-in-Err
-returns-in-Err g c =
+pub returns : goal.returns
+returns g c =
     let unchanged = c.args.out.now ≡ c.args.out.now in
     let answer = c.end_in_memory.result in
     let is = c.end_in_memory.ensures.status in

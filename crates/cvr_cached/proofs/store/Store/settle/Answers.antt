@@ -16,9 +16,9 @@ put_in-put-requires-clause-growing c =
 
 pub put_in-put-requires-clause-room : goal.put_in-put-requires-clause-room
 put_in-put-requires-clause-room c =
-    let few = c.in-Some-checked_add.ensures in
+    let few = c.in_ok-count.ensures in
     room _ _ c.self.invariant _ _ c.args.plan (rw (← c.self.view_is) at c.requires.1)
-    (omega (arith, few.0, c.in-Some.ensures.1))
+    (omega (arith, few.0, c.in_ok-new_facts.ensures.1))
 
 pub invariant_of-self : goal.invariant_of-self
 invariant_of-self c =
@@ -54,8 +54,8 @@ invariant_of-self-2 c =
     let longer = rw c.deref.ensures.value at c.in_ok-growth.ensures.longer in
     let devices =
     subst (IsPut c.self.inside.devices.items c.args.devices.now) (sym c.grow_devices.ensures) put in
-    let sum = c.in-Some.ensures.1 in
-    let count = c.in-Some-checked_add.ensures in
+    let sum = c.in_ok-new_facts.ensures.1 in
+    let count = c.in_ok-count.ensures in
     let done = c.in_ok-put.ensures in
     let now : Stored = record {
       devices = c.grow_devices.new.devices.items;
@@ -63,7 +63,7 @@ invariant_of-self-2 c =
       totals = c.put_in-put.new.totals;
     } in
     held_settled _ _ c.self.invariant _ _ c.args.plan (rw (← c.self.view_is) at c.requires.1) now
-    c.in-Some-checked_add.sum c.in-Some.sum
+    c.in_ok-count.count c.in_ok-new_facts.new_facts
     devices c.len.ensures.ordered done.records done.counted done.contests
     (omega (arith, longer, sum, ap length c.grow_devices.ensures)) (sym count.1) done.agrees
     c.are_whole.ensures (omega (arith, count.0, count.1))
@@ -74,8 +74,8 @@ returns-clause-taken c more of =
     let longer = rw c.deref.ensures.value at c.in_ok-growth.ensures.longer in
     let devices =
     subst (IsPut c.self.inside.devices.items c.args.devices.now) (sym c.grow_devices.ensures) put in
-    let sum = c.in-Some.ensures.1 in
-    let count = c.in-Some-checked_add.ensures in
+    let sum = c.in_ok-new_facts.ensures.1 in
+    let count = c.in_ok-count.ensures in
     let done = c.in_ok-put.ensures in
     let now : Stored = record {
       devices = c.grow_devices.new.devices.items;
@@ -84,7 +84,7 @@ returns-clause-taken c more of =
     } in
     rw (← c.self.view_is)
     (taken_settled _ _ c.self.invariant more _ c.args.plan (rw (← c.self.view_is) at of) now
-    c.in-Some-checked_add.sum c.in-Some.sum
+    c.in_ok-count.count c.in_ok-new_facts.new_facts
     devices c.len.ensures.ordered done.records done.counted done.contests
     (omega (arith, longer, sum, ap length c.grow_devices.ensures)) (sym count.1) (omega (arith, sum))
     done.moves)
