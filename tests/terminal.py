@@ -461,8 +461,12 @@ def asked_runs(program):
     yield missing, 3
     yield missing._replace(words=['tally', 'none', 'f2.json']), 0
     yield missing._replace(words=['tally', 'def.json', 'half', '.'], log=b'.: K1\n'), 2
+    odd = [(name, 'E2') for name in NO_JSON]
     for task in 'check', 'tally':
-        yield damage.case(task, held + [(name, 'E2') for name in NO_JSON]), len(held) + len(NO_JSON)
+        yield damage.case(task, held + odd), len(held) + len(odd)
+    for first in range(0, len(odd), NAMED):     # each has a note in one of these
+        some = odd[first:first + NAMED]
+        yield damage.case('check', some), len(some)
     yield damage.Case(['tally', 'half', 'gz'], None, b'', b'half: E2\n', 1), 1
     yield damage.Case(['tally', 'bad', 'half'], None, b'', b'bad: E3 /CVR/0/UniqueId 2\n', 1), 1
     for files in [], held:
