@@ -2,6 +2,7 @@ ghost use Rattle.std.specs.Prelude.{◌≡◌, ◌<◌, ◌^◌, ◌∷◌, ◌+
 ghost use Rattle.std.specs.Prelude.{OnOk, option_map};
 ghost use Rattle.serde_json.specs.Data.{Data};
 ghost use Rattle.serde_json.specs.Written.{has_float};
+ghost use Rattle.cdf_node.specs.Order.{IsSorted};
 ghost use Rattle.cdf_node.specs.View.{view};
 ghost use Rattle.cdf_form.specs.Form.{at_item, deeper_fault, first, float_faults};
 ghost use Rattle.cdf_form.specs.Found.{fault_of};
@@ -57,22 +58,21 @@ impl<K: Keep> Drop for Looks<'_, K> {
     }
 }
 
-// A record's first fault of form, from the array of the records, and whether its numbers need a
-// look.
+// A record's first fault of form, from the array of the records.
 fn form_in(
     alloc: Global,
     place: usize,
     cvr: &Node<'_>,
-) -> Result<(Option<Found<'static>>, bool), AllocError>
-    ensures form { IfOk result (λ told. option_map fault_of told.0
+) -> Result<Option<Found<'static>>, AllocError>
+    requires { IsSorted (view cvr.now) }
+    ensures { IfOk result (λ found. option_map fault_of found
         ≡ option_map (deeper_fault (at_item place)) (first (cvr_faults (view cvr.now)))) }
-    ensures whole { IfOk result (λ told. told.1 ≡ false → has_float (view cvr.now) ≡ false) }
 {
     match cvr_fault(alloc, cvr) {
-        Ok(fraction) => Ok((None, fraction)),
+        Ok(()) => Ok(None),
         Err(stop) => match stop.under(Step::Item(place)) {
             Stop::Memory(refused) => Err(refused.into()),
-            Stop::Fault(found) => Ok((Some(found), true)),
+            Stop::Fault(found) => Ok(Some(found)),
         },
     }
 }
@@ -156,19 +156,18 @@ where
         }
     }
 
-    #[tactic(auto, using(crate::proofs::OneMore::whole_first))]
     fn take(
         &self,
         alloc: Global,
         seen: &mut Seen<K::Kept>,
         place: usize,
         item: Node<'_>,
+        fraction: bool,
     ) -> Result<(), AllocError> {
         if seen.fraction.is_some() {
             return Ok(());
         }
-        let (form, look) = form_in(alloc, place, &item)?;
-        seen.fraction = fraction_in(alloc, place, look, &item)?;
+        seen.fraction = fraction_in(alloc, place, fraction, &item)?;
         if seen.fraction.is_some() {
             // The file is refused, and none of its records is asked for.
             seen.kept.records = self.keep.none(alloc);
@@ -177,6 +176,7 @@ where
         if seen.form.is_some() {
             return Ok(());
         }
+        let form = form_in(alloc, place, &item)?;
         seen.form = form;
         if seen.form.is_some() {
             seen.kept.records = self.keep.none(alloc);

@@ -56,6 +56,7 @@ impl Fold for Names<'_> {
         found: &mut Option<Path<'static>>,
         place: usize,
         item: Node<'_>,
+        _fraction: bool,
     ) -> Result<(), AllocError> {
         if found.is_none() {
             *found = unnamed_in(alloc, self.0, place, &item)?;

@@ -16,7 +16,7 @@ use json::Scratch;
 use std::alloc::Global;
 
 // The value of a file.
-fn read_file<'t>(
+fn value_of_file<'t>(
     bump: &'t Bump,
     bytes: &'t [u8],
     scratch: &'t mut Scratch,
@@ -43,7 +43,7 @@ fn sound_value<'t>(
     ensures sound { IfOk result (λ v. IsSound (view v)) }
     ensures first { IfErr result (λ e. ¬ IsMemory e → first_unsound bytes.now ≡ Some e) }
 {
-    let value = read_file(bump, bytes, scratch)?;
+    let value = value_of_file(bump, bytes, scratch)?;
     check_own(alloc, &value)?;
     Ok(value)
 }

@@ -34,7 +34,7 @@ fn has_row(alloc: Global, value: &Node<'_>, row: &Member) -> Result<bool, Memory
     let Some(member) = value.get(row.name) else {
         return Ok(!row.required);
     };
-    match walk(alloc, member, row.kind, Key::Free) {
+    match walk(alloc, false, member, row.kind, Key::Free) {
         Ok(()) => Ok(true),
         Err(Stop::Memory(refused)) => Err(refused),
         Err(Stop::Fault(_)) => Ok(false),

@@ -3,6 +3,7 @@ pub mod Pointers
 pub mod FormLaw
 pub mod Records
 pub mod Whole
+pub mod Sorted
 pub mod Walking
 pub mod Rising
 pub mod Apart

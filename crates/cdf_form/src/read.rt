@@ -1,12 +1,12 @@
-ghost use Rattle.std.specs.Prelude.{◌≡◌, None, IfOk, IfErr, OnOk};
-ghost use Rattle.serde_json.specs.Written.{has_float};
+ghost use Rattle.std.specs.Prelude.{◌≡◌, None, IfErr, OnOk};
+ghost use Rattle.cdf_node.specs.Order.{IsSorted};
 ghost use Rattle.cdf_node.specs.View.{view};
 ghost use Rattle.cdf_form.specs.Form.{first};
 ghost use Rattle.cdf_form.specs.Found.{StopsAt};
 ghost use Rattle.cdf_form.specs.Records.{cvr_faults};
 ghost use Rattle.cdf_form.specs.Reading.{document_faults};
 
-use crate::float::{find_float, has_fraction};
+use crate::float::find_float;
 use crate::found::Stop;
 use crate::table::{Group, Key, Kind, Leaf};
 use crate::walk::walk;
@@ -29,20 +29,19 @@ pub fn document_fault<'t>(alloc: Global, value: &Node<'t>) -> Result<(), Stop<'t
 {
     find_float(alloc, value)?;
     let report = Kind::One(Leaf::Object(Group::Reports));
-    walk(alloc, value, report, Key::Free)
+    walk(alloc, false, value, report, Key::Free)
 }
 
-/// Looks for the first fault of the form of a cast vote record by itself (class CVR). Where there
-/// is none, answers whether a number that isn't whole stands in it.
+/// Looks for the first fault of the form of a cast vote record by itself (class CVR), as it was
+/// read: names rise in each of its objects.
 ///
 /// # Errors
 /// `Fault` at the first fault of form; `Memory` where a growth was refused.
-pub fn cvr_fault(alloc: Global, value: &Node<'_>) -> Result<bool, Stop<'static>>
+pub fn cvr_fault(alloc: Global, value: &Node<'_>) -> Result<(), Stop<'static>>
+    requires { IsSorted (view value.now) }
     ensures none { OnOk result (first (cvr_faults (view value.now)) ≡ None) }
-    ensures fraction { IfOk result (λ told. told ≡ has_float (view value.now)) }
     ensures fault { IfErr result (λ s. StopsAt s (first (cvr_faults (view value.now)))) }
 {
     let record = Kind::One(Leaf::Object(Group::Cvrs));
-    walk(alloc, value, record, Key::Free)?;
-    Ok(has_fraction(value))
+    walk(alloc, true, value, record, Key::Free)
 }

@@ -3,6 +3,7 @@ ghost use Rattle.std.specs.Prelude.{true, unwrap_or};
 ghost use Rattle.std.specs.Bool.{OnTrue};
 ghost use Rattle.serde_json.specs.Data.{no_members};
 ghost use Rattle.serde_json.specs.Find.{as_object};
+ghost use Rattle.cdf_node.specs.Order.{IsSorted, ItemsAreSorted};
 ghost use Rattle.cdf_node.specs.View.{view, items_view, members_view};
 ghost use Rattle.cdf_form.specs.declared.table.Key.TheVariants.{Free};
 ghost use Rattle.cdf_form.specs.Form.{first, faults, here, items_faults, length_faults};
@@ -108,23 +109,32 @@ fn length_rule(least: usize, most: usize, len: usize) -> Option<Rule>
     }
 }
 
-/// Looks for the first fault of a value against a kind, in the order of the walk.
+/// Looks for the first fault of a value against a kind, in the order of the walk. `sorted` says
+/// that names rise in each of its objects, as they do in what was read: then a member that is
+/// absent is soon missed.
 ///
 /// # Errors
 /// `Fault` where there is one; `Memory` where a growth was refused.
 #[cycle(walk)]
 #[tactic(auto, using(crate::proofs::Parts::array_first, crate::proofs::Parts::as_many))]
-pub fn walk(alloc: Global, value: &Node<'_>, kind: Kind, mark: Key) -> Result<(), Stop<'static>>
+pub fn walk(
+    alloc: Global,
+    sorted: bool,
+    value: &Node<'_>,
+    kind: Kind,
+    mark: Key,
+) -> Result<(), Stop<'static>>
+    requires names { OnTrue sorted (IsSorted (view value.now)) }
     ensures none { OnOk result (first (faults (view value.now) kind mark) ≡ None) }
     ensures fault { IfErr result (λ s. StopsAt s (first (faults (view value.now) kind mark))) }
 {
     match kind {
-        Kind::One(leaf) => walk_one(alloc, value, leaf, mark),
+        Kind::One(leaf) => walk_one(alloc, sorted, value, leaf, mark),
         Kind::Array(leaf, least, most, key) => match value.as_array() {
             None => Err(Stop::at(alloc, Rule::WrongKind)),
             Some(items) => match length_rule(least, most, items.len()) {
                 Some(rule) => Err(Stop::at(alloc, rule)),
-                None => walk_items(alloc, items, leaf, watched_key(items, key)),
+                None => walk_items(alloc, sorted, items, leaf, watched_key(items, key)),
             },
         },
     }
@@ -132,7 +142,14 @@ pub fn walk(alloc: Global, value: &Node<'_>, kind: Kind, mark: Key) -> Result<()
 
 #[cycle(walk)]
 #[tactic(auto, using(crate::proofs::Parts::one_first, crate::proofs::FormLaw::in_order))]
-fn walk_one(alloc: Global, value: &Node<'_>, leaf: Leaf, mark: Key) -> Result<(), Stop<'static>>
+fn walk_one(
+    alloc: Global,
+    sorted: bool,
+    value: &Node<'_>,
+    leaf: Leaf,
+    mark: Key,
+) -> Result<(), Stop<'static>>
+    requires names { OnTrue sorted (IsSorted (view value.now)) }
     ensures none { OnOk result (first (faults (view value.now) (Kind.One leaf) mark) ≡ None) }
     ensures fault { IfErr result (λ s.
         StopsAt s (first (faults (view value.now) (Kind.One leaf) mark))) }
@@ -140,7 +157,7 @@ fn walk_one(alloc: Global, value: &Node<'_>, leaf: Leaf, mark: Key) -> Result<()
     match leaf {
         Leaf::Object(group) => {
             let class = class_of(alloc, group, value)?;
-            walk_rows(alloc, value, class_members(class), mark)
+            walk_rows(alloc, sorted, value, class_members(class), mark)
         }
         Leaf::Text
         | Leaf::Name
@@ -169,11 +186,13 @@ fn members_of<'t>(value: &Node<'t>) -> &'t [(&'t str, Node<'t>)]
 #[tactic(auto, using(crate::proofs::Parts::part_is_lighter, crate::proofs::Walking::found_at))]
 fn walk_rows(
     alloc: Global,
+    sorted: bool,
     value: &Node<'_>,
     rows: &'static [Member],
     mark: Key,
 ) -> Result<(), Stop<'static>>
     requires rise { is_in_order (entries_of rows.now) ≡ true }
+    requires names { OnTrue sorted (IsSorted (view value.now)) }
     ensures none { OnOk result
         (first (rows_faults (member_look (view value.now)) mark (entries_of rows.now)) ≡ None) }
     ensures fault { IfErr result (λ s.
@@ -182,13 +201,13 @@ fn walk_rows(
     let members = members_of(value);
     let mut place = 0;
     for row in rows {
-        let (found, next) = find_from(members, place, row.name);
+        let (found, next) = find_from(members, sorted, place, row.name);
         place = next;
         match found {
             None => if row.required {
                 return Err(Stop::at(alloc, Rule::Missing).under(Step::Member(row.name)));
             },
-            Some(member) => match walk_member(alloc, member, row, mark) {
+            Some(member) => match walk_member(alloc, sorted, member, row, mark) {
                 Ok(()) => {}
                 Err(stop) => return Err(stop.under(Step::Member(row.name))),
             },
@@ -201,16 +220,18 @@ fn walk_rows(
 #[cycle(walk)]
 fn walk_member(
     alloc: Global,
+    sorted: bool,
     member: &Node<'_>,
     row: &Member,
     mark: Key,
 ) -> Result<(), Stop<'static>>
+    requires names { OnTrue sorted (IsSorted (view member.now)) }
     ensures none { OnOk result (first (row_faults mark (entry_of row.now)
         (Some (faults (view member.now) row.now.kind Free))) ≡ None) }
     ensures fault { IfErr result (λ s. StopsAt s (first (row_faults mark (entry_of row.now)
         (Some (faults (view member.now) row.now.kind Free))))) }
 {
-    walk(alloc, member, row.kind, Key::Free)?;
+    walk(alloc, sorted, member, row.kind, Key::Free)?;
     match repeat_rule(mark, row.name) {
         Some(rule) => Err(Stop::at(alloc, rule)),
         None => Ok(()),
@@ -219,7 +240,14 @@ fn walk_member(
 
 #[cycle(walk)]
 #[tactic(auto, using(crate::proofs::Parts::item_is_lighter))]
-fn walk_items(alloc: Global, items: &[Node<'_>], leaf: Leaf, key: Key) -> Result<(), Stop<'static>>
+fn walk_items(
+    alloc: Global,
+    sorted: bool,
+    items: &[Node<'_>],
+    leaf: Leaf,
+    key: Key,
+) -> Result<(), Stop<'static>>
+    requires names { OnTrue sorted (ItemsAreSorted (items_view items.now)) }
     ensures none { OnOk result (first (items_faults (items_view items.now) leaf key 0 []) ≡ None) }
     ensures fault { IfErr result (λ s.
         StopsAt s (first (items_faults (items_view items.now) leaf key 0 []))) }
@@ -227,7 +255,7 @@ fn walk_items(alloc: Global, items: &[Node<'_>], leaf: Leaf, key: Key) -> Result
     let mut seen: BTreeSet<&str> = BTreeSet::new(alloc);
     for (place, item) in items.iter().enumerate() {
         let mark = note_key(&mut seen, key, item)?;
-        match walk(alloc, item, Kind::One(leaf), mark) {
+        match walk(alloc, sorted, item, Kind::One(leaf), mark) {
             Ok(()) => {}
             Err(stop) => return Err(stop.under(Step::Item(place))),
         }

@@ -1,4 +1,5 @@
 -- What stands at a name among members.
+use Rattle.std.proofs.Common.{None, zero, suc, subst}
 use Rattle.std.proofs.Common.{◌≡◌, ℕ, List, [], ◌∷◌, Bool, true, false, bytes_eq, Option, Some}
 use Rattle.std.proofs.Common.{option_map, Ordering, Less, Equal, Greater, is_eq, nat_cmp, refl, ap}
 use Rattle.std.proofs.Common.{ap₂, ◌∙◌, ◌+◌, ◌<◌, length, get_or, drop, sym, arith}
@@ -9,11 +10,11 @@ use Rattle.std.specs.Cmp.Lexicographic.{slice_cmp}
 use Rattle.std.specs.Ordering.{match_ordering, is_lt, ordering_reverse}
 use Rattle.std.proofs.lemmas.Cmp.{nat_list_cmp_total}
 use Rattle.std.proofs.lemmas.List.{drop_more}
-use Rattle.serde_json.specs.Data.{Data}
+use Rattle.serde_json.specs.Data.{Data, Members, no_members, member}
 use Rattle.serde_json.specs.Find.{get_member}
 use Rattle.cdf_node.specs.View.{view, members_view}
-use Rattle.cdf_node.specs.Order.{Before}
-use Rattle.cdf_node.proofs.Sorting.{reversed}
+use Rattle.cdf_node.specs.Order.{Before, Below, Rises}
+use Rattle.cdf_node.proofs.Sorting.{reversed, Below-trans}
 use Rattle.cdf_node.proofs.Views.{Entry}
 
 either : (o : Ordering) (a b : Option Data) → match_ordering o a b a ≡ (if is_eq o then b else a)
@@ -81,3 +82,32 @@ pub after : (q k l : List ℕ) → bytes_eq k l ≡ true → Before k q → slic
 after q k l is b =
     let e = equal (slice_cmp nat_cmp k l) (is_eq-slice_cmp k l ∙ is) in
     reversed q l (sym (nat_list_cmp_total.congr k l q e) ∙ b)
+
+-- ---- where members rise, none is of a name that stands before the first
+
+below_none : (q : List ℕ) (ms : Members) → Below q ms → get_member q ms ≡ None
+below_none q no_members h = refl
+below_none q (member l d ms) h =
+    ap (λ o. match_ordering o (get_member q ms) (Some d) (get_member q ms)) h.0
+    ∙ below_none q ms h.1
+
+rises_behind : (es : List Entry) (i : ℕ) → Rises (members_view es)
+    → Rises (members_view (drop i es))
+rises_behind es zero h = h
+rises_behind [] (suc i) h = h
+rises_behind (e ∷ es) (suc i) h = rises_behind es i h.1
+
+pub absent : (q : List ℕ) (es : List Entry) (i : ℕ) (e : Entry) → Rises (members_view es)
+    → i < length es → slice_cmp nat_cmp q (get_or es i e).0.now ≡ Less
+    → get_member q (members_view (drop i es)) ≡ None
+absent q es i e h here less =
+    let at = drop_more es i e here in
+    let rest = subst (λ xs. Rises (members_view xs)) at (rises_behind es i h) in
+    subst (λ xs. get_member q (members_view xs) ≡ None) (sym at)
+    (below_none q (members_view (get_or es i e ∷ drop (i + 1) es))
+    (less, Below-trans q (get_or es i e).0.now (members_view (drop (i + 1) es)) less rest.0))
+
+pub less : (o : Ordering) → is_lt o ≡ true → o ≡ Less
+less Less is = refl
+less Equal is = cc
+less Greater is = cc

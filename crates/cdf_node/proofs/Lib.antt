@@ -1,6 +1,7 @@
 pub mod Numbers
 pub mod Loops
 pub mod Views
+pub mod Whole
 pub mod Sorting
 pub mod Placing
 pub mod Stable

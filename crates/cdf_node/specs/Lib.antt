@@ -1,5 +1,6 @@
 pub mod Items
 pub mod View
+pub mod Whole
 pub mod Next
 pub mod Loops
 pub mod Order

@@ -3,18 +3,20 @@
 
 pub mod law;
 mod member;
+mod no_value;
 mod node;
 mod order;
-mod stop;
 mod text;
 mod token;
+mod track;
 mod value;
 mod write;
 
 pub use member::find_from;
+pub use no_value::NoValue;
 pub use node::Node;
 pub use order::in_order;
-pub use stop::Stop;
 pub use text::read_text;
 pub use token::scalar;
+pub use track::Track;
 pub use value::{read, read_array, read_object};

@@ -3,8 +3,9 @@ ghost use Rattle.serde_json.specs.Read.{read as read_data};
 ghost use Rattle.cdf_node.specs.Next.{next_last};
 ghost use Rattle.cdf_node.specs.View.{view};
 
+use crate::no_value::NoValue;
 use crate::node::Node;
-use crate::stop::Stop;
+use crate::track::Track;
 use crate::value::read;
 use bumpalo::Bump;
 use json::{Reader, Scratch};
@@ -15,13 +16,13 @@ fn read_whole<'t, 'a: 't>(
     bump: &'t Bump,
     reader: &mut Reader<'a>,
     depth: usize,
-) -> Result<Node<'t>, Stop>
+) -> Result<Node<'t>, NoValue>
     ensures value { IfOk result (λ v. next_last depth reader.old ≡ Some (view v)) }
-    ensures unread { result ≡ Err Stop.Unread → next_last depth reader.old ≡ None }
+    ensures unread { result ≡ Err NoValue.Unread → next_last depth reader.old ≡ None }
 {
-    let value = read(bump, reader, depth)?;
+    let value = read(bump, reader, depth, &mut Track::new())?;
     if reader.next().is_some() {
-        return Err(Stop::Unread);
+        return Err(NoValue::Unread);
     }
     Ok(value)
 }
@@ -44,7 +45,7 @@ pub fn read_text<'t>(
     let mut reader = Reader::new(text, scratch)?;
     match read_whole(bump, &mut reader, MAX_DEPTH) {
         Ok(value) => Ok(Some(value)),
-        Err(Stop::Unread) => Ok(None),
-        Err(Stop::Memory) => Err(AllocError),
+        Err(NoValue::Unread) => Ok(None),
+        Err(NoValue::Memory) => Err(AllocError),
     }
 }

@@ -4,8 +4,8 @@ ghost use Rattle.serde_json.specs.Read.{number_of, number_from};
 ghost use Rattle.cdf_node.specs.Next.{IsAlone, BeginsNoValue, IsScalar};
 ghost use Rattle.cdf_node.specs.View.{number_view, view};
 
+use crate::no_value::NoValue;
 use crate::node::Node;
-use crate::stop::Stop;
 use fast_float::Numeral;
 use json::Token;
 use serde_json::Number;
@@ -47,12 +47,12 @@ fn number(text: &str) -> Option<Number>
 /// # Errors
 /// `Unread` where it is none.
 #[tactic(auto, using(json::proofs::Grammar::value_is, crate::specs::declared::node::Node::the_lemmas))]
-pub fn scalar(token: Token<'_>) -> Result<Node<'_>, Stop>
+pub fn scalar(token: Token<'_>) -> Result<Node<'_>, NoValue>
     requires no_array { token ≢ Token.BeginArray }
     requires no_object { token ≢ Token.BeginObject }
     ensures value { IfOk result (λ v. IsAlone (token_of token.entry) (view v)) }
     ensures scalar { IfOk result (λ v. IsScalar (view v)) }
-    ensures unread { result ≡ Err Stop.Unread → BeginsNoValue (token_of token.entry) }
+    ensures unread { result ≡ Err NoValue.Unread → BeginsNoValue (token_of token.entry) }
 {
     match token {
         Token::Null => Ok(Node::Null),
@@ -60,8 +60,8 @@ pub fn scalar(token: Token<'_>) -> Result<Node<'_>, Stop>
         Token::String(text) => Ok(Node::String(text)),
         Token::Number(text) => match number(text) {
             Some(number) => Ok(Node::Number(number)),
-            None => Err(Stop::Unread),
+            None => Err(NoValue::Unread),
         },
-        _ => Err(Stop::Unread),
+        _ => Err(NoValue::Unread),
     }
 }

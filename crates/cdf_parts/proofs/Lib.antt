@@ -5,6 +5,7 @@ pub mod ReadsBack
 pub mod WasRead
 pub mod Removing
 pub mod PartLaws
+pub mod HintedPlaces
 pub mod Lengths
 pub mod Lists
 pub mod Places

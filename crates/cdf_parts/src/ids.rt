@@ -5,6 +5,7 @@ ghost use Rattle.cdf_parts.specs.Parts.{id_of};
 ghost use Rattle.cdf_parts.specs.Places.{place_in};
 ghost use Rattle.cdf_parts.specs.Kept.{bytes_of};
 
+use crate::hints::{hinted, hints_of};
 use crate::noting::note_place;
 use crate::part::{copy_texts, text_at};
 use cdf_node::Node;
@@ -18,24 +19,31 @@ use std::marker::Model;
 pub struct Ids {
     ids: Vec<String>,
     places: BTreeMap<String, usize>,
+    // First places, in slots by a number made of the id: where `find` looks before `places`.
+    hints: Vec<usize>,
 }
 
 // By hand: what holds one has shorter proofs than with a derived `Drop`.
 impl Drop for Ids {
     fn drop(self) {
-        let Ids { ids: _, places: _ } = self;
+        let Ids {
+            ids: _,
+            places: _,
+            hints: _,
+        } = self;
     }
 }
 
 impl Model for Ids {
     ghost use Rattle.cdf_parts.specs.Places.{Texts};
-    ghost use Rattle.cdf_parts.specs.Kept.{bytes_of, HasPlaces};
+    ghost use Rattle.cdf_parts.specs.Kept.{bytes_of, HasPlaces, HasHints};
 
     ghost Value = { Texts };
 
     ghost view = { λ n. bytes_of n.ids.items };
 
-    ghost invariant = { λ n. HasPlaces n.places (bytes_of n.ids.items) };
+    ghost invariant = { λ n. HasPlaces n.places (bytes_of n.ids.items)
+        × HasHints n.hints.items (bytes_of n.ids.items) };
 }
 
 impl Ids {
@@ -50,7 +58,8 @@ impl Ids {
         for (place, id) in ids.iter().enumerate() {
             note_place(alloc, &mut places, id.as_str(), place)?;
         }
-        Ok(Ids { ids, places })
+        let hints = hints_of(alloc, &ids, &places)?;
+        Ok(Ids { ids, places, hints })
     }
 
     /// The ids of objects, in order; the empty text where one has none.
@@ -92,7 +101,10 @@ impl Ids {
     pub fn find(&self, id: &str) -> Option<usize>
         ensures { result ≡ place_in self.now id.now }
     {
-        self.places.get(id).copied()
+        match hinted(&self.hints, &self.ids, id) {
+            Some(place) => Some(place),
+            None => self.places.get(id).copied(),
+        }
     }
 
     /// Whether a text is one of the ids. Takes no memory.

@@ -3,6 +3,7 @@
 #![tactic(auto)]
 
 pub mod contests;
+mod hints;
 pub mod ids;
 pub mod law;
 mod noting;

@@ -1,17 +1,19 @@
 ghost use Rattle.std.specs.Prelude.{◌≡◌, ◌<◌, ◌≤◌, ◌∷◌, ◌++◌, ◌^◌, [], length, List, Err, None};
-ghost use Rattle.std.specs.Prelude.{Some, IfOk, OnOk, MatchOption, if◌then◌else◌};
+ghost use Rattle.std.specs.Prelude.{Some, IfOk, OnOk, MatchOption, if◌then◌else◌, false};
 ghost use Rattle.json.specs.Token as spec;
 ghost use Rattle.serde_json.specs.Data.{Data, Members, array, object};
 ghost use Rattle.serde_json.specs.Find.{get_member};
 ghost use Rattle.serde_json.specs.Read.{read as read_data};
+ghost use Rattle.serde_json.specs.Written.{has_float};
 ghost use Rattle.cdf_node.specs.Next.{next_value, next_last};
+ghost use Rattle.cdf_node.specs.Order.{IsSorted};
 ghost use Rattle.cdf_node.specs.View.{view, items_of, members_view};
 ghost use Rattle.cdf_pull.specs.Fold.{items_in, without_items, emptied_at, items_found};
 ghost use Rattle.cdf_pull.specs.Fold.{items_under};
 ghost use Rattle.cdf_pull.specs.Fold.{left_beside, IsOrdered, IsFolded, most_tokens};
 
 use bumpalo::Bump;
-use cdf_node::{Node, Stop, in_order, read, read_array, read_object, scalar};
+use cdf_node::{NoValue, Node, Track, in_order, read, read_array, read_object, scalar};
 use json::{Reader, Scratch, Token};
 use std::alloc::{AllocError, Global};
 
@@ -25,7 +27,9 @@ pub trait Fold {
     fn none(&self, alloc: Global) -> Self::Kept
         ensures { keeps self.now [] result };
 
-    /// Takes the next item, which stands at this place in the array.
+    /// Takes the next item, which stands at this place in the array. Its names rise, at every
+    /// depth. `fraction` says whether a number that isn't whole was read with it: where it is
+    /// false, the item has none.
     ///
     /// # Errors
     /// An `AllocError` where a growth was refused.
@@ -35,8 +39,11 @@ pub trait Fold {
         kept: &mut Self::Kept,
         place: usize,
         item: Node<'_>,
+        fraction: bool,
     ) -> Result<(), AllocError>
-        requires { place < 2 ^ 63 }
+        requires few { place < 2 ^ 63 }
+        requires rises { IsSorted (view item) }
+        requires whole { fraction ≡ false → has_float (view item) ≡ false }
         ensures { OnOk result ((ds : List Data) → place ≡ length ds → keeps self.now ds kept.old
             → keeps self.now (ds ++ view item.entry ∷ []) kept.new) };
 }
@@ -49,7 +56,7 @@ fn fold_items<F: Fold>(
     reader: &mut Reader<'_>,
     depth: usize,
     fold: &F,
-) -> Result<F::Kept, Stop>
+) -> Result<F::Kept, NoValue>
 where
     F::Kept: Drop,
     requires { length reader.now ≤ most_tokens }
@@ -57,19 +64,21 @@ where
         × (next_value depth (spec.Token.begin_array ∷ reader.old)
         ≡ Some (array (items_of ds), reader.new))
         × F.keeps fold.now ds kept) }
-    ensures unread { result ≡ Err Stop.Unread
+    ensures unread { result ≡ Err NoValue.Unread
         → next_value depth (spec.Token.begin_array ∷ reader.old) ≡ None }
     ensures shorter { OnOk result (length reader.new < length reader.old) }
 {
     if depth == 0 {
-        return Err(Stop::Unread);
+        return Err(NoValue::Unread);
     }
     let mut arena = Bump::new(alloc);
+    let mut track = Track::new();
     let mut kept = fold.none(alloc);
     let mut place = 0;
     'items: while !reader.take_end_array() {
-        let item = read(&arena, reader, depth - 1)?;
-        fold.take(alloc, &mut kept, place, item)?;
+        track.fraction = false;
+        let item = read(&arena, reader, depth - 1, &mut track)?;
+        fold.take(alloc, &mut kept, place, item, track.fraction)?;
         place += 1;
         // Where it fails, the arena goes on growing.
         let _ = arena.reset();
@@ -84,8 +93,9 @@ fn read_emptied<'t, 'a: 't, F: Fold>(
     bump: &'t Bump,
     reader: &mut Reader<'a>,
     depth: usize,
+    track: &mut Track,
     fold: &F,
-) -> Result<(Node<'t>, F::Kept), Stop>
+) -> Result<(Node<'t>, F::Kept), NoValue>
 where
     F::Kept: Drop,
     requires { length reader.now ≤ most_tokens }
@@ -93,17 +103,17 @@ where
         × (next_value depth reader.old ≡ Some (d, reader.new))
         × (view p.0 ≡ without_items d)
         × F.keeps fold.now (items_in d) p.1) }
-    ensures unread { result ≡ Err Stop.Unread → next_value depth reader.old ≡ None }
+    ensures unread { result ≡ Err NoValue.Unread → next_value depth reader.old ≡ None }
     ensures shorter { OnOk result (length reader.new < length reader.old) }
 {
-    let token = reader.next().ok_or(Stop::Unread)?;
+    let token = reader.next().ok_or(NoValue::Unread)?;
     match token {
         Token::BeginArray => {
             let kept = fold_items(alloc, reader, depth, fold)?;
             Ok((Node::Array(&[]), kept))
         }
         Token::BeginObject => {
-            let found = read_object(bump, reader, depth)?;
+            let found = read_object(bump, reader, depth, track)?;
             Ok((Node::Object(found), fold.none(alloc)))
         }
         _ => Ok((scalar(token)?, fold.none(alloc))),
@@ -116,10 +126,11 @@ fn read_member<'t, 'a: 't, F: Fold>(
     bump: &'t Bump,
     reader: &mut Reader<'a>,
     depth: usize,
+    track: &mut Track,
     is_folded: bool,
     kept: F::Kept,
     fold: &F,
-) -> Result<(Node<'t>, F::Kept), Stop>
+) -> Result<(Node<'t>, F::Kept), NoValue>
 where
     F::Kept: Drop,
     requires { length reader.now ≤ most_tokens }
@@ -128,15 +139,15 @@ where
         × (view p.0 ≡ (if is_folded then without_items d else d))
         × ((ds : List Data) → F.keeps fold.now ds kept
         → F.keeps fold.now (if is_folded then items_in d else ds) p.1)) }
-    ensures unread { result ≡ Err Stop.Unread → next_value depth reader.old ≡ None }
+    ensures unread { result ≡ Err NoValue.Unread → next_value depth reader.old ≡ None }
     ensures shorter { OnOk result (length reader.new < length reader.old) }
 {
     if is_folded {
         // What was kept of an earlier array of the same name is freed first.
         drop(kept);
-        read_emptied(alloc, bump, reader, depth, fold)
+        read_emptied(alloc, bump, reader, depth, track, fold)
     } else {
-        Ok((read(bump, reader, depth)?, kept))
+        Ok((read(bump, reader, depth, track)?, kept))
     }
 }
 
@@ -150,7 +161,7 @@ fn read_members<'t, 'a: 't, F: Fold>(
     depth: usize,
     name: &str,
     fold: &F,
-) -> Result<(&'t [(&'t str, Node<'t>)], F::Kept), Stop>
+) -> Result<(&'t [(&'t str, Node<'t>)], F::Kept), NoValue>
 where
     F::Kept: Drop,
     requires { length reader.now ≤ most_tokens }
@@ -158,16 +169,26 @@ where
         × (next_value depth (spec.Token.begin_object ∷ reader.old) ≡ Some (object ms, reader.new))
         × (members_view p.0.now ≡ emptied_at name.now ms)
         × F.keeps fold.now (items_found (get_member name.now ms)) p.1) }
-    ensures unread { result ≡ Err Stop.Unread
+    ensures unread { result ≡ Err NoValue.Unread
         → next_value depth (spec.Token.begin_object ∷ reader.old) ≡ None }
 {
     if depth == 0 {
-        return Err(Stop::Unread);
+        return Err(NoValue::Unread);
     }
     let mut found = Vec::new(bump);
+    let mut track = Track::new();
     let mut kept = fold.none(alloc);
     'members: while let Some(key) = reader.next_key()? {
-        let (member, anew) = read_member(alloc, bump, reader, depth - 1, key == name, kept, fold)?;
+        let (member, anew) = read_member(
+            alloc,
+            bump,
+            reader,
+            depth - 1,
+            &mut track,
+            key == name,
+            kept,
+            fold,
+        )?;
         found.push((key, member))?;
         kept = anew;
     }
@@ -184,7 +205,7 @@ fn read_beside<'t, 'a: 't, F: Fold>(
     depth: usize,
     name: &str,
     fold: &F,
-) -> Result<(Node<'t>, F::Kept), Stop>
+) -> Result<(Node<'t>, F::Kept), NoValue>
 where
     F::Kept: Drop,
     requires { length reader.now ≤ most_tokens }
@@ -193,12 +214,12 @@ where
         × (view p.0 ≡ left_beside name.now d)
         × F.keeps fold.now (items_under name.now d) p.1
         × IsOrdered d) }
-    ensures unread { result ≡ Err Stop.Unread → next_value depth reader.old ≡ None }
+    ensures unread { result ≡ Err NoValue.Unread → next_value depth reader.old ≡ None }
 {
-    let token = reader.next().ok_or(Stop::Unread)?;
+    let token = reader.next().ok_or(NoValue::Unread)?;
     match token {
         Token::BeginArray => {
-            let items = read_array(bump, reader, depth)?;
+            let items = read_array(bump, reader, depth, &mut Track::new())?;
             Ok((Node::Array(items), fold.none(alloc)))
         }
         Token::BeginObject => {
@@ -217,7 +238,7 @@ fn read_whole<'t, 'a: 't, F: Fold>(
     depth: usize,
     name: &str,
     fold: &F,
-) -> Result<(Node<'t>, F::Kept), Stop>
+) -> Result<(Node<'t>, F::Kept), NoValue>
 where
     F::Kept: Drop,
     requires { length reader.now ≤ most_tokens }
@@ -226,11 +247,11 @@ where
         × (view p.0 ≡ left_beside name.now d)
         × F.keeps fold.now (items_under name.now d) p.1
         × IsOrdered d) }
-    ensures unread { result ≡ Err Stop.Unread → next_last depth reader.old ≡ None }
+    ensures unread { result ≡ Err NoValue.Unread → next_last depth reader.old ≡ None }
 {
     let found = read_beside(alloc, bump, reader, depth, name, fold)?;
     if reader.next().is_some() {
-        return Err(Stop::Unread);
+        return Err(NoValue::Unread);
     }
     Ok(found)
 }
@@ -263,7 +284,7 @@ where
     let mut reader = Reader::new(text, scratch)?;
     match read_whole(alloc, bump, &mut reader, MAX_DEPTH, name, fold) {
         Ok(found) => Ok(Some(found)),
-        Err(Stop::Unread) => Ok(None),
-        Err(Stop::Memory) => Err(AllocError),
+        Err(NoValue::Unread) => Ok(None),
+        Err(NoValue::Memory) => Err(AllocError),
     }
 }

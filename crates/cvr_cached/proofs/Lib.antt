@@ -25,6 +25,7 @@ pub mod Taken
 pub mod CellSteps
 pub mod VoteLists
 pub mod Opening
+pub mod SameRows
 pub mod Committing
 pub mod Importing
 pub mod Growing

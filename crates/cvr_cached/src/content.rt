@@ -1,5 +1,6 @@
 ghost use Rattle.std.specs.Prelude.{◌≡◌, ◌<◌, ◌≤◌, ◌+◌, ℕ, List, OnOk, IfOk, [], true, false};
 ghost use Rattle.std.specs.Prelude.{if◌then◌else◌, option_map, length};
+ghost use Rattle.std.specs.Bool.{OnTrue};
 ghost use Rattle.std.specs.FinMap.{get};
 ghost use Rattle.std.specs.Ordering.{eq_by_cmp};
 ghost use Rattle.std.specs.List.Sorted.{IsStrictlySortedBy};
@@ -20,8 +21,8 @@ ghost use Rattle.cvr_cached.specs.Cells.{AreFit};
 
 use crate::growth::{Growth, grow, growth_of};
 use crate::remembered::{
-    current_place, header_fact_at, header_place, key_at, no_key, place_among, push_at, snapshot_at,
-    votes_at,
+    are_of_same_contests, current_place, header_fact_at, header_place, key_at, no_key, place_among,
+    push_at, snapshot_at, votes_at,
 };
 use cdf_types::Memory;
 use cvr_facts::{HeaderFact, SnapshotFact};
@@ -217,6 +218,18 @@ impl RecordContent {
         ensures { option_map (λ s. s.now) result ≡ current_in self.now }
     {
         snapshot_at(&self.facts, self.current)
+    }
+
+    // Whether its rows are known to be those of another content: both have one unit and one batch,
+    // and the same contests in the same order. Takes no memory.
+    pub(crate) fn has_rows_of(&self, other: &RecordContent) -> bool
+        ensures { OnTrue result ((q : RowKey) → is_row_of self.now q ≡ is_row_of other.now q) }
+    {
+        let sums = votes_at(&self.facts, self.header, self.current);
+        let others = votes_at(&other.facts, other.header, other.current);
+        self.key.unit == other.key.unit
+            && self.key.batch == other.key.batch
+            && are_of_same_contests(sums, others)
     }
 
     // Makes those of its rows that aren't there, of zeros. After an Err some may be open.

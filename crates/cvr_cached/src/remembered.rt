@@ -1,7 +1,8 @@
 // What a content remembers of its facts: where its header and its current snapshot stand, and a key
 // of its rows.
 ghost use Rattle.std.specs.Prelude.{◌≡◌, ◌<◌, ◌+◌, ◌++◌, IfOk, OnOk, None, option_map, drop};
-ghost use Rattle.std.specs.Prelude.{length};
+ghost use Rattle.std.specs.Prelude.{length, map};
+ghost use Rattle.std.specs.Bool.{OnTrue};
 ghost use Rattle.std.specs.List.{Contains};
 ghost use Rattle.std.specs.List.Sorted.{IsStrictlySortedBy};
 ghost use Rattle.std.specs.Option.{IfSome, option_to_list};
@@ -152,4 +153,19 @@ pub(crate) fn votes_at(
         return &[];
     };
     snapshot.votes.as_slice()
+}
+
+// Whether sums are of the same contests, in the same order. Takes no memory.
+pub(crate) fn are_of_same_contests(sums: &[VoteSums], others: &[VoteSums]) -> bool
+    ensures { OnTrue result (map (λ v. v.contest) sums.now ≡ map (λ v. v.contest) others.now) }
+{
+    if sums.len() != others.len() {
+        return false;
+    }
+    for (place, one) in sums.iter().enumerate() {
+        if one.contest != others[place].contest {
+            return false;
+        }
+    }
+    true
 }

@@ -1,6 +1,6 @@
 use crate::content::RecordContent;
 use crate::plan::{Plan, plan_of, plan_of_contents};
-use crate::taking::{devices_growth, grow_devices, put_in};
+use crate::taking::{carry_out, devices_growth, grow_devices};
 use cdf_definition::Definition;
 use cdf_types::{Memory, sum_or_memory};
 use cvr_facts::RecordName;
@@ -112,7 +112,7 @@ impl Store {
         let (growth, longer) = devices_growth(alloc, &self.devices, devices)?;
         let new_facts = sum_or_memory(longer, plan.new_facts)?;
         let count = sum_or_memory(self.count, new_facts)?;
-        let put = put_in(alloc, &mut self.records, &mut self.totals, plan);
+        let put = carry_out(alloc, &mut self.records, &mut self.totals, plan);
         // Called for their contracts: names rise in every map, and rows of totals are whole.
         let _ = self.records.len();
         self.totals.are_whole();

@@ -62,7 +62,7 @@ pub(crate) fn grow_devices(devices: &mut Vec<SharedFact>, growth: Option<Growth>
 }
 
 // Carries out a plan: all of it, or nothing.
-pub(crate) fn put_in(
+pub(crate) fn carry_out(
     alloc: Global,
     records: &mut BTreeMap<RecordName, RecordContent>,
     totals: &mut Totals,

@@ -62,7 +62,8 @@ pub fn read_file<R: Source>(alloc: Global, source: &mut R) -> Result<Vec<u8>, Fi
     Ok(bytes)
 }
 
-/// The same, in the place of what was in these bytes, whose room stays.
+/// The same, in the place of what was in these bytes. Their room stays, but for what is spare where
+/// that is more than half of it.
 ///
 /// # Errors
 /// As `read_file`. Nothing is then said of the bytes.
@@ -84,9 +85,20 @@ pub fn read_into<R: Source>(source: &mut R, bytes: &mut Vec<u8>) -> Result<(), F
         let (part, _) = piece.split_at_mut(room);
         let count = source.read(part)?;
         if count == 0 {
+            give_back(bytes);
             return Ok(());
         }
         bytes.extend_from_slice(&piece[..count])?;
     }
     Ok(())
+}
+
+// Frees the room that is spare, where it is more than half: that of a longer file before this one.
+fn give_back(bytes: &mut Vec<u8>)
+    ensures same { bytes.new.items ≡ bytes.old.items }
+    ensures length { vec_len bytes.new ≡ vec_len bytes.old }
+{
+    if bytes.capacity() / 2 > bytes.len() {
+        bytes.shrink_to_fit();
+    }
 }

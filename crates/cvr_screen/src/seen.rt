@@ -16,17 +16,17 @@ impl<'de> Deserialize<'de> for Passed {
     }
 }
 
-// What notes need of a report.
+// The records of a report, which is all that notes need of it.
 #[derive(Drop, Deserialize)]
-struct Report {
+struct Records {
     #[serde(rename = "CVR", default)]
     records: Vec<Passed>,
 }
 
 /// How many cast vote records a report has, as serde_json reads it. Nothing is kept of a record.
 pub fn count_records(alloc: Global, bytes: &[u8]) -> usize {
-    match serde_json::from_slice::<Report>(alloc, bytes) {
-        Ok(report) => report.records.len(),
+    match serde_json::from_slice::<Records>(alloc, bytes) {
+        Ok(found) => found.records.len(),
         Err(_) => 0,
     }
 }

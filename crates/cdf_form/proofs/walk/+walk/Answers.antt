@@ -1,8 +1,11 @@
 use Rattle.std.proofs.Common.{◌≡◌, ◌+◌, ◌<◌, length, get_or, drop, Option, Some, None}
 use Rattle.std.proofs.Common.{option_map, [], false, Bor, refl, sym, ap, ◌∙◌, rules, arith}
+use Rattle.std.proofs.Common.{subst}
+use Rattle.std.specs.Bool.{OnTrue}
 use Rattle.serde_json.specs.Data.{Data}
 use Rattle.cdf_node.specs.declared.node.Node.{Node}
 use Rattle.cdf_node.specs.View.{view, items_view}
+use Rattle.cdf_node.specs.Order.{IsSorted}
 use Rattle.cdf_form.specs.declared.table.Member.{Member}
 use Rattle.cdf_form.specs.declared.table.Kind.TheVariants as kind
 use Rattle.cdf_form.specs.declared.table.Leaf.TheVariants as leaf
@@ -11,7 +14,8 @@ use Rattle.cdf_form.specs.Tables.{entry_of, entries_of}
 use Rattle.serde_json.specs.Find.{get}
 use Rattle.cdf_form.specs.Form.{first, at_member, deeper_fault, faults, items_faults, row_faults}
 use Rattle.cdf_form.specs.Form.{member_look, mark_of, key_text, add_text}
-use Rattle.cdf_form.proofs.Parts.{items_go, part_is_lighter}
+use Rattle.cdf_form.proofs.Parts.{item_is_lighter, items_go, items_weight, part_is_lighter, weight}
+use Rattle.cdf_form.proofs.Sorted.{item_is_sorted, names_rise, part_is_sorted}
 use Rattle.cdf_form.proofs.Walking.{all_members, found_at, found_on, may_lack, rise_on, rows_go}
 use Rattle.cdf_form.proofs.Walking.{rows_stop, tells_as}
 use Rattle.cdf_form.proofs.walk.+walk.Goals as goal
@@ -45,7 +49,14 @@ walk_rows-walk_member-requires t c =
     ∙ sym c.find_from-next.ensures.value
     ∙ ap (option_map (λ (v : Bor Node). view v.now)) c.in-Some.is in
     let lighter = part_is_lighter d (get_or rs i no_row).name.now _ there in
+    let names = part_is_sorted c.args.sorted d (get_or rs i no_row).name.now _ there
+    c.requires.names in
     search rules
+
+pub walk_rows-find_from-next-requires-clause-rise :
+    goal.walk_rows-find_from-next-requires-clause-rise
+walk_rows-find_from-next-requires-clause-rise t c =
+    names_rise c.args.sorted (view c.args.value.now) _ c.members_of-members.ensures c.requires.names
 
 pub walk_rows-loop-row-preserved : goal.walk_rows-loop-row-preserved
 walk_rows-loop-row-preserved t c =
@@ -98,6 +109,20 @@ walk_rows-returns-in-Err-clause-fault t c =
     c.under-in-Err.result own)
 
 -- ---- walk_items
+
+pub walk_items-walk-requires : goal.walk_items-walk-requires
+walk_items-walk-requires t c =
+    let vs = c.args.items.now in
+    let i = c.loop-place.place in
+    let v = c.index-items-place.result in
+    let lt : i < length vs = search rules in
+    let is : v ≡ get_or vs i v = search rules in
+    let lighter : weight (view v) < items_weight (items_view vs) =
+    subst (λ x. weight (view x) < items_weight (items_view vs)) (sym is)
+    (item_is_lighter vs i v lt) in
+    let names = subst (λ x. OnTrue c.args.sorted (IsSorted (view x))) (sym is)
+    (item_is_sorted c.args.sorted vs i v lt c.requires.names) in
+    search rules
 
 pub walk_items-loop-place-preserved : goal.walk_items-loop-place-preserved
 walk_items-loop-place-preserved t c =

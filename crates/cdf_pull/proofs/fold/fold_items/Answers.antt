@@ -1,5 +1,7 @@
 use Rattle.std.proofs.Common.{[], ◌∷◌, ◌++◌, length-append, arith}
+use Rattle.std.proofs.lemmas.Option.{MatchOption-at_some}
 use Rattle.cdf_node.specs.View.{view}
+use Rattle.cdf_node.proofs.Laws.{sorted_next}
 use Rattle.cdf_node.proofs.Lemmas.{array_begun, array_next, array_over, array_none}
 use Rattle.cdf_pull.proofs.fold.fold_items.Goals as goal
 
@@ -11,6 +13,10 @@ items-init g c = record {
   read = array_begun c.args.depth c.args.reader.now (omega arith);
   keeps = c.none-kept.ensures;
 }
+
+pub take-requires-clause-rises : goal.take-requires-clause-rises
+take-requires-clause-rises g c =
+    MatchOption-at_some _ _ _ c.in_ok-item.ensures.value (sorted_next _ _)
 
 pub items-preserved : goal.items-preserved
 items-preserved g c =

@@ -4,10 +4,11 @@ use Rattle.cvr_run.proofs.file.read_into.Goals as goal
 
 pub returns-then-count-eq0-clause-bytes : goal.returns-then-count-eq0-clause-bytes
 returns-then-count-eq0-clause-bytes g c =
-    read_to_end (g.R.Source.left c.args.source.now).bytes (g.R.Source.left c.reads.source).bytes
+    rw c.give_back.ensures.same
+    (read_to_end (g.R.Source.left c.args.source.now).bytes (g.R.Source.left c.reads.source).bytes
     (g.R.Source.left c.read.new.self).bytes c.reads.bytes.items _ _ c.in_ok-count.count 67108865
     c.reads.invariant.all c.in_ok-count.ensures.given c.if-count-eq0.true
-    (omega (arith, c.reads.invariant.held))
+    (omega (arith, c.reads.invariant.held)))
 
 pub returns-clause-bytes : goal.returns-clause-bytes
 returns-clause-bytes g c = read_most (g.R.Source.left c.args.source.now).bytes

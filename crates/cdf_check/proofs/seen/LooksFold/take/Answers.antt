@@ -2,7 +2,7 @@ use Rattle.std.proofs.Common.{◌≡◌, None, option_map, sym, ap, ◌∙◌, a
 use Rattle.cdf_node.specs.View.{view}
 use Rattle.cdf_form.specs.Found.{fault_of}
 use Rattle.cdf_definition.proofs.Lemmas.{unmapped}
-use Rattle.cdf_check.proofs.OneMore.{or_none, fraction_next, seen_more, whole_more}
+use Rattle.cdf_check.proofs.OneMore.{or_none, fraction_next, seen_more, whole_first, whole_more}
 use Rattle.cdf_check.proofs.seen.LooksFold.take.Goals as goal
 
 pub returns-then-is_some : goal.returns-then-is_some
@@ -23,7 +23,7 @@ returns-then-is_some-3 g c ds at h =
     seen_more _ c.args.self.now.definition.now ds (view c.args.item) seen _ c.args.place h
     (grind arith) at c.in_ok-seen.ensures (λ own _.
     whole_more _ c.args.self.now.definition.now ds (view c.args.item) seen _ c.args.place at
-    c.requires (grind arith) own (λ none. absurd (grind arith)))
+    c.requires.few (grind arith) own (λ none. absurd (grind arith)))
 
 pub returns-then-is_some-4 : goal.returns-then-is_some-4
 returns-then-is_some-4 g c ds at h =
@@ -33,13 +33,18 @@ returns-then-is_some-4 g c ds at h =
     seen_more _ c.args.self.now.definition.now ds (view c.args.item) seen _ c.args.place h unseen at
     c.in_ok-seen.ensures (λ own _.
     whole_more _ c.args.self.now.definition.now ds (view c.args.item) seen _ c.args.place at
-    c.requires (or_none _ _ _ (ap (option_map fault_of) right) c.in_ok-form.ensures.form) own
+    c.requires.few (or_none _ _ _ (ap (option_map fault_of) right) c.in_ok-form.ensures) own
     (λ none. absurd (grind arith)))
+
+pub keep_right-requires-clause-whole : goal.keep_right-requires-clause-whole
+keep_right-requires-clause-whole g c =
+    let whole : c.in_ok-seen.field-0 ≡ None = grind arith in
+    whole_first (view c.args.item) (unmapped _ _ (sym c.in_ok-seen.ensures ∙ whole))
 
 pub keep_right-requires-clause-form : goal.keep_right-requires-clause-form
 keep_right-requires-clause-form g c =
     let right : c.in_ok-form.form ≡ None = grind arith in
-    unmapped _ _ (sym c.in_ok-form.ensures.form ∙ ap (option_map fault_of) right)
+    unmapped _ _ (sym c.in_ok-form.ensures ∙ ap (option_map fault_of) right)
 
 pub returns : goal.returns
 returns g c ds at h =
@@ -49,6 +54,6 @@ returns g c ds at h =
     seen_more _ c.args.self.now.definition.now ds (view c.args.item) seen _ c.args.place h unseen at
     c.in_ok-seen.ensures (λ own _.
     whole_more _ c.args.self.now.definition.now ds (view c.args.item) seen _ c.args.place at
-    c.requires (or_none _ _ _ (ap (option_map fault_of) right) c.in_ok-form.ensures.form) own
+    c.requires.few (or_none _ _ _ (ap (option_map fault_of) right) c.in_ok-form.ensures) own
     (λ _.
     c.in_ok-keep_right.ensures ds at (own.kept right)))

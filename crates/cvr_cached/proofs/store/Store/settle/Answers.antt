@@ -6,23 +6,23 @@ use Rattle.cvr_cached.specs.Held.{Stored}
 use Rattle.cvr_cached.proofs.Settled.{tallied, growing, room, held_still, held_settled, taken_settled}
 use Rattle.cvr_cached.proofs.store.Store.settle.Goals as goal
 
-pub put_in-put-requires-clause-tallied : goal.put_in-put-requires-clause-tallied
-put_in-put-requires-clause-tallied c =
+pub carry_out-put-requires-clause-tallied : goal.carry_out-put-requires-clause-tallied
+carry_out-put-requires-clause-tallied c =
     tallied _ _ c.self.invariant _ _ c.args.plan (rw (← c.self.view_is) at c.requires.1)
 
-pub put_in-put-requires-clause-growing : goal.put_in-put-requires-clause-growing
-put_in-put-requires-clause-growing c =
+pub carry_out-put-requires-clause-growing : goal.carry_out-put-requires-clause-growing
+carry_out-put-requires-clause-growing c =
     growing _ _ c.self.invariant _ _ c.args.plan (rw (← c.self.view_is) at c.requires.1)
 
-pub put_in-put-requires-clause-room : goal.put_in-put-requires-clause-room
-put_in-put-requires-clause-room c =
+pub carry_out-put-requires-clause-room : goal.carry_out-put-requires-clause-room
+carry_out-put-requires-clause-room c =
     let few = c.in_ok-count.ensures in
     room _ _ c.self.invariant _ _ c.args.plan (rw (← c.self.view_is) at c.requires.1)
     (omega (arith, few.0, c.in_ok-new_facts.ensures.1))
 
 pub invariant_of-self : goal.invariant_of-self
 invariant_of-self c =
-    let entries = btree_map_from_get name_total c.put_in-put.new.records c.self.inside.records
+    let entries = btree_map_from_get name_total c.carry_out-put.new.records c.self.inside.records
     c.len.ensures.ordered c.self.invariant.own.names_rise c.in_err-put.ensures.unchanged.1
     name_exact in
     let totals = c.in_err-put.ensures.unchanged.0 in
@@ -34,14 +34,14 @@ invariant_of-self c =
 
 pub returns-in_err-put-clause-unchanged : goal.returns-in_err-put-clause-unchanged
 returns-in_err-put-clause-unchanged c =
-    let entries = btree_map_from_get name_total c.put_in-put.new.records c.self.inside.records
+    let entries = btree_map_from_get name_total c.carry_out-put.new.records c.self.inside.records
     c.len.ensures.ordered c.self.invariant.own.names_rise c.in_err-put.ensures.unchanged.1
     name_exact in
     let totals = c.in_err-put.ensures.unchanged.0 in
     let same : Stored = record {
       devices = c.self.inside.devices.items;
-      records = c.put_in-put.new.records.entries;
-      totals = c.put_in-put.new.totals;
+      records = c.carry_out-put.new.records.entries;
+      totals = c.carry_out-put.new.totals;
     } in
     let is : same ≡ c.args.self.now = (λ i.
     record { devices = c.self.inside.devices.items; records = entries i; totals = totals i })
@@ -59,8 +59,8 @@ invariant_of-self-2 c =
     let done = c.in_ok-put.ensures in
     let now : Stored = record {
       devices = c.grow_devices.new.devices.items;
-      records = c.put_in-put.new.records.entries;
-      totals = c.put_in-put.new.totals;
+      records = c.carry_out-put.new.records.entries;
+      totals = c.carry_out-put.new.totals;
     } in
     held_settled _ _ c.self.invariant _ _ c.args.plan (rw (← c.self.view_is) at c.requires.1) now
     c.in_ok-count.count c.in_ok-new_facts.new_facts
@@ -79,8 +79,8 @@ returns-clause-taken c more of =
     let done = c.in_ok-put.ensures in
     let now : Stored = record {
       devices = c.grow_devices.new.devices.items;
-      records = c.put_in-put.new.records.entries;
-      totals = c.put_in-put.new.totals;
+      records = c.carry_out-put.new.records.entries;
+      totals = c.carry_out-put.new.totals;
     } in
     rw (← c.self.view_is)
     (taken_settled _ _ c.self.invariant more _ c.args.plan (rw (← c.self.view_is) at of) now
