@@ -25,8 +25,8 @@ import gen      # noqa: E402 (it stands there)
 
 COUNTED, HELD = 1600, 8000      # the records of the reports: 8 MB and 40 MB
 NOTED = {       # of a command the instructions for 8 MB, and the KiB with which 40 MB are read
-    'check': (335_323_238, 11_713),
-    'tally': (482_075_972, 71_465),
+    'check': (309_674_014, 11_777),
+    'tally': (437_461_039, 71_496),
 }
 ROOM = 1.1
 

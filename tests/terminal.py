@@ -84,6 +84,7 @@ NO_JSON = {
     'xml': (b'\n <CastVoteRecordReport/>', 2, 2, 'xml'),
     'csv': (b'Cast Vote Record,Precinct\n1,P\n', 1, 1, 'table'),
     'tabs': (b'Record\tPrecinct\n1\tP\n', 1, 1, 'table'),
+    'wide': (b'Cast Vote Record ' * 200 + b',Precinct\n1,P\n', 1, 1, 'table'),
     'prose': (b'Dear office\nhere are, as you asked\n', 1, 1, 'unknown'),
     'empty': (b'', 1, 0, 'nothing'),
     'blank': (b' \r\n\t', 2, 1, 'nothing'),
@@ -156,6 +157,7 @@ BAD = {
     'fewer': (changed(',{"@id":"no","@type":"CVR.BallotMeasureSelection","Selection":"No"}', ''), 'E5 /Election/0',
               ' (first difference: /Election/0/Contest/1/ContestSelection/1: -, in the definition {"@id":"no","@type":"CVR.BallotMeasureSelection","Selection"…)'),
     'named': (changed('"ElectionScopeId":"p1"', '"ElectionScopeId":"p1","Name":"A/~"'), 'E5 /Election/0', ' (first difference: /Election/0/Name: "A/~", in the definition -)'),
+    'both': (changed('"IsWriteIn":true', '"Extra":1'), 'E5 /Election/0', ' (first difference: /Election/0/Contest/0/ContestSelection/2/Extra: 1, in the definition -)'),
     'unit': (changed('"GpUnit":[', '"GpUnit":[{"@id":"p3","@type":"CVR.GpUnit","Type":"precinct"},'), 'E5 /GpUnit/0',
              ' (first difference: /GpUnit/0/@id: "p3", in the definition -)'),
 }
@@ -355,14 +357,15 @@ def written_to(program):
     asked = damage.case('tally', damage.held('f2.json', 'f6.json'))
     refused = asked._replace(words=['tally', 'twice', 'f2.json'], out=b'', log=b'twice: E2\n', status=1)
     behind = lambda *names: 1 + sum(os.path.getsize(program.path(name)) + 1 for name in names)
-    for name, call in ('def.json', 1), ('f2.json', behind('def.json')), ('f6.json', behind('def.json', 'f2.json')), ('twice', 1):
-        run_of = refused if name == 'twice' else asked
+    runs = [(asked, 'def.json', 1), (asked, 'f2.json', behind('def.json')), (asked, 'f6.json', behind('def.json', 'f2.json'))]
+    for run_of, name, call in runs + [(refused, 'twice', 1), (refused, 'f2.json', behind('twice'))]:
+        is_judged = run_of is asked or name == 'twice'
         for how in 'grows', 'rewritten':
             held = program.data(name)
             os.utime(program.path(name), (0, 0))
             out, log, status = Run(program, run_of.words, End('pipe'), End('terminal'), '0 %d %s' % (call, how)).left()
             program.put(name, held)
-            told = notes(program, run_of) + 'note: %s: it was written to while it was read\n' % name
+            told = notes(program, run_of) + is_judged * ('note: %s: it was written to while it was read\n' % name)
             yield differs(out, run_of.out.decode('utf-8')) or wrong_of(log, len(run_of.words) - 2, run_of.log.decode('utf-8') + told) \
                 or differs(status, run_of.status)
 
@@ -477,6 +480,10 @@ def asked_runs(program):
     yield from refused_runs()
     for name in 'help-drill', 'no-command-taly-alone', 'no-step-x', 'option-json', 'option-o', 'option-format', 'option-output-of-a-path':
         yield damage.stated(name), 0
+    option = damage.stated('option-json')
+    for other in '--csv', '--out', '--output':
+        words = [other if word == '--json' else word for word in option.words]
+        yield option._replace(words=words, log=option.log.replace(b'--json', other.encode('ascii'))), 0
 
 
 def main():

@@ -8,7 +8,8 @@ The texts are those of kept.txt, and then random changes of them and random text
 peer/ (`cargo build --release --offline` there), which is Rust with the real `serde_json` and `json`, has to print the
 same values. A difference is printed with the smallest text that shows it. One seed gives the same texts everywhere.
 
-The last line is `ports: N right, M wrong`; the status is 0 only where M is 0 and N is not."""
+The line before the last counts the texts of each kind, and of how many a library reads a value. The last line is
+`ports: N right, M wrong`; the status is 0 only where M is 0 and N is not."""
 import argparse
 import ast
 import collections
@@ -174,20 +175,29 @@ def told(program, held):
     return lines
 
 
-def wrong(programs, held):
+def printed(programs, held):
+    """The texts, each with what the programs print of it."""
+    return list(zip(held, zip(*(told(program, held) for program in programs))))
+
+
+def wrong(pairs):
     """Which of the texts are read otherwise, and what is printed of them."""
-    columns = list(zip(*(told(program, held) for program in programs)))
-    return [(text, lines) for text, lines in zip(held, columns)
+    return [(text, lines) for text, lines in pairs
             if not IS_RIGHT[text[0]](text[1], lines[0]) or len(lines) > 1 and not is_same(*text, *lines)]
 
 
+def is_taken(kind, line):
+    """Whether the library reads a value, of JSON `serde_json`."""
+    return line.split(' ')[kind == 'J'] != '-'
+
+
 def is_same(kind, data, line, other):
-    """Whether both programs say the same. The real `json` nests deeper, and takes U+000B for a space; Debian has no
-    `jiff`; and floats of one value have several texts."""
+    """Whether both programs say the same. The real `json` nests deeper, and takes U+000B and U+000C for spaces; Debian
+    has no `jiff`; and floats of one value have several texts."""
     if kind != 'J':
         return kind == 'T' or line.split(' ')[0] == other
     (valid, _, text), (other_valid, _, other) = line.partition(' '), other.partition(' ')
-    has_own = b'\x0b' in data or rules.is_deeper(data, TEXT_DEPTH)
+    has_own = b'\x0b' in data or b'\x0c' in data or rules.is_deeper(data, TEXT_DEPTH)
     has_same = text == other or '-' not in (text, other) and value_of(text) == value_of(other)
     return has_same and (valid == other_valid or has_own)
 
@@ -197,9 +207,9 @@ def smallest(programs, text):
     while True:
         kind, data = text
         less = [(kind, data[:place] + data[place + size:]) for size in (16, 4, 1) for place in range(len(data) + 1 - size)]
-        found = wrong(programs, less) if less else []
+        found = wrong(printed(programs, less)) if less else []
         if not found:
-            return wrong(programs, [text])[0]
+            return wrong(printed(programs, [text]))[0]
         text = min(found, key=lambda it: len(it[0][1]))[0]
 
 
@@ -239,16 +249,18 @@ def main():
 
 def compare(words, programs):
     """Compares what the programs print of texts, says what differs, and ends with the status."""
-    right, shown, counts = 0, [], collections.Counter()
+    right, shown, counts, taken = 0, [], collections.Counter(), collections.Counter()
     for held in blocks(words):
-        found = wrong(programs, held)
+        pairs = printed(programs, held)
+        found = wrong(pairs)
         right += len(held) - len(found)
         counts.update(kind for kind, _ in held)
+        taken.update(kind for (kind, _), lines in pairs if is_taken(kind, lines[0]))
         shown += found
         if found and len(shown) < 100:
             for (kind, data), lines in {it[0]: it for it in [smallest(programs, text) for text, _ in found[:5]]}.values():
                 print('WRONG: %s %r: %s' % (kind, data, lines))
-    print(', '.join('%s: %d' % it for it in sorted(counts.items())))
+    print(', '.join('%s: %d, of which %d are taken' % (kind, counts[kind], taken[kind]) for kind in sorted(counts)))
     print('ports: %d right, %d wrong' % (right, len(shown)))
     sys.exit(0 if right and not shown else 1)
 

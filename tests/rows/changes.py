@@ -253,13 +253,15 @@ REFUSED = {
     'a time without colons': r'.*[Tt ]\d{4}.*', 'a small t': '.*t.*', 'a space for T': '.* .*', 'a small z': '.*z', 'a comma': '.*,.*',
     'a fraction of nine digits': r'.*\.\d{9}.*', 'a second 60': r'.*[Tt ]\d\d:\d\d:60.*', '29 February 2000': '2000-02-29.*',
     'an offset of hours alone': r'.*[Tt ].*[+-]\d\d', 'an offset without a colon': r'.*[Tt ].*[+-]\d{4}', 'an offset of six digits': r'.*[Tt ].*[+-]\d{6}',
-    'an offset with seconds': r'.*[Tt ].*[+-]\d\d:\d\d:\d\d', 'an offset of 24 hours or more': r'.*[Tt ].*[+-]2[45].*'}
+    'an offset with seconds': r'.*[Tt ].*[+-]\d\d:\d\d:\d\d', 'an offset of 24 hours or more': r'.*[Tt ].*[+-]2[45].*',
+    'an offset with a fraction': r'.*[Tt ].*[+-]\d\d:\d\d:\d\d[.,]\d+', 'an offset with a comma': r'.*[Tt ].*[+-].*,.*'}
 TAKEN = {
     'an underscore for T': ('_', 'T'), 'a fraction of ten digits': (r'(\.\d{9})\d', r'\1'), 'a fraction of no digits': (r'\.Z', 'Z'),
     'a fraction of minutes': (r'(T\d\d:\d\d)\.\d+', r'\1'), 'a minute 60': (r'(T\d\d):60', r'\1:59'), 'a second 61': (r'(T\d\d:\d\d):61', r'\1:60'),
     '29 February 1900': ('1900-02-29', '1900-02-28'), 'an offset of 26 hours': (r'([+-])26:', r'\g<1>25:'),
     'an offset of minute 60': (r'([+-]\d\d):60', r'\1:59'), 'an offset of second 60': (r'([+-]\d\d:\d\d):60', r'\1:59'),
-    'an offset with one colon': (r'([+-]\d\d):(\d{4})', r'\1\2')}
+    'an offset with one colon': (r'([+-]\d\d):(\d{4})', r'\1\2'), 'an offset that is rounded to 26 hours': (r'([+-]25:59:59)\.5', r'\1'),
+    'an offset with a fraction of minutes': (r'([+-]\d\d:\d\d)\.\d+', r'\1')}
 
 
 def set_moments(is_moment):

@@ -139,7 +139,9 @@ def changes_of_choosing():
     yield 'offsets don\'t matter', method('moment_of', lambda texts, held, stamps: held([it[:19] + 'Z' for it in stamps]))
     yield 'second 60 is a second after 59', method('moment_of', lambda texts, held, stamps: held(stamps) + 10 ** 9 * any(':60Z' in it for it in stamps))
     for name, form, other in (('seconds of an offset don\'t matter', r'([+-]\d\d:\d\d):\d\d$', r'\1'), ('an offset without a colon is zero', r'[+-]\d{4}$', 'Z'),
-                              ('a fraction after a comma doesn\'t matter', r',\d+', '')):
+                              ('a fraction after a comma doesn\'t matter', r',\d+', ''),
+                              ('an offset is cut to seconds', r'([+-]\d\d:\d\d:\d\d)\.\d+$', r'\1'),
+                              ('an offset is rounded up', r'([+-]\d\d:\d\d:\d\d)\.\d+$', r'\1.5')):
         yield name, method('moment_of', lambda texts, held, stamps, form=form, other=other: held([re.sub(form, other, it) for it in stamps]))
     yield 'no moment is the greatest', method('moment_of', lambda texts, held, stamps: held(stamps) if stamps else float('inf'))
     yield 'no moment is that of 1970', method('moment_of', lambda texts, held, stamps: held(stamps or ['1970-01-01T00:00:00Z']))

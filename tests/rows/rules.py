@@ -15,9 +15,10 @@ TOP = os.path.dirname(os.path.dirname(os.path.dirname(os.path.abspath(__file__))
 FORMAT = os.path.join(TOP, 'docs', 'FORMAT.md')
 # A date-time as `jiff` reads it, with an offset.
 MOMENT = re.compile(r'((?P<sign>[+-])00)?(?P<year>\d{4})(?P<dash>-?)(?P<month>\d\d)(?P=dash)(?P<day>\d\d)[Tt ]'
-                    r'(?P<hour>\d\d)((?P<colon>:?)(?P<minute>\d\d)((?P=colon)(?P<second>\d\d)([.,]\d{1,9})?)?)?'
-                    r'([Zz]|[+-](?P<off>\d\d)((?P<mark>:?)(?P<offm>\d\d)((?P=mark)(?P<offs>\d\d))?)?)', re.ASCII)
-NUMBERS = 'year', 'month', 'day', 'hour', 'minute', 'second', 'off', 'offm', 'offs'
+                    r'(?P<hour>\d\d)((?P<colon>:?)(?P<minute>\d\d)((?P=colon)(?P<second>\d\d)([.,](?P<fraction>\d{1,9}))?)?)?'
+                    r'([Zz]|[+-](?P<off>\d\d)((?P<mark>:?)(?P<offm>\d\d)((?P=mark)(?P<offs>\d\d)'
+                    r'([.,](?P<tenth>\d)\d{0,8})?)?)?)', re.ASCII)
+NUMBERS = 'year', 'month', 'day', 'hour', 'minute', 'second', 'off', 'offm', 'offs', 'tenth'
 FIRST_SECOND, LAST_SECOND = -377705023201, 253402207200     # since 1970: the range of instants in `jiff`
 CYCLE = 146097              # the days of 400 years
 TEXT = re.compile(r'"(?:[^"\\]|\\.)*"', re.S)
@@ -183,18 +184,21 @@ def numbers_of(text):
     if not found or found['sign'] == '-' and found['year'] == '0000':
         return None
     part = {name: int(found[name] or 0) for name in NUMBERS}
+    part['nanoseconds'] = int((found['fraction'] or '0').ljust(9, '0'))
     return dict(part, year=-part['year'] if found['sign'] == '-' else part['year'])
+
+
+def offset_of(part):
+    """The seconds of an offset, rounded."""
+    return part['off'] * 3600 + part['offm'] * 60 + part['offs'] + (part['tenth'] >= 5)
 
 
 def instant(text):
     """The nanoseconds of a date-time with an offset, counted from the same day for all."""
     part = numbers_of(text)
     days = date(part['year'] % 400 + 400, part['month'], part['day']).toordinal() + part['year'] // 400 * CYCLE
-    offset = part['off'] * 3600 + part['offm'] * 60 + part['offs']
     clock = part['hour'] * 3600 + part['minute'] * 60 + min(part['second'], 59)
-    fraction = re.search(r'[.,](\d+)', text)
-    return ((days * 86400 + clock + (offset if is_behind(text) else -offset)) * 10 ** 9
-            + (int(fraction.group(1).ljust(9, '0')) if fraction else 0))
+    return (days * 86400 + clock + (1 if is_behind(text) else -1) * offset_of(part)) * 10 ** 9 + part['nanoseconds']
 
 
 def is_behind(text):
@@ -209,7 +213,8 @@ def is_moment(text):
     leap = part['year'] % 4 == 0 and (part['year'] % 100 != 0 or part['year'] % 400 == 0)
     days = [31, 29 if leap else 28, 31, 30, 31, 30, 31, 31, 30, 31, 30, 31]
     return (1 <= part['month'] <= 12 and 1 <= part['day'] <= days[part['month'] - 1] and part['hour'] < 24
-            and part['minute'] < 60 and part['second'] <= 60 and part['off'] <= 25 and part['offm'] < 60 and part['offs'] < 60
+            and part['minute'] < 60 and part['second'] <= 60
+            and part['offm'] < 60 and part['offs'] < 60 and offset_of(part) < 26 * 3600
             and FIRST_SECOND <= (instant(text) - instant('1970-01-01T00:00:00Z')) // 10 ** 9 <= LAST_SECOND)
 
 
