@@ -21,8 +21,8 @@ TRIES = 3
 DEEP = 127          # as deep as JSON may be nested
 STEP = 4096         # bytes, to which the least stack is found
 MOST = 8 << 20      # bytes of stack that a system mostly gives
-# Values, and their bytes with a comma.
-SMALL = {'[0]': 4, '{"":0}': 7, '[]': 3, '""': 3, '0': 2, '{"a":{"b":0}}': 14}
+# Small values, and a long one with a short one behind it.
+SMALL = ['[0]', '{"":0}', '[]', '""', '0', '{"a":{"b":0}}', '[],[0]', '[%s],[0]' % ','.join('0' * 129)]
 
 
 def run(words, folder, status=0, stack=None):
@@ -89,17 +89,17 @@ class Measuring:
         self.told.say('%7d %11d %15d %8.2f %8.2f %8.2f %6.0f' % (count, len(names), len(names[-1]), length / 1e6, text / 1e6, seconds, memory))
 
     def tree(self):
-        self.told.say('         value  file MB  check s    MiB  bytes of memory a byte')
+        self.told.say('          value  file MB  check s    MiB  bytes of memory a byte')
         laid(self.folder, 'def.json', lambda: report([]))
         for size in (14000000, 56000000):
-            for value, length in SMALL.items():
-                self.of_tree(value, lambda: '[%s]' % ','.join([value] * (size // length)))
+            for value in SMALL:
+                self.of_tree(value[:15], lambda: '[%s]' % ','.join([value] * (size // (len(value) + 1))))
             self.of_tree('one text', lambda: '"%s"' % ('a' * size))
 
     def of_tree(self, value, text):
         length = laid(self.folder, 'tree.json', lambda: beside(text()))
         _, seconds, memory = self.run('check', 'def.json', 'tree.json')
-        self.told.say('%14s %8.2f %8.2f %6.0f %23.1f' % (value, length / 1e6, seconds, memory, memory * 2 ** 20 / length))
+        self.told.say('%15s %8.2f %8.2f %6.0f %23.1f' % (value, length / 1e6, seconds, memory, memory * 2 ** 20 / length))
 
     def drill(self):
         self.told.say('offices  file MB  drill s    MiB  bytes of memory a byte')
