@@ -71,7 +71,7 @@ class Tab:
     def __init__(self, kind, paths):
         self.seconds = self.peak = 0
         with tempfile.TemporaryDirectory() as folder:
-            browser = kind.Browser(folder, folder)
+            browser = kind.Browser(folder)
             try:
                 browser.open(PAGE)
                 browser.value(SETTLED)

@@ -70,16 +70,15 @@ def browser():
 
 def start_faults(folder, kind):
     """Yields why the page of a folder doesn't start in a browser."""
-    room = tempfile.mkdtemp()
-    its = kind.Browser(room, room)
-    try:
-        its.open(os.path.join(folder, PAGE))
-        said = its.value(SETTLED)
-        if its.value("document.getElementById('give').hidden") is not False:
-            yield 'the page does not start: %s' % said
-    finally:
-        its.end()
-        shutil.rmtree(room, ignore_errors=True)     # a process of the browser may still write there
+    with tempfile.TemporaryDirectory() as room:
+        its = kind.Browser(room)
+        try:
+            its.open(os.path.join(folder, PAGE))
+            said = its.value(SETTLED)
+            if its.value("document.getElementById('give').hidden") is not False:
+                yield 'the page does not start: %s' % said
+        finally:
+            its.end()
 
 
 # ---- this test itself

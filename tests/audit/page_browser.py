@@ -5,7 +5,9 @@ import os
 import pathlib
 import select
 import shutil
+import signal
 import subprocess
+import tempfile
 
 PROGRAMS = 'chromium', 'chromium-browser', 'google-chrome'
 OPTIONS = ['--headless=new', '--no-sandbox', '--disable-gpu', '--remote-debugging-pipe',
@@ -20,17 +22,26 @@ def program():
     return next(filter(None, map(shutil.which, PROGRAMS)), None)
 
 
+def end_all(process, profile):
+    """Ends a browser that leads a session, with its other processes, and removes its profile. One of them may write there
+    while it ends, so what can't be removed is left."""
+    os.killpg(process.pid, signal.SIGKILL)
+    process.wait()
+    shutil.rmtree(profile, ignore_errors=True)
+
+
 class Browser:
     """A browser with one window."""
 
-    def __init__(self, folder, *more):
-        words = [program(), '--user-data-dir=' + os.path.join(folder, 'browser'), *OPTIONS, *more]
+    def __init__(self, *more):
+        self.profile = tempfile.mkdtemp()
+        words = [program(), '--user-data-dir=' + self.profile, *OPTIONS, *more]
         theirs_in, self.out = os.pipe()
         self.into, theirs_out = os.pipe()
         script = 'exec 3<&%d 4>&%d; exec "$@"' % (theirs_in, theirs_out)
         self.process = subprocess.Popen(
             ['bash', '-c', script, 'bash'] + words, pass_fds=(theirs_in, theirs_out),
-            stdin=subprocess.DEVNULL, stdout=subprocess.DEVNULL, stderr=subprocess.DEVNULL)
+            stdin=subprocess.DEVNULL, stdout=subprocess.DEVNULL, stderr=subprocess.DEVNULL, start_new_session=True)
         os.close(theirs_in)
         os.close(theirs_out)
         self.left, self.number, self.session = b'', 0, None
@@ -42,8 +53,7 @@ class Browser:
     def end(self):
         os.close(self.out)
         os.close(self.into)
-        self.process.kill()
-        self.process.wait()
+        end_all(self.process, self.profile)
 
     def next(self):
         """The next message."""

@@ -41,9 +41,8 @@ def lacks(what, is_there):
 def shown():
     """The browser of this thread, which ends with the run."""
     if not hasattr(OWN, 'browser'):
-        folder = tempfile.mkdtemp()
-        browser = OWN.browser = page_browser.Browser(folder)
-        atexit.register(lambda: (browser.end(), shutil.rmtree(folder, ignore_errors=True)))
+        browser = OWN.browser = page_browser.Browser()
+        atexit.register(browser.end)
     return OWN.browser
 
 

@@ -7,9 +7,9 @@ program = page_browser.program
 class Browser(page_browser.Browser):
     """A browser with one window, which saves files in a folder, and keeps what it asks the network for."""
 
-    def __init__(self, folder, saved, *more):
+    def __init__(self, saved, *more):
         self.asked = []
-        super().__init__(folder, *more)
+        super().__init__(*more)
         self.call('Browser.setDownloadBehavior', behavior='allow', downloadPath=saved)
         self.call('Network.enable')
 

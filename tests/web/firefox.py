@@ -5,7 +5,10 @@ import pathlib
 import shutil
 import socket
 import subprocess
+import tempfile
 import time
+
+import page_browser
 
 PROGRAMS = 'firefox-esr', 'firefox'
 PATIENCE = 240      # seconds for an answer
@@ -28,14 +31,14 @@ def free_port():
 class Browser:
     """A browser with one window, which saves files in a folder."""
 
-    def __init__(self, folder, saved):
-        profile, port = os.path.join(folder, 'firefox'), free_port()
-        os.mkdir(profile)
-        with open(profile + '/user.js', 'w') as file:
+    def __init__(self, saved):
+        self.profile, port = tempfile.mkdtemp(), free_port()
+        with open(self.profile + '/user.js', 'w') as file:
             for name, value in {**PREFERENCES, 'marionette.port': port, 'browser.download.dir': saved}.items():
                 file.write('user_pref(%s, %s);\n' % (json.dumps(name), json.dumps(value)))
-        self.process = subprocess.Popen([program(), '--headless', '--marionette', '--no-remote', '--profile', profile],
-                                        stdout=subprocess.DEVNULL, stderr=subprocess.DEVNULL, env=dict(os.environ, HOME=folder))
+        self.process = subprocess.Popen([program(), '--headless', '--marionette', '--no-remote', '--profile', self.profile],
+                                        stdout=subprocess.DEVNULL, stderr=subprocess.DEVNULL,
+                                        env=dict(os.environ, HOME=self.profile), start_new_session=True)
         self.left, self.number, self.socket = b'', 0, self.connected(port)
         self.next()
         self.call('WebDriver:NewSession', capabilities={'alwaysMatch': {'moz:webdriverClick': False}})
@@ -51,8 +54,7 @@ class Browser:
 
     def end(self):
         self.socket.close()
-        self.process.kill()
-        self.process.wait()
+        page_browser.end_all(self.process, self.profile)
 
     def next(self):
         """The next message, which stands behind its length and a colon."""

@@ -397,7 +397,7 @@ def see_memory(trial, page):
     """A browser whose modules get little memory: files that need more are refused, and fewer are tallied then."""
     with tempfile.TemporaryDirectory() as folder:
         many(folder, 20000)
-        browser = chromium.Browser(folder, folder, '--js-flags=--wasm-max-mem-pages=%d' % PAGES)
+        browser = chromium.Browser(folder, '--js-flags=--wasm-max-mem-pages=%d' % PAGES)
         try:
             started(browser, trial, page)
             given(browser, [os.path.join(COUNTY, 'definition.json'), os.path.join(folder, 'many.json')])
@@ -619,7 +619,7 @@ def see_browser(kind, trial, page, words):
         saved, odd = os.path.join(folder, 'saved'), os.path.join(folder, 'odd')
         os.mkdir(saved)
         os.mkdir(odd)
-        browser = kind.Browser(folder, saved)
+        browser = kind.Browser(saved)
         try:
             started(browser, trial, page)
             see_county(browser, trial, page)
