@@ -1,6 +1,6 @@
 -- A value with the lists of its definition: what is left to look at says whether it is sound and
 -- agrees, and lists what its records name.
-use Rattle.std.proofs.Common.{◌≡◌, ◌↔◌, ◌⊎◌, inl, inr, ℕ, List, [], ◌∷◌, map, Bool, true, false}
+use Rattle.std.proofs.Common.{◌≡◌, ◌↔◌, inl, inr, ℕ, List, [], ◌∷◌, map, Bool, true, false}
 use Rattle.std.proofs.Common.{◌||◌, Contains, None, Result, Ok, Err, bytes_eq, codes, refl, sym, ap, ◌∙◌, subst}
 use Rattle.std.specs.Prelude.{option_and_then, option_map, unwrap_or, IfOk, IsTrue}
 use Rattle.std.specs.List.{list_any}
@@ -20,9 +20,8 @@ use Rattle.cdf_definition.specs.Acceptance.{IsReport}
 use Rattle.cdf_definition.specs.Sound.{IsSound}
 use Rattle.cdf_definition.specs.Lists.{SameLists, HasLists, HasRest}
 use Rattle.cdf_definition.proofs.Laws.{agreement, rest_law, rest_of_report, sound}
-use Rattle.cdf_check.specs.declared.record_names.RecordNames.{RecordNames}
 use Rattle.cdf_check.specs.Laws.{IsListOf}
-use Rattle.cdf_check.specs.Within.{lists, ListsNamed, RestSettles}
+use Rattle.cdf_check.specs.Within.{lists, RestSettles}
 use Rattle.cdf_check.specs.declared.seen.Seen.{Seen}
 use Rattle.cdf_check.specs.Seen.{Accepts}
 use Rattle.cdf_check.proofs.Entries.{IsAmong, among_from, from_among, alone_by_id}

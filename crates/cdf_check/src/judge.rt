@@ -46,9 +46,12 @@ fn first_fault<'a>(
         StopsAt s (first_of_file (view left.now) (option_map fault_of of_records.entry))) }
 {
     find_float(alloc, left)?;
-    class_of(alloc, Group::Reports, left)?;
+    if let Err(stop) = class_of(alloc, Group::Reports, left) {
+        return Err(stop);
+    }
     if let Some(found) = of_records {
-        return Err(Stop::Fault(found).under(Step::Member("CVR")));
+        let stop: Stop<'a> = Stop::found(alloc, found);
+        return Err(stop.under(Step::Member("CVR")));
     }
     document_fault(alloc, left)
 }
@@ -75,7 +78,7 @@ fn form_fault(
     match first_fault(alloc, left, form) {
         Ok(()) => Ok(None),
         Err(Stop::Memory(refused)) => Err(refused),
-        Err(Stop::Fault(found)) => Ok(Some(told_fault(alloc, found)?)),
+        Err(Stop::Fault(found)) => Ok(Some(told_fault(alloc, &found)?)),
     }
 }
 

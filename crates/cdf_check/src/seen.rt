@@ -72,7 +72,7 @@ fn form_in(
         Ok(()) => Ok(None),
         Err(stop) => match stop.under(Step::Item(place)) {
             Stop::Memory(refused) => Err(refused.into()),
-            Stop::Fault(found) => Ok(Some(found)),
+            Stop::Fault(found) => Ok(Some(Box::into_inner(found))),
         },
     }
 }

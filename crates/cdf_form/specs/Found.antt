@@ -23,5 +23,5 @@ fault_of f = record { path = path_of f.path; rule = f.rule }
 
 -- the walk stopped at this fault; where it stopped out of memory, this states nothing
 abbrev pub StopsAt : Stop → Option Fault → Type 0
-StopsAt (stop.Fault f) o = o ≡ Some (fault_of f)
+StopsAt (stop.Fault f) o = o ≡ Some (fault_of f.value)
 StopsAt (stop.Memory m) o = Unit {0}

@@ -26,11 +26,12 @@ pub struct Found<'a> {
     pub path: Path<'a>,
 }
 
-/// Why a walk stops: at a fault, or out of memory.
+/// Why a walk stops: at a fault, or out of memory. A fault has a block of its own, so that what a
+/// walk answers is short: mostly there is none.
 #[derive(Drop)]
 pub enum Stop<'a> {
     /// The first fault.
-    Fault(Found<'a>),
+    Fault(Box<Found<'a>>),
     /// Out of memory.
     Memory(Memory),
 }
@@ -76,16 +77,24 @@ impl<'a> Path<'a> {
 impl<'a> Stop<'a> {
     ghost use Rattle.std.specs.Prelude.{Some, option_map, Option};
     ghost use Rattle.cdf_form.specs.Form.{Fault, here, deeper_fault};
-    ghost use Rattle.cdf_form.specs.Found.{StopsAt, step_of};
+    ghost use Rattle.cdf_form.specs.Found.{StopsAt, step_of, fault_of};
 
-    /// A fault at the value itself. Takes no memory.
+    /// A fault that was found; out of memory where it can't have a block.
+    pub fn found(alloc: Global, found: Found<'a>) -> Stop<'a>
+        ensures { StopsAt result (Some (fault_of found.entry)) }
+    {
+        match Box::new(alloc, found) {
+            Ok(found) => Stop::Fault(found),
+            Err(refused) => Stop::Memory(refused.into()),
+        }
+    }
+
+    /// A fault at the value itself; out of memory where it can't have a block.
     pub fn at(alloc: Global, rule: Rule) -> Stop<'a>
         ensures { StopsAt result (Some (here rule)) }
     {
-        Stop::Fault(Found {
-            rule,
-            path: Path::here(alloc),
-        })
+        let path = Path::here(alloc);
+        Stop::found(alloc, Found { rule, path })
     }
 
     /// The same cause, from the value that the step starts at; out of memory where the path can't
@@ -96,8 +105,8 @@ impl<'a> Stop<'a> {
     {
         match self {
             Stop::Memory(refused) => Stop::Memory(refused),
-            Stop::Fault(Found { rule, path }) => match path.under(step) {
-                Ok(path) => Stop::Fault(Found { rule, path }),
+            Stop::Fault(mut found) => match found.path.steps.push(step) {
+                Ok(()) => Stop::Fault(found),
                 Err(refused) => Stop::Memory(refused.into()),
             },
         }

@@ -62,7 +62,7 @@ pub fn find_class(among: &[Class], text: &str) -> Option<Class>
 /// # Errors
 /// `NotObject` at the value; at `@type` `Missing`, `WrongKind` where it is no text, `WrongClass`
 /// where it is no class of the group. `Memory` where a growth was refused.
-pub fn class_of(alloc: Global, group: Group, value: &Node<'_>) -> Result<Class, Stop<'static>>
+pub fn class_of<'f>(alloc: Global, group: Group, value: &Node<'_>) -> Result<Class, Stop<'f>>
     ensures ok { OnOk result (first (leaf_faults (Leaf.Object group) (view value.now)) ≡ None) }
     ensures class { IfOk result (λ class. class_in group (view value.now) ≡ Some class) }
     ensures fault { IfErr result (λ s.

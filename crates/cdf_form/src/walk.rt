@@ -117,13 +117,13 @@ fn length_rule(least: usize, most: usize, len: usize) -> Option<Rule>
 /// `Fault` where there is one; `Memory` where a growth was refused.
 #[cycle(walk)]
 #[tactic(auto, using(crate::proofs::Parts::array_first, crate::proofs::Parts::as_many))]
-pub fn walk(
+pub fn walk<'f>(
     alloc: Global,
     sorted: bool,
     value: &Node<'_>,
     kind: Kind,
     mark: Key,
-) -> Result<(), Stop<'static>>
+) -> Result<(), Stop<'f>>
     requires names { OnTrue sorted (IsSorted (view value.now)) }
     ensures none { OnOk result (first (faults (view value.now) kind mark) ≡ None) }
     ensures fault { IfErr result (λ s. StopsAt s (first (faults (view value.now) kind mark))) }
@@ -142,13 +142,13 @@ pub fn walk(
 
 #[cycle(walk)]
 #[tactic(auto, using(crate::proofs::Parts::one_first, crate::proofs::FormLaw::in_order))]
-fn walk_one(
+fn walk_one<'f>(
     alloc: Global,
     sorted: bool,
     value: &Node<'_>,
     leaf: Leaf,
     mark: Key,
-) -> Result<(), Stop<'static>>
+) -> Result<(), Stop<'f>>
     requires names { OnTrue sorted (IsSorted (view value.now)) }
     ensures none { OnOk result (first (faults (view value.now) (Kind.One leaf) mark) ≡ None) }
     ensures fault { IfErr result (λ s.
@@ -184,13 +184,13 @@ fn members_of<'t>(value: &Node<'t>) -> &'t [(&'t str, Node<'t>)]
 // behind those before it, and mostly is the next one.
 #[cycle(walk)]
 #[tactic(auto, using(crate::proofs::Parts::part_is_lighter, crate::proofs::Walking::found_at))]
-fn walk_rows(
+fn walk_rows<'f>(
     alloc: Global,
     sorted: bool,
     value: &Node<'_>,
     rows: &'static [Member],
     mark: Key,
-) -> Result<(), Stop<'static>>
+) -> Result<(), Stop<'f>>
     requires rise { is_in_order (entries_of rows.now) ≡ true }
     requires names { OnTrue sorted (IsSorted (view value.now)) }
     ensures none { OnOk result
@@ -218,13 +218,13 @@ fn walk_rows(
 
 // A member that a row lists.
 #[cycle(walk)]
-fn walk_member(
+fn walk_member<'f>(
     alloc: Global,
     sorted: bool,
     member: &Node<'_>,
     row: &Member,
     mark: Key,
-) -> Result<(), Stop<'static>>
+) -> Result<(), Stop<'f>>
     requires names { OnTrue sorted (IsSorted (view member.now)) }
     ensures none { OnOk result (first (row_faults mark (entry_of row.now)
         (Some (faults (view member.now) row.now.kind Free))) ≡ None) }
@@ -240,13 +240,13 @@ fn walk_member(
 
 #[cycle(walk)]
 #[tactic(auto, using(crate::proofs::Parts::item_is_lighter))]
-fn walk_items(
+fn walk_items<'f>(
     alloc: Global,
     sorted: bool,
     items: &[Node<'_>],
     leaf: Leaf,
     key: Key,
-) -> Result<(), Stop<'static>>
+) -> Result<(), Stop<'f>>
     requires names { OnTrue sorted (ItemsAreSorted (items_view items.now)) }
     ensures none { OnOk result (first (items_faults (items_view items.now) leaf key 0 []) ≡ None) }
     ensures fault { IfErr result (λ s.

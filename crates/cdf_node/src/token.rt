@@ -1,11 +1,14 @@
 ghost use Rattle.std.specs.Prelude.{◌≡◌, ◌≢◌, false, true, Err, IfOk, option_map};
 ghost use Rattle.json.specs.Reads.{token_of};
+ghost use Rattle.json.specs.Token as spec;
 ghost use Rattle.serde_json.specs.Read.{number_of, number_from};
 ghost use Rattle.cdf_node.specs.Next.{IsAlone, BeginsNoValue, IsScalar};
 ghost use Rattle.cdf_node.specs.View.{number_view, view};
+ghost use Rattle.cdf_node.specs.Whole.{IsNoted};
 
 use crate::no_value::NoValue;
 use crate::node::Node;
+use crate::track::Track;
 use fast_float::Numeral;
 use json::Token;
 use serde_json::Number;
@@ -42,26 +45,46 @@ fn number(text: &str) -> Option<Number>
     }
 }
 
-/// The value that a token is by itself, as serde_json reads it. Takes no memory.
+// The value that a number's text is by itself. Whether it isn't whole is noted. A call of its own:
+// where code looks into a value as a number, every value is copied in odd pieces, which is slow.
+#[inline(never)]
+#[tactic(auto, using(json::proofs::Grammar::value_is, crate::specs::declared::node::Node::the_lemmas))]
+fn read_number<'t>(text: &str, track: &mut Track) -> Result<Node<'t>, NoValue>
+    ensures value { IfOk result (λ v. IsAlone (spec.Token.number text.now) (view v)) }
+    ensures scalar { IfOk result (λ v. IsScalar (view v)) }
+    ensures whole { IfOk result (λ v. IsNoted track.old.fraction track.new.fraction (view v)) }
+    ensures unread { result ≡ Err NoValue.Unread
+        → BeginsNoValue (spec.Token.number text.now) }
+{
+    let Some(number) = number(text) else {
+        return Err(NoValue::Unread);
+    };
+    if number.is_f64() {
+        track.fraction = true;
+    }
+    Ok(Node::Number(number))
+}
+
+/// The value that a token is by itself, as serde_json reads it. Where it is a number that isn't
+/// whole, that is noted in `track`. Takes no memory.
 ///
 /// # Errors
 /// `Unread` where it is none.
+#[inline(always)]
 #[tactic(auto, using(json::proofs::Grammar::value_is, crate::specs::declared::node::Node::the_lemmas))]
-pub fn scalar(token: Token<'_>) -> Result<Node<'_>, NoValue>
+pub fn scalar<'t>(token: Token<'t>, track: &mut Track) -> Result<Node<'t>, NoValue>
     requires no_array { token ≢ Token.BeginArray }
     requires no_object { token ≢ Token.BeginObject }
     ensures value { IfOk result (λ v. IsAlone (token_of token.entry) (view v)) }
     ensures scalar { IfOk result (λ v. IsScalar (view v)) }
+    ensures whole { IfOk result (λ v. IsNoted track.old.fraction track.new.fraction (view v)) }
     ensures unread { result ≡ Err NoValue.Unread → BeginsNoValue (token_of token.entry) }
 {
     match token {
         Token::Null => Ok(Node::Null),
         Token::Bool(truth) => Ok(Node::Bool(truth)),
         Token::String(text) => Ok(Node::String(text)),
-        Token::Number(text) => match number(text) {
-            Some(number) => Ok(Node::Number(number)),
-            None => Err(NoValue::Unread),
-        },
+        Token::Number(text) => read_number(text, track),
         _ => Err(NoValue::Unread),
     }
 }

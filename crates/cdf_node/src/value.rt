@@ -38,13 +38,7 @@ pub fn read<'t, 'a: 't>(
     match token {
         Token::BeginArray => Ok(Node::Array(read_array(bump, reader, depth, track)?)),
         Token::BeginObject => Ok(Node::Object(read_object(bump, reader, depth, track)?)),
-        _ => {
-            let value = scalar(token)?;
-            if value.is_f64() {
-                track.fraction = true;
-            }
-            Ok(value)
-        }
+        _ => scalar(token, track),
     }
 }
 

@@ -116,7 +116,7 @@ where
             let found = read_object(bump, reader, depth, track)?;
             Ok((Node::Object(found), fold.none(alloc)))
         }
-        _ => Ok((scalar(token)?, fold.none(alloc))),
+        _ => Ok((scalar(token, track)?, fold.none(alloc))),
     }
 }
 
@@ -226,7 +226,7 @@ where
             let (found, kept) = read_members(alloc, bump, reader, depth, name, fold)?;
             Ok((Node::Object(found), kept))
         }
-        _ => Ok((scalar(token)?, fold.none(alloc))),
+        _ => Ok((scalar(token, &mut Track::new())?, fold.none(alloc))),
     }
 }
 

@@ -1,5 +1,5 @@
 use Rattle.std.proofs.Common.{arith}
-use Rattle.std.proofs.Common.{◌≢◌, List, [], ◌∷◌, Option, Some, None, option_map, codes, refl}
+use Rattle.std.proofs.Common.{◌≢◌, List, Option, Some, None, option_map, codes, refl}
 use Rattle.std.specs.Option.{option_or}
 use Rattle.std.specs.Fmt.{digits}
 use Rattle.serde_json.specs.Data.{Data}
