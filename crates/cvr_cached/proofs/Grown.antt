@@ -16,7 +16,7 @@ use Rattle.cvr_office.specs.declared.any_fact.AnyFact.{AnyFact}
 use Rattle.cvr_office.specs.Place.{any_cmp}
 use Rattle.cvr_office.specs.Plain.{IsPut}
 use Rattle.cvr_cached.specs.declared.growth.Growth.{Growth}
-use Rattle.cvr_cached.specs.Contents.{Entries, facts_at, pairs_of, header_in, current_in}
+use Rattle.cvr_cached.specs.Contents.{Entries, facts_at, pairs_of, header_in, current_in, IsKeyOf}
 use Rattle.cvr_fact_types.specs.Columns.{Column}
 use Rattle.cvr_cached.specs.Cells.{shares, AreFit}
 use Rattle.cvr_cached.specs.Growths.{grown_content, grown_contents, IsGrowth, IsGrowing}
@@ -57,6 +57,29 @@ module _ (old few : List AnyFact) (g : Growth) {n : ℕ} (long : length old ≡ 
         ∙ ap (λ xs. length old + length xs) is),
   )
 
+-- and nothing of this depends on the key
+abbrev under : RowKey → Growth → Growth
+under k g = record { fresh = g.fresh; room = g.room; key = k }
+
+grown_under : (old few : List AnyFact) (k : RowKey) (g : Growth)
+    → grown_content old few (under k g) ≡ grown_content old few g
+grown_under [] few k g = refl
+grown_under (x ∷ xs) few k g = refl
+
+module _ {old few old' few' : List AnyFact} (k : RowKey) (g : Growth) (stood : old' ≡ old)
+    (are : few' ≡ few) where
+  pub same_grown : grown_content old' few' (under k g) ≡ grown_content old few g
+  same_grown = (λ i. grown_content (stood i) (are i) (under k g)) ∙ grown_under old few k g
+
+  pub same_growth : IsGrowth old g → IsGrowth old' (under k g)
+  same_growth own = subst (λ facts. IsGrowth facts (under k g)) (sym stood)
+      (record { rises = own.rises; apart = own.apart; empty = own.empty; room = own.room })
+
+  pub same_shown : IsShown few (grown_content old few g)
+      → IsShown few' (grown_content old' few' (under k g))
+  same_shown shown = subst (λ few. IsShown few (grown_content old' few' (under k g))) (sym are)
+      (subst (IsShown few) (sym same_grown) shown)
+
 pub grown_none : (old few : List AnyFact) (g : Growth) → old ≡ [] → grown_content old few g ≡ few
 grown_none old few g none = ap (λ xs. grown_content xs few g) none
 
@@ -72,6 +95,7 @@ growing_none old few g none none_fresh empty = record {
   };
   shown = subst (IsShown few) (sym (grown_none old few g none))
       (record { among = λ x at. at; header_is = refl; current_is = refl });
+  key_is = subst (λ facts. IsKeyOf facts g.key) (sym none) (λ h is. Prim.cc is);
 }
 
 pub pairs_shown : (few all : List AnyFact) → IsShown few all → pairs_of few ≡ pairs_of all

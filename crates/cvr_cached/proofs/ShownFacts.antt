@@ -14,7 +14,6 @@ use Rattle.std.proofs.lemmas.Option.{slice_get-get_or, slice_get_within, get_or_
 use Rattle.cvr_fact_types.specs.declared.header.HeaderFact.{HeaderFact}
 use Rattle.cvr_fact_types.specs.declared.snapshot.SnapshotFact.{SnapshotFact}
 use Rattle.cvr_facts.proofs.Lemmas.{at_head, head_or_tail, none_listed}
-use Rattle.cvr_tally.specs.declared.key.RowKey.{RowKey}
 use Rattle.cvr_office.specs.declared.any_fact.AnyFact.{AnyFact}
 use Rattle.cvr_office.specs.declared.any_fact.AnyFact.TheVariants as any
 use Rattle.cvr_office.specs.Place.{fact_of, place_exact, any_cmp}
@@ -144,15 +143,14 @@ found_at facts x (Err i) rises at bound found =
     absurd (false≢true (sym (search_is facts x (Err i) rises bound found) ∙ alike_in facts x at))
 
 -- what few facts remember is remembered of all
-pub remembered_among : (few facts : List AnyFact) (head now head' now' : Option ℕ) (key : RowKey)
-    → IsRemembered few head now key → IsStrictlySortedBy any_cmp facts → IsShown few facts
+pub remembered_among : (few facts : List AnyFact) (head now head' now' : Option ℕ)
+    → IsRemembered few head now → IsStrictlySortedBy any_cmp facts → IsShown few facts
     → fact_at facts head' ≡ fact_at few head → fact_at facts now' ≡ fact_at few now
-    → IsRemembered facts head' now' key
-remembered_among few facts head now head' now' key was rises shown head_at now_at = record {
+    → IsRemembered facts head' now'
+remembered_among few facts head now head' now' was rises shown head_at now_at = record {
   rises = rises;
   head_is = header_at-fact_at facts head' ∙ (ap (λ o. option_map_or as_header o None) head_at
       ∙ (sym (header_at-fact_at few head) ∙ (was.head_is ∙ shown.header_is)));
   now_is = current_at-fact_at facts now' ∙ (ap (λ o. option_map_or as_snapshot o None) now_at
       ∙ (sym (current_at-fact_at few now) ∙ (was.now_is ∙ shown.current_is)));
-  key_is = λ h is. was.key_is h (shown.header_is ∙ is);
 }

@@ -6,7 +6,7 @@ use Rattle.std.specs.List.Sorted.{IsStrictlySortedBy}
 use Rattle.cvr_fact_types.specs.declared.name.RecordName.{RecordName}
 use Rattle.cvr_office.specs.declared.any_fact.AnyFact.{AnyFact}
 use Rattle.cvr_office.specs.Place.{any_cmp}
-use Rattle.cvr_cached.specs.Contents.{Entries, facts_at}
+use Rattle.cvr_cached.specs.Contents.{Entries, facts_at, IsKeyOf}
 use Rattle.cvr_cached.specs.Fresh.{AreApart}
 use Rattle.cvr_cached.specs.Merged.{merged}
 use Rattle.cvr_cached.specs.Shown.{IsShown}
@@ -30,9 +30,11 @@ abbrev pub grown_content : List AnyFact → List AnyFact → Growth → List Any
 grown_content [] few growth = few
 grown_content (x ∷ xs) few growth = merged (x ∷ xs) growth.fresh.items
 
+-- what comes, a few facts that show what all do then, and a key of the rows of what stands
 pub record IsGrowing (old few : List AnyFact) (growth : Growth) : Type 0 where
   pub growth_is : IsGrowth old growth
   pub shown : IsShown few (grown_content old few growth)
+  pub key_is : IsKeyOf old growth.key
 
 -- f: the contents that stand, by name; of others a few facts, and what comes to each, by place
 abbrev pub grown_contents : (RecordName → Option (List AnyFact)) → Entries → List Growth → Entries

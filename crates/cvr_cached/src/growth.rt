@@ -1,5 +1,5 @@
 // Facts put among others in order, into room that was made before: so that takes no memory.
-ghost use Rattle.std.specs.Prelude.{◌≡◌, ◌+◌, ◌≤◌, ◌++◌, IfOk, length, take, drop};
+ghost use Rattle.std.specs.Prelude.{◌≡◌, ◌+◌, ◌≤◌, ◌++◌, IfOk, None, length, take, drop};
 ghost use Rattle.std.specs.Vec.{vec_len, vec_capacity};
 ghost use Rattle.std.specs.List.Sorted.{IsStrictlySortedBy};
 ghost use Rattle.cvr_office.specs.Place.{any_cmp};
@@ -9,6 +9,7 @@ ghost use Rattle.cvr_cached.specs.Merged.{is_before, merged};
 
 use cdf_types::{Memory, sum_or_memory};
 use cvr_lists::shared::SharedFact;
+use cvr_tally::RowKey;
 use std::alloc::Global;
 use std::collections::VecDeque;
 use std::mem::replace;
@@ -18,22 +19,37 @@ use std::mem::replace;
 pub(crate) struct Growth {
     pub(crate) fresh: Vec<SharedFact>,
     pub(crate) room: Vec<SharedFact>,
+    // A key of the rows that the sums of the list leave then, if it has any.
+    pub(crate) key: RowKey,
 }
 
-// Facts that come to a list, with room.
+// A key of no unit and no batch.
+pub(crate) fn no_key() -> RowKey
+    ensures { result ≡ record { contest = 0; unit = None; batch = None } }
+{
+    RowKey {
+        contest: 0,
+        unit: None,
+        batch: None,
+    }
+}
+
+// Facts that come to a list, with room, and a key.
 pub(crate) fn growth_of(
     alloc: Global,
     facts: &[SharedFact],
     fresh: Vec<SharedFact>,
+    key: RowKey,
 ) -> Result<Growth, Memory>
     requires rises { IsStrictlySortedBy any_cmp fresh.items }
     requires apart { AreApart facts.now fresh.items }
     ensures growth { IfOk result (IsGrowth facts.now) }
     ensures fresh { IfOk result (λ g. g.fresh.items ≡ fresh.items) }
+    ensures key { IfOk result (λ g. g.key ≡ key) }
 {
     let count = sum_or_memory(facts.len(), fresh.len())?;
     let room = Vec::with_capacity(alloc, count)?;
-    Ok(Growth { fresh, room })
+    Ok(Growth { fresh, room, key })
 }
 
 // Puts what comes among the facts. Takes no memory.
@@ -42,7 +58,11 @@ pub(crate) fn grow(facts: &mut Vec<SharedFact>, growth: Growth)
     requires growth { IsGrowth facts.old.items growth }
     ensures { facts.new.items ≡ merged facts.old.items growth.fresh.items }
 {
-    let Growth { fresh, room } = growth;
+    let Growth {
+        fresh,
+        room,
+        key: _,
+    } = growth;
     let held = replace(facts, room);
     merge(facts, VecDeque::from(held), VecDeque::from(fresh));
 }

@@ -6,6 +6,7 @@ mod commit;
 mod content;
 pub mod examples;
 mod growth;
+mod keyed;
 pub mod law;
 mod listing;
 mod names;

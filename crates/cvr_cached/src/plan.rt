@@ -16,6 +16,7 @@ ghost use Rattle.cvr_cached.specs.Plans.{IsAdded, IsPlan, IsStep};
 
 use crate::content::RecordContent;
 use crate::growth::Growth;
+use crate::keyed::KeyedContent;
 use cdf_types::{Memory, sum_or_memory};
 use cvr_facts::RecordName;
 use cvr_lists::putting::copies;
@@ -28,7 +29,7 @@ use std::collections::{BTreeMap, VecDeque};
 #[derive(Drop)]
 pub(crate) struct Plan {
     // Of each record that gains facts a few, which show what all do then.
-    pub(crate) contents: Vec<(RecordName, RecordContent)>,
+    pub(crate) contents: Vec<(RecordName, KeyedContent)>,
     // What comes to each of these, by place.
     pub(crate) growths: Vec<Growth>,
     // How many facts are new.
@@ -140,7 +141,8 @@ fn push_change(
     let fresh = fresh_of(old.facts(), more);
     let new_facts = sum_or_memory(plan.new_facts, fresh.len())?;
     let (few, growth) = old.growing(alloc, fresh)?;
-    plan.contents.push((name, few))?;
+    let keyed = KeyedContent::of(few)?;
+    plan.contents.push((name, keyed))?;
     plan.growths.push(growth)?;
     plan.new_facts = new_facts;
     Ok(())

@@ -1,6 +1,5 @@
-// What a content remembers of its facts: where its header and its current snapshot stand, and a key
-// of its rows.
-ghost use Rattle.std.specs.Prelude.{◌≡◌, ◌<◌, ◌+◌, ◌++◌, IfOk, OnOk, None, option_map, drop};
+// What a content remembers of its facts: where its header and its current snapshot stand.
+ghost use Rattle.std.specs.Prelude.{◌≡◌, ◌<◌, ◌+◌, ◌++◌, OnOk, option_map, drop};
 ghost use Rattle.std.specs.Prelude.{length, map};
 ghost use Rattle.std.specs.Bool.{OnTrue};
 ghost use Rattle.std.specs.List.{Contains};
@@ -10,13 +9,11 @@ ghost use Rattle.cvr_office.specs.Place.{any_cmp};
 ghost use Rattle.cvr_cached.specs.Shown.{fact_at};
 ghost use Rattle.cvr_cached.specs.Contents.{header_at, current_at, header_in, current_in};
 ghost use Rattle.cvr_cached.specs.Contents.{current_sums};
-ghost use Rattle.cvr_cached.specs.Contents.{IsKeyOf};
 
 use cdf_types::Memory;
 use cvr_facts::{HeaderFact, SnapshotFact, VoteSums, choice_cmp};
 use cvr_lists::shared::SharedFact;
 use cvr_office::any_fact::AnyFact;
-use cvr_tally::RowKey;
 
 // The place of the last header.
 pub(crate) fn header_place(facts: &[SharedFact]) -> Option<usize>
@@ -111,28 +108,6 @@ pub(crate) fn snapshot_at(facts: &[SharedFact], place: Option<usize>) -> Option<
     match facts.get(place?)?.fact() {
         AnyFact::Snapshot(snapshot) => Some(snapshot),
         _ => None,
-    }
-}
-
-// A key of no unit and no batch.
-pub(crate) fn no_key() -> RowKey
-    ensures { result ≡ record { contest = 0; unit = None; batch = None } }
-{
-    RowKey {
-        contest: 0,
-        unit: None,
-        batch: None,
-    }
-}
-
-// A key of the unit and the batch of the header at a place.
-pub(crate) fn key_at(facts: &[SharedFact], place: Option<usize>) -> Result<RowKey, Memory>
-    requires { header_at facts.now place ≡ header_in facts.now }
-    ensures { IfOk result (IsKeyOf facts.now) }
-{
-    match header_fact_at(facts, place) {
-        Some(header) => RowKey::under(header, 0),
-        None => Ok(no_key()),
     }
 }
 

@@ -16,7 +16,7 @@ ghost use Rattle.cvr_cached.specs.Plans.{planned, content_with, all_moves, AreTa
 
 use crate::commit::commit_all;
 use crate::content::RecordContent;
-use crate::growth::{Growth, grow, growth_of};
+use crate::growth::{Growth, grow, growth_of, no_key};
 use crate::names::{close_names, open_names};
 use crate::plan::{Plan, fresh_of, has_all};
 use crate::rows::{add_rows, close_rows, open_rows};
@@ -45,7 +45,7 @@ pub(crate) fn devices_growth(
     }
     let mut more = Vec::new(alloc);
     put_copies(&mut more, theirs)?;
-    let growth = growth_of(alloc, devices, fresh_of(devices, more))?;
+    let growth = growth_of(alloc, devices, fresh_of(devices, more), no_key())?;
     let longer = growth.fresh.len();
     Ok((Some(growth), longer))
 }

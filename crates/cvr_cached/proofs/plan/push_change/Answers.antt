@@ -1,4 +1,4 @@
-use Rattle.std.proofs.Common.{◌≡◌, ◌∙◌, ap, subst, arith}
+use Rattle.std.proofs.Common.{◌≡◌, ◌∙◌, ◌∷◌, [], ◌++◌, ap, subst, arith}
 use Rattle.std.proofs.lemmas.List.Kept.{IsStrictlySortedBy-filter}
 use Rattle.cvr_office.specs.Place.{any_cmp}
 use Rattle.cvr_office.specs.Plain.{IsPut}
@@ -32,7 +32,9 @@ returns c =
       growing = c.in_ok-few.ensures.growing;
       put = put;
       more = grows old more all c.facts.ensures.rises put c.requires.some;
-      contents_are = c.in_ok-push.ensures.items;
+      contents_are = c.in_ok-push.ensures.items
+          ∙ ap (λ few. c.args.plan.now.contents.items ++ (c.args.name, few) ∷ [])
+          c.in_ok-keyed.ensures;
       growths_are = c.in_ok-push-2.ensures.items;
       count = omega (
         arith,

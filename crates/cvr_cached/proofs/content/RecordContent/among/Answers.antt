@@ -24,6 +24,6 @@ invariant_of-result c =
     c.requires.shown in
     remembered_among c.self.inside.facts.items c.args.facts.items c.self.inside.header
     c.self.inside.current c.place_among-header.result c.place_among-current.result
-    c.self.inside.key c.self.invariant c.requires.rises shown
+    c.self.invariant c.requires.rises shown
     (rw (c.deref.ensures.value, c.deref-2.ensures.value) at c.place_among-header.ensures)
     (rw (c.deref-3.ensures.value, c.deref-4.ensures.value) at c.place_among-current.ensures)

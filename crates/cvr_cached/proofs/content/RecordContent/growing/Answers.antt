@@ -4,6 +4,7 @@ use Rattle.std.proofs.lemmas.Bool.{eqb-true}
 use Rattle.cvr_office.specs.declared.any_fact.AnyFact.{AnyFact}
 use Rattle.cvr_office.specs.Place.{any_cmp}
 use Rattle.cvr_office.specs.Plain.{IsPut}
+use Rattle.cvr_cached.specs.Contents.{IsKeyOf}
 use Rattle.cvr_cached.proofs.FreshFacts.{put_alone}
 use Rattle.cvr_cached.proofs.Grown.{grown_none, grown_put}
 use Rattle.cvr_cached.proofs.content.RecordContent.growing.Goals as goal
@@ -18,8 +19,7 @@ returns-then-is_empty-clause-put c =
     let none = none_left c.self.inside.facts.items (omega (arith, zero, c.self.inside.facts.ok.0))
     in
     subst (IsPut c.args.self.now c.args.fresh.items)
-    (sym (grown_none c.args.self.now c.in_ok-all.all _ (sym c.self.view_is ∙ none)
-    ∙ c.in_ok-all.ensures))
+    (sym (grown_none c.args.self.now c.of.result _ (sym c.self.view_is ∙ none) ∙ c.of.ensures))
     (put_alone c.args.self.now c.args.fresh.items (sym c.self.view_is ∙ none) c.requires.rises)
 
 pub returns-clause-growing : goal.returns-clause-growing
@@ -35,6 +35,7 @@ returns-clause-growing c =
     record {
       growth_is = own;
       shown = c.in_ok-few.ensures _ (rw c.deref.ensures.value all.0);
+      key_is = subst (IsKeyOf old) (sym c.in_ok-growth.ensures.key) c.in_ok-key.ensures;
     }
 
 pub returns-clause-put : goal.returns-clause-put

@@ -3,7 +3,7 @@ use Rattle.cvr_tally.specs.declared.key.RowKey.{RowKey}
 use Rattle.cvr_cached.specs.Contents.{pairs_of, IsKeyOf}
 use Rattle.cvr_fact_types.specs.Columns.{Column}
 use Rattle.cvr_cached.specs.Cells.{cell, shares, has_row}
-use Rattle.cvr_cached.proofs.content.RecordContent.add_votes.Given as goal
+use Rattle.cvr_cached.proofs.keyed.KeyedContent.add_votes.Given as goal
 
 abbrev pub invariant-loop-sums : goal.invariant-loop-sums
 invariant-loop-sums l = record {

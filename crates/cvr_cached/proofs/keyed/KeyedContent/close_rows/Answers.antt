@@ -9,12 +9,12 @@ use Rattle.cvr_cached.specs.Contents.{pairs_of, current_sums}
 use Rattle.cvr_cached.proofs.Closing.{closed_more, get-closed}
 use Rattle.cvr_cached.proofs.Opening.{any_more}
 use Rattle.cvr_cached.proofs.Pairs.{pair_at}
-use Rattle.cvr_cached.proofs.content.RecordContent.close_rows.Goals as goal
+use Rattle.cvr_cached.proofs.keyed.KeyedContent.close_rows.Goals as goal
 
 pub loop-sums-preserved : goal.loop-sums-preserved
 loop-sums-preserved c =
     let at = pair_at c.args.self.now c.loop-sums.key c.loop-sums.invariant.key
-    (c.votes_at-sums-items.ensures ∙ ap current_sums (c.deref.ensures.value ∙ c.self.view_is))
+    (c.votes-sums-items.ensures ∙ ap current_sums c.self.view_is)
     c.loop-sums-test.true c.sums-item.is in
     let ps = pairs_of c.args.self.now in
     let i = c.loop-sums.sums-index in

@@ -5,7 +5,7 @@ use Rattle.cvr_tally.specs.Keys.{is_key}
 use Rattle.cvr_tally.specs.Rows.{row_closed}
 use Rattle.cvr_tally.specs.declared.key.RowKey.{RowKey}
 use Rattle.cvr_cached.specs.Contents.{pairs_of, IsKeyOf}
-use Rattle.cvr_cached.proofs.content.RecordContent.close_rows.Given as goal
+use Rattle.cvr_cached.proofs.keyed.KeyedContent.close_rows.Given as goal
 
 abbrev pub invariant-loop-sums : goal.invariant-loop-sums
 invariant-loop-sums l = record {

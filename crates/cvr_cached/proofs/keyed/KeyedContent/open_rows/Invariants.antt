@@ -7,7 +7,7 @@ use Rattle.cvr_tally.specs.declared.key.RowKey.{RowKey}
 use Rattle.cvr_cached.specs.Contents.{pairs_of, IsKeyOf}
 use Rattle.cvr_fact_types.specs.Columns.{Column}
 use Rattle.cvr_cached.specs.Cells.{cell, has_row}
-use Rattle.cvr_cached.proofs.content.RecordContent.open_rows.Given as goal
+use Rattle.cvr_cached.proofs.keyed.KeyedContent.open_rows.Given as goal
 
 abbrev pub invariant-loop-sums : goal.invariant-loop-sums
 invariant-loop-sums l = record {

@@ -5,12 +5,12 @@ use Rattle.cvr_cached.specs.Cells.{cell, has_row}
 use Rattle.cvr_cached.proofs.CellSteps.{cell_minus, stands_minus, has_of, stands_of}
 use Rattle.cvr_cached.proofs.Pairs.{pair_at}
 use Rattle.cvr_cached.proofs.VoteLists.{shares_more, left, long_at}
-use Rattle.cvr_cached.proofs.content.RecordContent.take_votes.Goals as goal
+use Rattle.cvr_cached.proofs.keyed.KeyedContent.take_votes.Goals as goal
 
 pub take-requires-clause-open : goal.take-requires-clause-open
 take-requires-clause-open c =
     let at = pair_at c.args.self.now c.loop-sums.key c.loop-sums.invariant.key
-    (c.votes_at-sums-items.ensures ∙ ap current_sums (c.deref.ensures.value ∙ c.self.view_is))
+    (c.votes-sums-items.ensures ∙ ap current_sums c.self.view_is)
     c.loop-sums-test.true c.sums-item.is in
     stands_of c.loop-sums.totals.rows _ _
     (left at c.loop-sums.totals.rows c.args.totals.now.rows c.loop-sums.invariant.cells
@@ -19,7 +19,7 @@ take-requires-clause-open c =
 pub take-requires-clause-votes : goal.take-requires-clause-votes
 take-requires-clause-votes c =
     let at = pair_at c.args.self.now c.loop-sums.key c.loop-sums.invariant.key
-    (c.votes_at-sums-items.ensures ∙ ap current_sums (c.deref.ensures.value ∙ c.self.view_is))
+    (c.votes-sums-items.ensures ∙ ap current_sums c.self.view_is)
     c.loop-sums-test.true c.sums-item.is in
     long_at at c.args.totals.now.contests c.loop-sums.totals.contests c.loop-sums.invariant.contests
     c.requires.fit
@@ -27,7 +27,7 @@ take-requires-clause-votes c =
 pub take-requires-clause-has : goal.take-requires-clause-has
 take-requires-clause-has c =
     let at = pair_at c.args.self.now c.loop-sums.key c.loop-sums.invariant.key
-    (c.votes_at-sums-items.ensures ∙ ap current_sums (c.deref.ensures.value ∙ c.self.view_is))
+    (c.votes-sums-items.ensures ∙ ap current_sums c.self.view_is)
     c.loop-sums-test.true c.sums-item.is in
     has_of c.loop-sums.totals.rows _ _ (left at c.loop-sums.totals.rows c.args.totals.now.rows
     c.loop-sums.invariant.cells c.requires.enough)
@@ -35,7 +35,7 @@ take-requires-clause-has c =
 pub loop-sums-preserved : goal.loop-sums-preserved
 loop-sums-preserved c =
     let at = pair_at c.args.self.now c.loop-sums.key c.loop-sums.invariant.key
-    (c.votes_at-sums-items.ensures ∙ ap current_sums (c.deref.ensures.value ∙ c.self.view_is))
+    (c.votes-sums-items.ensures ∙ ap current_sums c.self.view_is)
     c.loop-sums-test.true c.sums-item.is in
     let v = c.sums-item.result in
     let k = key_for c.loop-sums.key.unit c.loop-sums.key.batch v in

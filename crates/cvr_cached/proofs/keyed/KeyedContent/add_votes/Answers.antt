@@ -5,19 +5,19 @@ use Rattle.cvr_cached.specs.Cells.{cell, has_row}
 use Rattle.cvr_cached.proofs.CellSteps.{cell_plus, stands_plus, room_of}
 use Rattle.cvr_cached.proofs.Pairs.{pair_at}
 use Rattle.cvr_cached.proofs.VoteLists.{shares_more, room, long_at, row_here}
-use Rattle.cvr_cached.proofs.content.RecordContent.add_votes.Goals as goal
+use Rattle.cvr_cached.proofs.keyed.KeyedContent.add_votes.Goals as goal
 
 pub add-requires-clause-open : goal.add-requires-clause-open
 add-requires-clause-open c =
     let at = pair_at c.args.self.now c.loop-sums.key c.loop-sums.invariant.key
-    (c.votes_at-sums-items.ensures ∙ ap current_sums (c.deref.ensures.value ∙ c.self.view_is))
+    (c.votes-sums-items.ensures ∙ ap current_sums c.self.view_is)
     c.loop-sums-test.true c.sums-item.is in
     c.loop-sums.invariant.stand _ ∙ c.requires.open_at _ (row_here at)
 
 pub add-requires-clause-votes : goal.add-requires-clause-votes
 add-requires-clause-votes c =
     let at = pair_at c.args.self.now c.loop-sums.key c.loop-sums.invariant.key
-    (c.votes_at-sums-items.ensures ∙ ap current_sums (c.deref.ensures.value ∙ c.self.view_is))
+    (c.votes-sums-items.ensures ∙ ap current_sums c.self.view_is)
     c.loop-sums-test.true c.sums-item.is in
     long_at at c.args.totals.now.contests c.loop-sums.totals.contests c.loop-sums.invariant.contests
     c.requires.fit
@@ -25,7 +25,7 @@ add-requires-clause-votes c =
 pub add-requires-clause-room : goal.add-requires-clause-room
 add-requires-clause-room c =
     let at = pair_at c.args.self.now c.loop-sums.key c.loop-sums.invariant.key
-    (c.votes_at-sums-items.ensures ∙ ap current_sums (c.deref.ensures.value ∙ c.self.view_is))
+    (c.votes-sums-items.ensures ∙ ap current_sums c.self.view_is)
     c.loop-sums-test.true c.sums-item.is in
     room_of c.loop-sums.totals.rows _ _
     (room at c.loop-sums.totals.rows c.args.totals.now.rows c.loop-sums.invariant.cells
@@ -34,7 +34,7 @@ add-requires-clause-room c =
 pub loop-sums-preserved : goal.loop-sums-preserved
 loop-sums-preserved c =
     let at = pair_at c.args.self.now c.loop-sums.key c.loop-sums.invariant.key
-    (c.votes_at-sums-items.ensures ∙ ap current_sums (c.deref.ensures.value ∙ c.self.view_is))
+    (c.votes-sums-items.ensures ∙ ap current_sums c.self.view_is)
     c.loop-sums-test.true c.sums-item.is in
     let v = c.sums-item.result in
     let k = key_for c.loop-sums.key.unit c.loop-sums.key.batch v in

@@ -6,12 +6,12 @@ use Rattle.cvr_office.specs.Adding.{key_for}
 use Rattle.cvr_cached.specs.Contents.{pairs_of, current_sums}
 use Rattle.cvr_cached.proofs.Opening.{here_more, kept_more, cells_more, others_more, closed_more}
 use Rattle.cvr_cached.proofs.Pairs.{pair_at}
-use Rattle.cvr_cached.proofs.content.RecordContent.open_rows.Goals as goal
+use Rattle.cvr_cached.proofs.keyed.KeyedContent.open_rows.Goals as goal
 
 pub open_row-requires : goal.open_row-requires
 open_row-requires c =
     let at = pair_at c.args.self.now c.loop-sums.key c.loop-sums.invariant.key
-    (c.votes_at-sums-items.ensures ∙ ap current_sums (c.deref.ensures.value ∙ c.self.view_is))
+    (c.votes-sums-items.ensures ∙ ap current_sums c.self.view_is)
     c.loop-sums-test.true c.sums-item.is in
     let ps = pairs_of c.args.self.now in
     let v = c.sums-item.result in
@@ -23,7 +23,7 @@ open_row-requires c =
 pub loop-sums-preserved : goal.loop-sums-preserved
 loop-sums-preserved c =
     let at = pair_at c.args.self.now c.loop-sums.key c.loop-sums.invariant.key
-    (c.votes_at-sums-items.ensures ∙ ap current_sums (c.deref.ensures.value ∙ c.self.view_is))
+    (c.votes-sums-items.ensures ∙ ap current_sums c.self.view_is)
     c.loop-sums-test.true c.sums-item.is in
     let cs = c.loop-sums.totals.contests in
     let m = c.loop-sums.totals.rows in
