@@ -10,7 +10,8 @@ use Rattle.cvr_run.specs.Explained.{Explains}
 use Rattle.cvr_run.specs.Listed.{AnswersListed, ListedRequest}
 use Rattle.cvr_run.specs.Opening.{At, SaysTheSame}
 use Rattle.cvr_call.specs.Given.{File, Given, opener_over}
-use Rattle.cvr_call.specs.Responds.{IsAnswer, Responds, devices_with}
+use Rattle.cvr_run.specs.Responds.{Responds}
+use Rattle.cvr_call.specs.Responds.{IsAnswer, devices_with}
 
 -- ---- what follows from an unchanged output
 

@@ -1,7 +1,8 @@
 ghost use Rattle.std.specs.Prelude.{◌≡◌, Some, [], false, map, string_bytes, IfOk, IfErr, OnOk};
 ghost use Rattle.cvr_call.specs.declared.fault.CallFault.TheVariants.{Pieces};
 ghost use Rattle.cvr_call.specs.Given.{Given, IsInput, files_in, opener_over};
-ghost use Rattle.cvr_call.specs.Responds.{IsAnswer, Responds};
+ghost use Rattle.cvr_run.specs.Responds.{Responds};
+ghost use Rattle.cvr_call.specs.Responds.{IsAnswer};
 
 use crate::fault::CallFault;
 use crate::files::GivenFiles;

@@ -1,17 +1,8 @@
-ghost use Rattle.std.specs.Prelude.{◌≡◌, ◌≢◌, ◌⊎◌, [], ℕ, List, length, map, false, string_bytes};
-ghost use Rattle.cvr_words.specs.Line.{with_program};
-ghost use Rattle.cvr_words.specs.Request.{IsRequest};
-ghost use Rattle.cvr_words.specs.declared.request.Request.{Request};
-ghost use Rattle.cvr_run.specs.Answered.{Answers, IsGiven};
+ghost use Rattle.std.specs.Prelude.{◌≡◌, length, map, false, string_bytes};
 ghost use Rattle.cvr_run.specs.Ends.{Ran};
-ghost use Rattle.cvr_run.specs.Explained.{AsksCode, Explains};
-ghost use Rattle.cvr_run.specs.Happened.{IsNoted};
-ghost use Rattle.cvr_run.specs.Job.{Job};
-ghost use Rattle.cvr_run.specs.Listed.{AnswersListed, AsksListed, IsGivenEither, ListedRequest};
-ghost use Rattle.cvr_run.specs.Opening.{Opens, SaysTheSame};
-ghost use Rattle.cvr_run.specs.Outcome.{files_of, IsWhole};
-ghost use Rattle.cvr_run.specs.OwnWords.{AsksVersion, PrintsOwn, version_text};
-ghost use Rattle.cvr_run.specs.declared.status.Status.TheVariants.{CommandLine};
+ghost use Rattle.cvr_run.specs.Listed.{IsGivenEither};
+ghost use Rattle.cvr_run.specs.Outcome.{files_of};
+ghost use Rattle.cvr_run.specs.Responds.{NotesEach, Responds, Works};
 
 use cdf_types::Sink;
 use cvr_cached::CachedOffice;
@@ -69,18 +60,10 @@ pub fn work<O: Open, W: Sink, L: Sink>(
 ) -> Status
     requires working { (W.taken out.old).failed ≡ false }
     requires log_working { (L.taken log.old).failed ≡ false }
-    ensures answers { Answers (map string_bytes words.now) result
+    ensures works { Works (map string_bytes words.now) result
         (record { opener = O.state opener.old; out = W.taken out.old; log = L.taken log.old })
         (record { opener = O.state opener.new; out = W.taken out.new; log = L.taken log.new })
         (out.new ≡ out.old) }
-    ensures given { (job : Job)
-        → IsGiven (O.state opener.old).at (map string_bytes words.now) job
-        → IsWhole result → Ran job result
-        (record { out = W.taken out.old; log = L.taken log.old })
-        (record { out = W.taken out.new; log = L.taken log.new }) }
-    ensures asked { (request : Request)
-        → IsRequest (with_program (map string_bytes words.now)) request → result ≢ CommandLine }
-    ensures says { SaysTheSame (O.state opener.old) (O.state opener.new) }
 {
     let mut happened = Happened::new(alloc, false);
     cvr_run::work::<CachedOffice, O, W, L>(alloc, opener, words, out, log, &mut happened)
@@ -106,40 +89,12 @@ pub fn respond<O: Open, W: Sink, L: Sink>(
 ) -> Status
     requires working { (W.taken out.old).failed ≡ false }
     requires log_working { (L.taken log.old).failed ≡ false }
-    ensures version { AsksVersion (map string_bytes words.now) → PrintsOwn version_text result
-        (record { out = W.taken out.old; log = L.taken log.old })
-        (record { out = W.taken out.new; log = L.taken log.new }) }
-    ensures explains { (asked : List (List ℕ)) → AsksCode (map string_bytes words.now) asked
-        → Explains asked result
-        (record { out = W.taken out.old; log = L.taken log.old })
-        (record { out = W.taken out.new; log = L.taken log.new })
-        (out.new ≡ out.old) }
-    ensures listed { (asked : ListedRequest) → AsksListed (map string_bytes words.now) asked
-        → AnswersListed asked result
+    ensures responds { Responds (map string_bytes words.now) result
         (record { opener = O.state opener.old; out = W.taken out.old; log = L.taken log.old })
         (record { opener = O.state opener.new; out = W.taken out.new; log = L.taken log.new })
         (out.new ≡ out.old) }
-    ensures works { ¬ AsksVersion (map string_bytes words.now)
-        → ((asked : List (List ℕ)) → ¬ AsksCode (map string_bytes words.now) asked)
-        → ((asked : ListedRequest) → ¬ AsksListed (map string_bytes words.now) asked)
-        → Answers (map string_bytes words.now) result
-        (record { opener = O.state opener.old; out = W.taken out.old; log = L.taken log.old })
-        (record { opener = O.state opener.new; out = W.taken out.new; log = L.taken log.new })
-        (out.new ≡ out.old) }
-    ensures given { (job : Job)
-        → IsGivenEither (O.state opener.old).at (map string_bytes words.now) job
-        → IsWhole result → Ran job result
-        (record { out = W.taken out.old; log = L.taken log.old })
-        (record { out = W.taken out.new; log = L.taken log.new }) }
-    ensures happened { (job : Job)
-        → IsGivenEither (O.state opener.old).at (map string_bytes words.now) job
-        → IsWhole result → IsNoted job happened.new }
-    ensures asked { (request : Request)
-        → IsRequest (with_program (map string_bytes words.now)) request → result ≢ CommandLine }
-    ensures says { SaysTheSame (O.state opener.old) (O.state opener.new) }
-    ensures unopened { AsksVersion (map string_bytes words.now)
-        ⊎ ((asked : List (List ℕ)) × AsksCode (map string_bytes words.now) asked)
-        → Opens (O.state opener.old) (O.state opener.new) [] }
+    ensures happened { NotesEach
+        (IsGivenEither (O.state opener.old).at (map string_bytes words.now)) result happened.new }
 {
     cvr_run::respond::<CachedOffice, O, W, L>(alloc, opener, words, out, log, happened)
 }

@@ -33,6 +33,7 @@ pub mod RefusedPlaces
 pub mod Unasked
 pub mod VersionWords
 pub mod CodeWords
+pub mod Works
 pub mod GivenTexts
 pub mod GivenOffices
 pub mod Drilled

@@ -25,6 +25,7 @@ pub mod ListedPaths
 pub mod Listed
 pub mod Code
 pub mod Explained
+pub mod Responds
 pub mod HeldBytes
 pub mod Laws
 pub mod Rows

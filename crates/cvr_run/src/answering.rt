@@ -1,15 +1,7 @@
-ghost use Rattle.std.specs.Prelude.{◌≡◌, ◌≢◌, map, false, string_bytes};
-ghost use Rattle.cvr_words.specs.Line.{with_program};
-ghost use Rattle.cvr_words.specs.Request.{IsRequest};
-ghost use Rattle.cvr_words.specs.declared.request.Request.{Request};
-ghost use Rattle.cvr_run.specs.declared.status.Status.TheVariants.{CommandLine};
-ghost use Rattle.cvr_run.specs.Answered.{bad_step_line, Answers, IsGiven, TellsWords};
-ghost use Rattle.cvr_run.specs.Ends.{Ran};
-ghost use Rattle.cvr_run.specs.Happened.{IsNoted};
-ghost use Rattle.cvr_run.specs.Job.{Job};
+ghost use Rattle.std.specs.Prelude.{◌≡◌, map, false, string_bytes};
+ghost use Rattle.cvr_run.specs.Answered.{bad_step_line, IsGiven, TellsWords};
 ghost use Rattle.cvr_run.specs.Log.{Logs};
-ghost use Rattle.cvr_run.specs.Opening.{SaysTheSame};
-ghost use Rattle.cvr_run.specs.Outcome.{IsWhole};
+ghost use Rattle.cvr_run.specs.Responds.{NotesEach, Works};
 
 use crate::ending::{end_in_memory, end_with};
 use crate::happened::Happened;
@@ -64,11 +56,7 @@ fn tell_fault<W: Sink, L: Sink>(fault: &LineFault, out: &mut W, log: &mut L) -> 
     }
 }
 
-/// Does what the words after the program's name ask for: reads the definition and the files of
-/// their request, each at its path and in this order, and runs over them. Where one isn't read, the
-/// log says so, and nothing else is opened or done. Words that ask for no request are reported in
-/// the log, and the status is `CommandLine`; those that ask for help have it printed; nothing is
-/// opened then. Where the opener says what stands at each path, the run is one over these files.
+/// Does the request that the words after the program's name ask for, or says why they ask for none.
 pub fn work<C: Office + Drop, O: Open, W: Sink, L: Sink>(
     alloc: Global,
     opener: &mut O,
@@ -79,21 +67,12 @@ pub fn work<C: Office + Drop, O: Open, W: Sink, L: Sink>(
 ) -> Status
     requires working { (W.taken out.old).failed ≡ false }
     requires log_working { (L.taken log.old).failed ≡ false }
-    ensures answers { Answers (map string_bytes words.now) result
+    ensures works { Works (map string_bytes words.now) result
         (record { opener = O.state opener.old; out = W.taken out.old; log = L.taken log.old })
         (record { opener = O.state opener.new; out = W.taken out.new; log = L.taken log.new })
         (out.new ≡ out.old) }
-    ensures given { (job : Job)
-        → IsGiven (O.state opener.old).at (map string_bytes words.now) job
-        → IsWhole result → Ran job result
-        (record { out = W.taken out.old; log = L.taken log.old })
-        (record { out = W.taken out.new; log = L.taken log.new }) }
-    ensures happened { (job : Job)
-        → IsGiven (O.state opener.old).at (map string_bytes words.now) job
-        → IsWhole result → IsNoted job happened.new }
-    ensures asked { (request : Request)
-        → IsRequest (with_program (map string_bytes words.now)) request → result ≢ CommandLine }
-    ensures says { SaysTheSame (O.state opener.old) (O.state opener.new) }
+    ensures happened { NotesEach
+        (IsGiven (O.state opener.old).at (map string_bytes words.now)) result happened.new }
 {
     match read_line(alloc, words) {
         Ok(request) => {

@@ -1,7 +1,6 @@
 ghost use Rattle.std.specs.Prelude.{◌≡◌, ◌∷◌, [], ℕ, List, IfOk, IfErr, OnOk, IfSome, IfNone};
 ghost use Rattle.std.specs.Prelude.{false};
 ghost use Rattle.cvr_run.specs.Ends.{Ran};
-ghost use Rattle.cvr_run.specs.Happened.{IsNoted};
 ghost use Rattle.cvr_run.specs.Job.{Job};
 ghost use Rattle.cvr_run.specs.Listed.{bad_list_line, list_place, DoesListed, HasNoList, IsList};
 ghost use Rattle.cvr_run.specs.Listed.{ListsFiles};
@@ -9,6 +8,7 @@ ghost use Rattle.cvr_run.specs.ListedPaths.{end_of, parts_at};
 ghost use Rattle.cvr_run.specs.Log.{Logs};
 ghost use Rattle.cvr_run.specs.Opening.{IsRead, Opens};
 ghost use Rattle.cvr_run.specs.Outcome.{IsWhole};
+ghost use Rattle.cvr_run.specs.Responds.{NotesEach};
 ghost use Rattle.cvr_run.specs.Told.{LogsSome};
 
 use crate::file::HELD;
@@ -113,9 +113,8 @@ pub fn run_listed<C: Office + Drop, O: Open, W: Sink, L: Sink>(
         → IsWhole result → Ran job result
         (record { out = W.taken out.old; log = L.taken log.old })
         (record { out = W.taken out.new; log = L.taken log.new }) }
-    ensures happened { (job : Job) → ListsFiles (O.state opener.old).at
-        (record { request = request; list = list.now; by_null = by_null }) job
-        → IsWhole result → IsNoted job happened.new }
+    ensures happened { NotesEach (ListsFiles (O.state opener.old).at
+        (record { request = request; list = list.now; by_null = by_null })) result happened.new }
 {
     let Request { task, def, .. } = request;
     match paths_at(alloc, opener, place_of(list), by_null, log) {

@@ -323,11 +323,7 @@ pub fn refuse<L: Sink>(
     refusals.status()
 }
 
-/// Runs a request over the bytes of its definition and of its files, in the order of its paths. A
-/// refused file or step is reported in the log, and the rest is done. Where the definition is
-/// refused nothing else is done. Where memory ran out for a file or a step nothing is printed, and
-/// no fault of a merge is reported. That fault comes after the refused files, and nothing is
-/// printed then either.
+/// Runs a request over the bytes of its definition and of its files, in the order of its paths.
 pub fn run<C: Office + Drop, W: Sink, L: Sink>(
     alloc: Global,
     request: &Request,

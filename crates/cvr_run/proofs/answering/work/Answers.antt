@@ -13,15 +13,17 @@ returns-in-Ok g c =
     let asked = c.in-Ok.ensures.request in
     let told = c.run_request-status.ensures in
     record {
-      answers = inl (c.in-Ok.request, asked, told.does);
-      given = λ job given whole. told.given job
-          (one_request words job.request c.in-Ok.request given.asked asked) given.there whole;
+      works = record {
+        answers = inl (c.in-Ok.request, asked, told.does);
+        given = λ job given whole. told.given job
+            (one_request words job.request c.in-Ok.request given.asked asked) given.there whole;
+        asked = λ r is. told.no_words;
+        says = does_same _ _ _ _ _ told.does;
+      };
       happened = λ job given whole.
           let is = one_request words job.request c.in-Ok.request given.asked asked in
           noted job c.run_request-status.new.happened _ c.in-Ok.request is refl refl refl refl
           (told.happened job is given.there whole);
-      asked = λ r is. told.no_words;
-      says = does_same _ _ _ _ _ told.does;
     }
 
 pub returns-in-Err : goal.returns-in-Err
@@ -33,12 +35,14 @@ returns-in-Err g c =
     let answer = c.tell_fault.result in
     let failed = (g.W.Sink.taken c.tell_fault.new.out).failed in
     record {
-      answers = inr (fault, is, opens_none (g.O.Open.state c.args.opener.now), told);
-      given = λ job given whole. absurd
-          (not_asked words job.request fault answer failed given.asked is told.status whole);
+      works = record {
+        answers = inr (fault, is, opens_none (g.O.Open.state c.args.opener.now), told);
+        given = λ job given whole. absurd
+            (not_asked words job.request fault answer failed given.asked is told.status whole);
+        asked = λ r asks. not_command_line answer
+            (told_memory words r fault answer failed asks is told.status);
+        says = record { at = refl; may_fail = refl };
+      };
       happened = λ job given whole. absurd
           (not_asked words job.request fault answer failed given.asked is told.status whole);
-      asked = λ r asks. not_command_line answer
-          (told_memory words r fault answer failed asks is told.status);
-      says = record { at = refl; may_fail = refl };
     }

@@ -1,5 +1,4 @@
-use Rattle.std.proofs.Common.{◌≡◌, ◌∙◌, ◌<◌, ◌≤◌, length, true, false, sym, ap, arith}
-use Rattle.cvr_run.specs.Refusals.{is_refusal}
+use Rattle.std.proofs.Common.{◌∙◌, sym, ap, arith}
 use Rattle.cvr_run.proofs.RefusedPlaces.{place_beyond, place_passed, place_pushed}
 use Rattle.cvr_run.proofs.happened.first_refused.Goals as goal
 use Rattle.cvr_run.proofs.happened.first_refused.Goals.{then-is_refusal+then-len-lt-NAMED}

@@ -2,11 +2,13 @@ use Rattle.std.proofs.Common.{◌≡◌, inl, inr, map, string_bytes, refl, subs
 use Rattle.cvr_words.specs.declared.fault.LineFault.TheVariants.{Memory}
 use Rattle.cvr_run.specs.Devices.{Devices}
 use Rattle.cvr_run.specs.Listed.{AnswersListed, ListedRequest}
+use Rattle.cvr_run.proofs.CodeWords.{neither}
 use Rattle.cvr_run.proofs.Known.{not_whole}
 use Rattle.cvr_run.proofs.ListWords.{given_lists, one_listed, only_paths}
 use Rattle.cvr_run.proofs.Opened.{opens_none}
 use Rattle.cvr_run.proofs.SaysTheSame.{does_listed_same}
 use Rattle.cvr_run.proofs.Unasked.{not_command_line, quiet_told}
+use Rattle.cvr_run.proofs.Works.{works_alone}
 use Rattle.cvr_run.proofs.responding.respond_listed.Goals as goal
 
 pub returns-in-Ok-Some : goal.returns-in-Ok-Some
@@ -31,36 +33,37 @@ returns-in-Ok-Some g c =
     let asks = rw c.in-Ok-Some.field-0-is at c.in-Ok-Some.ensures.some in
     let told = c.run_listed.ensures in
     record {
-      listed = λ other also. subst (λ (l : ListedRequest).
-          AnswersListed l c.run_listed.result old new unchanged)
-          (one_listed words asked other asks also) (inr told.does);
-      works = λ none. absurd (none asked asks);
-      given = λ job given whole. told.given job
-          (given_lists old.opener.at words asked job asks given) whole;
+      responds = record {
+        version = λ asks. absurd (c.requires.no_version asks);
+        explains = λ asked asks. absurd (c.requires.no_code asked asks);
+        unopened = neither words c.requires.no_version c.requires.no_code;
+        listed = λ other also. subst (λ (l : ListedRequest).
+            AnswersListed l c.run_listed.result old new unchanged)
+            (one_listed words asked other asks also) (inr told.does);
+        works = λ _ _ none. absurd (none asked asks);
+        given = λ job given whole. told.given job
+            (given_lists old.opener.at words asked job asks given) whole;
+        asked = λ r is. absurd (asks.free r is);
+        says = does_listed_same asked c.run_listed.result old new unchanged told.does;
+      };
       happened = λ job given whole. told.happened job
           (given_lists old.opener.at words asked job asks given) whole;
-      asked = λ r is. absurd (asks.free r is);
-      says = does_listed_same asked c.run_listed.result old new unchanged told.does;
     }
 
 pub returns-in-Ok-None : goal.returns-in-Ok-None
 returns-in-Ok-None g c =
     let words = map string_bytes c.args.words.now in
     let none = rw c.in-Ok-None.field-0-is at c.in-Ok-None.ensures.none in
-    let told = c.work.ensures in
     record {
-      listed = λ asked asks. absurd (none asked asks);
-      works = λ _. told.answers;
-      given = λ job given whole. told.given job
-          (only_paths (g.O.Open.state c.args.opener.now).at words job none given) whole;
-      happened = λ job given whole. told.happened job
-          (only_paths (g.O.Open.state c.args.opener.now).at words job none given) whole;
-      asked = told.asked;
-      says = told.says;
+      responds = works_alone words _ _ _ _ c.requires.no_version c.requires.no_code none
+          c.work.ensures.works;
+      happened = λ job given. c.work.ensures.happened job
+          (only_paths (g.O.Open.state c.args.opener.now).at words job none given);
     }
 
 pub returns : goal.returns
 returns g c =
+    let words = map string_bytes c.args.words.now in
     let unchanged = c.args.out.now ≡ c.args.out.now in
     let answer = c.end_in_memory.result in
     let is = c.end_in_memory.ensures.status in
@@ -69,10 +72,15 @@ returns g c =
     (g.L.Sink.taken c.args.log.now) (g.L.Sink.taken c.end_in_memory.new.log) refl is refl refl
     c.end_in_memory.ensures.log in
     record {
-      listed = λ asked asks. inl (unopened, tells);
-      works = λ none. inr (Memory, tt, unopened, tells);
-      given = λ job given whole. absurd (not_whole answer (inr is) whole);
+      responds = record {
+        version = λ asks. absurd (c.requires.no_version asks);
+        explains = λ asked asks. absurd (c.requires.no_code asked asks);
+        unopened = neither words c.requires.no_version c.requires.no_code;
+        listed = λ asked asks. inl (unopened, tells);
+        works = λ _ _ none. inr (Memory, tt, unopened, tells);
+        given = λ job given whole. absurd (not_whole answer (inr is) whole);
+        asked = λ r asks. not_command_line answer is;
+        says = record { at = refl; may_fail = refl };
+      };
       happened = λ job given whole. absurd (not_whole answer (inr is) whole);
-      asked = λ r asks. not_command_line answer is;
-      says = record { at = refl; may_fail = refl };
     }
