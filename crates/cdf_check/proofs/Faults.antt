@@ -25,7 +25,6 @@ use Rattle.cdf_form.specs.Tables.{any, type_text, classes_of}
 use Rattle.cdf_form.specs.Form.{at_member, Fault, deeper_fault, first, find_class, class_faults}
 use Rattle.cdf_form.specs.Form.{type_text_faults, type_faults, leaf_faults, faults, float_faults}
 use Rattle.cdf_form.specs.Form.{items_floats, members_floats}
-use Rattle.cdf_form.specs.Found.{fault_of}
 use Rattle.cdf_form.specs.Reading.{document_faults, refusal_of}
 use Rattle.cdf_form.specs.Records.{cvrs_faults}
 use Rattle.cdf_form.proofs.Laws.{records_apart, records_first, no_float_faults, whole_document}
@@ -35,6 +34,7 @@ use Rattle.cdf_check.specs.declared.seen.Seen.{Seen}
 use Rattle.cdf_definition.specs.Frame.{Frame}
 use Rattle.cdf_check.specs.Apart.{with_records}
 use Rattle.cdf_check.specs.Seen.{in_file, file_fraction, first_of_file, form_refusal, IsSeen}
+use Rattle.cdf_check.specs.Seen.{fraction_seen, fault_seen}
 use Rattle.cdf_check.proofs.Apart.{items_len-items_of, records_there}
 use Rattle.cdf_check.proofs.Numbers.{path_of, append_first, first_rule, all_of, first_filled}
 use Rattle.cdf_definition.proofs.Lemmas.{none_right, unmapped}
@@ -148,62 +148,50 @@ whole_records ds ms some whole = whole_list ds
 
 -- ---- together
 
-law_at : {T : Type 0} (keeps : List Cvr → T → Type 0) (frame : Frame) (ds : List Data)
-    (ms : Members) (seen : Seen T) (o : Option Fault) → IsSeen keeps frame ds seen
-    → with_items_at records no_items ms ≡ ms → IsSome (get_member records ms)
-    → option_map path_of (first (float_faults (with_records ds ms)))
-    ≡ file_fraction ms seen.fraction → first (float_faults (with_records ds ms)) ≡ o
-    → option_map refusal_of (first (document_faults (with_records ds ms)))
-    ≡ form_refusal (object ms) seen.fraction (option_map fault_of seen.form)
-law_at keeps frame ds ms seen (Some f) h emptied some numbers is =
-    let all = with_records ds ms in
-    let found : first (document_faults all) ≡ Some f = append_first (float_faults all) _ f is in
-    let path : file_fraction ms seen.fraction ≡ Some (path_of f) =
-    sym numbers ∙ ap (option_map path_of) is in
-    rw (found, path) (ap (λ r. Some (Schema (path_of f) r))
-    (first_rule (float_faults all) f (all_of all) is))
-law_at keeps frame ds ms seen None h emptied some numbers is =
-    let all = with_records ds ms in
-    let whole : has_float all ≡ false = whole_of all (none_right _ is) in
-    let array_whole : items_have_float (items_of ds) ≡ false = whole_records ds ms some whole in
-    let told : seen.fraction ≡ None = h.fraction
-    ∙ ap (λ fs. option_map in_file (first fs))
-    (no_float_faults (array (items_of ds)) array_whole) in
-    let path : file_fraction ms seen.fraction ≡ None = sym numbers ∙ ap (option_map path_of) is in
-    rw (
-      path,
-      file_first ds ms array_whole emptied some (h.whole told).few
-          (option_map fault_of seen.form) (sym (h.whole told).form),
-    )
+module _ {T : Type 0} {keeps : List Cvr → T → Type 0} {frame : Frame} (ds : List Data)
+    (ms : Members) (seen : Seen T) (h : IsSeen keeps frame ds seen)
+    (some : IsSome (get_member records ms)) where
+  no_fraction : items_have_float (items_of ds) ≡ false → fraction_seen seen ≡ None
+  no_fraction whole = h.fraction ∙ ap (λ fs. option_map in_file (first fs))
+      (no_float_faults (array (items_of ds)) whole)
 
--- the refusal for numbers and form is what is answered
-pub form_law : {T : Type 0} (keeps : List Cvr → T → Type 0) (frame : Frame) (ds : List Data)
-    (ms : Members) (seen : Seen T) → IsSeen keeps frame ds seen
-    → with_items_at records no_items ms ≡ ms → IsSome (get_member records ms)
-    → option_map refusal_of (first (document_faults (with_records ds ms)))
-    ≡ form_refusal (object ms) seen.fraction (option_map fault_of seen.form)
-form_law keeps frame ds ms seen h emptied some =
-    law_at keeps frame ds ms seen _ h emptied some
-    (first_filled (items_of ds) seen.fraction (sym h.fraction) ms) refl
+  pub no_fraction_seen : document_faults (with_records ds ms) ≡ [] → fraction_seen seen ≡ None
+  no_fraction_seen sound =
+      no_fraction (whole_records ds ms some (whole_document (with_records ds ms) sound))
 
-pub no_fraction_seen : {T : Type 0} (keeps : List Cvr → T → Type 0) (frame : Frame) (ds : List Data)
-    (ms : Members) (seen : Seen T) → IsSeen keeps frame ds seen → IsSome (get_member records ms)
-    → document_faults (with_records ds ms) ≡ [] → seen.fraction ≡ None
-no_fraction_seen keeps frame ds ms seen h some sound =
-    let all = with_records ds ms in
-    let array_whole : items_have_float (items_of ds) ≡ false =
-    whole_records ds ms some (whole_document all sound) in
-    h.fraction ∙ ap (λ fs. option_map in_file (first fs))
-    (no_float_faults (array (items_of ds)) array_whole)
+  module _ (emptied : with_items_at records no_items ms ≡ ms) where
+    law_at : (o : Option Fault) → option_map path_of (first (float_faults (with_records ds ms)))
+        ≡ file_fraction ms (fraction_seen seen) → first (float_faults (with_records ds ms)) ≡ o
+        → option_map refusal_of (first (document_faults (with_records ds ms)))
+        ≡ form_refusal (object ms) seen
+    law_at (Some f) numbers is =
+        let all = with_records ds ms in
+        let found : first (document_faults all) ≡ Some f = append_first (float_faults all) _ f is in
+        let path : file_fraction ms (fraction_seen seen) ≡ Some (path_of f) =
+        sym numbers ∙ ap (option_map path_of) is in
+        rw (found, path) (ap (λ r. Some (Schema (path_of f) r))
+        (first_rule (float_faults all) f (all_of all) is))
+    law_at None numbers is =
+        let all = with_records ds ms in
+        let whole : items_have_float (items_of ds) ≡ false =
+        whole_records ds ms some (whole_of all (none_right _ is)) in
+        let path : file_fraction ms (fraction_seen seen) ≡ None =
+        sym numbers ∙ ap (option_map path_of) is in
+        rw (
+          path,
+          file_first ds ms whole emptied some h.few (fault_seen seen)
+              (sym (h.form (no_fraction whole))),
+        )
 
--- records with no fault leave a file with none, where what is left has none
-pub records_right : {T : Type 0} (keeps : List Cvr → T → Type 0) (frame : Frame) (ds : List Data)
-    (ms : Members) (seen : Seen T) → IsSeen keeps frame ds seen
-    → with_items_at records no_items ms ≡ ms → IsSome (get_member records ms) → seen.fraction ≡ None
-    → seen.form ≡ None
-    → document_faults (object ms) ≡ [] → document_faults (with_records ds ms) ≡ []
-records_right keeps frame ds ms seen h emptied some whole right rest =
-    let own = h.whole whole in
-    let numbers = none_right _ (unmapped in_file _ (sym h.fraction ∙ whole)) in
-    let forms = none_right _ (sym own.form ∙ ap (option_map fault_of) right) in
-    faults_stay ds ms (whole_of (array (items_of ds)) numbers) emptied some own.few forms ∙ rest
+    -- the refusal for numbers and form is what is answered
+    pub form_law : option_map refusal_of (first (document_faults (with_records ds ms)))
+        ≡ form_refusal (object ms) seen
+    form_law = law_at _ (first_filled (items_of ds) _ (sym h.fraction) ms) refl
+
+    -- records with no fault leave a file with none, where what is left has none
+    pub records_right : fraction_seen seen ≡ None → fault_seen seen ≡ None
+        → document_faults (object ms) ≡ [] → document_faults (with_records ds ms) ≡ []
+    records_right whole right rest =
+        let numbers = none_right _ (unmapped in_file _ (sym h.fraction ∙ whole)) in
+        let forms = none_right _ (sym (h.form whole) ∙ right) in
+        faults_stay ds ms (whole_of (array (items_of ds)) numbers) emptied some h.few forms ∙ rest

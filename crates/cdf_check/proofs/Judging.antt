@@ -1,7 +1,7 @@
 -- The answer for a file, by what was seen of its records and by what is left beside them.
 use Rattle.std.proofs.Common.{◌≡◌, inl, inr, ◌+◌, ℕ, List, [], ◌∷◌, ◌++◌, Contains, true, false}
 use Rattle.std.proofs.Common.{Result, Ok, Err, Option, Some, None, IsSome, option_map, codes, refl}
-use Rattle.std.proofs.Common.{sym, ap, subst, ◌∙◌, arith}
+use Rattle.std.proofs.Common.{All, sym, ap, subst, ◌∙◌, arith}
 use Rattle.std.specs.Prelude.{option_and_then, unwrap_or, IfOk, IfErr, OnOk}
 use Rattle.std.specs.Option.{option_or}
 use Rattle.serde_json.specs.Data.{Data, array, object, Items, no_items, Members}
@@ -20,7 +20,7 @@ use Rattle.cdf_types.specs.declared.report.ReportingDevice.{ReportingDevice}
 use Rattle.cdf_form.specs.declared.found.Path.{Path as Found}
 use Rattle.cdf_form.specs.Form as form
 use Rattle.cdf_form.specs.Form.{Fault, at_member, deeper_fault, first}
-use Rattle.cdf_form.specs.Found.{fault_of, path_of}
+use Rattle.cdf_form.specs.Found.{path_of}
 use Rattle.cdf_node.specs.Items.{list_of}
 use Rattle.cdf_parts.specs.Parts.{array_at}
 use Rattle.cdf_form.specs.Path.{path_text}
@@ -28,8 +28,9 @@ use Rattle.cdf_form.specs.Reading.{document_faults, refusal_of, IsMemory}
 use Rattle.cdf_form.proofs.Laws.{whole_document}
 use Rattle.cdf_typed.specs.Typed.{report_of}
 use Rattle.cdf_typed.specs.Range.{ReportInRange}
-use Rattle.cdf_check.specs.declared.seen.Kept.{Kept}
+use Rattle.cdf_check.specs.declared.record_names.RecordNames.{RecordNames}
 use Rattle.cdf_check.specs.declared.seen.Seen.{Seen}
+use Rattle.cdf_check.specs.declared.seen.Seen.TheVariants.{Right, Unsettled}
 use Rattle.cdf_definition.specs.Paths.{Path, below, below_each, each}
 use Rattle.cdf_definition.specs.References.{Scope, scope_of, many, in_cvr, in_election, in_report}
 use Rattle.cdf_definition.specs.References.{missing_paths}
@@ -39,9 +40,11 @@ use Rattle.cdf_definition.specs.Acceptance.{Holds, IsReport, value_refusal, firs
 use Rattle.cdf_definition.specs.Acceptance.{report_in, Valid}
 use Rattle.cdf_definition.specs.Sound.{IsFrame}
 use Rattle.cdf_check.specs.Apart.{with_records}
-use Rattle.cdf_check.specs.Seen.{Accepts, AreKept, IsUnnamed, IsJudged, HasForms, IsSeen}
-use Rattle.cdf_check.specs.Seen.{form_refusal, first_of_file, is_array, Settles, Refuses}
-use Rattle.cdf_check.specs.Seen.{IsRefusedFor}
+use Rattle.cdf_check.specs.Seen.{Accepts, AreKept, IsKept, IsUnnamed, IsJudged, HasForms, IsSeen}
+use Rattle.cdf_check.specs.Seen.{form_refusal, first_of_file, fraction_seen, fault_seen, is_array}
+use Rattle.cdf_check.specs.Seen.{Settles, Refuses, IsRefusedFor}
+use Rattle.cdf_check.specs.Within.{AreNamed}
+use Rattle.cdf_definition.specs.Naming.{NamesOwn}
 use Rattle.cdf_check.proofs.Apart.{records, typed_apart, array_stays, found_records, records_there}
 use Rattle.cdf_check.proofs.Apart.{scope_stays}
 use Rattle.cdf_definition.proofs.Lemmas.{either, file_holds}
@@ -183,33 +186,34 @@ module _ (frame : Frame) (text : List ℕ) (left : Data) (h : HasForms text left
 
   -- ---- what is kept
 
-  module _ {T : Type 0} (keeps : List Cvr → T → Type 0) (kept : Kept T)
-      (k : AreKept keeps frame ds kept) (of : IsFrame frame) where
+  module _ {T : Type 0} (keeps : List Cvr → T → Type 0) (of : IsFrame frame) where
     whole : has_float all ≡ false
     whole = whole_document all h.sound
 
     -- what settles is accepted
-    accepted : Settles frame (object ms) kept → value_refusal frame all ≡ None
-    accepted s =
+    accepted : (names : RecordNames) (kept : T) → AreKept keeps frame ds names kept
+        → Settles frame (object ms) names → value_refusal frame all ≡ None
+    accepted names kept k s =
         let r : IsReport (object ms) = (sound (object ms)).0 s.sound in
         let a : Agrees frame (object ms) = (agreement frame (object ms)).0 s.agrees in
         let contests = own_contests frame text ds ms h.whole whole r a of in
         let elections = own_elections frame text ds ms h.whole whole r a of in
-        let none = all_resolved (object ms) ds kept.names (k.names s.settled) frame contests
-        elections (k.settled.0 s.settled) s.listed in
+        let none = all_resolved (object ms) ds names k.names frame contests elections k.settled
+        s.listed in
         rw (refusal_own, absent_none (own ms) ds 0 none) ((value_law frame (object ms)).1 (r, a))
 
-    pub judged_joined : (devices : List ReportingDevice) → Settles frame left kept
+    pub judged_joined : (names : RecordNames) (kept : T) → AreKept keeps frame ds names kept
+        → (devices : List ReportingDevice) → Settles frame left names
         → devices ≡ (report_of frame.contests left).devices → (d : Data) → read text ≡ Some d
-        → IsJudged keeps frame d (Ok (devices, kept.records))
-    judged_joined devices s is d value =
+        → IsJudged keeps frame d (Ok (devices, kept))
+    judged_joined names kept k devices s is d value =
         let apart = typed_apart frame.contests ds ms h.some in
-        subst (λ x. IsJudged keeps frame x (Ok (devices, kept.records))) (the_value d value)
+        subst (λ x. IsJudged keeps frame x (Ok (devices, kept))) (the_value d value)
         (record {
-          accepted = accepted (subst (λ x. Settles frame x kept) h.left_is s);
+          accepted = accepted names kept k (subst (λ x. Settles frame x names) h.left_is s);
           devices = is ∙ ap (λ e. (report_of frame.contests e).devices) h.left_is
               ∙ ap (λ r. r.devices) (sym apart);
-          kept = subst (λ r. keeps r.cvrs kept.records) (sym apart) (k.records s.settled);
+          kept = subst (λ r. keeps r.cvrs kept) (sym apart) k.records;
           err = tt;
         })
 
@@ -228,22 +232,27 @@ module _ (frame : Frame) (text : List ℕ) (left : Data) (h : HasForms text left
           ((cvr_law (scope_of all) d).1
           (all_is.0.references.cvrs d (rw (records_there ds ms h.some) at)))
 
-      settled : Settles frame (object ms) kept
-      settled =
+      all_own : All (NamesOwn frame) ds
+      all_own =
           let contests = sym (own_contests frame text ds ms h.whole whole left_is.0 left_is.1 of) in
-          let is = k.settled.1 (all_settled frame (own ms) ds contests
-          (agreed_wider frame (object ms) left_is.1 contests).elections named_there) in
-          record {
-            settled = is;
-            sound = (sound (object ms)).1 left_is.0;
-            agrees = (agreement frame (object ms)).1 left_is.1;
-            listed = all_listed (object ms) ds kept.names (k.names is) named_there;
-          }
+          all_settled frame (own ms) ds contests
+          (agreed_wider frame (object ms) left_is.1 contests).elections named_there
 
-    pub unsettled : (Settles frame left kept → ⊥) → Refuses frame text
-    unsettled never d value none =
-        never (subst (λ x. Settles frame x kept) (sym h.left_is)
-        (settled (ap (value_refusal frame) (the_value d value) ∙ none)))
+      settled : (names : RecordNames) → AreNamed ds names → Settles frame (object ms) names
+      settled names are = record {
+        sound = (sound (object ms)).1 left_is.0;
+        agrees = (agreement frame (object ms)).1 left_is.1;
+        listed = all_listed (object ms) ds names are named_there;
+      }
+
+    pub unsettled : (seen : Seen T) → IsKept keeps frame ds seen → fraction_seen seen ≡ None
+        → fault_seen seen ≡ None → (Accepts frame left seen → ⊥) → Refuses frame text
+    unsettled (Right names kept) k whole right never d value none =
+        never (subst (λ x. Settles frame x names) (sym h.left_is)
+        (settled (ap (value_refusal frame) (the_value d value) ∙ none) names k.names))
+    unsettled Unsettled k whole right never d value none =
+        k (all_own (ap (value_refusal frame) (the_value d value) ∙ none))
+    unsettled seen k whole right never d value none = absurd (cc)
 
 -- ---- what is left, and the records
 
@@ -270,8 +279,8 @@ Parts keeps frame text left seen = record {
   seen_is : IsSeen keeps frame ds seen;
 }
 
-module _ {T : Type 0} (keeps : List Cvr → T → Type 0) (frame : Frame) (text : List ℕ) (left : Data)
-    (seen : Seen T) (h : IsFolded (IsSeen keeps frame) text records left seen) where
+module _ {T : Type 0} {keeps : List Cvr → T → Type 0} {frame : Frame} {left : Data} {seen : Seen T}
+    (text : List ℕ) (h : IsFolded (IsSeen keeps frame) text records left seen) where
   parts_at : is_array (get records left) ≡ true
       → IsBeside records h.0 (items_under records h.0) (left_beside records h.0)
       → Parts keeps frame text left seen
@@ -293,10 +302,10 @@ module _ {T : Type 0} (keeps : List Cvr → T → Type 0) (frame : Frame) (text 
   whole_at none (inr q) = let e = rw (h.2 ∙ q.1, q.2) at none in absurd (cc)
 
   -- no array stands there, so what is left is all
-  pub judged_whole : (answer : Result (List ReportingDevice × T) ReadFault)
+  pub judged_whole : {answer : Result (List ReportingDevice × T) ReadFault}
       → is_array (get records left) ≡ false → IsJudged keeps frame left answer → (d : Data)
       → read text ≡ Some d → IsJudged keeps frame d answer
-  judged_whole answer none j d value =
+  judged_whole {answer} none j d value =
       let same : h.0 ≡ d = cc in
       subst (λ x. IsJudged keeps frame x answer) (whole_at none (beside records h.0 h.4) ∙ same) j
 
@@ -311,15 +320,12 @@ module _ {T : Type 0} (keeps : List Cvr → T → Type 0) (frame : Frame) (text 
     emptied_left = subst (λ x. array_at records x ≡ []) (sym p.left_is)
         (subst (λ xs. array_at records (object xs) ≡ []) p.emptied (records_there [] p.ms p.some))
 
-    abbrev fault : Option Fault
-    fault = option_map fault_of seen.form
-
     law : option_map refusal_of (form.first (document_faults (with_records p.ds p.ms)))
-        ≡ form_refusal left seen.fraction fault
-    law = form_law keeps frame p.ds p.ms seen p.seen_is p.emptied p.some
-        ∙ ap (λ d. form_refusal d seen.fraction fault) (sym p.left_is)
+        ≡ form_refusal left seen
+    law = form_law p.ds p.ms seen p.seen_is p.some p.emptied
+        ∙ ap (λ d. form_refusal d seen) (sym p.left_is)
 
-    pub judged_form : (e : ReadFault) → form_refusal left seen.fraction fault ≡ Some e → (d : Data)
+    pub judged_form : (e : ReadFault) → form_refusal left seen ≡ Some e → (d : Data)
         → read text ≡ Some d → IsJudged keeps frame d (Err e)
     judged_form e is d value =
         let whole = p.whole in
@@ -331,10 +337,9 @@ module _ {T : Type 0} (keeps : List Cvr → T → Type 0) (frame : Frame) (text 
           err = λ other. rw (← same, law, is) (refl {a = Some e});
         }
 
-    right_kept : seen.fraction ≡ None → seen.form ≡ None → document_faults left ≡ []
-        → (h : HasForms text left) × AreKept keeps frame h.records seen.kept
+    right_kept : fraction_seen seen ≡ None → fault_seen seen ≡ None → document_faults left ≡ []
+        → (h : HasForms text left) × IsKept keeps frame h.records seen
     right_kept whole right rest =
-        let kept = p.seen_is.whole whole in
         let own : document_faults (object p.ms) ≡ [] =
         ap document_faults (sym p.left_is) ∙ rest in (
           record {
@@ -344,43 +349,42 @@ module _ {T : Type 0} (keeps : List Cvr → T → Type 0) (frame : Frame) (text 
             left_is = p.left_is;
             emptied = p.emptied;
             some = p.some;
-            sound = records_right keeps frame p.ds p.ms seen p.seen_is p.emptied p.some whole right
-                own;
+            sound = records_right p.ds p.ms seen p.seen_is p.some p.emptied whole right own;
             rest = own;
           },
-          kept.kept right,
+          p.seen_is.kept,
         )
 
     module _ (of : IsFrame frame) where
-      pub judged_accepted : (devices : List ReportingDevice) → Accepts frame left seen
+      pub judged_accepted : (devices : List ReportingDevice) (names : RecordNames) (kept : T)
+          → seen ≡ Right names kept → Accepts frame left seen
           → devices ≡ (report_of frame.contests left).devices → (d : Data) → read text ≡ Some d
-          → IsJudged keeps frame d (Ok (devices, seen.kept.records))
-      judged_accepted devices a is =
-          let k = right_kept a.whole a.form a.settles.sound.0 in
-          judged_joined frame text left k.0 keeps seen.kept k.1 of devices a.settles is
+          → IsJudged keeps frame d (Ok (devices, kept))
+      judged_accepted devices names kept same a is =
+          let s : Settles frame left names = subst (Accepts frame left) same a in
+          let k = right_kept (ap fraction_seen same) (ap fault_seen same) s.sound.0 in
+          judged_joined frame text left k.0 keeps of names kept
+          (subst (IsKept keeps frame k.0.records) same k.1) devices s is
 
       -- what has no fault of numbers or form, and isn't accepted, is refused for a name or an
       -- object
-      pub refused_for_names : (Accepts frame left seen → ⊥)
-          → form_refusal left seen.fraction fault ≡ None → HasForms text left × Refuses frame text
+      pub refused_for_names : (Accepts frame left seen → ⊥) → form_refusal left seen ≡ None
+          → HasForms text left × Refuses frame text
       refused_for_names never none =
           let sound : document_faults (with_records p.ds p.ms) ≡ [] =
           none_right _ (unmapped refusal_of _ (law ∙ none)) in
-          let apart =
-          either _ _ (ap (λ d. form_refusal d seen.fraction fault) (sym p.left_is) ∙ none) in
-          let faults : first_of_file (object p.ms) fault ≡ None = unmapped refusal_of _ apart.1 in
+          let apart = either _ _ (ap (λ d. form_refusal d seen) (sym p.left_is) ∙ none) in
+          let faults : first_of_file (object p.ms) (fault_seen seen) ≡ None =
+          unmapped refusal_of _ apart.1 in
           let by_class = either _ _ (either _ _ faults).1 in
           let by_record = either _ _ by_class.1 in
-          let unfaulted : seen.form ≡ None =
-          unmapped fault_of _ (unmapped (deeper_fault (at_member records)) _ by_record.0) in
-          let whole : seen.fraction ≡ None =
-          no_fraction_seen keeps frame p.ds p.ms seen p.seen_is p.some sound in
-          let k = right_kept whole unfaulted
-          (ap document_faults p.left_is ∙ none_right _ by_record.1) in (
-            k.0,
-            unsettled frame text left k.0 keeps seen.kept k.1 of
-                (λ s. never (record { whole = whole; form = unfaulted; settles = s })),
-          )
+          let right : fault_seen seen ≡ None =
+          unmapped (deeper_fault (at_member records)) _ by_record.0 in
+          let whole : fraction_seen seen ≡ None =
+          no_fraction_seen p.ds p.ms seen p.seen_is p.some sound in
+          let k = right_kept whole right
+          (ap document_faults p.left_is ∙ none_right _ by_record.1) in
+          (k.0, unsettled frame text left k.0 keeps of seen k.1 whole right never)
 
 -- ---- the file
 

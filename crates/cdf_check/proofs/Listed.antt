@@ -1,7 +1,7 @@
 -- A value with the lists of its definition: what is left to look at says whether it is sound and
 -- agrees, and lists what its records name.
-use Rattle.std.proofs.Common.{◌≡◌, ◌↔◌, inl, inr, ℕ, List, [], ◌∷◌, map, Bool, true, false}
-use Rattle.std.proofs.Common.{◌||◌, Contains, None, Result, Ok, Err, bytes_eq, codes, refl, sym, ap, ◌∙◌, subst}
+use Rattle.std.proofs.Common.{◌≡◌, ◌↔◌, inl, inr, ℕ, List, [], ◌∷◌, map, Bool, true, false, subst}
+use Rattle.std.proofs.Common.{◌||◌, Contains, Result, Ok, Err, bytes_eq, codes, refl, sym, ap, ◌∙◌}
 use Rattle.std.specs.Prelude.{option_and_then, option_map, unwrap_or, IfOk, IsTrue}
 use Rattle.std.specs.List.{list_any}
 use Rattle.std.proofs.Math.Logic.{∥∥₁_elim}
@@ -20,10 +20,10 @@ use Rattle.cdf_definition.specs.Acceptance.{IsReport}
 use Rattle.cdf_definition.specs.Sound.{IsSound}
 use Rattle.cdf_definition.specs.Lists.{SameLists, HasLists, HasRest}
 use Rattle.cdf_definition.proofs.Laws.{agreement, rest_law, rest_of_report, sound}
+use Rattle.cdf_check.specs.declared.record_names.RecordNames.{RecordNames}
 use Rattle.cdf_check.specs.Laws.{IsListOf}
 use Rattle.cdf_check.specs.Within.{lists, RestSettles}
-use Rattle.cdf_check.specs.declared.seen.Seen.{Seen}
-use Rattle.cdf_check.specs.Seen.{Accepts}
+use Rattle.cdf_check.specs.Seen.{Settles}
 use Rattle.cdf_check.proofs.Entries.{IsAmong, among_from, from_among, alone_by_id}
 use Rattle.cdf_check.proofs.Listing.{lists as lists_law}
 
@@ -178,31 +178,24 @@ module _ (f : Frame) (d : Data) (h : HasLists f d) (none : array_at (codes "CVR"
   parties_are ts = same_if _ _ (λ wrong. never h (λ q.
       wrong (parties_listed f q.0 d q.2 ((sound q.0).0 q.1) q.3 ts)))
 
-  -- what settles is accepted, where the records have no fault and all else that they name is
-  -- settled, and the other way round
-  pub accepts_rest : {T : Type 0} (seen : Seen T) → seen.fraction ≡ None → seen.form ≡ None
-      → seen.kept.settled ≡ true → RestSettles f d seen.kept.names ↔ Accepts f d seen
-  accepts_rest seen whole form settled = (
+  -- what is left settles the names by its rest, and the other way round
+  pub settles_rest : (names : RecordNames) → RestSettles f d names ↔ Settles f d names
+  settles_rest names = (
     (λ r. record {
-      whole = whole;
-      form = form;
-      settles = record {
-        settled = settled;
-        sound = sound_rest r.rest;
-        agrees = agrees_with;
-        listed = record {
-          devices = r.devices;
-          units = sym (units_are seen.kept.names.units) ∙ r.units;
-          parties = sym (parties_are seen.kept.names.parties) ∙ r.parties;
-        };
+      sound = sound_rest r.rest;
+      agrees = agrees_with;
+      listed = record {
+        devices = r.devices;
+        units = sym (units_are names.units) ∙ r.units;
+        parties = sym (parties_are names.parties) ∙ r.parties;
       };
     }),
-    λ a.
-        let s = a.settles in record {
+    λ s.
+        record {
           rest = rest_of_report d ((sound d).0 s.sound);
           devices = s.listed.devices;
-          units = units_are seen.kept.names.units ∙ s.listed.units;
-          parties = parties_are seen.kept.names.parties ∙ s.listed.parties;
+          units = units_are names.units ∙ s.listed.units;
+          parties = parties_are names.parties ∙ s.listed.parties;
         },
   )
 

@@ -1,6 +1,6 @@
 -- One record more is read.
 use Rattle.std.proofs.Common.{◌≡◌, ℕ, ◌+◌, List, [], ◌∷◌, ◌++◌, length, map, Option, None, Some}
-use Rattle.std.proofs.Common.{option_map, true, false, refl, sym, ◌∙◌, ◌<◌, ◌^◌, arith}
+use Rattle.std.proofs.Common.{All, option_map, false, refl, sym, ◌∙◌, ◌<◌, ◌^◌, arith}
 use Rattle.std.proofs.lemmas.List.{append-nil, length-append, length-map, append_assoc, map-append}
 use Rattle.std.proofs.lemmas.List.Elements.{All-push, All-pop}
 use Rattle.std.specs.Option.{option_or}
@@ -13,21 +13,24 @@ use Rattle.cdf_form.specs.declared.table.Leaf.TheVariants as leaf
 use Rattle.cdf_form.specs.declared.table.Key.TheVariants as key
 use Rattle.cdf_form.specs.Form.{Step, Fault, at_item, deeper_fault, under, first, float_faults}
 use Rattle.cdf_form.specs.Form.{items_floats, items_faults}
-use Rattle.cdf_form.specs.Found.{fault_of, path_of}
+use Rattle.cdf_form.specs.Found.{path_of}
 use Rattle.cdf_form.specs.Records.{cvr_faults, cvrs_faults}
 use Rattle.cdf_form.proofs.Laws.{whole_of}
 use Rattle.cdf_form.proofs.Lemmas.{first-under}
 use Rattle.cdf_typed.specs.Typed.{cvr_of}
 use Rattle.cdf_form.specs.declared.found.Path.{Path as Found}
-use Rattle.cdf_check.specs.declared.seen.Kept.{Kept}
+use Rattle.cdf_check.specs.declared.record_names.RecordNames.{RecordNames}
 use Rattle.cdf_check.specs.declared.seen.Seen.{Seen}
+use Rattle.cdf_check.specs.declared.seen.Seen.TheVariants.{Right, Unsettled, Form, Fraction}
+use Rattle.cdf_types.specs.declared.body.Body.{Body}
+use Rattle.cdf_form.specs.declared.found.Found.{Found as Told}
 use Rattle.cdf_definition.specs.Paths as paths
 use Rattle.cdf_definition.specs.Paths.{Path, below, below_each}
 use Rattle.cdf_definition.specs.Frame.{Frame}
 use Rattle.cdf_check.specs.Within.{AreNamed}
 use Rattle.cdf_definition.specs.Naming.{NamesOwn}
-use Rattle.cdf_check.specs.Seen.{in_file, AreKept, AreWhole, IsSeen}
-use Rattle.cdf_definition.proofs.Lemmas.{none_right}
+use Rattle.cdf_check.specs.Seen.{in_file, fraction_seen, fault_seen, AreKept, IsKept, IsSeen}
+use Rattle.cdf_definition.proofs.Lemmas.{either, none_right}
 use Rattle.cdf_definition.proofs.Lemmas.{first_below, first_or}
 
 pub or_none : {A : Type 0} (o p q : Option A) → o ≡ None → q ≡ p → q ≡ option_or o p
@@ -91,82 +94,64 @@ module _ (ds : List Data) (d : Data) (place : ℕ) (at : place ≡ length ds) wh
 pub whole_first : (d : Data) → first (float_faults d) ≡ None → has_float d ≡ false
 whole_first d none = whole_of d (none_right (float_faults d) none)
 
--- ---- what they name
+-- ---- what is seen
 
-module _ {T : Type 0} (keeps : List Cvr → T → Type 0) (frame : Frame) (ds : List Data)
-    (d : Data) where
-  -- what is kept where a record was refused before
-  pub kept_none : (kept : Kept T) → AreKept keeps frame ds kept → (kept.settled ≡ true → ⊥)
-      → AreKept keeps frame (ds ++ d ∷ []) kept
-  kept_none kept h never =
-      record {
-        settled = (
-          (λ is. absurd (never is)),
-          λ all.
-              absurd (never (h.settled.1 (All-pop (NamesOwn frame) (ds ++ d ∷ []) ds (Some d) refl
-              all).0)),
-        );
-        names = λ is. absurd (never is);
-        records = λ is. absurd (never is);
-      }
+pub no_fraction : {T : Type 0} (seen : Seen T) → ((path : Body) → seen ≡ Fraction path → ⊥)
+    → fraction_seen seen ≡ None
+no_fraction (Fraction path) other = absurd (other path refl)
+no_fraction seen other = refl
 
-  -- where this one is
-  pub kept_refused : (more : Kept T) → (NamesOwn frame d → ⊥) → (more.settled ≡ true → ⊥)
-      → AreKept keeps frame (ds ++ d ∷ []) more
-  kept_refused more other never =
-      record {
-        settled = (
-          (λ is. absurd (never is)),
-          λ all.
-              absurd (other (All-pop (NamesOwn frame) (ds ++ d ∷ []) ds (Some d) refl all).1),
-        );
-        names = λ is. absurd (never is);
-        records = λ is. absurd (never is);
-      }
+pub no_fault : {T : Type 0} (seen : Seen T) → ((found : Told) → seen ≡ Form found → ⊥)
+    → fault_seen seen ≡ None
+no_fault (Form found) other = absurd (other found refl)
+no_fault seen other = refl
 
+-- one names what is neither
+pub never_more : (frame : Frame) (ds : List Data) (d : Data)
+    → (All (NamesOwn frame) ds → NamesOwn frame d → ⊥) → All (NamesOwn frame) (ds ++ d ∷ []) → ⊥
+never_more frame ds d never all =
+    let own = All-pop (NamesOwn frame) (ds ++ d ∷ []) ds (Some d) refl all in never own.0 own.1
+
+module _ {T : Type 0} {keeps : List Cvr → T → Type 0} {frame : Frame} {ds : List Data} (d : Data)
+    {place : ℕ} (at : place ≡ length ds) where
   -- what is kept of one record more
-  pub kept_more : (kept more : Kept T) (place : ℕ) → place ≡ length ds → AreKept keeps frame ds kept
-      → kept.settled ≡ true → NamesOwn frame d → more.settled ≡ kept.settled
-      → (AreNamed ds kept.names → AreNamed (ds ++ d ∷ []) more.names)
-      → ((cs : List Cvr) → place ≡ length cs → keeps cs kept.records
-      → keeps (cs ++ cvr_of frame.contests d ∷ []) more.records)
-      → AreKept keeps frame (ds ++ d ∷ []) more
-  kept_more kept more place at h is own same names records =
+  pub kept_more : {names more : RecordNames} {kept next : T} → AreKept keeps frame ds names kept
+      → NamesOwn frame d → (AreNamed ds names → AreNamed (ds ++ d ∷ []) more)
+      → ((cs : List Cvr) → place ≡ length cs → keeps cs kept
+      → keeps (cs ++ cvr_of frame.contests d ∷ []) next)
+      → AreKept keeps frame (ds ++ d ∷ []) more next
+  kept_more h own named records =
       record {
-        settled = ((λ _. All-push (NamesOwn frame) ds d (h.settled.0 is) own), λ _. same ∙ is);
-        names = λ _. names (h.names is);
-        records = λ _. rw map-append (records (map (cvr_of frame.contests) ds)
-            (at ∙ sym (length-map ds (cvr_of frame.contests))) (h.records is));
+        settled = All-push (NamesOwn frame) ds d h.settled own;
+        names = named h.names;
+        records = rw map-append (records (map (cvr_of frame.contests) ds)
+            (at ∙ sym (length-map ds (cvr_of frame.contests))) h.records);
       }
 
-  -- ---- what is seen
-
-  -- what is seen of one record more, where each number before it is whole
-  pub seen_more : (seen more : Seen T) (place : ℕ) → IsSeen keeps frame ds seen
-      → seen.fraction ≡ None → place ≡ length ds
-      → more.fraction ≡ option_map (λ f. in_file (deeper_fault (at_item place) f))
-      (first (float_faults d))
-      → (AreWhole keeps frame ds seen → more.fraction ≡ None
-      → AreWhole keeps frame (ds ++ d ∷ []) more) → IsSeen keeps frame (ds ++ d ∷ []) more
-  seen_more seen more place h none at told whole =
-      record {
-        fraction = cc (h.fraction, fraction_next ds d place at);
-        whole = whole (h.whole none);
-      }
-
-  -- and where its own are whole
-  pub whole_more : (seen more : Seen T) (place : ℕ) → place ≡ length ds → place < 2 ^ 63
-      → option_map fault_of more.form ≡ option_or (option_map fault_of seen.form)
-      (option_map (deeper_fault (at_item place)) (first (cvr_faults d)))
-      → AreWhole keeps frame ds seen → (more.form ≡ None
-      → AreKept keeps frame (ds ++ d ∷ []) more.kept) → AreWhole keeps frame (ds ++ d ∷ []) more
-  whole_more seen more place at short told h kept =
+  -- what is seen of one record more
+  pub seen_more : {seen more : Seen T} → place < 2 ^ 63 → IsSeen keeps frame ds seen
+      → fraction_seen more ≡ option_or (fraction_seen seen)
+      (option_map (λ f. in_file (deeper_fault (at_item place) f)) (first (float_faults d)))
+      → (fraction_seen more ≡ None → fault_seen more ≡ option_or (fault_seen seen)
+      (option_map (deeper_fault (at_item place)) (first (cvr_faults d))))
+      → IsKept keeps frame (ds ++ d ∷ []) more → IsSeen keeps frame (ds ++ d ∷ []) more
+  seen_more short h fraction form kept =
       let n = length-append ds (d ∷ []) in
       record {
         few = omega (arith, n, at, short);
-        form = cc (h.form, form_next ds d place at);
+        fraction = cc (h.fraction, fraction, fraction_next ds d place at);
+        form = λ none.
+            cc (h.form (either _ _ (sym fraction ∙ none)).0, form none, form_next ds d place at);
         kept = kept;
       }
+
+-- what is kept where one named what is neither before
+pub kept_before : {T : Type 0} (keeps : List Cvr → T → Type 0) (frame : Frame) (ds : List Data)
+    (d : Data) (seen : Seen T) → ((names : RecordNames) (kept : T) → seen ≡ Right names kept → ⊥)
+    → IsKept keeps frame ds seen → IsKept keeps frame (ds ++ d ∷ []) seen
+kept_before keeps frame ds d (Right names kept) other h = absurd (other names kept refl)
+kept_before keeps frame ds d Unsettled other h = never_more frame ds d (λ all _. h all)
+kept_before keeps frame ds d seen other h = tt
 
 -- where the first path wasn't found, there is none
 pub no_path : (o : Option Found) (ps : List paths.Path) → option_map path_of o ≡ first ps → o ≡ None

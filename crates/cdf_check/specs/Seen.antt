@@ -1,8 +1,8 @@
 -- What is seen of the records of a file as it is read, and why the file is refused, by that and by
 -- what is left beside the records. (This project's own.)
-use Rattle.std.specs.Prelude.{◌≡◌, ◌↔◌, ◌≤◌, ℕ, List, [], ◌∷◌, length, map, Option, None, Some}
+use Rattle.std.specs.Prelude.{◌≡◌, ◌≤◌, ℕ, List, [], ◌∷◌, length, map, Option, None, Some}
 use Rattle.std.specs.Prelude.{option_map, option_and_then, Result, IfOk, IfErr, OnOk, IsSome, codes}
-use Rattle.std.specs.Prelude.{if◌then◌else◌, bytes_eq, Bool, true, false}
+use Rattle.std.specs.Prelude.{if◌then◌else◌, bytes_eq, Bool, true, false, ⊤}
 use Rattle.std.specs.List.{All}
 use Rattle.std.specs.Option.{option_or}
 use Rattle.serde_json.specs.Data.{Data, array, object, no_items, Members, no_members, member}
@@ -26,8 +26,9 @@ use Rattle.cdf_form.specs.Path.{path_text}
 use Rattle.cdf_form.specs.Reading.{refusal_of, IsMemory, document_faults}
 use Rattle.cdf_form.specs.Records.{cvrs_faults}
 use Rattle.cdf_typed.specs.Typed.{cvr_of, report_of}
-use Rattle.cdf_check.specs.declared.seen.Kept.{Kept}
+use Rattle.cdf_check.specs.declared.record_names.RecordNames.{RecordNames}
 use Rattle.cdf_check.specs.declared.seen.Seen.{Seen}
+use Rattle.cdf_check.specs.declared.seen.Seen.TheVariants.{Right, Unsettled, Form, Fraction}
 use Rattle.cdf_definition.specs.Paths.{below_each}
 use Rattle.cdf_definition.specs.References.{Scope, in_cvr}
 use Rattle.cdf_definition.specs.Frame.{Frame}
@@ -66,37 +67,48 @@ first_of_file left fault =
     (option_or (option_map (deeper_fault (at_member (codes "CVR"))) fault)
     (form.first (document_faults left))))
 
+-- ---- what is seen of records
+
+-- the path of their first number that isn't whole
+abbrev pub fraction_seen : {T : Type 0} → Seen T → Option (List ℕ)
+fraction_seen (Fraction path) = Some path
+fraction_seen seen = None
+
+-- their first fault of form, where each number is whole
+abbrev pub fault_seen : {T : Type 0} → Seen T → Option Fault
+fault_seen (Form found) = Some (fault_of found)
+fault_seen seen = None
+
 -- the refusal for the first fault of numbers, or else of form, from what is left beside the records
--- and from the faults of these
-abbrev pub form_refusal : Data → Option (List ℕ) → Option Fault → Option ReadFault
-form_refusal left fraction fault =
+-- and from what is seen of these
+abbrev pub form_refusal : {T : Type 0} → Data → Seen T → Option ReadFault
+form_refusal left seen =
     option_and_then (λ ms. option_or (option_map (λ path. Schema path rule.NotWhole)
-    (file_fraction ms fraction)) (option_map refusal_of (first_of_file left fault)))
-    (as_object left)
+    (file_fraction ms (fraction_seen seen)))
+    (option_map refusal_of (first_of_file left (fault_seen seen)))) (as_object left)
 
--- ---- what is kept of records that have no fault of numbers or form
-
--- whether all that each record names is the definition's or its own, devices, units and parties
--- aside; and where it is, these three, and what is kept of the typed records
+-- all that each record names is the definition's or its own, devices, units and parties aside;
+-- these three, and what is kept of the typed records
 pub record AreKept {T : Type 0} (keeps : List Cvr → T → Type 0) (frame : Frame) (ds : List Data)
-    (kept : Kept T) : Type 0 where
-  pub settled : (kept.settled ≡ true) ↔ All (NamesOwn frame) ds
-  pub names : kept.settled ≡ true → AreNamed ds kept.names
-  pub records : kept.settled ≡ true → keeps (map (cvr_of frame.contests) ds) kept.records
+    (named : RecordNames) (kept : T) : Type 0 where
+  pub settled : All (NamesOwn frame) ds
+  pub names : AreNamed ds named
+  pub records : keeps (map (cvr_of frame.contests) ds) kept
 
--- for records whose numbers are whole: their first fault of form, and what is kept where they have
--- none
-pub record AreWhole {T : Type 0} (keeps : List Cvr → T → Type 0) (frame : Frame) (ds : List Data)
-    (seen : Seen T) : Type 0 where
-  pub few : length ds ≤ any
-  pub form : option_map fault_of seen.form ≡ first (cvrs_faults (items_of ds))
-  pub kept : seen.form ≡ None → AreKept keeps frame ds seen.kept
+-- of records that have no such fault: what is kept, or that one names what is neither
+abbrev pub IsKept : {T : Type 0} → (List Cvr → T → Type 0) → Frame → List Data → Seen T → Type 0
+IsKept keeps frame ds (Right names records) = AreKept keeps frame ds names records
+IsKept keeps frame ds Unsettled = ¬ All (NamesOwn frame) ds
+IsKept keeps frame ds seen = ⊤
 
--- the path of the records' first number that isn't whole; where there is none, `AreWhole` holds
+-- their first number that isn't whole is seen, or else their first fault of form; and what is kept
 pub record IsSeen {T : Type 0} (keeps : List Cvr → T → Type 0) (frame : Frame) (ds : List Data)
     (seen : Seen T) : Type 0 where
-  pub fraction : seen.fraction ≡ option_map in_file (first (float_faults (array (items_of ds))))
-  pub whole : seen.fraction ≡ None → AreWhole keeps frame ds seen
+  pub few : length ds ≤ any
+  pub fraction : fraction_seen seen
+      ≡ option_map in_file (first (float_faults (array (items_of ds))))
+  pub form : fraction_seen seen ≡ None → fault_seen seen ≡ first (cvrs_faults (items_of ds))
+  pub kept : IsKept keeps frame ds seen
 
 -- ---- what they name
 
@@ -130,19 +142,16 @@ HasForms text left = record {
   rest : document_faults (object members) ≡ [];
 }
 
--- what is left is sound and agrees, and lists each device, unit and party that the records name;
--- all else that they name is settled
-pub record Settles {T : Type 0} (frame : Frame) (left : Data) (kept : Kept T) : Type 0 where
-  pub settled : kept.settled ≡ true
+-- what is left is sound and agrees, and lists each device, unit and party that the records name
+pub record Settles (frame : Frame) (left : Data) (names : RecordNames) : Type 0 where
   pub sound : IsSound left
   pub agrees : disagreements frame left ≡ []
-  pub listed : ListsNamed left kept.names
+  pub listed : ListsNamed left names
 
--- the file is accepted: it settles, and its records have no fault
-pub record Accepts {T : Type 0} (frame : Frame) (left : Data) (seen : Seen T) : Type 0 where
-  pub whole : seen.fraction ≡ None
-  pub form : seen.form ≡ None
-  pub settles : Settles frame left seen.kept
+-- the file is accepted: its records are right, and what is left settles what they name
+abbrev pub Accepts : {T : Type 0} → Frame → Data → Seen T → Type 0
+Accepts frame left (Right names records) = Settles frame left names
+Accepts frame left seen = ⊥
 
 -- the value is refused
 abbrev pub Refuses : Frame → List ℕ → Type 0

@@ -57,17 +57,21 @@ fn first_fault<'a>(
 }
 
 // Why a file is refused for its numbers or its form, if it is.
-fn form_fault(
+fn form_fault<T: Drop>(
     alloc: Global,
     left: &Node<'_>,
-    fraction: Option<Body>,
-    form: Option<Found<'static>>,
+    seen: Seen<T>,
 ) -> Result<Option<ReadFault>, Memory>
-    ensures { IfOk result (λ made. made
-        ≡ form_refusal (view left.now) fraction (option_map fault_of form.entry)) }
+    ensures { IfOk result (λ made. made ≡ form_refusal (view left.now) seen) }
 {
     let Some(members) = left.as_object() else {
         return Ok(None);
+    };
+    let (fraction, form) = match seen {
+        Seen::Right(_names, _records) => (None, None),
+        Seen::Unsettled => (None, None),
+        Seen::Form(found) => (None, Some(found)),
+        Seen::Fraction(path) => (Some(path), None),
     };
     if let Some(path) = file_fraction(alloc, members, fraction)? {
         return Ok(Some(ReadFault::Schema {
@@ -141,16 +145,13 @@ fn is_accepted<T>(
     requires { array_at (codes "CVR") (view left.now) ≡ [] }
     ensures { IfOk result (λ is. IsTrue is ↔ Accepts definition.now (view left.now) seen.now) }
 {
-    if seen.fraction.is_some() || seen.form.is_some() || !seen.kept.settled {
+    let Seen::Right(names, _) = seen else {
         return Ok(false);
-    }
+    };
     if definition.has_lists(left) {
-        return rest_settles(alloc, definition, left, &seen.kept.names);
+        return rest_settles(alloc, definition, left, names);
     }
-    if !seen.kept.names.are_listed(alloc, left)? {
-        return Ok(false);
-    }
-    stands(alloc, definition, left)
+    Ok(names.are_listed(alloc, left)? && stands(alloc, definition, left)?)
 }
 
 // The reporting devices of a value without records, and what is kept of none.
@@ -206,18 +207,16 @@ where
         return judge_whole(alloc, definition, left, keep);
     }
     definition.made_of_a_report();
-    let is_accepted = is_accepted(alloc, definition, left, &seen)?;
-    let Seen {
-        fraction,
-        form,
-        kept,
-    } = seen;
-    if is_accepted {
-        return Ok((devices_in(alloc, definition, left)?, kept.records));
+    if !is_accepted(alloc, definition, left, &seen)? {
+        return match form_fault(alloc, left, seen)? {
+            Some(fault) => Err(fault),
+            None => Err(reference_fault(alloc, definition, text, left)?),
+        };
     }
-    drop(kept);
-    match form_fault(alloc, left, fraction, form)? {
-        Some(fault) => Err(fault),
-        None => Err(reference_fault(alloc, definition, text, left)?),
+    match seen {
+        Seen::Right(_names, records) => Ok((devices_in(alloc, definition, left)?, records)),
+        Seen::Unsettled => unreachable!(),
+        Seen::Form(_found) => unreachable!(),
+        Seen::Fraction(_path) => unreachable!(),
     }
 }

@@ -21,26 +21,18 @@ use cdf_pull::Fold;
 use cdf_types::{Body, Memory};
 use std::alloc::{AllocError, Global};
 
-/// What is kept of records, none of which has a fault of numbers or form.
+/// What is seen of the records of a file, in order: what is worse replaces what is better.
 #[derive(Drop)]
-pub(crate) struct Kept<T> {
-    /// Whether all that each names is the definition's or its own, devices, units, parties aside.
-    pub settled: bool,
-    /// The devices, units and parties that they name, where it is settled.
-    pub names: RecordNames,
-    /// What is kept of the typed records, where it is settled.
-    pub records: T,
-}
-
-/// What is seen of the records of a file, in order.
-#[derive(Drop)]
-pub(crate) struct Seen<T> {
+pub(crate) enum Seen<T> {
+    /// None has a fault of numbers or form, and all that each names is the definition's or its own,
+    /// devices, units and parties aside: these three, and what is kept of the typed records.
+    Right(RecordNames, T),
+    /// None has such a fault, and one names what is neither.
+    Unsettled,
+    /// Each number is whole: their first fault of form, from their array.
+    Form(Found<'static>),
     /// The path of their first number that isn't whole, from the file.
-    pub fraction: Option<Body>,
-    /// Their first fault of form, from their array, where each number is whole.
-    pub form: Option<Found<'static>>,
-    /// What is kept of them, where there is neither.
-    pub kept: Kept<T>,
+    Fraction(Body),
 }
 
 /// Looks at each record of a file, beside a definition, and keeps what is to be kept of it.
@@ -102,39 +94,6 @@ fn fraction_in(
     }
 }
 
-// Keeps the next record, which has no fault of numbers or form.
-fn keep_right<K: Keep>(
-    alloc: Global,
-    definition: &Definition,
-    keep: &K,
-    kept: &mut Kept<K::Kept>,
-    place: usize,
-    cvr: &Node<'_>,
-) -> Result<(), Memory>
-where
-    K::Kept: Drop,
-    requires whole { has_float (view cvr.now) ≡ false }
-    requires form { first (cvr_faults (view cvr.now)) ≡ None }
-    requires few { place < 2 ^ 63 }
-    ensures { OnOk result ((ds : List Data) → place ≡ length ds
-        → AreKept (K.keeps keep.now definition.now.contests) definition.now ds kept.old
-        → AreKept (K.keeps keep.now definition.now.contests) definition.now
-        (ds ++ view cvr.now ∷ []) kept.new) }
-{
-    if !kept.settled {
-        return Ok(());
-    }
-    if !names_own(alloc, definition, cvr)? {
-        // The file is refused, and none of its records is asked for.
-        kept.settled = false;
-        kept.records = keep.none(alloc);
-        return Ok(());
-    }
-    kept.names.add(alloc, cvr)?;
-    places_of_a_record();
-    keep.keep(alloc, definition.contests(), &mut kept.records, place, cvr)
-}
-
 impl<K: Keep> Fold for Looks<'_, K>
 where
     K::Kept: Drop,
@@ -145,15 +104,7 @@ where
         IsSeen (K.keeps s.keep.now s.definition.now.contests) s.definition.now ds seen };
 
     fn none(&self, alloc: Global) -> Seen<K::Kept> {
-        Seen {
-            fraction: None,
-            form: None,
-            kept: Kept {
-                settled: true,
-                names: RecordNames::new(alloc),
-                records: self.keep.none(alloc),
-            },
-        }
+        Seen::Right(RecordNames::new(alloc), self.keep.none(alloc))
     }
 
     fn take(
@@ -164,32 +115,30 @@ where
         item: Node<'_>,
         fraction: bool,
     ) -> Result<(), AllocError> {
-        if seen.fraction.is_some() {
+        if let Seen::Fraction(_) = seen {
             return Ok(());
         }
-        seen.fraction = fraction_in(alloc, place, fraction, &item)?;
-        if seen.fraction.is_some() {
-            // The file is refused, and none of its records is asked for.
-            seen.kept.records = self.keep.none(alloc);
+        if let Some(path) = fraction_in(alloc, place, fraction, &item)? {
+            *seen = Seen::Fraction(path);
             return Ok(());
         }
-        if seen.form.is_some() {
+        if let Seen::Form(_) = seen {
             return Ok(());
         }
-        let form = form_in(alloc, place, &item)?;
-        seen.form = form;
-        if seen.form.is_some() {
-            seen.kept.records = self.keep.none(alloc);
+        if let Some(found) = form_in(alloc, place, &item)? {
+            *seen = Seen::Form(found);
             return Ok(());
         }
-        keep_right(
-            alloc,
-            self.definition,
-            self.keep,
-            &mut seen.kept,
-            place,
-            &item,
-        )?;
+        if let Seen::Right(names, records) = seen {
+            if names_own(alloc, self.definition, &item)? {
+                names.add(alloc, &item)?;
+                places_of_a_record();
+                let contests = self.definition.contests();
+                self.keep.keep(alloc, contests, records, place, &item)?;
+            } else {
+                *seen = Seen::Unsettled;
+            }
+        }
         Ok(())
     }
 }
