@@ -49,7 +49,7 @@ impl Script {
 
 // The scripts. Each public call that can answer out of memory, and that no command makes, stands in
 // the name of one.
-static SCRIPTS: [(&str, Script); 16] = [
+static SCRIPTS: [(&str, Script); 17] = [
     ("check_report, facts_of, copies of facts", Script::Facts),
     ("ReadFault, as a sentence", Script::Faults),
     ("BodySet::new, BodySet::join, join_both", Script::Sets),
@@ -76,6 +76,7 @@ static SCRIPTS: [(&str, Script); 16] = [
         Script::Run(&["drill", "d", "2", "1=a", "1>2", "2>3", "2=b"]),
     ),
     ("read_words, a wrong word", Script::Run(&["taly", "d"])),
+    ("read_words, no words", Script::Run(&[])),
     (
         "read_words, a bad step",
         Script::Run(&["drill", "d", "2", "1=a", "x"]),
