@@ -25,8 +25,8 @@ import gen      # noqa: E402 (it stands there)
 
 COUNTED, HELD = 1600, 8000      # the records of the reports: 8 MB and 40 MB
 NOTED = {       # of a command the instructions for 8 MB, and the KiB with which 40 MB are read
-    'check': (309_674_014, 11_777),
-    'tally': (437_461_039, 71_496),
+    'check': (289_550_965, 11_764),
+    'tally': (417_205_784, 69_264),
 }
 ROOM = 1.1
 
