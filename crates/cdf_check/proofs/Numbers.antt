@@ -68,11 +68,11 @@ first_mapped s [] ys = refl
 first_mapped s (x ∷ xs) ys = refl
 
 module _ (ds : Items) (told : Option (List ℕ))
-    (is_told : option_map in_file (first (items_floats ds 0)) ≡ told) where
+    (is_printed : option_map in_file (first (items_floats ds 0)) ≡ told) where
   first_here : (b : Bool) (k : List ℕ) (d : Data) → bytes_eq k records ≡ b
       → option_map (λ f. path_text (at_member k ∷ f.path))
       (first (float_faults (if b then array ds else d))) ≡ (if b then told else member_fraction k d)
-  first_here true k d is = rw ((bytes_eq-Decides k records).0 is) is_told
+  first_here true k d is = rw ((bytes_eq-Decides k records).0 is) is_printed
   first_here false k d is = refl
 
   pub first_filled : (ms : Members) → option_map path_of

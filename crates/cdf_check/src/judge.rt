@@ -20,7 +20,7 @@ use crate::fractions::file_fraction;
 use crate::record_names::RecordNames;
 use crate::seen::Seen;
 use crate::unnamed::reference_fault;
-use cdf_definition::{Definition, Keep, check_value, has_rest, told_fault};
+use cdf_definition::{Definition, Keep, check_value, fault_refusal, has_rest};
 use cdf_form::float::find_float;
 use cdf_form::found::{Found, Step, Stop};
 use cdf_form::leaf::class_of;
@@ -82,7 +82,7 @@ fn form_fault<T: Drop>(
     match first_fault(alloc, left, form) {
         Ok(()) => Ok(None),
         Err(Stop::Memory(refused)) => Err(refused),
-        Err(Stop::Fault(found)) => Ok(Some(told_fault(alloc, &found)?)),
+        Err(Stop::Fault(found)) => Ok(Some(fault_refusal(alloc, &found)?)),
     }
 }
 

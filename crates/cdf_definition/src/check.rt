@@ -27,7 +27,7 @@ use std::alloc::Global;
 ///
 /// # Errors
 /// `Memory` where a growth was refused.
-pub fn told_fault(alloc: Global, found: &Found<'_>) -> Result<ReadFault, Memory>
+pub fn fault_refusal(alloc: Global, found: &Found<'_>) -> Result<ReadFault, Memory>
     ensures { IfOk result (λ e. e ≡ refusal_of (fault_of found.now)) }
 {
     Ok(ReadFault::Schema {
@@ -45,7 +45,7 @@ fn check_form(alloc: Global, value: &Node<'_>) -> Result<(), ReadFault>
     match document_fault(alloc, value) {
         Ok(()) => Ok(()),
         Err(Stop::Memory(refused)) => Err(refused.into()),
-        Err(Stop::Fault(found)) => Err(told_fault(alloc, &found)?),
+        Err(Stop::Fault(found)) => Err(fault_refusal(alloc, &found)?),
     }
 }
 

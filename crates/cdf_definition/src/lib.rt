@@ -19,7 +19,7 @@ mod scope;
 mod text;
 mod tree;
 
-pub use check::{check_value, told_fault};
+pub use check::{check_value, fault_refusal};
 pub use definition::Definition;
 pub use keep::Keep;
 pub use look::Look;

@@ -25,16 +25,16 @@ abbrev pub path_and_number : Fault → List ℕ × ℕ
 path_and_number f = (path_text f.path, number_of f.rule)
 
 -- all faults of a text's value
-abbrev pub all_told : List ℕ → Option (List (List ℕ × ℕ))
-all_told text = option_map (λ d. map path_and_number (document_faults d)) (read text)
+abbrev pub all_faults : List ℕ → Option (List (List ℕ × ℕ))
+all_faults text = option_map (λ d. map path_and_number (document_faults d)) (read text)
 
 -- the text's value has one fault: at this path, of the rule with this number
 abbrev pub HasOneFault : List ℕ → List ℕ → ℕ → Type 0
-HasOneFault text path number = all_told text ≡ Some ((path, number) ∷ [])
+HasOneFault text path number = all_faults text ≡ Some ((path, number) ∷ [])
 
 -- it has no fault
 abbrev pub TellsNothing : List ℕ → Type 0
-TellsNothing text = all_told text ≡ Some []
+TellsNothing text = all_faults text ≡ Some []
 
 -- ---- the report's parts
 

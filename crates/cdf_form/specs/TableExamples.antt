@@ -27,8 +27,8 @@ number_at name [] = 0
 number_at name (f ∷ fs) = if leads_to name f.path then number_of f.rule else number_at name fs
 
 -- that of an object of the class, with the text of one more member
-abbrev pub told_at : Group → List ℕ → List ℕ → List ℕ → ℕ
-told_at g type name more =
+abbrev pub number_with : Group → List ℕ → List ℕ → List ℕ → ℕ
+number_with g type name more =
     unwrap_or (option_map (λ d. number_at name (faults d (One (leaf.Object g)) key.Free))
     (read (codes "{\"@type\":\"CVR." ++ type ++ codes "\"" ++ more ++ codes "}"))) 0
 
@@ -42,10 +42,10 @@ with_value name value = codes ",\"" ++ name ++ codes "\":" ++ value
 abbrev pub answer_of : Group → List ℕ → List ℕ → Answer
 answer_of g type name = (
   name,
-  told_at g type name [],
-  told_at g type name (with_value name (codes "\"\"")),
-  told_at g type name (with_value name (codes "-1")),
-  told_at g type name (with_value name (codes "[\"\"]")),
+  number_with g type name [],
+  number_with g type name (with_value name (codes "\"\"")),
+  number_with g type name (with_value name (codes "-1")),
+  number_with g type name (with_value name (codes "[\"\"]")),
 )
 
 -- a class has just these members, and these are the answers
@@ -230,33 +230,33 @@ AnswersCandidate = HasAnswers group.Candidates class.Candidate (codes "Candidate
 -- ---- lists and repeats
 
 -- that number for a member with this value
-abbrev pub told_of : Group → List ℕ → List ℕ → List ℕ → ℕ
-told_of g type name value = told_at g type name (with_value name value)
+abbrev pub number_of_value : Group → List ℕ → List ℕ → List ℕ → ℕ
+number_of_value g type name value = number_with g type name (with_value name value)
 
 -- each list takes a text or texts that stand in it
 abbrev pub OwnTexts : Type 0
 OwnTexts = (
-    told_of group.Reports (codes "CastVoteRecordReport") (codes "ReportType")
+    number_of_value group.Reports (codes "CastVoteRecordReport") (codes "ReportType")
     (codes "[\"rcv-round\"]") ∷
-    told_of group.Reports (codes "CastVoteRecordReport") (codes "Version") (codes "\"1.0.0\"") ∷
-    told_of group.Snapshots (codes "CVRSnapshot") (codes "Status")
+    number_of_value group.Reports (codes "CastVoteRecordReport") (codes "Version") (codes "\"1.0.0\"") ∷
+    number_of_value group.Snapshots (codes "CVRSnapshot") (codes "Status")
     (codes "[\"needs-adjudication\"]") ∷
-    told_of group.Snapshots (codes "CVRSnapshot") (codes "Type") (codes "\"interpreted\"") ∷
-    told_of group.CvrContests (codes "CVRContest") (codes "Status") (codes "[\"undervoted\"]") ∷
-    told_of group.CvrContestSelections (codes "CVRContestSelection") (codes "Status")
+    number_of_value group.Snapshots (codes "CVRSnapshot") (codes "Type") (codes "\"interpreted\"") ∷
+    number_of_value group.CvrContests (codes "CVRContest") (codes "Status") (codes "[\"undervoted\"]") ∷
+    number_of_value group.CvrContestSelections (codes "CVRContestSelection") (codes "Status")
     (codes "[\"generated-rules\",\"needs-adjudication\"]") ∷
-    told_of group.SelectionPositions (codes "SelectionPosition") (codes "HasIndication")
+    number_of_value group.SelectionPositions (codes "SelectionPosition") (codes "HasIndication")
     (codes "\"unknown\"") ∷
-    told_of group.SelectionPositions (codes "SelectionPosition") (codes "IsAllocable")
+    number_of_value group.SelectionPositions (codes "SelectionPosition") (codes "IsAllocable")
     (codes "\"unknown\"") ∷
-    told_of group.SelectionPositions (codes "SelectionPosition") (codes "Status")
+    number_of_value group.SelectionPositions (codes "SelectionPosition") (codes "Status")
     (codes "[\"adjudicated\",\"generated-rules\"]") ∷
-    told_of group.Contests (codes "Contest") (codes "VoteVariation") (codes "\"borda\"") ∷ [])
+    number_of_value group.Contests (codes "Contest") (codes "VoteVariation") (codes "\"borda\"") ∷ [])
     ≡ 0 ∷ 0 ∷ 0 ∷ 0 ∷ 0 ∷ 0 ∷ 0 ∷ 0 ∷ 0 ∷ 0 ∷ []
 
 -- a snapshot's status is not this one, which a selection's may be
 abbrev pub OtherList : Type 0
-OtherList = told_of group.Snapshots (codes "CVRSnapshot") (codes "Status")
+OtherList = number_of_value group.Snapshots (codes "CVRSnapshot") (codes "Status")
     (codes "[\"generated-rules\"]") ≡ 4
 
 -- an array that has an object twice
@@ -270,29 +270,29 @@ with_id type = codes "{\"@id\":\"a\",\"@type\":\"CVR." ++ type ++ codes "\",\"Ty
 -- no object with an id may come twice in an array, nor a CVRContest; an annotation may
 abbrev pub Repeats : Type 0
 Repeats = (
-    told_of group.Reports (codes "CastVoteRecordReport") (codes "GpUnit")
+    number_of_value group.Reports (codes "CastVoteRecordReport") (codes "GpUnit")
     (twice (with_id (codes "GpUnit"))) ∷
-    told_of group.Reports (codes "CastVoteRecordReport") (codes "Party")
+    number_of_value group.Reports (codes "CastVoteRecordReport") (codes "Party")
     (twice (with_id (codes "Party"))) ∷
-    told_of group.Reports (codes "CastVoteRecordReport") (codes "ReportingDevice")
+    number_of_value group.Reports (codes "CastVoteRecordReport") (codes "ReportingDevice")
     (twice (with_id (codes "ReportingDevice"))) ∷
-    told_of group.Elections (codes "Election") (codes "Candidate")
+    number_of_value group.Elections (codes "Election") (codes "Candidate")
     (twice (with_id (codes "Candidate"))) ∷
-    told_of group.Elections (codes "Election") (codes "Contest") (twice (with_id (codes "Contest")))
+    number_of_value group.Elections (codes "Election") (codes "Contest") (twice (with_id (codes "Contest")))
     ∷
-    told_of group.Contests (codes "BallotMeasureContest") (codes "ContestSelection")
+    number_of_value group.Contests (codes "BallotMeasureContest") (codes "ContestSelection")
     (twice (with_id (codes "PartySelection"))) ∷
-    told_of group.Contests (codes "CandidateContest") (codes "ContestSelection")
+    number_of_value group.Contests (codes "CandidateContest") (codes "ContestSelection")
     (twice (with_id (codes "PartySelection"))) ∷
-    told_of group.Contests (codes "Contest") (codes "ContestSelection")
+    number_of_value group.Contests (codes "Contest") (codes "ContestSelection")
     (twice (with_id (codes "PartySelection"))) ∷
-    told_of group.Contests (codes "PartyContest") (codes "ContestSelection")
+    number_of_value group.Contests (codes "PartyContest") (codes "ContestSelection")
     (twice (with_id (codes "PartySelection"))) ∷
-    told_of group.Contests (codes "RetentionContest") (codes "ContestSelection")
+    number_of_value group.Contests (codes "RetentionContest") (codes "ContestSelection")
     (twice (with_id (codes "PartySelection"))) ∷
-    told_of group.Cvrs (codes "CVR") (codes "CVRSnapshot") (twice (with_id (codes "CVRSnapshot"))) ∷
-    told_of group.Snapshots (codes "CVRSnapshot") (codes "CVRContest")
+    number_of_value group.Cvrs (codes "CVR") (codes "CVRSnapshot") (twice (with_id (codes "CVRSnapshot"))) ∷
+    number_of_value group.Snapshots (codes "CVRSnapshot") (codes "CVRContest")
     (twice (codes "{\"@type\":\"CVR.CVRContest\",\"ContestId\":\"m\"}")) ∷
-    told_of group.Snapshots (codes "CVRSnapshot") (codes "Annotation")
+    number_of_value group.Snapshots (codes "CVRSnapshot") (codes "Annotation")
     (twice (with_id (codes "Annotation"))) ∷ [])
     ≡ 12 ∷ 12 ∷ 12 ∷ 12 ∷ 12 ∷ 12 ∷ 12 ∷ 12 ∷ 12 ∷ 12 ∷ 12 ∷ 13 ∷ 0 ∷ []

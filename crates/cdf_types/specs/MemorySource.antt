@@ -15,8 +15,8 @@ abbrev pub can_fail : SourceState → Bool
 can_fail s = not (s.fails_in == 0)
 
 -- as an example, a source of three bytes that fails at this call
-abbrev pub told_call : ℕ → SourceState
-told_call n = record { rest = 7 ∷ 8 ∷ 9 ∷ []; per_call = 2; fails_in = n; has_failed = false }
+abbrev pub failing_call : ℕ → SourceState
+failing_call n = record { rest = 7 ∷ 8 ∷ 9 ∷ []; per_call = 2; fails_in = n; has_failed = false }
 
 -- A call gave n bytes: as many as the buffer, one call and the rest allow, at the front of the
 -- buffer. Such a call is counted.

@@ -3,7 +3,7 @@ ghost use Rattle.std.specs.Prelude.{◌≡◌, ℤ, true, false};
 ghost use Rattle.std.specs.Ordering.{nat_cmp, int_cmp};
 ghost use Rattle.cdf_types.specs.Listed.{AreDistinct};
 ghost use Rattle.cdf_types.specs.Mark.{indication_text, allocation_text};
-ghost use Rattle.cdf_types.specs.MemorySource.{can_fail, told_call};
+ghost use Rattle.cdf_types.specs.MemorySource.{can_fail, failing_call};
 ghost use Rattle.cdf_types.specs.ReportKind.{report_kind_text};
 ghost use Rattle.cdf_types.specs.SnapshotKind.{snapshot_kind_text, snapshot_kind_rank};
 ghost use Rattle.cdf_types.specs.Status.{cvr_status_text, contest_status_text};
@@ -39,8 +39,8 @@ pub fn moments_are_ordered_by_time()
 
 /// Worked examples of sources in memory: one that fails at no call can't fail, and one that fails
 /// at its next call, or at its fourth, can.
-pub fn sources_fail_as_told()
-    ensures none { can_fail (told_call 0) ≡ false }
-    ensures next { can_fail (told_call 1) ≡ true }
-    ensures fourth { can_fail (told_call 4) ≡ true }
+pub fn sources_fail_where_set()
+    ensures none { can_fail (failing_call 0) ≡ false }
+    ensures next { can_fail (failing_call 1) ≡ true }
+    ensures fourth { can_fail (failing_call 4) ≡ true }
 {}

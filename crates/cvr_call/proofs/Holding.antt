@@ -52,7 +52,7 @@ noted held new path bytes lacks updates q =
     (λ same. rw (← (bytes_eq-Decides path q).0 same) (none_of _ lacks))
 
 -- what a look-up finds
-pub told : (found : Option (Bor (List ℕ))) (at : At) → at_of found ≡ at
+pub handed_over : (found : Option (Bor (List ℕ))) (at : At) → at_of found ≡ at
     → MatchOption found (at ≡ Absent) (λ bytes. at ≡ Has bytes.now)
-told None at is = sym is
-told (Some bytes) at is = sym is
+handed_over None at is = sym is
+handed_over (Some bytes) at is = sym is

@@ -17,12 +17,12 @@ use Rattle.cvr_call.specs.Responds.{IsAnswer, devices_with}
 
 tells : {U V : Type 0} (fault : LineFault) (status : Status) (old new : Outputs) → (U → V)
     → TellsWords fault status old new U → TellsWords fault status old new V
-tells fault status old new more told = record {
-  status = told.status;
-  quiet = λ help. more (told.quiet help);
-  whole = told.whole;
-  front = told.front;
-  log = told.log;
+tells fault status old new more handed_over = record {
+  status = handed_over.status;
+  quiet = λ help. more (handed_over.quiet help);
+  whole = handed_over.whole;
+  front = handed_over.front;
+  log = handed_over.log;
 }
 
 does : {U V : Type 0} (request : Request) (status : Status) (old new : Devices) → (U → V)
@@ -34,12 +34,12 @@ answers : {U V : Type 0} (words : List (List ℕ)) (status : Status) (old new : 
     → Answers words status old new U → Answers words status old new V
 answers words status old new more (inl (request, is, done)) =
     inl (request, is, does request status old new more done)
-answers words status old new more (inr (fault, is, opens, told)) =
-    inr (fault, is, opens, tells fault status _ _ more told)
+answers words status old new more (inr (fault, is, opens, handed_over)) =
+    inr (fault, is, opens, tells fault status _ _ more handed_over)
 
 listed : {U V : Type 0} (asked : ListedRequest) (status : Status) (old new : Devices) → (U → V)
     → AnswersListed asked status old new U → AnswersListed asked status old new V
-listed asked status old new more (inl (opens, told)) = inl (opens, tells _ status _ _ more told)
+listed asked status old new more (inl (opens, handed_over)) = inl (opens, tells _ status _ _ more handed_over)
 listed asked status old new more (inr (inl (same, logs))) = inr (inl (more same, logs))
 listed asked status old new more (inr (inr (text, read, is, done))) =
     inr (inr (text, read, is, does _ status _ new more done))

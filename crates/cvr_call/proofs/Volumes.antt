@@ -13,7 +13,7 @@ use Rattle.cvr_run.specs.declared.printing.PrintFault.{PrintFault}
 use Rattle.cvr_run.specs.declared.printing.PrintFault.TheVariants.{Merge, Device, Memory}
 use Rattle.cvr_cached.specs.Held.{Holding}
 use Rattle.cvr_call.specs.Offices.{Shows}
-use Rattle.cvr_call.specs.Told.{no_memory}
+use Rattle.cvr_call.specs.Left.{no_memory}
 use Rattle.cvr_call.specs.Volume.{ShowsOr, merge_status, volume_status}
 
 pub no_text : (bytes : List ℕ) → ¬ IsUtf8 bytes → is_utf8 bytes ≡ false

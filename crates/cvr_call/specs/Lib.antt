@@ -4,5 +4,5 @@ pub mod Held
 pub mod Offices
 pub mod Pieces
 pub mod Responds
-pub mod Told
+pub mod Left
 pub mod Volume

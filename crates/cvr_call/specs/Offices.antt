@@ -13,7 +13,7 @@ use Rattle.cvr_facts.specs.Reports.{facts}
 use Rattle.cvr_office.specs.Keeps.{starting_content}
 use Rattle.cvr_office.specs.Readers.{growth}
 use Rattle.cvr_cached.specs.Held.{Holding}
-use Rattle.cvr_call.specs.Told.{no_memory, no_room, put_into}
+use Rattle.cvr_call.specs.Left.{no_memory, no_room, put_into}
 use Rattle.cvr_call.specs.declared.refusal.CvrRefusal.{CvrRefusal}
 use Rattle.cvr_call.specs.declared.offices.CvrReceipt.{CvrReceipt}
 
@@ -73,25 +73,26 @@ fault_status fault.Memory = no_memory
 fault_status fault = refused
 
 -- a fault is reported: its numbers, and its path in a room as far as it fits, with its length
-pub record TellsFault (fault : ReadFault) (old new : List ℕ) (told : CvrRefusal) : Type 0 where
-  pub code : told.code ≡ code_number fault
-  pub rule : told.rule ≡ rule_number fault
+pub record TellsFault (fault : ReadFault) (old new : List ℕ) (handed_over : CvrRefusal)
+    : Type 0 where
+  pub code : handed_over.code ≡ code_number fault
+  pub rule : handed_over.rule ≡ rule_number fault
   pub path : new ≡ put_into old (fault_path fault)
-  pub size : told.path ≡ length (fault_path fault)
+  pub size : handed_over.path ≡ length (fault_path fault)
 
 -- the fault of a file is reported, if it has one
 abbrev pub TellsFirst : Option ReadFault → List ℕ → List ℕ → CvrRefusal → Type 0
-TellsFirst None old new told = ⊥
-TellsFirst (Some fault) old new told = TellsFault fault old new told
+TellsFirst None old new handed_over = ⊥
+TellsFirst (Some fault) old new handed_over = TellsFault fault old new handed_over
 
 -- ---- an import
 
 -- an office took in a file
-pub record TookIn (file : List ℕ) (told : CvrReceipt) (old new : Holding) : Type 0 where
+pub record TookIn (file : List ℕ) (handed_over : CvrReceipt) (old new : Holding) : Type 0 where
   pub content : new.content.facts ≡ union old.content.facts (facts file)
   pub valid : Valid old.content.frame file
-  pub cvrs : told.cvrs ≡ record_count (value_in file)
-  pub new_facts : told.new_facts ≡ growth old.content.facts (facts file)
+  pub cvrs : handed_over.cvrs ≡ record_count (value_in file)
+  pub new_facts : handed_over.new_facts ≡ growth old.content.facts (facts file)
 
 -- ---- a new office
 
@@ -104,10 +105,10 @@ pub record IsNew (file : List ℕ) (office : Holding) : Type 0 where
 -- ---- a join
 
 -- an office took in what another holds
-pub record Joined (theirs : Holding) (told : ℕ) (old new : Holding) : Type 0 where
+pub record Joined (theirs : Holding) (handed_over : ℕ) (old new : Holding) : Type 0 where
   pub content : new.content.facts ≡ union old.content.facts theirs.content.facts
   pub same : IsSame old.content.frame theirs.content.frame
-  pub new_facts : told ≡ growth old.content.facts theirs.content.facts
+  pub new_facts : handed_over ≡ growth old.content.facts theirs.content.facts
 
 -- ---- examples
 

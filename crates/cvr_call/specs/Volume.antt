@@ -9,7 +9,7 @@ use Rattle.cvr_run.specs.declared.merge.MergeFault.TheVariants.{NotMoment, NoDev
 use Rattle.cvr_run.specs.declared.status.Status.TheVariants as status
 use Rattle.cvr_cached.specs.Held.{Holding}
 use Rattle.cvr_call.specs.Offices.{Shows}
-use Rattle.cvr_call.specs.Told.{no_memory}
+use Rattle.cvr_call.specs.Left.{no_memory}
 
 -- ---- statuses, beside those of the other calls
 

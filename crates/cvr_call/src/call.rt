@@ -3,8 +3,8 @@ ghost use Rattle.std.specs.Prelude.{if◌then◌else◌};
 ghost use Rattle.cvr_run.specs.Status.{code_of};
 ghost use Rattle.cvr_call.specs.Given.{Given, IsInput};
 ghost use Rattle.cvr_call.specs.Responds.{Answer, IsAnswer};
-ghost use Rattle.cvr_call.specs.Told.{HasPut, IsUntold, Tells, no_input, no_memory, no_room};
-ghost use Rattle.cvr_call.specs.Told.{put_into};
+ghost use Rattle.cvr_call.specs.Left.{HasPut, IsUnanswered, Tells, no_input, no_memory, no_room};
+ghost use Rattle.cvr_call.specs.Left.{put_into};
 
 use crate::answer::answer_input;
 use cdf_types::MemorySink;
@@ -34,7 +34,7 @@ pub fn put(bytes: &[u8], room: &mut [u8]) -> bool
 }
 
 /// The status of a call that the program answered.
-pub fn code_told(status: Status, text_fits: bool, log_fits: bool) -> u8
+pub fn answer_code(status: Status, text_fits: bool, log_fits: bool) -> u8
     ensures { result ≡ (if text_fits && log_fits then code_of status else no_room) }
 {
     if text_fits && log_fits {
@@ -64,7 +64,7 @@ pub extern "C" fn cvr_call(
     log: &mut [u8],
     sizes: &mut CvrSizes,
 ) -> u8
-    ensures told { (given : Given) → IsInput input.now ends.now words given
+    ensures handed_over { (given : Given) → IsInput input.now ends.now words given
         → (result ≡ no_memory) ⊎ ((answer : Answer) × IsAnswer given answer
         × Tells answer (record { text = text.old; log = log.old })
         (record { text = text.new; log = log.new }) sizes.new result) }
@@ -74,8 +74,8 @@ pub extern "C" fn cvr_call(
         → (result ≡ no_input) ⊎ (result ≡ no_memory) }
     ensures left { HasPut (record { text = text.old; log = log.old })
         (record { text = text.new; log = log.new }) sizes.new }
-    ensures untold { result ≡ no_input
-        → IsUntold (record { text = text.old; log = log.old })
+    ensures nothing_handed_over { result ≡ no_input
+        → IsUnanswered (record { text = text.old; log = log.old })
         (record { text = text.new; log = log.new }) sizes.new }
     ensures within { result ≤ no_room }
 {
@@ -87,7 +87,7 @@ pub extern "C" fn cvr_call(
     sizes.text = out.taken().len();
     sizes.log = lines.taken().len();
     match answered {
-        Ok(status) => code_told(status, text_fits, log_fits),
+        Ok(status) => answer_code(status, text_fits, log_fits),
         Err(fault) => fault.code(),
     }
 }

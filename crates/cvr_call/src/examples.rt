@@ -1,7 +1,7 @@
 //! Worked examples: an input of three words and two files, rooms, a fault, and a volume.
 ghost use Rattle.cvr_call.specs.Given.{TallyCut};
 ghost use Rattle.cvr_call.specs.Offices.{PathOfTwo, TextOfTwo};
-ghost use Rattle.cvr_call.specs.Told.{RoomOfThree};
+ghost use Rattle.cvr_call.specs.Left.{RoomOfThree};
 ghost use Rattle.cvr_call.specs.Volume.{NoWords, OneOfThree};
 ghost use Rattle.cvr_cached.specs.Held.{Holding};
 

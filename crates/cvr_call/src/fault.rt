@@ -1,6 +1,6 @@
 ghost use Rattle.std.specs.Prelude.{◌≡◌};
 ghost use Rattle.cvr_call.specs.declared.fault.CallFault.TheVariants.{Memory as NoMemory};
-ghost use Rattle.cvr_call.specs.Told.{fault_code};
+ghost use Rattle.cvr_call.specs.Left.{fault_code};
 
 use cvr_cli::Status;
 use std::alloc::{AllocError, AllocFailed};

@@ -11,9 +11,9 @@ ghost use Rattle.cvr_call.specs.Handle.{Beside, Does, no_office};
 ghost use Rattle.cvr_call.specs.Offices.{IsAnswered, IsNew, Joined, Shows, ShowsUnless};
 ghost use Rattle.cvr_call.specs.Offices.{TellsFault, TellsFirst, TookIn};
 ghost use Rattle.cvr_call.specs.Offices.{done, other_definition, refused};
-ghost use Rattle.cvr_call.specs.Told.{no_memory, no_room};
+ghost use Rattle.cvr_call.specs.Left.{no_memory, no_room};
 
-use crate::call::{code_told, put};
+use crate::call::{answer_code, put};
 use crate::office::CvrOffice;
 use crate::refusal::{CvrRefusal, tell_refusal};
 use cdf_check::Definition;
@@ -203,18 +203,18 @@ pub fn tell_bytes(bytes: &[u8], room: &mut [u8], size: &mut usize) -> u8
     ensures { Shows bytes.now room.old room.new size.new result }
 {
     *size = bytes.len();
-    code_told(Status::Done, put(bytes, room), true)
+    answer_code(Status::Done, put(bytes, room), true)
 }
 
 // Puts a text into a room, with its length, and answers the status of the call.
-fn tell_text(told: Result<String, Memory>, room: &mut [u8], size: &mut usize) -> u8
-    ensures told { MatchResult told
+fn tell_text(handed_over: Result<String, Memory>, room: &mut [u8], size: &mut usize) -> u8
+    ensures handed_over { MatchResult handed_over
         (λ text. Shows (string_bytes text) room.old room.new size.new result)
         (λ _. result ≡ no_memory) }
     ensures quiet { result ≢ done → result ≢ no_room
         → (room.new ≡ room.old) × (size.new ≡ size.old) }
 {
-    match told {
+    match handed_over {
         Ok(text) => tell_bytes(text.as_bytes(), room, size),
         Err(_) => Status::Memory.code(),
     }

@@ -36,7 +36,7 @@ fn parts(fault: &ReadFault) -> (u8, u8, &str)
 
 /// Reports why a file was refused, with its path in a room, and answers the status of the call.
 pub fn tell_refusal(fault: &ReadFault, room: &mut [u8], refusal: &mut CvrRefusal) -> u8
-    ensures told { TellsFault fault.now room.old room.new refusal.new }
+    ensures handed_over { TellsFault fault.now room.old room.new refusal.new }
     ensures status { result ≡ fault_status fault.now }
 {
     let (code, rule, path) = parts(fault);

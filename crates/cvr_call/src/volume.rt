@@ -2,7 +2,7 @@ ghost use Rattle.std.specs.Prelude.{◌≡◌, ◌≢◌, MatchOption};
 ghost use Rattle.cvr_run.specs.Printing.{merge_part};
 ghost use Rattle.cvr_call.specs.Handle.{Does};
 ghost use Rattle.cvr_call.specs.Offices.{done};
-ghost use Rattle.cvr_call.specs.Told.{no_memory, no_room};
+ghost use Rattle.cvr_call.specs.Left.{no_memory, no_room};
 ghost use Rattle.cvr_call.specs.Volume.{ShowsVolume, merge_status};
 
 use crate::office::CvrOffice;

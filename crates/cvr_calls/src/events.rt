@@ -40,11 +40,11 @@ fn name_of(cause: &Cause) -> &'static str {
 
 // Writes the number of new facts, or the refusal.
 fn tell_outcome(text: &mut String, outcome: &Outcome) -> Result<(), Memory> {
-    let told = match outcome {
+    let printed = match outcome {
         Outcome::Accepted(count) => write!(text, "{count} "),
         Outcome::Refused(cause) => write!(text, "{} ", name_of(cause)),
     };
-    told?;
+    printed?;
     Ok(())
 }
 

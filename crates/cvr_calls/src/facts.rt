@@ -70,7 +70,7 @@ fn tell_report(
 }
 
 /// What is written of the facts of reports.
-pub fn told_facts(alloc: Global, files: &Files) -> Result<String, ReadFault> {
+pub fn printed_facts(alloc: Global, files: &Files) -> Result<String, ReadFault> {
     let definition = read_definition(alloc, files.definition.as_slice())?;
     let mut text = String::new(alloc);
     for report in &files.checked {
@@ -93,7 +93,7 @@ fn tell_faults_at(text: &mut String, alloc: Global, path: &str) -> Result<(), Me
 }
 
 /// How faults of another form are printed.
-pub fn told_faults(alloc: Global) -> Result<String, ReadFault> {
+pub fn printed_faults(alloc: Global) -> Result<String, ReadFault> {
     let mut text = String::new(alloc);
     tell_faults_at(&mut text, alloc, "/GpUnit/0")?;
     for fault in &[ReadFault::TooLong, ReadFault::NotJson, ReadFault::Memory] {
@@ -124,7 +124,7 @@ fn joined(alloc: Global) -> Result<BodySet, Memory> {
 }
 
 /// The bodies of a joined set.
-pub fn told_sets(alloc: Global) -> Result<String, ReadFault> {
+pub fn printed_sets(alloc: Global) -> Result<String, ReadFault> {
     let set = joined(alloc)?;
     let mut text = String::new(alloc);
     for place in 0..set.len() {

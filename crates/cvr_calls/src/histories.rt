@@ -103,7 +103,11 @@ fn tell_steps<O: Office>(
 }
 
 // What is written of a history in offices of a kind.
-fn told<O: Office + Drop>(alloc: Global, pool: &Pool, history: &str) -> Result<String, ReadFault> {
+fn printed<O: Office + Drop>(
+    alloc: Global,
+    pool: &Pool,
+    history: &str,
+) -> Result<String, ReadFault> {
     let (places, steps) = history.split_once('\n').ok_or(ReadFault::NotJson)?;
     let mut offices: Vec<O> = offices_at(alloc, pool, places)?;
     let mut text = String::new(alloc);
@@ -112,9 +116,9 @@ fn told<O: Office + Drop>(alloc: Global, pool: &Pool, history: &str) -> Result<S
 }
 
 // What is written of a history in plain offices; in those that remember only where it differs.
-fn told_by_both(alloc: Global, pool: &Pool, history: &str) -> Result<String, ReadFault> {
-    let mut text = told::<PlainOffice>(alloc, pool, history)?;
-    let cached = told::<CachedOffice>(alloc, pool, history)?;
+fn printed_by_both(alloc: Global, pool: &Pool, history: &str) -> Result<String, ReadFault> {
+    let mut text = printed::<PlainOffice>(alloc, pool, history)?;
+    let cached = printed::<CachedOffice>(alloc, pool, history)?;
     if text.as_str() != cached.as_str() {
         text.push_str("wrong: offices that remember tell\n")?;
         text.push_str(cached.as_str())?;
@@ -129,7 +133,7 @@ pub fn print_histories(rt: &HostRuntime) -> anyhow::Result<()> {
     let text = fs::read_to_string(rt, "histories.txt")?;
     println!(rt; "histories")?;
     for history in text.split("\n\n") {
-        print!(rt; "{}", told_by_both(rt.alloc(), &pool, history)?)?;
+        print!(rt; "{}", printed_by_both(rt.alloc(), &pool, history)?)?;
     }
     Ok(())
 }

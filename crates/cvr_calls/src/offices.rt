@@ -80,7 +80,10 @@ pub fn office_of<O: Office + Drop>(alloc: Global, files: &Files) -> Result<O, Re
 }
 
 /// What is written of an office that takes in the reports.
-pub fn told_imports<O: Office + Drop>(alloc: Global, files: &Files) -> Result<String, ReadFault> {
+pub fn printed_imports<O: Office + Drop>(
+    alloc: Global,
+    files: &Files,
+) -> Result<String, ReadFault> {
     let mut text = String::new(alloc);
     let mut office: O = new_office(alloc, files.definition.as_slice())?;
     take(&mut office, &files.reports, &mut text)?;
@@ -89,7 +92,7 @@ pub fn told_imports<O: Office + Drop>(alloc: Global, files: &Files) -> Result<St
 }
 
 /// The same of one that took in the first report, and takes in what one of all reports holds.
-pub fn told_join<O: Office + Drop>(alloc: Global, files: &Files) -> Result<String, ReadFault> {
+pub fn printed_join<O: Office + Drop>(alloc: Global, files: &Files) -> Result<String, ReadFault> {
     let mut text = String::new(alloc);
     let other: O = office_of(alloc, files)?;
     let mut office: O = new_office(alloc, files.definition.as_slice())?;

@@ -28,7 +28,7 @@ fn tell_first<O: Office>(alloc: Global, office: &O, text: &mut String) -> Result
 }
 
 /// What is written of all facts of a record with several headers, ids and bodies under one id.
-pub fn told_record<O: Office + Drop>(alloc: Global, files: &Files) -> Result<String, ReadFault> {
+pub fn printed_record<O: Office + Drop>(alloc: Global, files: &Files) -> Result<String, ReadFault> {
     let office: O = office_of(alloc, files)?;
     let mut text = String::new(alloc);
     tell_first(alloc, &office, &mut text)?;
@@ -61,7 +61,7 @@ fn tell_row_in<O: Office>(
 }
 
 /// What is written of rows, and of the totals.
-pub fn told_rows<O: Office + Drop>(alloc: Global, files: &Files) -> Result<String, ReadFault> {
+pub fn printed_rows<O: Office + Drop>(alloc: Global, files: &Files) -> Result<String, ReadFault> {
     let office: O = office_of(alloc, files)?;
     let mut text = String::new(alloc);
     tell_row_in(alloc, &office, "p1", &mut text)?;

@@ -25,7 +25,7 @@ struct Ran {
 
 impl Ran {
     // What the outputs took, or out of memory.
-    fn told(&self, alloc: Global) -> Result<String, ReadFault> {
+    fn printed(&self, alloc: Global) -> Result<String, ReadFault> {
         if self.status == Status::Memory || self.out.failed() || self.log.failed() {
             return Err(ReadFault::Memory);
         }
@@ -52,18 +52,22 @@ fn run_over(alloc: Global, request: &Request, files: &Files) -> Option<Ran> {
 }
 
 // What a request prints and logs.
-fn told_of_request(alloc: Global, request: &Request, files: &Files) -> Result<String, ReadFault> {
+fn printed_of_request(
+    alloc: Global,
+    request: &Request,
+    files: &Files,
+) -> Result<String, ReadFault> {
     match run_over(alloc, request, files) {
-        Some(ran) => ran.told(alloc),
+        Some(ran) => ran.printed(alloc),
         None => Err(ReadFault::NotJson),
     }
 }
 
 /// What the request of these words prints and logs, or why they give none.
-pub fn told_run(alloc: Global, words: &[&str], files: &Files) -> Result<String, ReadFault> {
+pub fn printed_run(alloc: Global, words: &[&str], files: &Files) -> Result<String, ReadFault> {
     let words = texts_of(alloc, words)?;
     match read_words(alloc, words.as_slice()) {
-        Ok(request) => told_of_request(alloc, &request, files),
+        Ok(request) => printed_of_request(alloc, &request, files),
         Err(WordFault::Memory) => Err(ReadFault::Memory),
         Err(fault) => Ok(format!(in alloc; "{fault}\n")?),
     }
@@ -88,7 +92,7 @@ fn work_over(alloc: Global, words: &[String], files: &[MemoryFile<'_>]) -> Ran {
 }
 
 /// What these words print and log over files in memory: the definition and two reports.
-pub fn told_work(alloc: Global, words: &[&str], files: &Files) -> Result<String, ReadFault> {
+pub fn printed_work(alloc: Global, words: &[&str], files: &Files) -> Result<String, ReadFault> {
     let words = texts_of(alloc, words)?;
     let [first, second, ..] = files.reports.as_slice() else {
         return Err(ReadFault::NotJson);
@@ -98,5 +102,5 @@ pub fn told_work(alloc: Global, words: &[&str], files: &Files) -> Result<String,
         file_at("first", first.as_slice()),
         file_at("second", second.as_slice()),
     ];
-    work_over(alloc, words.as_slice(), &files).told(alloc)
+    work_over(alloc, words.as_slice(), &files).printed(alloc)
 }

@@ -1,8 +1,8 @@
-use crate::facts::{told_facts, told_faults, told_sets};
+use crate::facts::{printed_facts, printed_faults, printed_sets};
 use crate::files::Files;
-use crate::offices::{told_imports, told_join};
-use crate::records::{told_record, told_rows};
-use crate::requests::{told_run, told_work};
+use crate::offices::{printed_imports, printed_join};
+use crate::records::{printed_record, printed_rows};
+use crate::requests::{printed_run, printed_work};
 use crate::trying::try_script;
 use cdf_types::ReadFault;
 use cvr_collect::{CachedOffice, PlainOffice};
@@ -28,21 +28,21 @@ pub enum Script {
 
 impl Script {
     /// The text that the calls give, or out of memory. Any other fault says that they aren't right.
-    pub fn told(self, alloc: Global, files: &Files) -> Result<String, ReadFault> {
+    pub fn printed(self, alloc: Global, files: &Files) -> Result<String, ReadFault> {
         match self {
-            Script::Facts => told_facts(alloc, files),
-            Script::Faults => told_faults(alloc),
-            Script::Sets => told_sets(alloc),
-            Script::Imports => told_imports::<PlainOffice>(alloc, files),
-            Script::Join => told_join::<PlainOffice>(alloc, files),
-            Script::Record => told_record::<PlainOffice>(alloc, files),
-            Script::Rows => told_rows::<PlainOffice>(alloc, files),
-            Script::CachedImports => told_imports::<CachedOffice>(alloc, files),
-            Script::CachedJoin => told_join::<CachedOffice>(alloc, files),
-            Script::CachedRecord => told_record::<CachedOffice>(alloc, files),
-            Script::CachedRows => told_rows::<CachedOffice>(alloc, files),
-            Script::Run(words) => told_run(alloc, words, files),
-            Script::Work(words) => told_work(alloc, words, files),
+            Script::Facts => printed_facts(alloc, files),
+            Script::Faults => printed_faults(alloc),
+            Script::Sets => printed_sets(alloc),
+            Script::Imports => printed_imports::<PlainOffice>(alloc, files),
+            Script::Join => printed_join::<PlainOffice>(alloc, files),
+            Script::Record => printed_record::<PlainOffice>(alloc, files),
+            Script::Rows => printed_rows::<PlainOffice>(alloc, files),
+            Script::CachedImports => printed_imports::<CachedOffice>(alloc, files),
+            Script::CachedJoin => printed_join::<CachedOffice>(alloc, files),
+            Script::CachedRecord => printed_record::<CachedOffice>(alloc, files),
+            Script::CachedRows => printed_rows::<CachedOffice>(alloc, files),
+            Script::Run(words) => printed_run(alloc, words, files),
+            Script::Work(words) => printed_work(alloc, words, files),
         }
     }
 }

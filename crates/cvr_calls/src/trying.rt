@@ -13,8 +13,8 @@ fn next_byte(rt: &HostRuntime) -> u8 {
 }
 
 // Whether this is the text that the calls gave.
-fn is_told(told: &Result<String, ReadFault>, wanted: &str) -> bool {
-    match told {
+fn is_printed(printed: &Result<String, ReadFault>, wanted: &str) -> bool {
+    match printed {
         Ok(text) => text.as_str() == wanted,
         Err(_) => false,
     }
@@ -23,16 +23,17 @@ fn is_told(told: &Result<String, ReadFault>, wanted: &str) -> bool {
 // Makes the calls of a copy, and answers whether they gave what they give where nothing is refused,
 // or answered out of memory where it was, and gave it when made again.
 fn is_right(rt: &HostRuntime, script: Script, files: &Files, wanted: &str) -> bool {
-    let told = script.told(rt.alloc(), files);
+    let printed = script.printed(rt.alloc(), files);
     let was_refused = next_byte(rt) == b'm';
-    match told {
-        Err(ReadFault::Memory) => was_refused && is_told(&script.told(rt.alloc(), files), wanted),
-        told => is_told(&told, wanted),
+    match printed {
+        Err(ReadFault::Memory) => was_refused
+            && is_printed(&script.printed(rt.alloc(), files), wanted),
+        printed => is_printed(&printed, wanted),
     }
 }
 
 // Tries a script that gives this text where nothing is refused.
-fn try_told(rt: &HostRuntime, name: &str, script: Script, files: &Files, wanted: &str) -> bool {
+fn try_printed(rt: &HostRuntime, name: &str, script: Script, files: &Files, wanted: &str) -> bool {
     let _ = println!(rt; "script {name}");
     let is_copy = next_byte(rt) == b'c';
     if !is_copy {
@@ -45,8 +46,8 @@ fn try_told(rt: &HostRuntime, name: &str, script: Script, files: &Files, wanted:
 
 /// Tries a script, and answers whether another may follow: not in a copy.
 pub fn try_script(rt: &HostRuntime, name: &str, script: Script, files: &Files) -> bool {
-    match script.told(rt.alloc(), files) {
-        Ok(wanted) => try_told(rt, name, script, files, wanted.as_str()),
+    match script.printed(rt.alloc(), files) {
+        Ok(wanted) => try_printed(rt, name, script, files, wanted.as_str()),
         Err(fault) => {
             let _ = println!(rt; "wrong: {name}: {fault}");
             true

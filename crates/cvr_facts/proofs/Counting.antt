@@ -33,18 +33,18 @@ sum_by-filter_more f p xs i x less is =
     ∙ ap (λ n. sum_by f (filter p (take i xs)) + n) (rw (← is) (sum_by-cond f x (p x))))
 
 -- an item of what a list gives
-module _ {A B : Type 0} (told : A → B) (xs : List A) (i : ℕ) (x : A) (less : i < length xs)
+module _ {A B : Type 0} (stated : A → B) (xs : List A) (i : ℕ) (x : A) (less : i < length xs)
     (is : x ≡ get_or xs i x) where
-  pub told_less : i < length (map told xs)
-  told_less = rw (length-map xs told) less
+  pub told_less : i < length (map stated xs)
+  told_less = rw (length-map xs stated) less
 
-  pub told_is : told x ≡ get_or (map told xs) i (told x)
-  told_is = sym (get_or-map told xs i x (told x) less ∙ ap told (sym is))
+  pub told_is : stated x ≡ get_or (map stated xs) i (stated x)
+  told_is = sym (get_or-map stated xs i x (stated x) less ∙ ap stated (sym is))
 
   -- beside an equal list
-  pub told_at : (ys : List B) → map told xs ≡ ys
-      → (i < length ys) × (told x ≡ get_or ys i (told x))
-  told_at ys same = subst (λ zs. (i < length zs) × (told x ≡ get_or zs i (told x))) same
+  pub number_with : (ys : List B) → map stated xs ≡ ys
+      → (i < length ys) × (stated x ≡ get_or ys i (stated x))
+  number_with ys same = subst (λ zs. (i < length zs) × (stated x ≡ get_or zs i (stated x))) same
       (told_less, told_is)
 
 -- ---- one more position

@@ -18,7 +18,7 @@ use Rattle.cvr_facts.specs.declared.list.FactList.{FactList}
 use Rattle.cvr_fact_types.specs.Facts.{Fact, text_cmp, fact_cmp, fact_total, fact_exact}
 use Rattle.cvr_fact_types.specs.Orders.{device_cmp, header_cmp, snapshot_cmp}
 use Rattle.cvr_facts.specs.Lists.{fact_of_device, fact_of_header, fact_of_snapshot, facts_in}
-use Rattle.cvr_facts.specs.Lists.{told_list}
+use Rattle.cvr_facts.specs.Lists.{stated_list}
 use Rattle.cvr_facts.proofs.Members.{from_map, in_map, same_from_list}
 
 -- ---- ties
@@ -68,30 +68,30 @@ kept_tied R laws ties xs x h =
     (one.0, one.1, one.2, one.3, (Equal-is _).0 (sym (ties x one.1) ∙ one.4))
 
 -- each of what was given is the fact of one in the list, and the list has nothing else
-pub record Keeps {X : Type 0} (fact : X → Fact) (told list : List X) : Type 0 where
-  pub from : (x : X) → Contains list x → Contains told x
-  pub kept : (x : X) → Contains told x → Any (λ y. fact x ≡ fact y) list
+pub record Keeps {X : Type 0} (fact : X → Fact) (stated list : List X) : Type 0 where
+  pub from : (x : X) → Contains list x → Contains stated x
+  pub kept : (x : X) → Contains stated x → Any (λ y. fact x ≡ fact y) list
 
 pub keeps : {X : Type 0} (fact : X → Fact) (R : X → X → Ordering)
-    → ((x y : X) → R x y ≡ Equal → fact x ≡ fact y) → (items told list : List X) → items ≡ told
+    → ((x y : X) → R x y ≡ Equal → fact x ≡ fact y) → (items stated list : List X) → items ≡ stated
     → ((x : X) → Contains list x → Contains items x)
-    → ((x : X) → Contains items x → Any (λ y. R x y ≡ Equal) list) → Keeps fact told list
-keeps fact R same items told list is from kept = record {
+    → ((x : X) → Contains items x → Any (λ y. R x y ≡ Equal) list) → Keeps fact stated list
+keeps fact R same items stated list is from kept = record {
   from = λ x h. subst (λ xs. Contains xs x) is (from x h);
   kept = λ x h. let one = kept x (subst (λ xs. Contains xs x) (sym is) h) in
       (one.0, one.1, one.2, one.3, same x one.1 one.4);
 }
 
-listed_are_told : {X : Type 0} (fact : X → Fact) (told list : List X) → Keeps fact told list
-    → (f : Fact) → Contains (map fact list) f → Contains (map fact told) f
-listed_are_told fact told list k f h =
+listed_are_told : {X : Type 0} (fact : X → Fact) (stated list : List X) → Keeps fact stated list
+    → (f : Fact) → Contains (map fact list) f → Contains (map fact stated) f
+listed_are_told fact stated list k f h =
     let x = from_map fact f list h in
-    subst (Contains (map fact told)) x.2 (in_map fact x.0 told (k.from x.0 x.1))
+    subst (Contains (map fact stated)) x.2 (in_map fact x.0 stated (k.from x.0 x.1))
 
-told_are_listed : {X : Type 0} (fact : X → Fact) (told list : List X) → Keeps fact told list
-    → (f : Fact) → Contains (map fact told) f → Contains (map fact list) f
-told_are_listed fact told list k f h =
-    let x = from_map fact f told h in
+told_are_listed : {X : Type 0} (fact : X → Fact) (stated list : List X) → Keeps fact stated list
+    → (f : Fact) → Contains (map fact stated) f → Contains (map fact list) f
+told_are_listed fact stated list k f h =
+    let x = from_map fact f stated h in
     let one = k.kept x.0 x.1 in
     subst (Contains (map fact list)) (sym one.4 ∙ x.2)
     (in_map fact one.1 list (one.0, one.2, one.3))
@@ -111,10 +111,10 @@ Within-append one other first second left right f h =
 
 -- a list that keeps what a report gives has its facts
 pub same_told : (contests : List Contest) (report : Report) (list : FactList)
-    → Keeps fact_of_device (told_list contests report).devices list.devices
-    → Keeps fact_of_header (told_list contests report).headers list.headers
-    → Keeps fact_of_snapshot (told_list contests report).snapshots list.snapshots
-    → from_list {R = fact_cmp} (facts_in list) ≡ from_list (facts_in (told_list contests report))
+    → Keeps fact_of_device (stated_list contests report).devices list.devices
+    → Keeps fact_of_header (stated_list contests report).headers list.headers
+    → Keeps fact_of_snapshot (stated_list contests report).snapshots list.snapshots
+    → from_list {R = fact_cmp} (facts_in list) ≡ from_list (facts_in (stated_list contests report))
 same_told contests report list devices headers snapshots =
     same_from_list fact_total fact_exact _ _
     (Within-append _ _ _ _ (listed_are_told _ _ _ devices)

@@ -22,8 +22,8 @@ use Rattle.cvr_fact_types.specs.declared.device.DeviceFact.{DeviceFact}
 use Rattle.cvr_fact_types.specs.declared.header.HeaderFact.{HeaderFact}
 use Rattle.cvr_fact_types.specs.declared.snapshot.SnapshotFact.{SnapshotFact}
 use Rattle.cvr_facts.specs.declared.list.FactList.{FactList}
-use Rattle.cvr_facts.specs.Lists.{told_device, told_header, told_snapshot, told_snapshots}
-use Rattle.cvr_facts.specs.Lists.{told_list, AreFactsOf, IsReportOf}
+use Rattle.cvr_facts.specs.Lists.{stated_device, stated_header, stated_snapshot, stated_snapshots}
+use Rattle.cvr_facts.specs.Lists.{stated_list, AreFactsOf, IsReportOf}
 use Rattle.cvr_facts.specs.Stands.{IsSpelledDevice, IsSpelledHeader, IsSpelledSnapshot}
 use Rattle.cvr_facts.specs.Stands.{ListIsSpelled}
 use Rattle.cvr_facts.proofs.Members.{from_map, from_flat}
@@ -62,12 +62,12 @@ header_proper n (object ms) h =
 -- ---- bodies
 
 spelled_device : (e : Data) → read (compact_text e) ≡ Some e
-    → IsSpelledDevice (told_device (device_of e))
+    → IsSpelledDevice (stated_device (device_of e))
 spelled_device e back = record { id = rw back refl }
 
 spelled_header : (contests : List Contest) (c : Data)
     → read (compact_text (header_of c)) ≡ Some (header_of c)
-    → IsSpelledHeader (told_header (cvr_of contests c))
+    → IsSpelledHeader (stated_header (cvr_of contests c))
 spelled_header contests c back = record {
   device = rw back (sym (text_at-header_of (codes "CreatingDeviceId") c
       (is_kept (codes "CreatingDeviceId") refl refl)));
@@ -80,7 +80,7 @@ spelled_header contests c back = record {
 }
 
 spelled_snapshot : (contests : List Contest) (c s : Data) → read (compact_text s) ≡ Some s
-    → IsSpelledSnapshot contests (told_snapshot contests (cvr_of contests c)
+    → IsSpelledSnapshot contests (stated_snapshot contests (cvr_of contests c)
     (snapshot_of contests s))
 spelled_snapshot contests c s back =
     record { id = rw back refl; kind = rw back refl; moment = rw back refl; votes = rw back refl }
@@ -89,17 +89,17 @@ spelled_snapshot contests c s back =
 
 module _ (contests : List Contest) (text : List ℕ) (d : Data) (is : read text ≡ Some d)
     (whole : has_float d ≡ false) where
-  abbrev told : FactList
-  told = told_list contests (report_of contests d)
+  abbrev stated : FactList
+  stated = stated_list contests (report_of contests d)
 
-  device_told : (f : DeviceFact) → Contains told.devices f
+  device_stated : (f : DeviceFact) → Contains stated.devices f
       → IsSpelledDevice f
-  device_told f a =
-      let t = from_map told_device f (map device_of (devices_in d)) a in
+  device_stated f a =
+      let t = from_map stated_device f (map device_of (devices_in d)) a in
       let e = from_map device_of t.0 (devices_in d) t.1 in
       let back =
       part_reads_back text d e.0 is whole (listed_part (codes "ReportingDevice") d e.0 e.1) in
-      subst IsSpelledDevice (ap told_device e.2 ∙ t.2) (spelled_device e.0 back)
+      subst IsSpelledDevice (ap stated_device e.2 ∙ t.2) (spelled_device e.0 back)
 
   header_back : (c : Data) → Contains (cvrs_in d) c
       → read (compact_text (header_of c)) ≡ Some (header_of c)
@@ -108,12 +108,12 @@ module _ (contests : List Contest) (text : List ℕ) (d : Data) (is : read text 
       (header_proper max_depth c (part_proper max_depth c d (listed_part (codes "CVR") d c a)
       (proper_read text d is whole)))
 
-  header_told : (f : HeaderFact) → Contains told.headers f
+  header_told : (f : HeaderFact) → Contains stated.headers f
       → IsSpelledHeader f
   header_told f a =
-      let t = from_map told_header f (map (cvr_of contests) (cvrs_in d)) a in
+      let t = from_map stated_header f (map (cvr_of contests) (cvrs_in d)) a in
       let c = from_map (cvr_of contests) t.0 (cvrs_in d) t.1 in
-      subst IsSpelledHeader (ap told_header c.2 ∙ t.2)
+      subst IsSpelledHeader (ap stated_header c.2 ∙ t.2)
       (spelled_header contests c.0 (header_back c.0 c.1))
 
   snapshot_back : (c s : Data) → Contains (cvrs_in d) c → Contains (snapshots_in c) s
@@ -122,46 +122,46 @@ module _ (contests : List Contest) (text : List ℕ) (d : Data) (is : read text 
       listed_reads_back text (codes "CVR") (codes "CVRSnapshot") d c s is whole a b
 
   snapshot_of_cvr : (c : Data) (f : SnapshotFact) → Contains (cvrs_in d) c
-      → Contains (told_snapshots contests (cvr_of contests c)) f → IsSpelledSnapshot contests f
+      → Contains (stated_snapshots contests (cvr_of contests c)) f → IsSpelledSnapshot contests f
   snapshot_of_cvr c f a b =
-      let t = from_map (told_snapshot contests (cvr_of contests c)) f
+      let t = from_map (stated_snapshot contests (cvr_of contests c)) f
       (map (snapshot_of contests) (snapshots_in c)) b in
       let s = from_map (snapshot_of contests) t.0 (snapshots_in c) t.1 in
-      subst (IsSpelledSnapshot contests) (ap (told_snapshot contests (cvr_of contests c)) s.2 ∙ t.2)
+      subst (IsSpelledSnapshot contests) (ap (stated_snapshot contests (cvr_of contests c)) s.2 ∙ t.2)
       (spelled_snapshot contests c s.0 (snapshot_back c s.0 a s.1))
 
-  snapshot_told : (f : SnapshotFact) → Contains told.snapshots f → IsSpelledSnapshot contests f
-  snapshot_told f a =
-      let t = from_flat (told_snapshots contests) f (map (cvr_of contests) (cvrs_in d)) a in
+  snapshot_stated : (f : SnapshotFact) → Contains stated.snapshots f → IsSpelledSnapshot contests f
+  snapshot_stated f a =
+      let t = from_flat (stated_snapshots contests) f (map (cvr_of contests) (cvrs_in d)) a in
       let c = from_map (cvr_of contests) t.0 (cvrs_in d) t.1 in
-      snapshot_of_cvr c.0 f c.1 (subst (λ x. Contains (told_snapshots contests x) f) (sym c.2) t.2)
+      snapshot_of_cvr c.0 f c.1 (subst (λ x. Contains (stated_snapshots contests x) f) (sym c.2) t.2)
 
 -- ---- an accepted file
 
 -- what its report says is what its bodies spell
 pub spelled_told : (frame : Frame) (bytes : List ℕ) (report : Report)
     → IsReportOf frame bytes report
-    → ListIsSpelled frame.contests (told_list frame.contests report)
+    → ListIsSpelled frame.contests (stated_list frame.contests report)
 spelled_told frame bytes report of =
     let v = (valid_file frame bytes).0 of.accepted in
     let same : value_in bytes ≡ v.0 = ap (λ o. unwrap_or o null) v.1.1 in
     let is : report ≡ report_of frame.contests v.0 =
     of.report_is ∙ ap (report_of frame.contests) same in
     let read = was_read bytes v.0 v.1.1 in
-    subst (λ r. ListIsSpelled frame.contests (told_list frame.contests r)) (sym is) (record {
-      devices = device_told frame.contests bytes v.0 read v.2.whole;
+    subst (λ r. ListIsSpelled frame.contests (stated_list frame.contests r)) (sym is) (record {
+      devices = device_stated frame.contests bytes v.0 read v.2.whole;
       headers = header_told frame.contests bytes v.0 read v.2.whole;
-      snapshots = snapshot_told frame.contests bytes v.0 read v.2.whole;
+      snapshots = snapshot_stated frame.contests bytes v.0 read v.2.whole;
     })
 
 -- so is each fact that the report says
 pub spelled_are : (frame : Frame) (bytes : List ℕ) (report : Report) (list : FactList)
     → IsReportOf frame bytes report
     → AreFactsOf frame.contests report list → ListIsSpelled frame.contests list
-spelled_are frame bytes report list of told =
+spelled_are frame bytes report list of stated =
     let all = spelled_told frame bytes report of in
     record {
-      devices = λ f a. all.devices f (told.devices f a);
-      headers = λ f a. all.headers f (told.headers f a);
-      snapshots = λ f a. all.snapshots f (told.snapshots f a);
+      devices = λ f a. all.devices f (stated.devices f a);
+      headers = λ f a. all.headers f (stated.headers f a);
+      snapshots = λ f a. all.snapshots f (stated.snapshots f a);
     }

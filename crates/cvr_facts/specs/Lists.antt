@@ -24,16 +24,16 @@ abbrev pub record_name : Cvr → RecordName
 record_name cvr = record { device = cvr.device; unique = cvr.unique }
 
 -- the device, the header and the snapshot of a typed report, as facts with their fields
-abbrev pub told_device : ReportingDevice → DeviceFact
-told_device device = record { id = device.id; body = device.body }
+abbrev pub stated_device : ReportingDevice → DeviceFact
+stated_device device = record { id = device.id; body = device.body }
 
-abbrev pub told_header : Cvr → HeaderFact
-told_header cvr =
+abbrev pub stated_header : Cvr → HeaderFact
+stated_header cvr =
     record { key = record_name cvr; unit = cvr.unit; batch = cvr.batch; body = cvr.body }
 
 -- a snapshot of the record with this name
-abbrev pub told_under : List Contest → RecordName → ReportSnapshot → SnapshotFact
-told_under contests key snapshot = record {
+abbrev pub stated_under : List Contest → RecordName → ReportSnapshot → SnapshotFact
+stated_under contests key snapshot = record {
   key = key;
   id = snapshot.id;
   kind = snapshot.kind;
@@ -42,18 +42,18 @@ told_under contests key snapshot = record {
   body = snapshot.body;
 }
 
-abbrev pub told_snapshot : List Contest → Cvr → ReportSnapshot → SnapshotFact
-told_snapshot contests cvr snapshot = told_under contests (record_name cvr) snapshot
+abbrev pub stated_snapshot : List Contest → Cvr → ReportSnapshot → SnapshotFact
+stated_snapshot contests cvr snapshot = stated_under contests (record_name cvr) snapshot
 
-abbrev pub told_snapshots : List Contest → Cvr → List SnapshotFact
-told_snapshots contests cvr = map (told_snapshot contests cvr) cvr.snapshots
+abbrev pub stated_snapshots : List Contest → Cvr → List SnapshotFact
+stated_snapshots contests cvr = map (stated_snapshot contests cvr) cvr.snapshots
 
 -- the devices, headers and snapshots of a typed report
-abbrev pub told_list : List Contest → Report → FactList
-told_list contests report = record {
-  devices = map told_device report.devices;
-  headers = map told_header report.cvrs;
-  snapshots = flat_map (told_snapshots contests) report.cvrs;
+abbrev pub stated_list : List Contest → Report → FactList
+stated_list contests report = record {
+  devices = map stated_device report.devices;
+  headers = map stated_header report.cvrs;
+  snapshots = flat_map (stated_snapshots contests) report.cvrs;
 }
 
 -- ---- the facts that they are
@@ -83,11 +83,11 @@ pub record ListsRise (list : FactList) : Type 0 where
 -- each is what the report says
 pub record AreFactsOf (contests : List Contest) (report : Report) (list : FactList) : Type 0 where
   pub devices : (d : DeviceFact) → Contains list.devices d
-      → Contains (told_list contests report).devices d
+      → Contains (stated_list contests report).devices d
   pub headers : (h : HeaderFact) → Contains list.headers h
-      → Contains (told_list contests report).headers h
+      → Contains (stated_list contests report).headers h
   pub snapshots : (s : SnapshotFact) → Contains list.snapshots s
-      → Contains (told_list contests report).snapshots s
+      → Contains (stated_list contests report).snapshots s
 
 -- ---- files
 

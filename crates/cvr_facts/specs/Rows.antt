@@ -15,7 +15,7 @@ use Rattle.cvr_fact_types.specs.Columns.{sums_from}
 use Rattle.cvr_fact_types.specs.Facts.{Fact, Device, Header, Snapshot, Facts}
 use Rattle.cvr_facts.specs.Reports.{facts}
 use Rattle.cvr_facts.specs.Choosing.{choice_cmp, current, header}
-use Rattle.cvr_facts.specs.Lists.{facts_in, told_header, told_list, told_snapshots}
+use Rattle.cvr_facts.specs.Lists.{facts_in, stated_header, stated_list, stated_snapshots}
 
 -- ---- snapshots
 
@@ -267,12 +267,12 @@ abbrev pub FactsOfFile : Type 0
 FactsOfFile = facts every_kind_file ≡ from_list every_kind_facts
 
 -- the typed report says the same, in the same order
-abbrev pub FactsToldOfReport : Type 0
-FactsToldOfReport = facts_in (told_list contests every_kind_report) ≡ every_kind_facts
+abbrev pub FactsStatedOfReport : Type 0
+FactsStatedOfReport = facts_in (stated_list contests every_kind_report) ≡ every_kind_facts
 
 -- the header with its unit and without a batch
 abbrev pub HeaderOfReport : Type 0
-HeaderOfReport = map told_header every_kind_report.cvrs
+HeaderOfReport = map stated_header every_kind_report.cvrs
     ≡ record {
       key = the_record;
       unit = Some (codes "p1");
@@ -283,7 +283,7 @@ HeaderOfReport = map told_header every_kind_report.cvrs
 -- the snapshot with its sums in order of contest
 abbrev pub SnapshotOfReport : Type 0
 SnapshotOfReport =
-    flat_map (told_snapshots contests) every_kind_report.cvrs
+    flat_map (stated_snapshots contests) every_kind_report.cvrs
     ≡ record {
       key = the_record;
       id = codes "x";
@@ -297,7 +297,7 @@ SnapshotOfReport =
 -- second after 1970-01-01T00:00:00Z
 abbrev pub NumbersOfReport : Type 0
 NumbersOfReport =
-    flat_map (told_snapshots contests) numbered_report.cvrs
+    flat_map (stated_snapshots contests) numbered_report.cvrs
     ≡ record {
       key = the_record;
       id = codes "n";

@@ -14,7 +14,7 @@ use Rattle.cvr_fact_types.specs.declared.name.RecordName.{RecordName}
 use Rattle.cvr_fact_types.specs.Facts.{Fact, Header, Snapshot, Facts, text_cmp}
 use Rattle.cvr_facts.specs.Reports.{device_fact, header_fact, snapshot_fact, report_facts, facts}
 use Rattle.cvr_facts.specs.Choosing.{choice_cmp, header_bodies, snapshot_bodies}
-use Rattle.cvr_facts.specs.Lists.{told_list, IsReportOf}
+use Rattle.cvr_facts.specs.Lists.{stated_list, IsReportOf}
 use Rattle.cvr_facts.specs.Stands.{ListIsSpelled}
 
 -- ---- facts of a file
@@ -60,7 +60,7 @@ FactHeldLaw = (bytes : List ℕ) (f : Fact) → Contains (report_facts (value_in
 -- what the report of an accepted file says of them is what their bodies spell
 abbrev pub SpelledLaw : Type 0
 SpelledLaw = (frame : Frame) (bytes : List ℕ) (report : Report) → IsReportOf frame bytes report
-    → ListIsSpelled frame.contests (told_list frame.contests report)
+    → ListIsSpelled frame.contests (stated_list frame.contests report)
 
 -- ---- bodies of a record
 

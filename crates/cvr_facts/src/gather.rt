@@ -4,8 +4,8 @@ ghost use Rattle.std.specs.FinSet.{from_list};
 ghost use Rattle.cdf_types.specs.declared.report.Cvr.{Cvr};
 ghost use Rattle.cdf_typed.specs.Range.{SnapshotInRange, CvrInRange, ReportInRange};
 ghost use Rattle.cvr_fact_types.specs.Facts.{fact_cmp};
-ghost use Rattle.cvr_facts.specs.Lists.{record_name, told_device, told_header, told_snapshot};
-ghost use Rattle.cvr_facts.specs.Lists.{told_snapshots, told_list, facts_in, ListsRise};
+ghost use Rattle.cvr_facts.specs.Lists.{record_name, stated_device, stated_header, stated_snapshot};
+ghost use Rattle.cvr_facts.specs.Lists.{stated_snapshots, stated_list, facts_in, ListsRise};
 ghost use Rattle.cvr_facts.specs.Lists.{AreFactsOf, IsReportOf};
 ghost use Rattle.cvr_facts.specs.Reports.{facts};
 ghost use Rattle.cvr_facts.specs.Stands.{ListIsSpelled};
@@ -30,9 +30,9 @@ pub fn facts_of(alloc: Global, definition: &Definition, report: &Report) -> Resu
     requires { ReportInRange definition.now.contests report.now }
     ensures facts { IfOk result
         (λ list. from_list {R = fact_cmp} (facts_in list)
-        ≡ from_list (facts_in (told_list definition.now.contests report.now))) }
+        ≡ from_list (facts_in (stated_list definition.now.contests report.now))) }
     ensures once { IfOk result ListsRise }
-    ensures told { IfOk result (AreFactsOf definition.now.contests report.now) }
+    ensures stated { IfOk result (AreFactsOf definition.now.contests report.now) }
     ensures file { IfOk result
         (λ list. (bytes : List ℕ) → IsReportOf definition.now bytes report.now
         → from_list (facts_in list) ≡ facts bytes) }
@@ -52,7 +52,7 @@ pub fn facts_of(alloc: Global, definition: &Definition, report: &Report) -> Resu
 
 // The facts of the devices, in order of the file.
 fn devices_in(alloc: Global, devices: &[ReportingDevice]) -> Result<Vec<DeviceFact>, Memory>
-    ensures { IfOk result (λ facts. facts.items ≡ map told_device devices.now) }
+    ensures { IfOk result (λ facts. facts.items ≡ map stated_device devices.now) }
 {
     let mut facts = Vec::with_capacity(alloc, devices.len())?;
     for device in devices {
@@ -63,7 +63,7 @@ fn devices_in(alloc: Global, devices: &[ReportingDevice]) -> Result<Vec<DeviceFa
 
 // The fact of a device.
 fn device_of(device: &ReportingDevice) -> Result<DeviceFact, Memory>
-    ensures { IfOk result (λ fact. fact ≡ told_device device.now) }
+    ensures { IfOk result (λ fact. fact ≡ stated_device device.now) }
 {
     Ok(DeviceFact {
         id: device.id.copy()?,
@@ -73,7 +73,7 @@ fn device_of(device: &ReportingDevice) -> Result<DeviceFact, Memory>
 
 // The headers of the records, in order of the file.
 fn headers_in(alloc: Global, cvrs: &[Cvr]) -> Result<Vec<HeaderFact>, Memory>
-    ensures { IfOk result (λ facts. facts.items ≡ map told_header cvrs.now) }
+    ensures { IfOk result (λ facts. facts.items ≡ map stated_header cvrs.now) }
 {
     let mut facts = Vec::with_capacity(alloc, cvrs.len())?;
     for cvr in cvrs {
@@ -84,7 +84,7 @@ fn headers_in(alloc: Global, cvrs: &[Cvr]) -> Result<Vec<HeaderFact>, Memory>
 
 // The header of a record.
 fn header_of(cvr: &Cvr) -> Result<HeaderFact, Memory>
-    ensures { IfOk result (λ fact. fact ≡ told_header cvr.now) }
+    ensures { IfOk result (λ fact. fact ≡ stated_header cvr.now) }
 {
     Ok(HeaderFact {
         key: record_name(cvr)?,
@@ -112,7 +112,7 @@ fn snapshots_in(
 ) -> Result<Vec<SnapshotFact>, Memory>
     requires { (cvr : Cvr) → Contains cvrs.now cvr → CvrInRange definition.now.contests cvr }
     ensures { IfOk result
-        (λ facts. facts.items ≡ flat_map (told_snapshots definition.now.contests) cvrs.now) }
+        (λ facts. facts.items ≡ flat_map (stated_snapshots definition.now.contests) cvrs.now) }
 {
     let mut facts = Vec::new(alloc);
     for cvr in cvrs {
@@ -130,7 +130,7 @@ fn add_snapshots(
 ) -> Result<(), Memory>
     requires { CvrInRange definition.now.contests cvr.now }
     ensures { OnOk result
-        (facts.new.items ≡ facts.old.items ++ told_snapshots definition.now.contests cvr.now) }
+        (facts.new.items ≡ facts.old.items ++ stated_snapshots definition.now.contests cvr.now) }
 {
     for snapshot in cvr.snapshots.as_slice() {
         facts.push(snapshot_of(alloc, definition, cvr, snapshot)?)?;
@@ -147,7 +147,7 @@ fn snapshot_of(
 ) -> Result<SnapshotFact, Memory>
     requires { SnapshotInRange definition.now.contests snapshot.now }
     ensures { IfOk result
-        (λ fact. fact ≡ told_snapshot definition.now.contests cvr.now snapshot.now) }
+        (λ fact. fact ≡ stated_snapshot definition.now.contests cvr.now snapshot.now) }
 {
     Ok(SnapshotFact {
         key: record_name(cvr)?,

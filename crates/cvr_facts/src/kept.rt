@@ -4,7 +4,7 @@ ghost use Rattle.cdf_node.specs.View.{view};
 ghost use Rattle.cdf_parts.specs.Places.{Contest};
 ghost use Rattle.cdf_typed.specs.Typed.{cvr_of, snapshot_of};
 ghost use Rattle.cdf_typed.specs.Range.{SnapshotInRange};
-ghost use Rattle.cvr_facts.specs.Lists.{told_header, told_under, record_name};
+ghost use Rattle.cvr_facts.specs.Lists.{stated_header, stated_under, record_name};
 
 use crate::sums::sums_in;
 use cdf_node::Node;
@@ -22,7 +22,7 @@ use std::alloc::Global;
 pub fn header_in(alloc: Global, cvr: &Node<'_>) -> Result<HeaderFact, Memory>
     requires { has_float (view cvr.now) ≡ false }
     ensures { IfOk result (λ fact. (contests : List Contest)
-        → fact ≡ told_header (cvr_of contests (view cvr.now))) }
+        → fact ≡ stated_header (cvr_of contests (view cvr.now))) }
 {
     Ok(HeaderFact {
         key: name_in(alloc, cvr)?,
@@ -56,7 +56,7 @@ pub fn snapshot_in(
     requires whole { has_float (view snapshot.now) ≡ false }
     requires range { SnapshotInRange contests.now (snapshot_of contests.now (view snapshot.now)) }
     ensures { IfOk result (λ fact. fact
-        ≡ told_under contests.now key.now (snapshot_of contests.now (view snapshot.now))) }
+        ≡ stated_under contests.now key.now (snapshot_of contests.now (view snapshot.now))) }
 {
     Ok(SnapshotFact {
         key: key.copy()?,

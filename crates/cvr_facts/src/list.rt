@@ -20,7 +20,7 @@ pub struct FactList {
 // The facts in order, one of those that tie.
 pub(crate) fn in_order<T: Ord + Drop>(mut facts: Vec<T>) -> Seq<T>
     ensures once { IsStrictlySortedBy T.cmp result }
-    ensures told { (fact : T) → Contains result fact → Contains facts.items fact }
+    ensures stated { (fact : T) → Contains result fact → Contains facts.items fact }
     ensures kept { (fact : T) → Contains facts.items fact
         → Any (λ other. T.cmp fact other ≡ Equal) result }
 {

@@ -1,4 +1,4 @@
-ghost use Rattle.cvr_facts.specs.Rows.{FactsOfFile, FactsToldOfReport, HeaderOfReport};
+ghost use Rattle.cvr_facts.specs.Rows.{FactsOfFile, FactsStatedOfReport, HeaderOfReport};
 ghost use Rattle.cvr_facts.specs.Rows.{SnapshotOfReport, NumbersOfReport, FactsOfTwoCvrs};
 ghost use Rattle.cvr_facts.specs.Rows.{OtherSpelling, OrderOfChoosing};
 ghost use Rattle.cvr_facts.specs.Rows.{Instants, SameInstant, Adjudicated, DatedReading};
@@ -8,7 +8,7 @@ ghost use Rattle.cvr_facts.specs.Rows.{FileCallsAnotherCurrent, OneIdTwoBodies, 
 /// they give.
 pub fn worked_rows()
     ensures facts_of_file { FactsOfFile }
-    ensures facts_told_of_report { FactsToldOfReport }
+    ensures facts_stated_of_report { FactsStatedOfReport }
     ensures header_of_report { HeaderOfReport }
     ensures snapshot_of_report { SnapshotOfReport }
     ensures numbers_of_report { NumbersOfReport }

@@ -15,8 +15,8 @@ use Rattle.cdf_definition.specs.Frame.{Frame}
 use Rattle.cvr_fact_types.specs.declared.name.RecordName.{RecordName}
 use Rattle.cvr_fact_types.specs.declared.snapshot.SnapshotFact.{SnapshotFact}
 use Rattle.cvr_fact_types.specs.Facts.{fact_cmp, fact_total, fact_exact}
-use Rattle.cvr_facts.specs.Lists.{told_header, told_list, told_snapshot}
-use Rattle.cvr_facts.specs.Lists.{told_snapshots}
+use Rattle.cvr_facts.specs.Lists.{stated_header, stated_list, stated_snapshot}
+use Rattle.cvr_facts.specs.Lists.{stated_snapshots}
 use Rattle.cvr_facts.specs.Reports.{cvr_facts, device_fact, facts, header_fact, snapshot_fact}
 use Rattle.cvr_facts.specs.Sources.{cvrs_in, devices_in, snapshots_in}
 use Rattle.cvr_facts.specs.Stands.{ListIsSpelled}
@@ -29,51 +29,51 @@ use Rattle.cvr_office.specs.Names.{record_of}
 use Rattle.cvr_office.specs.Place.{fact_of}
 use Rattle.cvr_office.specs.Plain.{set_of, IsPut, IsSpelled}
 use Rattle.cvr_office.specs.Runs.{AreSpelled}
-use Rattle.cvr_lists.specs.Kept.{device_told, record_told}
+use Rattle.cvr_lists.specs.Kept.{device_stated, record_stated}
 use Rattle.cvr_lists.proofs.Insertions.{set_both}
 
 -- ---- they are those of its value
 
-devices_are : (es : List Data) → map fact_of (map device_told (map device_of es))
+devices_are : (es : List Data) → map fact_of (map device_stated (map device_of es))
     ≡ map device_fact es
 devices_are [] = refl
 devices_are (e ∷ es) = ap (λ fs. device_fact e ∷ fs) (devices_are es)
 
 module _ (contests : List Contest) where
   snapshots_are : (c : Data) (ss : List Data) → map fact_of
-      (map any.Snapshot (map (told_snapshot contests (cvr_of contests c))
+      (map any.Snapshot (map (stated_snapshot contests (cvr_of contests c))
       (map (snapshot_of contests) ss))) ≡ map (snapshot_fact c) ss
   snapshots_are c [] = refl
   snapshots_are c (s ∷ ss) = ap (λ fs. snapshot_fact c s ∷ fs) (snapshots_are c ss)
 
-  record_is : (c : Data) → map fact_of (record_told contests (cvr_of contests c)) ≡ cvr_facts c
+  record_is : (c : Data) → map fact_of (record_stated contests (cvr_of contests c)) ≡ cvr_facts c
   record_is c = ap (λ fs. header_fact c ∷ fs) (snapshots_are c (snapshots_in c))
 
   records_are : (cs : List Data) → map fact_of
-      (flat_map (record_told contests) (map (cvr_of contests) cs)) ≡ flat_map cvr_facts cs
+      (flat_map (record_stated contests) (map (cvr_of contests) cs)) ≡ flat_map cvr_facts cs
   records_are [] = refl
   records_are (c ∷ cs) =
-      map-append fact_of (record_told contests (cvr_of contests c))
-      (flat_map (record_told contests) (map (cvr_of contests) cs))
+      map-append fact_of (record_stated contests (cvr_of contests c))
+      (flat_map (record_stated contests) (map (cvr_of contests) cs))
       ∙ (λ i. record_is c i ++ records_are cs i)
 
 -- ---- each fact of its records
 
 -- what holds of each header and of each snapshot holds of each fact
 each_kept : (contests : List Contest) (cvrs : List Cvr) (P : AnyFact → Type 0)
-    → ((cvr : Cvr) → Contains cvrs cvr → P (any.Header (told_header cvr)))
-    → ((s : SnapshotFact) → Contains (flat_map (told_snapshots contests) cvrs) s
+    → ((cvr : Cvr) → Contains cvrs cvr → P (any.Header (stated_header cvr)))
+    → ((s : SnapshotFact) → Contains (flat_map (stated_snapshots contests) cvrs) s
     → P (any.Snapshot s))
-    → (f : AnyFact) → Contains (flat_map (record_told contests) cvrs) f → P f
+    → (f : AnyFact) → Contains (flat_map (record_stated contests) cvrs) f → P f
 each_kept contests cvrs P headers snapshots f at =
-    let of = from_flat (record_told contests) f cvrs at in
-    elim (head_or_tail (any.Header (told_header of.0))
-    f (map any.Snapshot (told_snapshots contests of.0)) of.2) [
+    let of = from_flat (record_stated contests) f cvrs at in
+    elim (head_or_tail (any.Header (stated_header of.0))
+    f (map any.Snapshot (stated_snapshots contests of.0)) of.2) [
       | inl is ↦ subst P is (headers of.0 of.1)
       | inr more ↦
-          let s = from_map any.Snapshot f (told_snapshots contests of.0) more in
+          let s = from_map any.Snapshot f (stated_snapshots contests of.0) more in
           subst P s.2
-          (snapshots s.0 (in_flat (told_snapshots contests) of.0 s.0 cvrs of.1 s.1))
+          (snapshots s.0 (in_flat (stated_snapshots contests) of.0 s.0 cvrs of.1 s.1))
     ]
 
 -- ---- the file's
@@ -88,8 +88,8 @@ pub record AreFileFacts (frame : Frame) (bytes : List ℕ) (ds rs : List AnyFact
 
 module _ (frame : Frame) (bytes : List ℕ) (accepted : first_refusal frame bytes ≡ None)
     (devices kept none records : List AnyFact)
-    (devices_is : devices ≡ map device_told (report_in frame.contests bytes).devices)
-    (kept_is : kept ≡ flat_map (record_told frame.contests) (report_in frame.contests bytes).cvrs)
+    (devices_is : devices ≡ map device_stated (report_in frame.contests bytes).devices)
+    (kept_is : kept ≡ flat_map (record_stated frame.contests) (report_in frame.contests bytes).cvrs)
     (none_is : none ≡ []) (put : IsPut none kept records) where
   abbrev report : Report
   report = report_in frame.contests bytes
@@ -103,33 +103,33 @@ module _ (frame : Frame) (bytes : List ℕ) (accepted : first_refusal frame byte
       set_both devices records ∙ ap (union (set_of devices)) sorted ∙ sym (set_both devices kept)
       ∙ (λ i. set_of (devices_is i ++ kept_is i))
       ∙ ap (from_list {R = fact_cmp})
-      (map-append fact_of (map device_told report.devices)
-      (flat_map (record_told frame.contests) report.cvrs)
+      (map-append fact_of (map device_stated report.devices)
+      (flat_map (record_stated frame.contests) report.cvrs)
       ∙ (λ i. devices_are (devices_in (value_in bytes)) i
       ++ records_are frame.contests (cvrs_in (value_in bytes)) i))
 
   in_kept : (f : AnyFact) → Contains records f
-      → Contains (flat_map (record_told frame.contests) report.cvrs) f
+      → Contains (flat_map (record_stated frame.contests) report.cvrs) f
   in_kept f at = elim (put.from f at) [
     | inl gone ↦ absurd (none_listed f (subst (λ xs. Contains xs f) none_is gone))
     | inr more ↦ subst (λ xs. Contains xs f) kept_is more
   ]
 
-  told : ListIsSpelled frame.contests (told_list frame.contests report)
+  told : ListIsSpelled frame.contests (stated_list frame.contests report)
   told = spelled_told frame bytes report (record { accepted = accepted; report_is = refl })
 
   are_spelled : AreSpelled frame.contests (devices ++ records)
   are_spelled f at = elim (Contains-append_cases devices records f at) [
-    | inl a ↦ let from = from_map device_told f report.devices
+    | inl a ↦ let from = from_map device_stated f report.devices
         (subst (λ xs. Contains xs f) devices_is a) in subst (IsSpelled frame.contests) from.2 tt
     | inr b ↦ each_kept frame.contests report.cvrs (IsSpelled frame.contests)
-        (λ cvr c. told.headers (told_header cvr) (in_map told_header cvr report.cvrs c))
+        (λ cvr c. told.headers (stated_header cvr) (in_map stated_header cvr report.cvrs c))
         (λ s c. told.snapshots s c) f (in_kept f b)
   ]
 
   of_no_record : (f : AnyFact) → Contains devices f → record_of (fact_of f) ≡ None
   of_no_record f at =
-      let from = from_map device_told f report.devices
+      let from = from_map device_stated f report.devices
       (subst (λ xs. Contains xs f) devices_is at) in
       ap (λ x. record_of (fact_of x)) (sym from.2)
 
@@ -137,7 +137,7 @@ module _ (frame : Frame) (bytes : List ℕ) (accepted : first_refusal frame byte
       → (k : RecordName) × (record_of (fact_of f) ≡ Some k)
   of_record f at = each_kept frame.contests report.cvrs
       (λ x. (k : RecordName) × (record_of (fact_of x) ≡ Some k))
-      (λ cvr c. ((told_header cvr).key, refl)) (λ s c. (s.key, refl)) f (in_kept f at)
+      (λ cvr c. ((stated_header cvr).key, refl)) (λ s c. (s.key, refl)) f (in_kept f at)
 
   pub file_facts : AreFileFacts frame bytes devices records
   file_facts = record {

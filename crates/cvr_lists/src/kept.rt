@@ -5,7 +5,7 @@ ghost use Rattle.cdf_node.specs.declared.node.Node.{Node};
 ghost use Rattle.cdf_node.specs.View.{view};
 ghost use Rattle.cdf_typed.specs.Typed.{snapshot_of};
 ghost use Rattle.cdf_typed.specs.Range.{SnapshotInRange};
-ghost use Rattle.cvr_lists.specs.Kept.{AreKept, snapshot_told};
+ghost use Rattle.cvr_lists.specs.Kept.{AreKept, snapshot_stated};
 
 use crate::shared::SharedFact;
 use cdf_check::Keep;
@@ -74,7 +74,7 @@ fn add_snapshots(
     requires range { (s : Node) → Contains snapshots.now s
         → SnapshotInRange contests.now (snapshot_of contests.now (view s)) }
     ensures { OnOk result (facts.new.items ≡ facts.old.items
-        ++ map (snapshot_told contests.now key.now) snapshots.now) }
+        ++ map (snapshot_stated contests.now key.now) snapshots.now) }
 {
     for snapshot in snapshots {
         let fact = snapshot_in(alloc, contests, key, snapshot)?;

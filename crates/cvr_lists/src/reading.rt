@@ -12,7 +12,7 @@ ghost use Rattle.cvr_office.specs.Names.{record_of};
 ghost use Rattle.cvr_office.specs.Place.{any_cmp, fact_of};
 ghost use Rattle.cvr_office.specs.Plain.{set_of};
 ghost use Rattle.cvr_office.specs.Runs.{AreSpelled};
-ghost use Rattle.cvr_lists.specs.Kept.{device_told};
+ghost use Rattle.cvr_lists.specs.Kept.{device_stated};
 
 use crate::kept::Facts;
 use crate::putting::put_in;
@@ -71,7 +71,7 @@ pub fn read_facts(
 
 // The facts of the devices, in order of the file.
 fn of_devices(alloc: Global, devices: Seq<ReportingDevice>) -> Result<Vec<SharedFact>, Memory>
-    ensures { IfOk result (λ facts. facts.items ≡ map device_told devices) }
+    ensures { IfOk result (λ facts. facts.items ≡ map device_stated devices) }
 {
     let devices = devices.into_vec();
     let mut facts = Vec::with_capacity(alloc, devices.len())?;

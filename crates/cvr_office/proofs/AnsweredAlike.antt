@@ -81,11 +81,11 @@ pub answer_alike : (f g : Frame) (s t : Facts) → f.contests ≡ g.contests →
     → AnswerAlike f g s t
 answer_alike f g s t contests same = record {
   currents = λ key. ap (λ facts. current facts key) same;
-  currents_told = λ key one other p q. one_current g.contests t key one other
+  currents_stated = λ key one other p q. one_current g.contests t key one other
       (subst (λ cs. IsCurrent cs t key one) contests
       (subst (λ facts. IsCurrent f.contests facts key one) same p)) q;
   headers = λ key. ap (λ facts. header facts key) same;
-  headers_told = λ key one other p q. one_header_told t key one other
+  headers_stated = λ key one other p q. one_header_told t key one other
       (subst (λ facts. IsHeader facts key one) same p) q;
   conflicts_are = ap conflicts same;
   contests_are = contests;

@@ -121,29 +121,29 @@ module _ (fs : List Fact) where
   names_told : HaveSame (map name_of (items given)) (map name_of fs)
   names_told = record {
     there = λ n at. let f =
-        from_map name_of n (items given) at in told n fs f.0 (members.there f.0 f.1) f.2;
+        from_map name_of n (items given) at in stated n fs f.0 (members.there f.0 f.1) f.2;
     back = λ n at. let f =
-        from_map name_of n fs at in told n (items given) f.0 (members.back f.0 f.1) f.2;
+        from_map name_of n fs at in stated n (items given) f.0 (members.back f.0 f.1) f.2;
   }
     where
-      told : (n : ConflictName) (xs : List Fact) (f : Fact) → Contains xs f → name_of f ≡ n
+      stated : (n : ConflictName) (xs : List Fact) (f : Fact) → Contains xs f → name_of f ≡ n
           → Contains (map name_of xs) n
-      told n xs f at is = subst (Contains (map name_of xs)) is (in_map name_of f xs at)
+      stated n xs f at is = subst (Contains (map name_of xs)) is (in_map name_of f xs at)
 
   bodies_told : (n : ConflictName) → HaveSame (map body_of (filter (is_named n) (items given)))
       (map body_of (filter (is_named n) fs))
   bodies_told n = record {
     there = λ b at. let f = from_map body_of b (filter (is_named n) (items given)) at in
         let own = from_filter (is_named n) (items given) f.0 f.1 in
-        told b fs f.0 (members.there f.0 own.0) own.1 f.2;
+        stated b fs f.0 (members.there f.0 own.0) own.1 f.2;
     back = λ b at. let f = from_map body_of b (filter (is_named n) fs) at in
         let own = from_filter (is_named n) fs f.0 f.1 in
-        told b (items given) f.0 (members.back f.0 own.0) own.1 f.2;
+        stated b (items given) f.0 (members.back f.0 own.0) own.1 f.2;
   }
     where
-      told : (b : List ℕ) (xs : List Fact) (f : Fact) → Contains xs f → is_named n f ≡ true
+      stated : (b : List ℕ) (xs : List Fact) (f : Fact) → Contains xs f → is_named n f ≡ true
           → body_of f ≡ b → Contains (map body_of (filter (is_named n) xs)) b
-      told b xs f at own is = subst (Contains (map body_of (filter (is_named n) xs))) is
+      stated b xs f at own is = subst (Contains (map body_of (filter (is_named n) xs))) is
           (in_map body_of f (filter (is_named n) xs) (in_filter (is_named n) xs f at own))
 
 -- ---- conflicts

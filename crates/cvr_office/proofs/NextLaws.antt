@@ -90,22 +90,22 @@ module _ {K : Type 0} (R : K → K → Ordering) where
 -- ---- the laws
 
 module _ {K : Type 0} {R : K → K → Ordering} (t : IsTotalOrder R) (e : IsAntisymmetric R)
-    (told : Fact → Option K) where
+    (stated : Fact → Option K) where
   -- what the facts give, in order
   abbrev list : Facts → List K
-  list s = keys_in_order R (filter_map told (items s))
+  list s = keys_in_order R (filter_map stated (items s))
 
-  pub listed : ListedLaw told list
+  pub listed : ListedLaw stated list
   listed s k = (
-    λ at. let f = from-filter_map told (items s) k
-        (from_ordered t e (filter_map told (items s)) k at) in
+    λ at. let f = from-filter_map stated (items s) k
+        (from_ordered t e (filter_map stated (items s)) k at) in
         (f.0, (contains_iff s f.0).1 f.1, f.2),
-    λ h. in_ordered t e (filter_map told (items s)) k
-        (Contains-filter_map told (items s) h.0 k ((contains_iff s h.0).0 h.1) h.2),
+    λ h. in_ordered t e (filter_map stated (items s)) k
+        (Contains-filter_map stated (items s) h.0 k ((contains_iff s h.0).0 h.1) h.2),
   )
 
   rises : (s : Facts) → IsStrictlySortedBy R (list s)
-  rises s = ordered_rises R (filter_map told (items s))
+  rises s = ordered_rises R (filter_map stated (items s))
 
   first_is : (s : Facts) (after r : Option K) → IsFirst R (is_above R after) (list s) r
       → next R (list s) after ≡ r

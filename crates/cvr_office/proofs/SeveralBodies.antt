@@ -27,9 +27,9 @@ module _ (s : Facts) (n : ConflictName) where
   is_listed : 0 < count_under s n → Contains (names s) n
   is_listed some =
       let body = one_listed (bodies_under s n) some in
-      let told = from_ordered text_total text_exact (map body_of (filter (is_named n) (items s)))
+      let stated = from_ordered text_total text_exact (map body_of (filter (is_named n) (items s)))
       body.0 body.1 in
-      let found = from_map body_of body.0 (filter (is_named n) (items s)) told in
+      let found = from_map body_of body.0 (filter (is_named n) (items s)) stated in
       let had = from_filter (is_named n) (items s) found.0 found.1 in
       in_ordered conflict_total conflict_exact (map name_of (items s)) n
       (subst (Contains (map name_of (items s))) (sym (name_is n found.0 had.1))

@@ -22,7 +22,7 @@ use Rattle.cvr_facts.proofs.Laws.{device_listed, fact_held}
 use Rattle.cvr_office.specs.Keeps.{starting_content, content_scope}
 use Rattle.cvr_office.specs.Laws.{StartLaw}
 use Rattle.cvr_office.proofs.OwnFrame.{own_valid, entry_source}
-use Rattle.cvr_office.proofs.ToldBodies.{IsDeviceBody, told_device}
+use Rattle.cvr_office.proofs.ToldBodies.{IsDeviceBody, stated_device}
 
 -- ---- where a definition's device is from
 
@@ -84,7 +84,7 @@ start_keeps frame is = record {
       × (contains (facts bytes) f ≡ true)) ∥₁)
       (λ e a. ∥∥₁_map (device_source frame is e a) (λ s. (s.0, s.1, source_held frame e s)));
   stand = of_starting frame (Stands (content_scope frame (starting_content frame)))
-      (λ e a. told_device e.0 e.1 (∥∥₁_map (device_source frame is e a) (source_body frame e)));
+      (λ e a. stated_device e.0 e.1 (∥∥₁_map (device_source frame is e a) (source_body frame e)));
   whole = of_starting frame (IsOfRecord (starting_content frame)) (λ e a. tt);
   started = λ f h. h;
   utf8 = of_starting frame (λ f. AllByRecursion IsUtf8 (texts f)) (λ e a. (

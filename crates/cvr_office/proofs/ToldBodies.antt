@@ -102,5 +102,5 @@ told_read id body known None is = absurd (never_read id body known is)
 told_read id body known (Some d) is = told_body id body known d is
 
 -- a body that is known to stand is one that stands
-pub told_device : (id body : List ℕ) → ∥ IsDeviceBody id body ∥₁ → IsDeviceBody id body
-told_device id body known = told_read id body known (read body) refl
+pub stated_device : (id body : List ℕ) → ∥ IsDeviceBody id body ∥₁ → IsDeviceBody id body
+stated_device id body known = told_read id body known (read body) refl

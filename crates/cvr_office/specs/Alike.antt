@@ -28,11 +28,11 @@ use Rattle.cvr_office.specs.Tallied.{row, rows, tally}
 pub record AnswerAlike (f g : Frame) (s t : Facts) : Type 0 where
   pub currents : (key : RecordName) → current s key ≡ current t key
   -- as they are answered, with their votes
-  pub currents_told : (key : RecordName) (one other : Option SnapshotFact)
+  pub currents_stated : (key : RecordName) (one other : Option SnapshotFact)
       → IsCurrent f.contests s key one → IsCurrent g.contests t key other → one ≡ other
   pub headers : (key : RecordName) → header s key ≡ header t key
   -- as they are answered, with unit and batch
-  pub headers_told : (key : RecordName) (one other : Option HeaderFact) → IsHeader s key one
+  pub headers_stated : (key : RecordName) (one other : Option HeaderFact) → IsHeader s key one
       → IsHeader t key other → one ≡ other
   pub conflicts_are : conflicts s ≡ conflicts t
   pub contests_are : f.contests ≡ g.contests

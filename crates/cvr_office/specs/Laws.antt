@@ -35,10 +35,10 @@ JoinLaw = (frame other : Frame) (s t : Facts) → IsSame frame other → Keeps f
 
 -- ---- names in order
 
--- what is listed of facts is exactly what `told` says of one of them
+-- what is listed of facts is exactly what `stated` says of one of them
 abbrev pub ListedLaw : {K : Type 0} → (Fact → Option K) → (Facts → List K) → Type 0
-ListedLaw {K} told list = (s : Facts) (k : K)
-    → Contains (list s) k ↔ ((f : Fact) × (contains s f ≡ true) × (told f ≡ Some k))
+ListedLaw {K} stated list = (s : Facts) (k : K)
+    → Contains (list s) k ↔ ((f : Fact) × (contains s f ≡ true) × (stated f ≡ Some k))
 
 -- above a given one, or any where none is given
 abbrev pub IsAbove : {K : Type 0} → (K → K → Ordering) → Option K → K → Type 0

@@ -9,7 +9,7 @@ use Rattle.cvr_words.specs.declared.request.Task.{Task}
 use Rattle.cvr_run.specs.Accepted.{is_unsound}
 use Rattle.cvr_run.specs.Outcome.{task_text, run_text, task_fault, run_fault, task_refused}
 use Rattle.cvr_run.specs.Outcome.{any_refused}
-use Rattle.cvr_run.specs.Told.{refusal_lines, task_dues, run_lines, last_lines}
+use Rattle.cvr_run.specs.Logged.{refusal_lines, task_dues, run_lines, last_lines}
 
 pub none_refuses : (definition : Frame) (bytes : List ℕ) → Valid definition bytes
     → first_refusal definition bytes ≡ None

@@ -10,7 +10,7 @@ use Rattle.cvr_run.specs.Devices.{Outputs}
 use Rattle.cvr_run.specs.Ends.{Ends, Ran, RanBeside}
 use Rattle.cvr_run.specs.Log.{memory_line, Logs}
 use Rattle.cvr_run.specs.Outcome.{any_refused, run_fault, run_text, task_text, task_fault}
-use Rattle.cvr_run.specs.Told.{task_dues, IsCutShort}
+use Rattle.cvr_run.specs.Logged.{task_dues, IsCutShort}
 use Rattle.cvr_run.proofs.Accepted.{text_beside, refused_beside, is_sound, lines_beside}
 use Rattle.cvr_run.proofs.Accepted.{fault_beside}
 use Rattle.cvr_run.proofs.Endings.{ends_in_memory}

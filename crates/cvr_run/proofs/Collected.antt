@@ -36,7 +36,7 @@ use Rattle.cvr_run.specs.Refusals.{Due, file_due, no_due, AreDue, IsDue, cause_i
 use Rattle.cvr_run.specs.Refusals.{is_want}
 use Rattle.cvr_run.specs.Drill.{outcome_by}
 use Rattle.cvr_run.specs.Taken.{AreTaken}
-use Rattle.cvr_run.specs.Told.{file_dues}
+use Rattle.cvr_run.specs.Logged.{file_dues}
 use Rattle.cvr_run.proofs.Steps.{IsTold, told_import}
 
 -- ---- what is due
@@ -159,16 +159,16 @@ module _ (starts : List Facts) (definition : Frame) (file : List ℕ) (rs : List
   outcome_is : rs ≡ r ∷ []
   outcome_is = only rs r count ∙ ap (λ x. x ∷ []) (sym at)
 
-  told : IsTold (file_due (first_refusal definition file))
+  is_logged : IsTold (file_due (first_refusal definition file))
       (growth (content starts (file ∷ []) [] 0) (facts file)) r
-  told =
+  is_logged =
       let now : AreOutcomes starts (definition ∷ []) (file ∷ []) (history (Import 0 0 ∷ []) (r ∷ []))
       = subst (λ xs. AreOutcomes starts (definition ∷ []) (file ∷ [])
       (history (Import 0 0 ∷ []) xs)) outcome_is out in
       told_import (first_refusal definition file) _ r (now.0.there (omega arith) (omega arith))
 
   pub due_played : IsDue (file_due (first_refusal definition file)) (cause_in r)
-  due_played = told.is_due
+  due_played = is_logged.is_due
 
   held_by : (first : Option ReadFault) (n : ℕ)
       → content starts (file ∷ []) ((Import 0 0, outcome_by (file_due first).cause n) ∷ []) 0
@@ -184,7 +184,7 @@ module _ (starts : List Facts) (definition : Frame) (file : List ℕ) (rs : List
       ≡ union (get_or starts 0 empty) (accepted_facts definition file)
   held_played working =
       ap (λ xs. content starts (file ∷ []) (history (Import 0 0 ∷ []) xs) 0)
-      (outcome_is ∙ ap (λ x. x ∷ []) (told.exact working))
+      (outcome_is ∙ ap (λ x. x ∷ []) (is_logged.exact working))
       ∙ held_by (first_refusal definition file)
       (growth (content starts (file ∷ []) [] 0) (facts file))
 

@@ -30,7 +30,7 @@ use Rattle.cvr_run.specs.Opening.{At, Opener, AreAt, AreRead}
 use Rattle.cvr_run.specs.Outcome.{content_of_files, IsWhole}
 use Rattle.cvr_run.specs.Refusals.{cause_in, file_due, is_memory, is_want, no_due, status_of}
 use Rattle.cvr_run.specs.Refusals.{wants_memory, AreDue, Due, IsDue}
-use Rattle.cvr_run.specs.Told.{task_dues}
+use Rattle.cvr_run.specs.Logged.{task_dues}
 use Rattle.cvr_run.proofs.Accepted.{is_sound, sound_first}
 use Rattle.cvr_run.proofs.HeldBytes.{held_conflicts, held_dues, held_unsound}
 use Rattle.cvr_run.proofs.Known.{not_whole, read_known, stopped}

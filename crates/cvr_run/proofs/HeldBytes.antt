@@ -25,8 +25,8 @@ use Rattle.cvr_run.specs.Outcome.{accepted_facts, content_of_files, count_line, 
 use Rattle.cvr_run.specs.Outcome.{check_lines, facts_text, facts_fault, task_text, task_fault}
 use Rattle.cvr_run.specs.Outcome.{files_refused, task_refused, run_text, run_fault, any_refused}
 use Rattle.cvr_run.specs.Refusals.{file_due}
-use Rattle.cvr_run.specs.Told.{Dues, refusal_line, refusal_lines, file_dues, drill_dues, task_dues}
-use Rattle.cvr_run.specs.Told.{run_lines}
+use Rattle.cvr_run.specs.Logged.{Dues, refusal_line, refusal_lines, file_dues, drill_dues, task_dues}
+use Rattle.cvr_run.specs.Logged.{run_lines}
 use Rattle.cvr_run.proofs.HeldFiles.{same_for, too_long, unsound_long, refused_long, same_refusal}
 use Rattle.cvr_run.proofs.HeldSteps.{same_step_dues, same_drilled}
 

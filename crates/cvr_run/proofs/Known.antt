@@ -14,7 +14,7 @@ use Rattle.cvr_run.specs.Job.{Job}
 use Rattle.cvr_run.specs.Log.{Logs}
 use Rattle.cvr_run.specs.Opening.{At, Opener, Has, IsRead, AreRead, AreAt}
 use Rattle.cvr_run.specs.Outcome.{run_text, run_fault, any_refused, IsWhole}
-use Rattle.cvr_run.specs.Told.{run_lines, last_lines}
+use Rattle.cvr_run.specs.Logged.{run_lines, last_lines}
 use Rattle.cvr_run.specs.Worked.{Runs, Stop, Stops, Unread, NoRoom, stop_status}
 use Rattle.cvr_run.specs.Worked.{unread_status}
 use Rattle.cvr_run.proofs.HeldBytes.{held_text, held_lines, held_fault, held_refused}

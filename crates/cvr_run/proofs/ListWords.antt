@@ -25,7 +25,7 @@ use Rattle.cvr_run.specs.ListedPaths.{end_of, parts_at}
 use Rattle.cvr_run.specs.Opening.{At, Has, Opener, IsRead, Opens}
 use Rattle.cvr_run.specs.Outcome.{IsWhole}
 use Rattle.cvr_run.specs.OwnWords.{AsksVersion}
-use Rattle.cvr_run.specs.Told.{LogsSome}
+use Rattle.cvr_run.specs.Logged.{LogsSome}
 use Rattle.cvr_run.proofs.CodeWords.{code_asks_none}
 use Rattle.cvr_run.proofs.Known.{not_whole, stopped}
 

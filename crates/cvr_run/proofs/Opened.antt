@@ -42,10 +42,10 @@ pub failed_of : {T : Type 0} (at : At) (may_fail can_fail has_failed : Bool)
     → (may_fail ≡ false → can_fail ≡ false) → (can_fail ≡ false → has_failed ≡ false)
     → IfErr answer (λ e. has_failed ≡ is_file_device e)
     → IfErr answer (λ e. is_file_device e ≡ true → FailedAt at may_fail)
-failed_of at may_fail can_fail has_failed (Ok v) opened read told = tt
-failed_of at may_fail can_fail has_failed (Err e) opened read told =
+failed_of at may_fail can_fail has_failed (Ok v) opened read is_logged = tt
+failed_of at may_fail can_fail has_failed (Err e) opened read is_logged =
     λ device. may_have_failed at may_fail
-    (λ never. true≢false (sym (told ∙ device) ∙ read (opened never)))
+    (λ never. true≢false (sym (is_logged ∙ device) ∙ read (opened never)))
 
 -- what holds of the fault that is handed on
 pub at_err : {T E : Type 0} (answer : Result T E) (P Q : E → Type 0) → IsErrAnd answer P
@@ -77,16 +77,16 @@ read_one_more file_at paths n path files file lt named before last =
 
 -- ---- what was opened
 
-none_more : (opened : Option (List (List ℕ))) → opened ≡ option_map (λ told. told ++ []) opened
+none_more : (opened : Option (List (List ℕ))) → opened ≡ option_map (λ is_logged. is_logged ++ []) opened
 none_more None = refl
-none_more (Some told) = ap (λ (o : List (List ℕ)). Some o) (sym (append-nil told))
+none_more (Some is_logged) = ap (λ (o : List (List ℕ)). Some o) (sym (append-nil is_logged))
 
 twice_more : (opened : Option (List (List ℕ))) (paths more : List (List ℕ))
-    → option_map (λ told. told ++ more) (option_map (λ told. told ++ paths) opened)
-    ≡ option_map (λ told. told ++ (paths ++ more)) opened
+    → option_map (λ is_logged. is_logged ++ more) (option_map (λ is_logged. is_logged ++ paths) opened)
+    ≡ option_map (λ is_logged. is_logged ++ (paths ++ more)) opened
 twice_more None paths more = refl
-twice_more (Some told) paths more =
-    ap (λ (o : List (List ℕ)). Some o) (append_assoc told paths more)
+twice_more (Some is_logged) paths more =
+    ap (λ (o : List (List ℕ)). Some o) (append_assoc is_logged paths more)
 
 pub opens_none : (old : Opener) → Opens old old []
 opens_none old = ap (λ (o : Option (List (List ℕ))). opening old o) (none_more old.opened)

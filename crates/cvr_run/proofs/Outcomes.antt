@@ -21,13 +21,13 @@ module _ (outcomes : List Outcome) (k : ℕ) (o : Outcome) (lt : k < length outc
 
   pub due_where_told : (dues : List Due) → AreDue dues outcomes → (cause : Cause)
       → Some cause ≡ cause_in o → IsDue (get_or dues k no_due) (Some cause)
-  due_where_told dues due cause told =
-      subst (IsDue (get_or dues k no_due)) (sym told) (told_here dues due)
+  due_where_told dues due cause is_logged =
+      subst (IsDue (get_or dues k no_due)) (sym is_logged) (told_here dues due)
 
   pub none_where_not : (dues : List Due) → AreDue dues outcomes → None ≡ cause_in o
       → (get_or dues k no_due).cause ≡ None
-  none_where_not dues due told =
-      subst (IsDue (get_or dues k no_due)) (sym told) (told_here dues due)
+  none_where_not dues due is_logged =
+      subst (IsDue (get_or dues k no_due)) (sym is_logged) (told_here dues due)
 
   -- one more of those that pass a test
   any_here : (test : Outcome → Bool) (before now : Bool) → before ≡ list_any test (take k outcomes)
@@ -38,23 +38,23 @@ module _ (outcomes : List Outcome) (k : ℕ) (o : Outcome) (lt : k < length outc
   pub refused_here : (cause : Cause) (before now : Bool) → Some cause ≡ cause_in o
       → before ≡ list_any is_refusal (take k outcomes) → now ≡ true
       → now ≡ list_any is_refusal (take (k + 1) outcomes)
-  refused_here cause before now told is grown = any_here is_refusal before now is
-      (grown ∙ (sym (or-true before) ∙ ap (λ c. before || is_some c) told))
+  refused_here cause before now is_logged is grown = any_here is_refusal before now is
+      (grown ∙ (sym (or-true before) ∙ ap (λ c. before || is_some c) is_logged))
 
   pub wanted_here : (cause : Cause) (before now : Bool) → Some cause ≡ cause_in o
       → before ≡ list_any is_want (take k outcomes) → now ≡ (before || wants_memory cause)
       → now ≡ list_any is_want (take (k + 1) outcomes)
-  wanted_here cause before now told is grown = any_here is_want before now is
-      (grown ∙ ap (λ c. before || option_map_or wants_memory c false) told)
+  wanted_here cause before now is_logged is grown = any_here is_want before now is
+      (grown ∙ ap (λ c. before || option_map_or wants_memory c false) is_logged)
 
   pub accepted_here : (before : Bool) → None ≡ cause_in o
       → before ≡ list_any is_refusal (take k outcomes)
       → before ≡ list_any is_refusal (take (k + 1) outcomes)
-  accepted_here before told is = any_here is_refusal before before is
-      (sym (or-false before) ∙ ap (λ c. before || is_some c) told)
+  accepted_here before is_logged is = any_here is_refusal before before is
+      (sym (or-false before) ∙ ap (λ c. before || is_some c) is_logged)
 
   pub unwanted_here : (before : Bool) → None ≡ cause_in o
       → before ≡ list_any is_want (take k outcomes)
       → before ≡ list_any is_want (take (k + 1) outcomes)
-  unwanted_here before told is = any_here is_want before before is
-      (sym (or-false before) ∙ ap (λ c. before || option_map_or wants_memory c false) told)
+  unwanted_here before is_logged is = any_here is_want before before is
+      (sym (or-false before) ∙ ap (λ c. before || option_map_or wants_memory c false) is_logged)

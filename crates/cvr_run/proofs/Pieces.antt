@@ -22,17 +22,17 @@ next_piece pieces i d front within e =
 -- a proper prefix is a prefix
 pub proper_prefix : (before after : Taken) (bytes : List ℕ) → AppendsProperPrefix before after bytes
     → AppendsPrefix before after bytes
-proper_prefix before after bytes (front, rest, cut, more, told) = (front, rest, cut, told)
+proper_prefix before after bytes (front, rest, cut, more, is_logged) = (front, rest, cut, is_logged)
 
 pub front_of_piece : (before mid after : Taken) (front piece rest line : List ℕ)
     → line ≡ (front ++ piece) ++ rest → Appends before mid front → AppendsPrefix mid after piece
     → AppendsPrefix before after line
-front_of_piece before mid after front piece rest line e taken (some, more, cut, told) = (
+front_of_piece before mid after front piece rest line e taken (some, more, cut, is_logged) = (
   front ++ some,
   more ++ rest,
   e ∙ ap (λ p. (front ++ p) ++ rest) cut ∙ ap (λ q. q ++ rest) (sym (append_assoc front some more))
       ∙ append_assoc (front ++ some) more rest,
-  told ∙ ap (λ t. taken_with t some) taken ∙ appended_twice before.bytes front some,
+  is_logged ∙ ap (λ t. taken_with t some) taken ∙ appended_twice before.bytes front some,
 )
 
 pub where_err : {T E : Type 0} (P : Type 0) (r : Result T E) → is_err r ≡ true → OnErr r P → P
@@ -45,8 +45,8 @@ where_ok P (Err x) e p = absurd (cc)
 
 pub piece_taken : (before mid after : Taken) (front piece : List ℕ) → Appends before mid front
     → Appends mid after piece → Appends before after (front ++ piece)
-piece_taken before mid after front piece taken told =
-    told ∙ ap (λ t. taken_with t piece) taken ∙ appended_twice before.bytes front piece
+piece_taken before mid after front piece taken is_logged =
+    is_logged ∙ ap (λ t. taken_with t piece) taken ∙ appended_twice before.bytes front piece
 
 pub failed_works : (failed : Bool) (P : Type 0) → failed ≡ true → failed ≡ false → P
 failed_works failed P e works = absurd (cc)

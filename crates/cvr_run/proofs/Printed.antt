@@ -22,7 +22,7 @@ use Rattle.cvr_run.specs.Outcome.{any_refused, run_text, task_refused, task_text
 use Rattle.cvr_run.specs.Refusals.{is_memory}
 use Rattle.cvr_run.specs.Printing.{Prints, is_output, merge_part, end_line, print_status}
 use Rattle.cvr_run.specs.Printing.{status_after}
-use Rattle.cvr_run.specs.Told.{last_lines, Dues, LogsFirst, TellsRun}
+use Rattle.cvr_run.specs.Logged.{last_lines, Dues, LogsFirst, TellsRun}
 use Rattle.cvr_run.proofs.Telling.{appended_none, told_whole, wanted, cut_by_memory}
 
 -- out of memory before anything was printed
@@ -140,9 +140,9 @@ ends_faulty : (before after : Taken) (text : List ℕ) (fault : Option MergeFaul
 ends_faulty before after text fault e true some s front fails part empty is =
     ends_memory before after text _ s is front
 ends_faulty before after text fault (Merge m) false some s front fails part empty is =
-    let told = part (λ other. cc) in
-    ends_refused before after text _ s is (or_some fault some m told)
-    (all_of_none before after text (empty m told) front) fails
+    let is_logged = part (λ other. cc) in
+    ends_refused before after text _ s is (or_some fault some m is_logged)
+    (all_of_none before after text (empty m is_logged) front) fails
 ends_faulty before after text fault Device false some s front fails part empty is =
     ends_device before after text _ s is front fails
 ends_faulty before after text fault Memory false some s front fails part empty is =

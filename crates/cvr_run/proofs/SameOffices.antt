@@ -32,10 +32,10 @@ same_exact s t is =
 -- what `same` answers of offices of one definition
 pub same_is : (answer : Bool) (f g : Frame) (s t : Facts) → IsTrue answer ↔ (IsSame f g × (s ≡ t))
     → f ≡ g → answer ≡ are_same s t
-same_is answer f g s t told one =
+same_is answer f g s t is_logged one =
     both_ways answer (are_same s t)
-    (λ e. subst (λ x. are_same s x ≡ true) (told.0 e).1 (same_itself s))
-    (λ e. told.1 (
+    (λ e. subst (λ x. are_same s x ≡ true) (is_logged.0 e).1 (same_itself s))
+    (λ e. is_logged.1 (
       subst (IsSame f) one (record { elections = refl; units = refl; parties = refl }),
       same_exact s t e,
     ))

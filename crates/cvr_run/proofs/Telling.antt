@@ -28,11 +28,11 @@ use Rattle.cvr_run.specs.Refusals.{is_memory, wants_memory, status_of, Due, no_d
 use Rattle.cvr_run.specs.Outcome.{files_of}
 use Rattle.cvr_run.specs.Log.{cause_line, memory_line, has_path_in, Logs}
 use Rattle.cvr_run.specs.Laws.{AloneOrEachLaw}
-use Rattle.cvr_run.specs.Told.{Telling, AsDue, Lacking, Unspelled, refusal_line, refusal_lines}
-use Rattle.cvr_run.specs.Told.{told_line, told_lines, can_be, can_all, is_lacking, is_unspelled}
-use Rattle.cvr_run.specs.Told.{is_short, file_dues, task_dues, run_lines, last_lines}
-use Rattle.cvr_run.specs.Told.{Dues, LogsFirst, TellsRun, IsCutShort, IsRunCutShort}
-use Rattle.cvr_run.specs.Told.{LogsSome}
+use Rattle.cvr_run.specs.Logged.{Telling, AsDue, Lacking, Unspelled, refusal_line, refusal_lines}
+use Rattle.cvr_run.specs.Logged.{logged_line, logged_lines, can_be, can_all, is_lacking, is_unspelled}
+use Rattle.cvr_run.specs.Logged.{is_short, file_dues, task_dues, run_lines, last_lines}
+use Rattle.cvr_run.specs.Logged.{Dues, LogsFirst, TellsRun, IsCutShort, IsRunCutShort}
+use Rattle.cvr_run.specs.Logged.{LogsSome}
 
 -- ---- logs, one after the other
 
@@ -54,17 +54,17 @@ worked_before true h P silent works = absurd (true≢false (sym (silent refl).1 
 front_then : (g : Bool) (b m a : Taken) (one two : List ℕ) → (g ≡ false → Appends b m one)
     → AppendsPrefix b m one → AppendsPrefix m a two → (g ≡ true → a.bytes ≡ m.bytes)
     → AppendsPrefix b a (one ++ two)
-front_then false b m a one two whole first (some, more, cut, told) silent = (
+front_then false b m a one two whole first (some, more, cut, is_logged) silent = (
   one ++ some,
   more,
   ap (λ t. one ++ t) cut ∙ sym (append_assoc one some more),
-  told ∙ (ap (λ t. taken_with t some) (whole refl) ∙ appended_twice b.bytes one some),
+  is_logged ∙ (ap (λ t. taken_with t some) (whole refl) ∙ appended_twice b.bytes one some),
 )
-front_then true b m a one two whole (some, more, cut, told) next silent = (
+front_then true b m a one two whole (some, more, cut, is_logged) next silent = (
   some,
   more ++ two,
   ap (λ t. t ++ two) cut ∙ append_assoc some more two,
-  silent refl ∙ told,
+  silent refl ∙ is_logged,
 )
 
 pub logs_then : (b m a : Taken) (one two : List ℕ) → Logs b m one → Logs m a two
@@ -84,20 +84,20 @@ logs_then b m a one two first next = record {
 
 -- ---- one more telling
 
-told_lines-more : (ts : List Telling) (t : Telling) (texts : List (List ℕ)) (dues : List Due)
+logged_lines-more : (ts : List Telling) (t : Telling) (texts : List (List ℕ)) (dues : List Due)
     → length ts < length texts → length ts < length dues
-    → told_lines (ts ++ t ∷ []) texts dues
-    ≡ told_lines ts texts dues ++ told_line t (get_or texts (length ts) [])
+    → logged_lines (ts ++ t ∷ []) texts dues
+    ≡ logged_lines ts texts dues ++ logged_line t (get_or texts (length ts) [])
     (get_or dues (length ts) no_due)
-told_lines-more [] t [] dues lp lf = absurd (omega arith)
-told_lines-more [] t (p ∷ ps) [] lp lf = absurd (omega arith)
-told_lines-more [] t (p ∷ ps) (f ∷ fs) lp lf = append-nil (told_line t p f)
-told_lines-more (s ∷ ts) t [] dues lp lf = absurd (omega arith)
-told_lines-more (s ∷ ts) t (p ∷ ps) [] lp lf = absurd (omega arith)
-told_lines-more (s ∷ ts) t (p ∷ ps) (f ∷ fs) lp lf =
-    ap (λ l. told_line s p f ++ l) (told_lines-more ts t ps fs (omega arith) (omega arith))
-    ∙ sym (append_assoc (told_line s p f) (told_lines ts ps fs)
-    (told_line t (get_or ps (length ts) []) (get_or fs (length ts) no_due)))
+logged_lines-more [] t [] dues lp lf = absurd (omega arith)
+logged_lines-more [] t (p ∷ ps) [] lp lf = absurd (omega arith)
+logged_lines-more [] t (p ∷ ps) (f ∷ fs) lp lf = append-nil (logged_line t p f)
+logged_lines-more (s ∷ ts) t [] dues lp lf = absurd (omega arith)
+logged_lines-more (s ∷ ts) t (p ∷ ps) [] lp lf = absurd (omega arith)
+logged_lines-more (s ∷ ts) t (p ∷ ps) (f ∷ fs) lp lf =
+    ap (λ l. logged_line s p f ++ l) (logged_lines-more ts t ps fs (omega arith) (omega arith))
+    ∙ sym (append_assoc (logged_line s p f) (logged_lines ts ps fs)
+    (logged_line t (get_or ps (length ts) []) (get_or fs (length ts) no_due)))
 
 and_parts : (a b : Bool) → (a && b) ≡ true → (a ≡ true) × (b ≡ true)
 and_parts true b h = (refl, h)
@@ -148,7 +148,7 @@ module _ (of : Dues) (b m : Taken) where
       → can_be t (get_or of.dues n no_due) ≡ true
       → s.file_lacking ≡ (r.file_lacking || is_lacking t)
       → s.path_unspelled ≡ (r.path_unspelled || is_unspelled t)
-      → Logs m a (told_line t (get_or of.texts n []) (get_or of.dues n no_due))
+      → Logs m a (logged_line t (get_or of.texts n []) (get_or of.dues n no_due))
       → LogsFirst of (n + 1) s b a
   tells_more n r s a t so_far lp lf can lacking unlogged logs =
       let ts = so_far.tellings in
@@ -163,10 +163,10 @@ module _ (of : Dues) (b m : Taken) where
         path_unspelled = unlogged ∙ (ap (λ x. x || is_unspelled t) so_far.path_unspelled
             ∙ sym (any-push is_unspelled ts t));
         logs =
-            subst (Logs b a) (sym (told_lines-more ts t of.texts of.dues (omega (arith, count, lp))
+            subst (Logs b a) (sym (logged_lines-more ts t of.texts of.dues (omega (arith, count, lp))
             (omega (arith, count, lf))))
-            (logs_then b m a (told_lines ts of.texts of.dues) _ so_far.logs
-            (subst (λ k. Logs m a (told_line t (get_or of.texts k [])
+            (logs_then b m a (logged_lines ts of.texts of.dues) _ so_far.logs
+            (subst (λ k. Logs m a (logged_line t (get_or of.texts k [])
             (get_or of.dues k no_due))) (sym count) logs));
       }
 
@@ -188,7 +188,7 @@ telling_by false = AsDue
 
 line_by : (want : Bool) (what : List ℕ) (due : Due) (cause : Cause)
     → (if want then due.want else due.cause) ≡ Some cause
-    → cause_line what cause ≡ told_line (telling_by want) what due
+    → cause_line what cause ≡ logged_line (telling_by want) what due
 line_by true what due cause is = sym (ap (refusal_line what) is)
 line_by false what due cause is = sym (ap (refusal_line what) is)
 
@@ -221,7 +221,7 @@ or_true : (x : Bool) → true ≡ (x || true)
 or_true true = refl
 or_true false = refl
 
--- what a note told of a cause
+-- what a note is_logged of a cause
 abbrev pub Noted : Refusals → Refusals → Taken → Taken → List ℕ → Cause → Type 0
 Noted r s m a what cause =
     ((s.path_unspelled ≡ r.path_unspelled) × Logs m a (cause_line what cause))
@@ -246,7 +246,7 @@ tells_noted of b m a n r s what cause so_far lp lf named due lacking (inl (same,
     (lacking ∙ ap (λ x. r.file_lacking || x) (lacking-telling_by want))
     (same ∙ (sym (or-false r.path_unspelled)
     ∙ ap (λ x. r.path_unspelled || x) (unspelled-telling_by want)))
-    (subst (λ w. Logs m a (told_line (telling_by want) w at)) named
+    (subst (λ w. Logs m a (logged_line (telling_by want) w at)) named
     (subst (Logs m a) (line_by want what at cause due) logs))
 tells_noted of b m a n r s what cause so_far lp lf named due lacking (inr (path, unspelled, logs)) =
     let is = path_due (get_or of.dues n no_due) cause due path in
@@ -270,7 +270,7 @@ read_due first Memory is = refl
 
 as_due : (ts : List Telling) (texts : List (List ℕ)) (dues : List Due)
     → list_any is_lacking ts ≡ false → list_any is_unspelled ts ≡ false → length ts ≡ length dues
-    → told_lines ts texts dues ≡ refusal_lines texts dues
+    → logged_lines ts texts dues ≡ refusal_lines texts dues
 as_due [] [] [] lacking unspelled count = refl
 as_due [] (p ∷ ps) [] lacking unspelled count = refl
 as_due [] texts (f ∷ fs) lacking unspelled count = absurd (omega arith)
@@ -291,7 +291,7 @@ module _ (of : Dues) (n : ℕ) (r : Refusals) (b m a : Taken) (so_far : LogsFirs
   pub cut_by_memory : (n ≡ 0) ⊎ (n ≡ length of.dues) → r.file_lacking ≡ false → d.failed ≡ false
       → Logs m a memory_line → LogsSome (IsCutShort of fault d.failed) b a
   cut_by_memory can working works logs = (
-    told_lines so_far.tellings of.texts of.dues ++ memory_line,
+    logged_lines so_far.tellings of.texts of.dues ++ memory_line,
     record {
       tellings = so_far.tellings;
       possible = so_far.possible;
@@ -310,7 +310,7 @@ module _ (of : Dues) (n : ℕ) (r : Refusals) (b m a : Taken) (so_far : LogsFirs
   cut_in_files : n ≡ length of.dues → r.file_lacking ≡ false → r.path_unspelled ≡ true
       → Logs m a (last_lines fault d.failed) → LogsSome (IsCutShort of fault d.failed) b a
   cut_in_files all working unspelled logs = (
-    told_lines so_far.tellings of.texts of.dues ++ last_lines fault d.failed,
+    logged_lines so_far.tellings of.texts of.dues ++ last_lines fault d.failed,
     record {
       tellings = so_far.tellings;
       possible = so_far.possible;
@@ -359,7 +359,7 @@ pub lacks : (of : Dues) (n : ℕ) (r : Refusals) (b m : Taken) → LogsFirst of 
     → n ≡ length of.dues → r.file_lacking ≡ true
     → (fault : Option MergeFault) (failed : Bool) → LogsSome (IsCutShort of fault failed) b m
 lacks of n r b m so_far all lacking fault failed = (
-  told_lines so_far.tellings of.texts of.dues,
+  logged_lines so_far.tellings of.texts of.dues,
   record {
     tellings = so_far.tellings;
     possible = so_far.possible;
@@ -396,11 +396,11 @@ pub alone_or_each : AloneOrEachLaw
 alone_or_each texts dues fault failed text cut =
     let ts = cut.tellings in
     elim cut.ends [
-      | inl e ↦ inr (ts, [], e.0, cut.possible, e.2 ∙ sym (append-nil (told_lines ts texts dues)))
+      | inl e ↦ inr (ts, [], e.0, cut.possible, e.2 ∙ sym (append-nil (logged_lines ts texts dues)))
       | inr other ↦ elim other [
         | inl e ↦ inr (ts, last_lines fault failed, e.0, cut.possible, e.3)
         | inr e ↦ elim e.0 [
-          | inl none ↦ inl (e.3 ∙ ap (λ us. told_lines us texts dues ++ memory_line)
+          | inl none ↦ inl (e.3 ∙ ap (λ us. logged_lines us texts dues ++ memory_line)
               (no_tellings ts none))
           | inr all ↦ inr (ts, memory_line, all, cut.possible, e.3)
         ]
@@ -449,15 +449,15 @@ status_wanting : (l u s : Bool) → (if l || u then status.Memory
 status_wanting l u s want = grind arith
 
 module _ (task : Task) (what def : List ℕ) (paths files : List (List ℕ)) (fault : ReadFault)
-    (none r : Refusals) (b a : Taken) (told rest : List ℕ)
-    (named : told ≡ what) (first : (fault ≡ Memory → ⊥) → first_unsound def ≡ Some fault)
+    (none r : Refusals) (b a : Taken) (is_logged rest : List ℕ)
+    (named : is_logged ≡ what) (first : (fault ≡ Memory → ⊥) → first_unsound def ≡ Some fault)
     (lacks : none.file_lacking ≡ false) (spelled : none.path_unspelled ≡ false)
     (lacking : r.file_lacking ≡ (none.file_lacking || wants_memory (Read fault))) where
   own_due : IsDue (file_due (first_unsound def)) (Some (Read fault))
   own_due = read_due (first_unsound def) fault first
 
   pub definition_log : (first_unsound def ≡ Some fault → rest ≡ [])
-      → Noted none r b a told (Read fault) → (status_of r ≡ status.Memory → ⊥)
+      → Noted none r b a is_logged (Read fault) → (status_of r ≡ status.Memory → ⊥)
       → Logs b a (run_lines task what def paths files ++ rest)
   definition_log last (inl (same, logs)) whole =
       let parts = status_whole r.file_lacking r.path_unspelled r.any_refusal whole in
@@ -466,7 +466,7 @@ module _ (task : Task) (what def : List ℕ) (paths files : List (List ℕ)) (fa
       ∙ (sym (ap (λ x. x || is_memory fault) lacks) ∙ (sym lacking ∙ parts.0))) in
       let due = first other in
       subst (Logs b a)
-      (sym (append-nil (cause_line told (Read fault)))
+      (sym (append-nil (cause_line is_logged (Read fault)))
       ∙ ((λ i. refusal_line (named i) (option_map Read (sym due i)) ++ sym (last due) i)
       ∙ ap (λ l. l ++ rest) (sym (unsound_lines task what def paths files fault due))))
       logs
@@ -474,7 +474,7 @@ module _ (task : Task) (what def : List ℕ) (paths files : List (List ℕ)) (fa
       absurd (true≢false (sym unspelled
       ∙ (status_whole r.file_lacking r.path_unspelled r.any_refusal whole).1))
 
-  pub definition_cut_short : (failed : Bool) → Noted none r b a told (Read fault)
+  pub definition_cut_short : (failed : Bool) → Noted none r b a is_logged (Read fault)
       → status_of r ≡ status.Memory → LogsSome
       (IsRunCutShort (record {
         request = record { task = task; def = what; paths = paths };
@@ -490,10 +490,10 @@ module _ (task : Task) (what def : List ℕ) (paths files : List (List ℕ)) (fa
       ≡ is_short (telling_by by) = λ i.
       (lacking ∙ (ap (λ x. x || by) lacks ∙ lacking-telling_by by)) i
       || (same ∙ (spelled ∙ unspelled-telling_by by)) i in (
-        told_line (telling_by by) what due,
+        logged_line (telling_by by) what due,
         inl (telling_by by, can_be-telling_by by due (Read fault) own_due, sym is ∙ short, refl),
-        subst (λ w. Logs b a (told_line (telling_by by) w due)) named
-            (subst (Logs b a) (line_by by told due (Read fault) own_due) logs),
+        subst (λ w. Logs b a (logged_line (telling_by by) w due)) named
+            (subst (Logs b a) (line_by by is_logged due (Read fault) own_due) logs),
       )
   definition_cut_short failed (inr (path, unspelled, logs)) want = (
     memory_line,

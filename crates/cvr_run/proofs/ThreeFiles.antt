@@ -5,16 +5,16 @@ use Rattle.std.specs.Prelude.{codes}
 use Rattle.std.specs.List.{list_any}
 use Rattle.cvr_run.specs.CutShort.{three_texts, three_dues, MayTell, NoneOrAll, AfterLacking}
 use Rattle.cvr_run.specs.Log.{memory_line}
-use Rattle.cvr_run.specs.Told.{Telling, AsDue, Lacking, Unspelled, told_lines, can_all, is_lacking}
+use Rattle.cvr_run.specs.Logged.{Telling, AsDue, Lacking, Unspelled, logged_lines, can_all, is_lacking}
 
 -- whether an `m` stands in a text: of these lines it is in `memory` alone
 abbrev has_m : List ℕ → Bool
 has_m text = list_any (λ c. c == 109) text
 
-abbrev told : List Telling → List ℕ
-told ts = told_lines ts three_texts three_dues
+abbrev is_logged : List Telling → List ℕ
+is_logged ts = logged_lines ts three_texts three_dues
 
-no_m : (ts : List Telling) → can_all ts three_dues ≡ true → length ts ≡ 3 → has_m (told ts) ≡ false
+no_m : (ts : List Telling) → can_all ts three_dues ≡ true → length ts ≡ 3 → has_m (is_logged ts) ≡ false
 no_m [] can all = absurd (omega (arith, all))
 no_m (t ∷ []) can all = absurd (omega (arith, all))
 no_m (t ∷ u ∷ []) can all = absurd (omega (arith, all))
@@ -38,8 +38,8 @@ no_m (Unspelled ∷ u ∷ v ∷ []) can all = absurd (true≢false (sym can))
 -- `memory` ends a run before the first file, or after the third
 by_memory : (ts : List Telling) → can_all ts three_dues ≡ true → (length ts ≡ 0) ⊎ (length ts ≡ 3)
     → list_any is_lacking ts ≡ false
-    → (told ts ++ memory_line ≡ codes "memory\n")
-    ⊎ (told ts ++ memory_line ≡ codes "a: E2\nc: E1\nmemory\n")
+    → (is_logged ts ++ memory_line ≡ codes "memory\n")
+    ⊎ (is_logged ts ++ memory_line ≡ codes "a: E2\nc: E1\nmemory\n")
 by_memory [] can at whole = inl refl
 by_memory (t ∷ ts) can (inl none) whole = absurd (omega (arith, none))
 by_memory (t ∷ []) can (inr all) whole = absurd (omega (arith, all))
@@ -61,7 +61,7 @@ none_or_all_told text m cut =
       | inl e ↦ absurd (true≢false (sym m ∙ (ap has_m e.2 ∙ no_m cut.tellings cut.possible e.0)))
       | inr other ↦ elim other [
         | inl e ↦ absurd (true≢false (sym m
-            ∙ (ap has_m (e.3 ∙ append-nil (told cut.tellings))
+            ∙ (ap has_m (e.3 ∙ append-nil (is_logged cut.tellings))
             ∙ no_m cut.tellings cut.possible e.0)))
         | inr e ↦ elim (by_memory cut.tellings cut.possible e.0 e.1) [
           | inl none ↦ inl (e.3 ∙ none)

@@ -15,7 +15,7 @@ use Rattle.cvr_run.specs.Drill.{event_of, step_texts, certain_due, exchange_due,
 use Rattle.cvr_run.specs.Drill.{step_dues}
 use Rattle.cvr_run.specs.Happened.{causes, run_dues}
 use Rattle.cvr_run.specs.Refusals.{Due, no_due, file_due}
-use Rattle.cvr_run.specs.Told.{refusal_line, refusal_lines, run_lines, file_dues}
+use Rattle.cvr_run.specs.Logged.{refusal_line, refusal_lines, run_lines, file_dues}
 
 pub told_of_definition : (what def : List ℕ) (paths files : List (List ℕ)) (fault : ReadFault)
     (text : List ℕ) → first_unsound def ≡ Some fault → refusal_line what (Some (Read fault)) ≡ text

@@ -20,7 +20,7 @@ use Rattle.cvr_run.specs.OwnWords.{PrintsOwn}
 use Rattle.cvr_run.specs.Printing.{Prints, is_output, end_line, print_line, print_status}
 use Rattle.cvr_run.specs.Printing.{status_after}
 use Rattle.cvr_run.specs.Refusals.{status_of}
-use Rattle.cvr_run.specs.Told.{out_line}
+use Rattle.cvr_run.specs.Logged.{out_line}
 use Rattle.cvr_run.proofs.Known.{not_whole}
 use Rattle.cvr_run.proofs.Printed.{whole_front}
 use Rattle.cvr_run.proofs.Telling.{appended_none}
@@ -118,14 +118,14 @@ help_told unchanged k (Err x) r answer c d b a help p e any lacking unspelled is
 pub told_memory : (words : List (List ℕ)) (request : Request) (f : LineFault) (answer : Status)
     (g : Bool) → IsRequest words request → IsLineFault words f → answer ≡ words_status f g
     → answer ≡ status.Memory
-told_memory words request f answer g asked is told =
-    told ∙ ap (λ k. words_status k g) (no_line_fault_but_memory words request f asked is)
+told_memory words request f answer g asked is is_logged =
+    is_logged ∙ ap (λ k. words_status k g) (no_line_fault_but_memory words request f asked is)
 
 pub not_asked : (words : List (List ℕ)) (request : Request) (f : LineFault) (answer : Status)
     (g : Bool) → IsRequest words request → IsLineFault words f → answer ≡ words_status f g
     → IsWhole answer → ⊥
-not_asked words request f answer g asked is told =
-    not_whole answer (inr (told_memory words request f answer g asked is told))
+not_asked words request f answer g asked is is_logged =
+    not_whole answer (inr (told_memory words request f answer g asked is is_logged))
 
 pub not_command_line : (answer : Status) → answer ≡ status.Memory → answer ≢ status.CommandLine
 not_command_line answer is other = cc

@@ -15,7 +15,7 @@ use Rattle.cvr_run.specs.Devices.{Devices, Outputs, outputs}
 use Rattle.cvr_run.specs.Job.{Job}
 use Rattle.cvr_run.specs.Log.{memory_line, Logs}
 use Rattle.cvr_run.specs.Opening.{At, AreAt, Opens}
-use Rattle.cvr_run.specs.Told.{out_line, LogsSome}
+use Rattle.cvr_run.specs.Logged.{out_line, LogsSome}
 use Rattle.cvr_run.specs.Worked.{Stops, Runs}
 
 -- ---- words that ask for no request

@@ -3,7 +3,7 @@
 use Rattle.std.specs.Prelude.{List, [], ◌∷◌, ℕ, codes, false, Some, None}
 use Rattle.cdf_types.specs.declared.fault.ReadFault.TheVariants.{TooLong, NotJson}
 use Rattle.cvr_run.specs.Refusals.{Due, file_due}
-use Rattle.cvr_run.specs.Told.{IsCutShort}
+use Rattle.cvr_run.specs.Logged.{IsCutShort}
 
 -- three files: the first is no JSON text, the second is accepted, the third is too long
 abbrev pub three_texts : List (List ℕ)

@@ -10,8 +10,8 @@ use Rattle.cvr_run.specs.Job.{Job}
 use Rattle.cvr_run.specs.Log.{Logs}
 use Rattle.cvr_run.specs.Outcome.{run_text, run_fault, any_refused, IsWhole}
 use Rattle.cvr_run.specs.Outcome.{task_text, task_refused, task_fault}
-use Rattle.cvr_run.specs.Told.{Dues, task_dues, run_lines, last_lines, IsRunCutShort, LogsSome}
-use Rattle.cvr_run.specs.Told.{TellsRun}
+use Rattle.cvr_run.specs.Logged.{Dues, task_dues, run_lines, last_lines, IsRunCutShort, LogsSome}
+use Rattle.cvr_run.specs.Logged.{TellsRun}
 use Rattle.cvr_run.specs.declared.merge.MergeFault.{MergeFault}
 use Rattle.cvr_words.specs.declared.request.Task.{Task}
 

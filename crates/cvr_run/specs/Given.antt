@@ -9,7 +9,7 @@ use Rattle.cvr_run.specs.Devices.{Devices}
 use Rattle.cvr_run.specs.Log.{memory_line}
 use Rattle.cvr_run.specs.Opening.{Opener, AreRead, IsRead, Opens}
 use Rattle.cvr_run.specs.Outcome.{files_of, IsWhole}
-use Rattle.cvr_run.specs.Told.{LogsSome}
+use Rattle.cvr_run.specs.Logged.{LogsSome}
 use Rattle.cvr_run.specs.Worked.{Stops}
 
 -- ---- one file

@@ -16,7 +16,7 @@ use Rattle.cvr_run.specs.Accepted.{is_unsound}
 use Rattle.cvr_run.specs.Job.{Job}
 use Rattle.cvr_run.specs.Outcome.{content_of_files}
 use Rattle.cvr_run.specs.Refusals.{Due, cause_in, file_due, is_refusal}
-use Rattle.cvr_run.specs.Told.{task_dues}
+use Rattle.cvr_run.specs.Logged.{task_dues}
 
 -- the cause for which each is refused, if there is one
 abbrev pub causes : List Due → List (Option Cause)

@@ -3,7 +3,7 @@ use Rattle.std.specs.Prelude.{◌≡◌, ℕ, List, take, map}
 use Rattle.cvr_words.specs.declared.request.Task.{Task}
 use Rattle.cvr_run.specs.File.{held_bytes}
 use Rattle.cvr_run.specs.Outcome.{run_text, run_fault, any_refused}
-use Rattle.cvr_run.specs.Told.{run_lines}
+use Rattle.cvr_run.specs.Logged.{run_lines}
 
 -- what is held of a file: its first bytes, which are all of them unless it is too long
 abbrev pub held_part : List ℕ → List ℕ

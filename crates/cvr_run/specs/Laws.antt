@@ -35,7 +35,7 @@ use Rattle.cvr_run.specs.Log.{memory_line}
 use Rattle.cvr_run.specs.Merge.{merge_fault, merge_text}
 use Rattle.cvr_run.specs.Outcome.{accepted_facts, content_of_files}
 use Rattle.cvr_run.specs.Refusals.{Due}
-use Rattle.cvr_run.specs.Told.{Telling, told_lines, can_all, IsCutShort}
+use Rattle.cvr_run.specs.Logged.{Telling, logged_lines, can_all, IsCutShort}
 
 -- the imports of the first n files into one new office, each with the outcome that is due, the
 -- newest first
@@ -133,8 +133,8 @@ NoTextLaw = (definition : Frame) (date device : List ℕ) (i : ℕ) (facts : Fac
     → merge_text definition date device i facts ≡ []
 
 -- the number that is reported is that of the volumes
-abbrev pub ToldNumberLaw : Type 0
-ToldNumberLaw = (definition : Frame) (date device : List ℕ) (i : ℕ) (facts : Facts) (n : ℕ)
+abbrev pub LoggedNumberLaw : Type 0
+LoggedNumberLaw = (definition : Frame) (date device : List ℕ) (i : ℕ) (facts : Facts) (n : ℕ)
     → merge_fault definition date device i facts ≡ Some (NoVolume n) → n ≡ volumes facts
 
 -- and `conflicts` ends with it
@@ -313,4 +313,4 @@ AloneOrEachLaw =
     → IsCutShort (record { texts = texts; dues = dues }) fault out_failed text
     → (text ≡ memory_line)
     ⊎ ((tellings : List Telling) × (rest : List ℕ) × (length tellings ≡ length dues)
-    × (can_all tellings dues ≡ true) × (text ≡ told_lines tellings texts dues ++ rest))
+    × (can_all tellings dues ≡ true) × (text ≡ logged_lines tellings texts dues ++ rest))

@@ -8,7 +8,7 @@ pub mod Log
 pub mod Merge
 pub mod Status
 pub mod Job
-pub mod Told
+pub mod Logged
 pub mod Happened
 pub mod CutShort
 pub mod Printing

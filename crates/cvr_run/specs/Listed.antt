@@ -16,7 +16,7 @@ use Rattle.cvr_run.specs.File.{held_bytes}
 use Rattle.cvr_run.specs.Job.{Job}
 use Rattle.cvr_run.specs.ListedPaths.{end_of, parts_at}
 use Rattle.cvr_run.specs.Opening.{At, Has, Opener, AreAt, IsRead, Opens, opened_more}
-use Rattle.cvr_run.specs.Told.{LogsSome}
+use Rattle.cvr_run.specs.Logged.{LogsSome}
 use Rattle.cvr_run.specs.Worked.{Stops}
 
 -- ---- words

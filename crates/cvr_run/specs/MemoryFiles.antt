@@ -30,7 +30,7 @@ pub record IsFileAt (file : MemoryFile) (path : List ℕ) (call : ℕ) : Type 0 
   pub fails : file.fail_at ≡ call
 
 -- the first file of a path alone says whether its reading can fail
-pub record FailAsTold (x y z : MemoryFile) : Type 0 where
+pub record FailWhereSet (x y z : MemoryFile) : Type 0 where
   pub first : can_fail_at (x ∷ y ∷ z ∷ []) (codes "a") ≡ false
   pub other : can_fail_at (x ∷ y ∷ z ∷ []) (codes "b") ≡ true
   pub reversed : can_fail_at (z ∷ y ∷ x ∷ []) (codes "a") ≡ true

@@ -9,7 +9,7 @@ use Rattle.cvr_run.specs.declared.status.Status.{Status}
 use Rattle.cvr_run.specs.declared.status.Status.TheVariants.{Done, Device}
 use Rattle.cvr_run.specs.Devices.{Outputs}
 use Rattle.cvr_run.specs.Log.{Logs}
-use Rattle.cvr_run.specs.Told.{out_line}
+use Rattle.cvr_run.specs.Logged.{out_line}
 
 -- the program's name and its version
 abbrev pub version_text : List ℕ

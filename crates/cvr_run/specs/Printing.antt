@@ -16,7 +16,7 @@ use Rattle.cvr_run.specs.declared.status.Status.TheVariants as status
 use Rattle.cvr_run.specs.Log.{memory_line}
 use Rattle.cvr_run.specs.Merge.{merge_fault_line}
 use Rattle.cvr_run.specs.Refusals.{status_of}
-use Rattle.cvr_run.specs.Told.{out_line}
+use Rattle.cvr_run.specs.Logged.{out_line}
 
 -- whether the output failed
 abbrev pub is_output : PrintFault → Bool

@@ -12,7 +12,7 @@ use Rattle.cvr_office.specs.declared.event.Cause.TheVariants.{Read}
 use Rattle.cvr_run.specs.Happened.{causes, run_dues}
 use Rattle.cvr_run.specs.Laws.{HaveSameValues}
 use Rattle.cvr_run.specs.Outcome.{run_text}
-use Rattle.cvr_run.specs.Told.{run_lines}
+use Rattle.cvr_run.specs.Logged.{run_lines}
 
 -- a cast vote record without UniqueId, one that is accepted, and one with a selection of another
 -- contest

@@ -4,7 +4,7 @@ use Rattle.std.specs.List.{list_any}
 use Rattle.cdf_definition.specs.Frame.{Frame}
 use Rattle.cvr_office.specs.declared.event.Outcome.{Outcome}
 use Rattle.cvr_run.specs.Refusals.{is_want, AreDue}
-use Rattle.cvr_run.specs.Told.{file_dues}
+use Rattle.cvr_run.specs.Logged.{file_dues}
 
 -- each file has a path and the outcome that is due; and unless memory ran out for one, this holds
 pub record AreTaken (definition : Frame) (paths files : List (List ℕ)) (outcomes : List Outcome)

@@ -9,7 +9,7 @@ ghost use Rattle.cvr_run.specs.Given.{AreAsMany, AreHad, StopsAmong};
 ghost use Rattle.cvr_run.specs.Outcome.{accepted_facts, check_lines, content_of_files, files_of};
 ghost use Rattle.cvr_run.specs.Refusals.{cause_in, file_due, is_want, IsDue};
 ghost use Rattle.cvr_run.specs.Taken.{AreTaken};
-ghost use Rattle.cvr_run.specs.Told.{LogsSome};
+ghost use Rattle.cvr_run.specs.Logged.{LogsSome};
 
 use crate::check::push_count;
 use crate::ending::end_in_memory;

@@ -11,7 +11,7 @@ ghost use Rattle.cvr_run.specs.Ends.{Ends};
 ghost use Rattle.cvr_run.specs.Happened.{Keeps};
 ghost use Rattle.cvr_run.specs.Outcome.{files_of, IsWhole};
 ghost use Rattle.cvr_run.specs.Refusals.{cause_in, is_refusal, is_want, AreDue, Due};
-ghost use Rattle.cvr_run.specs.Told.{drill_dues, LogsFirst, TellsRun, IsCutShort, LogsSome};
+ghost use Rattle.cvr_run.specs.Logged.{drill_dues, LogsFirst, TellsRun, IsCutShort, LogsSome};
 
 use crate::ending::{end_in_memory, end_with};
 use crate::happened::Happened;

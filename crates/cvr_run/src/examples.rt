@@ -1,7 +1,7 @@
 //! Worked examples: the text of each task over the facts of a few records, that of a tally by rows.
 ghost use Rattle.std.specs.Prelude.{codes};
 ghost use Rattle.cvr_run.specs.declared.memory_files.MemoryFile.{MemoryFile};
-ghost use Rattle.cvr_run.specs.MemoryFiles.{IsFileAt, FailAsTold};
+ghost use Rattle.cvr_run.specs.MemoryFiles.{IsFileAt, FailWhereSet};
 ghost use Rattle.cvr_run.specs.CutShort.{NoneOrAll, AfterLacking};
 ghost use Rattle.cvr_run.specs.Listed.{TallyListed};
 ghost use Rattle.cvr_run.specs.Opening.{FourAreShown};
@@ -38,14 +38,14 @@ pub fn merges()
 
 /// Worked example of files in memory: one of which no call fails, one at another path whose fifth
 /// call fails, and one at the first path again, whose sixth call fails.
-pub fn files_fail_as_told()
+pub fn files_fail_where_set()
     ensures { (x y z : MemoryFile) → IsFileAt x (codes "a") 0 → IsFileAt y (codes "b") 5
-        → IsFileAt z (codes "a") 6 → FailAsTold x y z }
+        → IsFileAt z (codes "a") 6 → FailWhereSet x y z }
 {}
 
 /// Worked examples of three files, the second one accepted: how the log ends where memory ran out,
 /// and how it doesn't.
-pub fn memory_ends_a_log_as_told()
+pub fn memory_ends_a_log_as_stated()
     ensures none_or_all { NoneOrAll }
     ensures after_lacking { AfterLacking }
 {}

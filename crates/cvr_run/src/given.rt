@@ -8,7 +8,7 @@ ghost use Rattle.cvr_run.specs.Opening.{Absent, FailedAt, Opens};
 ghost use Rattle.cvr_run.specs.Worked.{unread_line};
 
 use crate::file::FileFault;
-use crate::opening::{Open, read_told};
+use crate::opening::{Open, read_logged};
 use cdf_types::Sink;
 
 /// Where the files of a run come from.
@@ -24,7 +24,7 @@ impl<'a> Files<'a> {
     /// Reads the file at a path into these bytes, unless it is lent.
     ///
     /// # Errors
-    /// As `read_told`.
+    /// As `read_logged`.
     pub fn fill<O: Open, L: Sink>(
         self,
         opener: &mut O,
@@ -42,12 +42,12 @@ impl<'a> Files<'a> {
             (λ e. (O.state opener.old).at path.now ≡ Absent → e ≡ Device) }
         ensures opens { OnErr result
             (Opens (O.state opener.old) (O.state opener.new) (path.now ∷ [])) }
-        ensures told { IfErr result
+        ensures is_logged { IfErr result
             (λ e. Logs (L.taken log.old) (L.taken log.new) (unread_line path.now e)) }
     {
         match self {
             Files::Lent(_) => Ok(()),
-            Files::Opened => read_told(opener, path, bytes, log),
+            Files::Opened => read_logged(opener, path, bytes, log),
         }
     }
 

@@ -6,7 +6,7 @@ ghost use Rattle.cvr_run.specs.File.{held_bytes};
 ghost use Rattle.cvr_run.specs.HeldBytes.{HeldTextLaw, HeldLinesLaw, HeldFaultLaw, HeldRefusedLaw};
 ghost use Rattle.cvr_run.specs.Laws.{HeldLaw, ByBytesLaw, SameFactsLaw, SameCurrentsLaw};
 ghost use Rattle.cvr_run.specs.Laws.{SameConflictsLaw, SameTallyLaw, SameMergeFaultLaw};
-ghost use Rattle.cvr_run.specs.Laws.{SameVolumeLaw, NoMergeFaultLaw, NoTextLaw, ToldNumberLaw};
+ghost use Rattle.cvr_run.specs.Laws.{SameVolumeLaw, NoMergeFaultLaw, NoTextLaw, LoggedNumberLaw};
 ghost use Rattle.cvr_run.specs.Laws.{LastNumberLaw, DueLaw, LeastSameLaw, FirstStepLaw};
 ghost use Rattle.cvr_run.specs.Laws.{StepImportLaw};
 ghost use Rattle.cvr_run.specs.Laws.{ExchangeLaw, FilesReachedLaw, ReachedLaw, SameReachedLaw};
@@ -39,7 +39,7 @@ pub fn order_and_repeats_change_nothing()
 pub fn a_merge_has_a_fault_or_a_volume()
     ensures volume { NoMergeFaultLaw }
     ensures fault { NoTextLaw }
-    ensures number { ToldNumberLaw }
+    ensures number { LoggedNumberLaw }
 {}
 
 /// The last line of the conflicts is the number of volumes that can be merged.
@@ -67,7 +67,7 @@ pub fn a_drill_has_the_outcomes_that_are_due()
 
 /// The number that a drill prints for an office, as that of one that is the same, is the least of
 /// an office that holds the same facts.
-pub fn the_least_office_that_is_the_same_is_told()
+pub fn the_least_office_that_is_the_same_is_answered()
     ensures { LeastSameLaw }
 {}
 
@@ -95,7 +95,7 @@ pub fn offices_of_a_drill_hold_what_a_run_holds()
 {}
 
 /// Where memory ends a run, it logs `memory` alone, or each file or step.
-pub fn want_of_memory_is_told_alone_or_after_each_file()
+pub fn want_of_memory_is_logged_alone_or_after_each_file()
     ensures { AloneOrEachLaw }
 {}
 

@@ -9,13 +9,13 @@ ghost use Rattle.cvr_run.specs.Log.{Logs};
 ghost use Rattle.cvr_run.specs.Opening.{IsRead, Opens};
 ghost use Rattle.cvr_run.specs.Outcome.{IsWhole};
 ghost use Rattle.cvr_run.specs.Responds.{NotesEach};
-ghost use Rattle.cvr_run.specs.Told.{LogsSome};
+ghost use Rattle.cvr_run.specs.Logged.{LogsSome};
 
 use crate::file::HELD;
 use crate::happened::Happened;
 use crate::listed_paths::read_paths;
 use crate::log::{say, say_memory};
-use crate::opening::{Open, read_told};
+use crate::opening::{Open, read_logged};
 use crate::status::Status;
 use crate::working::run_request;
 use cdf_types::{Body, Seq, Sink};
@@ -72,7 +72,7 @@ fn paths_at<O: Open, L: Sink>(
         (L.taken log.old) (L.taken log.new)) }
 {
     let mut bytes = Vec::new(alloc);
-    read_told(opener, path, &mut bytes, log)?;
+    read_logged(opener, path, &mut bytes, log)?;
     match text_of(bytes.as_slice()) {
         Some(text) => match read_paths(alloc, text, by_null) {
             Ok(paths) => Ok(paths),

@@ -1,7 +1,7 @@
 ghost use Rattle.std.specs.Prelude.{◌≡◌, List, false, length, map, option_map};
 ghost use Rattle.std.specs.List.{list_any};
 ghost use Rattle.cvr_run.specs.Refusals.{cause_in, is_refusal, is_want, AreDue, Due};
-ghost use Rattle.cvr_run.specs.Told.{LogsFirst};
+ghost use Rattle.cvr_run.specs.Logged.{LogsFirst};
 
 use crate::refusals::Refusals;
 use cdf_types::{Body, Sink};

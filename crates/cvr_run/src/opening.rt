@@ -82,7 +82,7 @@ fn tell_unread<L: Sink>(log: &mut L, path: &str, fault: FileFault)
 /// # Errors
 /// `Device` where it could not be opened, or its source failed; `Memory` where a growth was
 /// refused.
-pub fn read_told<O: Open, L: Sink>(
+pub fn read_logged<O: Open, L: Sink>(
     opener: &mut O,
     path: &str,
     bytes: &mut Vec<u8>,
@@ -95,7 +95,7 @@ pub fn read_told<O: Open, L: Sink>(
         → FailedAt ((O.state opener.old).at path.now) ((O.state opener.old).may_fail path.now)) }
     ensures absent { IfErr result (λ e. (O.state opener.old).at path.now ≡ Absent → e ≡ Device) }
     ensures opens { Opens (O.state opener.old) (O.state opener.new) (path.now ∷ []) }
-    ensures told { IfErr result
+    ensures is_logged { IfErr result
         (λ e. Logs (L.taken log.old) (L.taken log.new) (unread_line path.now e)) }
 {
     match read_at(opener, path, bytes) {

@@ -52,7 +52,7 @@ impl Refusals {
         ensures any_refusal { self.new.any_refusal ≡ true }
         ensures file_lacking { self.new.file_lacking
             ≡ (self.old.file_lacking || wants_memory cause.now) }
-        ensures told { (self.new.path_unspelled ≡ self.old.path_unspelled)
+        ensures is_logged { (self.new.path_unspelled ≡ self.old.path_unspelled)
             × Logs (L.taken log.old) (L.taken log.new) (cause_line what.now cause.now)
             ⊎ (has_path_in cause.now ≡ true) × (self.new.path_unspelled ≡ true)
             × Logs (L.taken log.old) (L.taken log.new) memory_line }

@@ -13,8 +13,8 @@ ghost use Rattle.cvr_run.specs.Outcome.{content_of_files, check_lines, facts_tex
 ghost use Rattle.cvr_run.specs.Outcome.{files_refused, task_fault, IsWhole};
 ghost use Rattle.cvr_run.specs.Refusals.{is_want, AreDue};
 ghost use Rattle.cvr_run.specs.Taken.{AreTaken};
-ghost use Rattle.cvr_run.specs.Told.{drill_dues, file_dues, import_dues, task_dues};
-ghost use Rattle.cvr_run.specs.Told.{IsCutShort, LogsFirst, LogsSome};
+ghost use Rattle.cvr_run.specs.Logged.{drill_dues, file_dues, import_dues, task_dues};
+ghost use Rattle.cvr_run.specs.Logged.{IsCutShort, LogsFirst, LogsSome};
 ghost use Rattle.cvr_run.specs.declared.merge.MergeFault.{MergeFault};
 ghost use Rattle.cvr_run.specs.declared.status.Status.TheVariants.{Memory as NoMemory};
 ghost use Rattle.cvr_words.specs.declared.request.Task.TheVariants.{Check, Drill};

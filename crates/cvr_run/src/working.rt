@@ -15,7 +15,7 @@ ghost use Rattle.cvr_run.specs.Outcome.{IsWhole};
 use crate::collecting::{Ignored, take_all};
 use crate::given::Files;
 use crate::happened::Happened;
-use crate::opening::{Open, read_told};
+use crate::opening::{Open, read_logged};
 use crate::status::Status;
 use crate::tasks::{refuse, run_task};
 use cdf_check::Definition;
@@ -121,7 +121,7 @@ pub fn run_request<C: Office + Drop, O: Open, W: Sink, L: Sink>(
     ensures no_words { result ≢ CommandLine }
 {
     let mut bytes = Vec::new(alloc);
-    match read_told(opener, request.def.as_str(), &mut bytes, log) {
+    match read_logged(opener, request.def.as_str(), &mut bytes, log) {
         Ok(()) => {
             let def = bytes.as_slice();
             run_behind::<C, O, W, L>(alloc, opener, request, def, out, log, happened)

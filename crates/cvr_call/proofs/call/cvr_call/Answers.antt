@@ -1,7 +1,7 @@
 use Rattle.std.proofs.Common.{◌≡◌, ◌≢◌, ◌∙◌, ℕ, List, [], ◌∷◌, length, ap, arith, inl, inr, refl}
 use Rattle.cvr_call.specs.declared.fault.CallFault.{CallFault}
 use Rattle.cvr_call.specs.declared.fault.CallFault.TheVariants.{Pieces, Memory}
-use Rattle.cvr_call.specs.Told.{fault_code, no_input, no_memory, put_into}
+use Rattle.cvr_call.specs.Left.{fault_code, no_input, no_memory, put_into}
 use Rattle.cvr_call.proofs.call.cvr_call.Goals as goal
 
 of_memory : (fault : CallFault) (code : ℕ) → code ≡ fault_code fault → fault ≢ Pieces
@@ -14,8 +14,8 @@ of_pieces : (fault : CallFault) (code : ℕ) → code ≡ fault_code fault → c
 of_pieces Pieces code is five = refl
 of_pieces Memory code is five = absurd (omega (arith, is, five))
 
-pub returns-in-Ok-clause-told : goal.returns-in-Ok-clause-told
-returns-in-Ok-clause-told c given is = inr (
+pub returns-in-Ok-clause-handed_over : goal.returns-in-Ok-clause-handed_over
+returns-in-Ok-clause-handed_over c given is = inr (
   record {
     status = c.in-Ok.status;
     text = c.answer_input-answered.new.out.taken;
@@ -60,8 +60,8 @@ returns-clause-left c = record {
 pub returns-in-Ok-clause-bad_input : goal.returns-in-Ok-clause-bad_input
 returns-in-Ok-clause-bad_input c none = absurd (none c.in-Ok.ensures.some.0 c.in-Ok.ensures.some.1)
 
-pub returns-clause-told : goal.returns-clause-told
-returns-clause-told c given is = inl (of_memory c.in-Err.fault c.code.result c.code.ensures
+pub returns-clause-handed_over : goal.returns-clause-handed_over
+returns-clause-handed_over c given is = inl (of_memory c.in-Err.fault c.code.result c.code.ensures
     (λ pieces. c.in-Err.ensures.none pieces given is))
 
 pub returns-clause-no_input : goal.returns-clause-no_input
@@ -77,8 +77,8 @@ kept : (room new bytes taken : List ℕ) → new ≡ put_into room bytes → byt
     → new ≡ room
 kept room new bytes taken put same none = put ∙ (ap (put_into room) (same ∙ none) ∙ put_none room)
 
-pub returns-clause-untold : goal.returns-clause-untold
-returns-clause-untold c five =
+pub returns-clause-nothing_handed_over : goal.returns-clause-nothing_handed_over
+returns-clause-nothing_handed_over c five =
     let pieces = of_pieces c.in-Err.fault c.code.result c.code.ensures five in
     let text = c.in-Err.ensures.quiet pieces in
     let log = c.in-Err.ensures.log_quiet pieces in

@@ -2,7 +2,7 @@ use Rattle.std.proofs.Common.{map, ap, ◌∙◌}
 use Rattle.std.specs.List.{flat_map}
 use Rattle.cvr_fact_types.specs.Orders.{device_cmp, header_cmp, snapshot_cmp}
 use Rattle.cvr_facts.specs.declared.list.FactList.{FactList}
-use Rattle.cvr_facts.specs.Lists.{told_device, told_header, told_snapshots, told_list, AreFactsOf}
+use Rattle.cvr_facts.specs.Lists.{stated_device, stated_header, stated_snapshots, stated_list, AreFactsOf}
 use Rattle.cvr_facts.specs.Lists.{fact_of_device, fact_of_header, fact_of_snapshot}
 use Rattle.cvr_facts.proofs.Gathering.{Keeps, keeps, same_told, device_tied, header_tied}
 use Rattle.cvr_facts.proofs.Gathering.{snapshot_tied}
@@ -14,24 +14,24 @@ pub snapshots_in-requires : goal.snapshots_in-requires
 snapshots_in-requires c cvr h = c.requires cvr (rw c.as_slice-3.ensures at h)
 
 module _ (c : goal.After-in_order-3) where
-  abbrev told : FactList
-  told = told_list c.args.definition.now.contests c.args.report.now
+  abbrev stated : FactList
+  stated = stated_list c.args.definition.now.contests c.args.report.now
 
-  devices : Keeps fact_of_device told.devices c.in_order.result
+  devices : Keeps fact_of_device stated.devices c.in_order.result
   devices = keeps fact_of_device device_cmp device_tied _ _ _
-      (c.in_ok-devices.ensures ∙ ap (map told_device) c.as_slice.ensures)
-      c.in_order.ensures.told c.in_order.ensures.kept
+      (c.in_ok-devices.ensures ∙ ap (map stated_device) c.as_slice.ensures)
+      c.in_order.ensures.stated c.in_order.ensures.kept
 
-  headers : Keeps fact_of_header told.headers c.in_order-2.result
+  headers : Keeps fact_of_header stated.headers c.in_order-2.result
   headers = keeps fact_of_header header_cmp header_tied _ _ _
-      (c.in_ok-headers.ensures ∙ ap (map told_header) c.as_slice-2.ensures)
-      c.in_order-2.ensures.told c.in_order-2.ensures.kept
+      (c.in_ok-headers.ensures ∙ ap (map stated_header) c.as_slice-2.ensures)
+      c.in_order-2.ensures.stated c.in_order-2.ensures.kept
 
-  snapshots : Keeps fact_of_snapshot told.snapshots c.in_order-3.result
+  snapshots : Keeps fact_of_snapshot stated.snapshots c.in_order-3.result
   snapshots = keeps fact_of_snapshot snapshot_cmp snapshot_tied _ _ _
       (c.in_ok-snapshots.ensures
-      ∙ ap (flat_map (told_snapshots c.args.definition.now.contests)) c.as_slice-3.ensures)
-      c.in_order-3.ensures.told c.in_order-3.ensures.kept
+      ∙ ap (flat_map (stated_snapshots c.args.definition.now.contests)) c.as_slice-3.ensures)
+      c.in_order-3.ensures.stated c.in_order-3.ensures.kept
 
   abbrev list : FactList
   list = record {
@@ -46,8 +46,8 @@ module _ (c : goal.After-in_order-3) where
 pub returns-clause-facts : goal.returns-clause-facts
 returns-clause-facts c = same_told _ _ (list c) (devices c) (headers c) (snapshots c)
 
-pub returns-clause-told : goal.returns-clause-told
-returns-clause-told c = are c
+pub returns-clause-stated : goal.returns-clause-stated
+returns-clause-stated c = are c
 
 pub returns-clause-file : goal.returns-clause-file
 returns-clause-file c bytes is = same_told _ _ (list c) (devices c) (headers c) (snapshots c)

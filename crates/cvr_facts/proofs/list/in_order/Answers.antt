@@ -10,8 +10,8 @@ returns-clause-once g c =
     (IsStrictlySortedBy-dedup g.met.T.Ord.total g.met.T.Ord.matches_eq _
     c.sort_unstable.ensures.sorted)
 
-pub returns-clause-told : goal.returns-clause-told
-returns-clause-told g c fact h =
+pub returns-clause-stated : goal.returns-clause-stated
+returns-clause-stated g c fact h =
     Contains-permutation _ _ fact (IsPermutation-sym _ _ c.sort_unstable.ensures.permutation)
     (Contains-from_dedup _ _ fact (rw (c.new.ensures, dedup_is _ _ _ c.dedup.ensures.filtered) at
     h))

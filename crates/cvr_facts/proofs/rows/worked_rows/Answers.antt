@@ -6,7 +6,7 @@ use Rattle.jiff.proofs.OnLiterals.{jiff_on_literals}
 use Rattle.cdf_typed.specs.Typed.{report_of}
 use Rattle.cdf_definition.specs.Frame.{frame_of}
 use Rattle.cdf_definition.specs.Sample.{definition_file}
-use Rattle.cvr_facts.specs.Lists.{facts_in, told_header, told_list, told_snapshots}
+use Rattle.cvr_facts.specs.Lists.{facts_in, stated_header, stated_list, stated_snapshots}
 use Rattle.cvr_facts.specs.Rows as row
 use Rattle.cvr_facts.proofs.rows.worked_rows.Goals as goal
 use Rattle.cvr_facts.proofs.WorkedRows.{facts-ascii, both-ascii, len-file, len-files, current-files}
@@ -16,20 +16,20 @@ pub returns : goal.returns
 unfolding serde_json_on_literals jiff_on_literals digits
 returns c = record {
   facts_of_file = facts-ascii row.every_kind_file refl;
-  facts_told_of_report =
+  facts_stated_of_report =
       both-ascii (λ d file. let contests = (frame_of d).contests in
-      facts_in (told_list contests (report_of contests file))) definition_file row.every_kind_file _
+      facts_in (stated_list contests (report_of contests file))) definition_file row.every_kind_file _
       refl refl refl;
   header_of_report =
-      both-ascii (λ d file. map told_header (report_of (frame_of d).contests file).cvrs)
+      both-ascii (λ d file. map stated_header (report_of (frame_of d).contests file).cvrs)
       definition_file row.every_kind_file _ refl refl refl;
   snapshot_of_report =
       both-ascii (λ d file. let contests = (frame_of d).contests in
-      flat_map (told_snapshots contests) (report_of contests file).cvrs)
+      flat_map (stated_snapshots contests) (report_of contests file).cvrs)
       definition_file row.every_kind_file _ refl refl refl;
   numbers_of_report =
       both-ascii (λ d file. let contests = (frame_of d).contests in
-      flat_map (told_snapshots contests) (report_of contests file).cvrs)
+      flat_map (stated_snapshots contests) (report_of contests file).cvrs)
       definition_file row.numbered_file _ refl refl refl;
   facts_of_two_cvrs = len-file row.two_cvrs_file _ refl refl;
   other_spelling = facts-ascii row.spaced_file refl ∙ sym (facts-ascii row.scan_file refl);

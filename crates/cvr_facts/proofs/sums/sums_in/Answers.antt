@@ -8,12 +8,12 @@ use Rattle.cvr_facts.proofs.sums.sums_in.Goals as goal
 
 pub sums_of-requires : goal.sums_of-requires
 sums_of-requires g c =
-    let told = g.V.AsContestVote.contest_vote c.args.contests.now in
+    let stated = g.V.AsContestVote.contest_vote c.args.contests.now in
     c.requires.each _ (
       c.loop-vote.vote-index,
-      told_less told _ _ _ c.loop-vote-test.true
+      told_less stated _ _ _ c.loop-vote-test.true
           c.vote-item.is,
-      sym (told_is told _ _ _ c.loop-vote-test.true c.vote-item.is),
+      sym (told_is stated _ _ _ c.loop-vote-test.true c.vote-item.is),
     )
 
 pub returns : goal.returns

@@ -3,7 +3,7 @@ use Rattle.std.proofs.Common.{Option, None, Some, option_map, unwrap_or, arith, 
 use Rattle.std.specs.Option.{IfSome, option_and}
 use Rattle.std.proofs.lemmas.List.{take_all, take-append-le, length-map}
 use Rattle.cdf_parts.specs.Places.{Texts, selections_at}
-use Rattle.cvr_facts.proofs.Counting.{told_at, no_votes, votes_by_place}
+use Rattle.cvr_facts.proofs.Counting.{number_with, no_votes, votes_by_place}
 use Rattle.cvr_facts.proofs.Columns.{all_seen, seen_below, place-lt, positions-lt, added-lt}
 use Rattle.cvr_facts.proofs.Columns.{one_more}
 use Rattle.cvr_facts.proofs.sums.sums_of.Goals as goal
@@ -29,13 +29,13 @@ loop-selection-init g c =
 
 pub votes_of-added-requires : goal.votes_of-added-requires
 votes_of-added-requires g c =
-    let at = told_at _ _ _ _ c.loop-selection-test.true c.selection-item.is _
+    let at = number_with _ _ _ _ c.loop-selection-test.true c.selection-item.is _
     (c.selections-selection-items.ensures c.args.contests.now) in
     positions-lt _ _ c.requires _ _ at _ (c.positions.ensures _)
 
 pub add_selection-requires-clause-place : goal.add_selection-requires-clause-place
 add_selection-requires-clause-place g c =
-    let at = told_at _ _ _ _ c.loop-selection-test.true c.selection-item.is _
+    let at = number_with _ _ _ _ c.loop-selection-test.true c.selection-item.is _
     (c.selections-selection-items.ensures c.args.contests.now) in
     let names = c.selection.ensures
     ∙ ap (λ o. (g.V.Selection.AsSelectionVote.selection_vote o c.selection-item.result).selection)
@@ -54,7 +54,7 @@ add_selection-requires-clause-room g c =
 
 pub add_selection-requires-clause-few : goal.add_selection-requires-clause-few
 add_selection-requires-clause-few g c =
-    let at = told_at _ _ _ _ c.loop-selection-test.true c.selection-item.is _
+    let at = number_with _ _ _ _ c.loop-selection-test.true c.selection-item.is _
     (c.selections-selection-items.ensures c.args.contests.now) in
     added-lt _ _ c.requires _ _ at _ (c.positions.ensures _) _ c.votes_of-added.ensures.counted
     c.votes_of-added.ensures.pending
@@ -66,7 +66,7 @@ written n xs rest long = take-append-le n xs rest (omega (arith, long))
 
 pub loop-selection-preserved : goal.loop-selection-preserved
 loop-selection-preserved g c =
-    let at = told_at _ _ _ _ c.loop-selection-test.true c.selection-item.is _
+    let at = number_with _ _ _ _ c.loop-selection-test.true c.selection-item.is _
     (c.selections-selection-items.ensures c.args.contests.now) in
     let names = c.selection.ensures
     ∙ ap (λ o. (g.V.Selection.AsSelectionVote.selection_vote o c.selection-item.result).selection)
@@ -89,7 +89,7 @@ pub returns : goal.returns
 returns g c =
     let contests = c.args.contests.now in
     let ids = g.V.AsContestVote.selection_ids contests c.args.vote.now in
-    let told = g.V.Selection.AsSelectionVote.selection_vote ids in
+    let stated = g.V.Selection.AsSelectionVote.selection_vote ids in
     let all = c.selections-selection-items.ensures contests in
     (λ i. record c.loop-selection.sums { votes = c.new.ensures i })
     ∙ (c.loop-selection.invariant
@@ -97,6 +97,6 @@ returns g c =
     (omega (
       arith,
       c.loop-selection-test.false,
-      length-map c.selections-selection-items.result.now told,
+      length-map c.selections-selection-items.result.now stated,
       ap length all,
     )))

@@ -5,41 +5,41 @@ use Rattle.cvr_facts.proofs.sums.votes_of.Goals as goal
 
 pub overflow_add-counted : goal.overflow_add-counted
 overflow_add-counted g c =
-    let told = g.P.AsPosition.position in
-    let p = told c.position-item.result in
+    let stated = g.P.AsPosition.position in
+    let p = stated c.position-item.result in
     let at : c.votes_where-counted.result ≡ cond (counts p) p.votes 0 =
     c.votes_where-counted.ensures ∙ ap (λ b. cond b c.position-position.result.votes 0)
     c.counts.ensures ∙ ap (λ q. cond (counts q) q.votes 0) c.position-position.ensures in
     omega (
       arith,
-      among_next-lt (map told c.args.positions.now) c.loop-position.position-index p
-          (told_less told _ _ _ c.loop-position-test.true c.position-item.is)
-          (told_is told _ _ _ c.loop-position-test.true c.position-item.is)
+      among_next-lt (map stated c.args.positions.now) c.loop-position.position-index p
+          (told_less stated _ _ _ c.loop-position-test.true c.position-item.is)
+          (told_is stated _ _ _ c.loop-position-test.true c.position-item.is)
           counts _ _ c.loop-position.invariant.counted at c.requires,
     )
 
 pub overflow_add-pending : goal.overflow_add-pending
 overflow_add-pending g c =
-    let told = g.P.AsPosition.position in
-    let p = told c.position-item.result in
+    let stated = g.P.AsPosition.position in
+    let p = stated c.position-item.result in
     let at : c.votes_where-pending.result ≡ cond (is_pending p) p.votes 0 =
     c.votes_where-pending.ensures ∙ ap (λ b. cond b c.position-position.result.votes 0)
     c.is_pending.ensures ∙ ap (λ q. cond (is_pending q) q.votes 0) c.position-position.ensures
     in
     omega (
       arith,
-      among_next-lt (map told c.args.positions.now) c.loop-position.position-index p
-          (told_less told _ _ _ c.loop-position-test.true c.position-item.is)
-          (told_is told _ _ _ c.loop-position-test.true c.position-item.is)
+      among_next-lt (map stated c.args.positions.now) c.loop-position.position-index p
+          (told_less stated _ _ _ c.loop-position-test.true c.position-item.is)
+          (told_is stated _ _ _ c.loop-position-test.true c.position-item.is)
           is_pending _ _ c.loop-position.invariant.pending at c.requires,
     )
 
 pub loop-position-preserved : goal.loop-position-preserved
 loop-position-preserved g c =
-    let told = g.P.AsPosition.position in
-    let p = told c.position-item.result in
-    let less = told_less told _ _ _ c.loop-position-test.true c.position-item.is in
-    let is = told_is told _ _ _ c.loop-position-test.true c.position-item.is in
+    let stated = g.P.AsPosition.position in
+    let p = stated c.position-item.result in
+    let less = told_less stated _ _ _ c.loop-position-test.true c.position-item.is in
+    let is = told_is stated _ _ _ c.loop-position-test.true c.position-item.is in
     let counted : c.votes_where-counted.result ≡ cond (counts p) p.votes 0 =
     c.votes_where-counted.ensures ∙ ap (λ b. cond b c.position-position.result.votes 0)
     c.counts.ensures ∙ ap (λ q. cond (counts q) q.votes 0) c.position-position.ensures in

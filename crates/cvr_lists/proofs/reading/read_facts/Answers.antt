@@ -1,6 +1,6 @@
 use Rattle.std.proofs.Common.{map, ap, ◌∙◌}
 use Rattle.cdf_definition.proofs.Laws.{valid_file}
-use Rattle.cvr_lists.specs.Kept.{device_told}
+use Rattle.cvr_lists.specs.Kept.{device_stated}
 use Rattle.cvr_lists.proofs.FileLists.{file_facts, AreFileFacts}
 use Rattle.cvr_lists.proofs.PlainLists.{none_rise}
 use Rattle.cvr_lists.proofs.reading.read_facts.Goals as goal
@@ -12,7 +12,7 @@ are c =
     ((valid_file c.args.definition.now c.args.bytes.now).1 c.in_ok-listed.ensures.valid)
     c.in_ok-devices.devices.items c.in_ok-listed.kept.facts.items c.new-records.result.items
     c.put_in.new.facts.items
-    (c.in_ok-devices.ensures ∙ ap (map device_told) c.in_ok-listed.ensures.devices)
+    (c.in_ok-devices.ensures ∙ ap (map device_stated) c.in_ok-listed.ensures.devices)
     c.in_ok-listed.ensures.kept.facts c.new-records.ensures.items c.in_ok-put_in.ensures.put
 
 pub put_in-requires : goal.put_in-requires

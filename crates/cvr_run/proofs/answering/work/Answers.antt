@@ -11,19 +11,19 @@ pub returns-in-Ok : goal.returns-in-Ok
 returns-in-Ok g c =
     let words = with_program (map string_bytes c.args.words.now) in
     let asked = c.in-Ok.ensures.request in
-    let told = c.run_request-status.ensures in
+    let is_logged = c.run_request-status.ensures in
     record {
       works = record {
-        answers = inl (c.in-Ok.request, asked, told.does);
-        given = λ job given whole. told.given job
+        answers = inl (c.in-Ok.request, asked, is_logged.does);
+        given = λ job given whole. is_logged.given job
             (one_request words job.request c.in-Ok.request given.asked asked) given.there whole;
-        asked = λ r is. told.no_words;
-        says = does_same _ _ _ _ _ told.does;
+        asked = λ r is. is_logged.no_words;
+        says = does_same _ _ _ _ _ is_logged.does;
       };
       happened = λ job given whole.
           let is = one_request words job.request c.in-Ok.request given.asked asked in
           noted job c.run_request-status.new.happened _ c.in-Ok.request is refl refl refl refl
-          (told.happened job is given.there whole);
+          (is_logged.happened job is given.there whole);
     }
 
 pub returns-in-Err : goal.returns-in-Err
@@ -31,18 +31,18 @@ returns-in-Err g c =
     let words = with_program (map string_bytes c.args.words.now) in
     let fault = c.in-Err.fault in
     let is = c.in-Err.ensures.fault in
-    let told = c.tell_fault.ensures in
+    let is_logged = c.tell_fault.ensures in
     let answer = c.tell_fault.result in
     let failed = (g.W.Sink.taken c.tell_fault.new.out).failed in
     record {
       works = record {
-        answers = inr (fault, is, opens_none (g.O.Open.state c.args.opener.now), told);
+        answers = inr (fault, is, opens_none (g.O.Open.state c.args.opener.now), is_logged);
         given = λ job given whole. absurd
-            (not_asked words job.request fault answer failed given.asked is told.status whole);
+            (not_asked words job.request fault answer failed given.asked is is_logged.status whole);
         asked = λ r asks. not_command_line answer
-            (told_memory words r fault answer failed asks is told.status);
+            (told_memory words r fault answer failed asks is is_logged.status);
         says = record { at = refl; may_fail = refl };
       };
       happened = λ job given whole. absurd
-          (not_asked words job.request fault answer failed given.asked is told.status whole);
+          (not_asked words job.request fault answer failed given.asked is is_logged.status whole);
     }

@@ -3,7 +3,7 @@ use Rattle.std.proofs.Common.{subst, arith}
 use Rattle.std.proofs.lemmas.List.{get_or_default, take_all, take_more}
 use Rattle.cvr_run.specs.Given.{AreHad, StopsAmong}
 use Rattle.cvr_run.specs.Log.{memory_line, Logs}
-use Rattle.cvr_run.specs.Told.{LogsSome}
+use Rattle.cvr_run.specs.Logged.{LogsSome}
 use Rattle.cvr_run.specs.Worked.{unread_line, unread_status}
 use Rattle.cvr_run.proofs.Had.{had_more, had_none, stops_lacking, stops_unread}
 use Rattle.cvr_run.proofs.Opened.{at_err}
@@ -34,20 +34,20 @@ loop-place-preserved g c =
     ∙ (c.index-paths-place.is ∙ get_or_default paths n c.index-paths-place.result [] lt) in
     let more : take (n + 1) paths ≡ take n paths ++ path ∷ [] =
     take_more paths n [] lt ∙ ap (λ p. take n paths ++ p ∷ []) (sym named) in
-    let told = c.in_ok-fill.ensures in
+    let is_logged = c.in_ok-fill.ensures in
     let files = was.had.0 in
     let file = c.at-file.result.now.items in
     record {
       had = (
         files ++ file ∷ [],
         had_more old between new paths n path lt named c.args.from files
-            c.fill.new.bytes.items file c.requires was.had.1 told.filled c.at-file.ensures,
+            c.fill.new.bytes.items file c.requires was.had.1 is_logged.filled c.at-file.ensures,
         λ definition none.
             subst (λ ps. g.T.Take.took c.take_one.new.taker definition ps (files ++ file ∷ [])
             c.take_one.new.outcomes.items) (sym more)
             (c.in-Ok.ensures definition (take n paths) files (was.had.2 definition none)),
       );
-      quiet = told.quiet ∙ was.quiet;
+      quiet = is_logged.quiet ∙ was.quiet;
     }
 
 pub returns-in_err-fill-clause-stops : goal.returns-in_err-fill-clause-stops
@@ -62,7 +62,7 @@ returns-in_err-fill-clause-stops g c =
     let path = c.as_str-path.result.now in
     let named = c.as_str-path.ensures
     ∙ (c.index-paths-place.is ∙ get_or_default paths n c.index-paths-place.result [] lt) in
-    let told = c.in_err-fill.ensures in
+    let is_logged = c.in_err-fill.ensures in
     let cause = c.in_err-fill.field-0.0 in
     let b = g.L.Sink.taken c.args.log.now in
     let a = g.L.Sink.taken c.fill.new.log in
@@ -71,8 +71,8 @@ returns-in_err-fill-clause-stops g c =
     (λ s is. (
       unread_line path cause,
       stops_unread old between new paths n path lt named c.args.from was.had.0 cause s was.had.1
-          told.opened told.device told.absent told.opens is,
-      subst (λ l. Logs (g.L.Sink.taken l) a (unread_line path cause)) was.quiet told.told,
+          is_logged.opened is_logged.device is_logged.absent is_logged.opens is,
+      subst (λ l. Logs (g.L.Sink.taken l) a (unread_line path cause)) was.quiet is_logged.is_logged,
     ))
 
 pub returns-in-Err-clause-stops : goal.returns-in-Err-clause-stops
@@ -87,13 +87,13 @@ returns-in-Err-clause-stops g c =
     let path = c.as_str-path.result.now in
     let named = c.as_str-path.ensures
     ∙ (c.index-paths-place.is ∙ get_or_default paths n c.index-paths-place.result [] lt) in
-    let told = c.in_ok-fill.ensures in
+    let is_logged = c.in_ok-fill.ensures in
     let a = g.L.Sink.taken c.end_in_memory.new.log in (
       memory_line,
       stops_lacking old between new paths n path lt named c.args.from was.had.0
-          c.fill.new.bytes.items c.at-file.result.now.items _ was.had.1 told.filled
+          c.fill.new.bytes.items c.at-file.result.now.items _ was.had.1 is_logged.filled
           c.end_in_memory.ensures.status,
-      subst (λ l. Logs (g.L.Sink.taken l) a memory_line) (told.quiet ∙ was.quiet)
+      subst (λ l. Logs (g.L.Sink.taken l) a memory_line) (is_logged.quiet ∙ was.quiet)
           c.end_in_memory.ensures.log,
     )
 

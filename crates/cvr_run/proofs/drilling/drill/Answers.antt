@@ -9,7 +9,7 @@ use Rattle.cvr_words.specs.declared.request.Step.{Step}
 use Rattle.cvr_run.specs.Drill.{event_of, events_of, new_offices, step_dues}
 use Rattle.cvr_run.specs.Outcome.{files_of}
 use Rattle.cvr_run.specs.Refusals.{is_refusal, is_want, AreDue}
-use Rattle.cvr_run.specs.Told.{drill_dues, LogsFirst}
+use Rattle.cvr_run.specs.Logged.{drill_dues, LogsFirst}
 use Rattle.cvr_run.proofs.Happenings.{keeps_due, uncounted}
 use Rattle.cvr_run.proofs.SameOffices.{of_one}
 use Rattle.cvr_run.proofs.Steps.{steps_due, drill_refused_is, drilled_is}
@@ -49,11 +49,11 @@ returns g c =
     let left : take c.in_ok-offices.offices.len (after ++ rest)
     ≡ after = take_at after rest c.in_ok-offices.offices.len
     (also ∙ (sym made ∙ (ap length started ∙ sym c.in_ok-offices.offices.ok.0))) in
-    let told = c.note_refused-refusals.ensures in
+    let is_logged = c.note_refused-refusals.ensures in
     let wants : c.note_refused-refusals.result.file_lacking ≡ false
     → list_any is_want rs ≡ false = λ working.
     ap (list_any is_want) (sym c.as_slice-2.ensures.value)
-    ∙ (sym told.file_lacking ∙ working) in
+    ∙ (sym is_logged.file_lacking ∙ working) in
     let all_steps : length rs ≡ length steps =
     count ∙ length-map steps (λ (step : Step). event_of n step.act) in
     record {
@@ -66,14 +66,14 @@ returns g c =
           (λ o lt. c.in_ok-outcomes.ensures.content o (omega (arith, lt, made))
           ∙ (λ i. content (held_are i) files (history (events_are i) rs) o));
       any_refusal = λ working.
-          told.any_refusal
+          is_logged.any_refusal
           ∙ (ap (list_any is_refusal) c.as_slice-2.ensures.value
           ∙ drill_refused_is def n files steps rs count out (wants working));
       log =
           subst (λ k. LogsFirst (drill_dues def n files steps) k c.note_refused-refusals.result
           (g.L.Sink.taken c.args.log.now) (g.L.Sink.taken c.note_refused-refusals.new.log))
           (ap length c.as_slice-2.ensures.value ∙ all_steps)
-          (told.log (step_dues def n files steps)
+          (is_logged.log (step_dues def n files steps)
           (subst (AreDue (step_dues def n files steps)) (sym c.as_slice-2.ensures.value)
           (steps_due def n files steps rs count out)));
       happened = λ working facts. keeps_due c.keep.new.self (drill_dues def n files steps).dues

@@ -3,7 +3,7 @@ use Rattle.std.proofs.lemmas.List.{length-map}
 use Rattle.cvr_run.specs.Drill.{step_due, drill_text, drill_refused}
 use Rattle.cvr_run.specs.Outcome.{files_of}
 use Rattle.cvr_run.specs.Printing.{Prints}
-use Rattle.cvr_run.specs.Told.{drill_dues}
+use Rattle.cvr_run.specs.Logged.{drill_dues}
 use Rattle.cvr_run.proofs.Endings.{ends_in_memory}
 use Rattle.cvr_run.proofs.Known.{not_whole}
 use Rattle.cvr_run.proofs.Printed.{ends_after, tells_after}

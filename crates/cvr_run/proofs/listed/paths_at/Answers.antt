@@ -1,28 +1,28 @@
 use Rattle.std.proofs.Common.{◌≡◌, ◌∷◌, [], inl, inr, refl, subst}
 use Rattle.cvr_run.specs.Listed.{HasNoList, IsList, bad_list_line}
 use Rattle.cvr_run.specs.Log.{Logs, memory_line}
-use Rattle.cvr_run.specs.Told.{LogsSome}
+use Rattle.cvr_run.specs.Logged.{LogsSome}
 use Rattle.cvr_run.specs.Worked.{NoRoom, unread_line, unread_status}
 use Rattle.cvr_run.proofs.Opened.{at_err, stops_first}
 use Rattle.cvr_run.proofs.listed.paths_at.Goals as goal
 
-pub returns-in_err-read_told-clause-none : goal.returns-in_err-read_told-clause-none
-returns-in_err-read_told-clause-none g c =
+pub returns-in_err-read_logged-clause-none : goal.returns-in_err-read_logged-clause-none
+returns-in_err-read_logged-clause-none g c =
     let old = g.O.Open.state c.args.opener.now in
-    let new = g.O.Open.state c.read_told.new.opener in
+    let new = g.O.Open.state c.read_logged.new.opener in
     let path = c.args.path.now in
     let b = g.L.Sink.taken c.args.log.now in
-    let a = g.L.Sink.taken c.read_told.new.log in
-    let cause = c.in_err-read_told.field-0.0 in
-    let told = c.in_err-read_told.ensures in
+    let a = g.L.Sink.taken c.read_logged.new.log in
+    let cause = c.in_err-read_logged.field-0.0 in
+    let is_logged = c.in_err-read_logged.ensures in
     at_err c.from_residual.result (λ s. s ≡ unread_status cause)
     (λ s. LogsSome (HasNoList old new path s) b a)
     c.from_residual.ensures.1
     (λ s is. (
       unread_line path cause,
       inl
-          (stops_first old new [] s path cause told.device told.absent told.opens is),
-      told.told,
+          (stops_first old new [] s path cause is_logged.device is_logged.absent is_logged.opens is),
+      is_logged.is_logged,
     ))
 
 pub returns-in-Some-clause-none : goal.returns-in-Some-clause-none
@@ -36,14 +36,14 @@ returns-in-Some-clause-none g c =
           path = c.args.path.now;
           after = [];
           split = refl;
-          files = c.read_told.new.bytes.items ∷ [];
-          read = (c.in_ok-read_told.ensures.bytes, tt);
-          opened = c.in_ok-read_told.ensures.opens;
+          files = c.read_logged.new.bytes.items ∷ [];
+          read = (c.in_ok-read_logged.ensures.bytes, tt);
+          opened = c.in_ok-read_logged.ensures.opens;
         };
         status = refl;
         said = refl;
       }),
-      subst (λ l. Logs (g.L.Sink.taken l) a memory_line) c.in_ok-read_told.ensures.quiet
+      subst (λ l. Logs (g.L.Sink.taken l) a memory_line) c.in_ok-read_logged.ensures.quiet
           c.say_memory.ensures,
     )
 
@@ -53,13 +53,13 @@ returns-clause-none g c =
     let a = g.L.Sink.taken c.tell_bad_list.new.log in (
       bad_list_line path,
       inr (record {
-        text = c.read_told.new.bytes.items;
-        read = c.in_ok-read_told.ensures.bytes;
+        text = c.read_logged.new.bytes.items;
+        read = c.in_ok-read_logged.ensures.bytes;
         bad = subst (λ bytes. ¬ IsList bytes) c.as_slice.ensures.value c.in-None.ensures.none;
-        opened = c.in_ok-read_told.ensures.opens;
+        opened = c.in_ok-read_logged.ensures.opens;
         status = refl;
         said = refl;
       }),
-      subst (λ l. Logs (g.L.Sink.taken l) a (bad_list_line path)) c.in_ok-read_told.ensures.quiet
+      subst (λ l. Logs (g.L.Sink.taken l) a (bad_list_line path)) c.in_ok-read_logged.ensures.quiet
           c.tell_bad_list.ensures,
     )

@@ -5,7 +5,7 @@ use Rattle.cvr_run.specs.Devices.{Devices}
 use Rattle.cvr_run.specs.Ends.{Ran}
 use Rattle.cvr_run.specs.Listed.{HasNoList, ListedRequest}
 use Rattle.cvr_run.specs.Opening.{AreAt}
-use Rattle.cvr_run.specs.Told.{LogsSome}
+use Rattle.cvr_run.specs.Logged.{LogsSome}
 use Rattle.cvr_run.proofs.Happenings.{noted}
 use Rattle.cvr_run.proofs.ListWords.{listed_done, no_list_ends, request_known}
 use Rattle.cvr_run.proofs.Opened.{opens_same}
@@ -30,20 +30,20 @@ returns-in-Ok g c =
     record { task = c.args.request.task; def = c.args.request.def; paths = c.in-Ok.paths } in
     let place = c.place_of.result.now in
     let found = c.in-Ok.ensures in
-    let told = c.run_request-status.ensures in
+    let is_logged = c.run_request-status.ensures in
     record {
       does = listed_done asked answer (record { opener = old; out = before; log = b }) new unchanged
           place c.in-Ok.paths between c.place_of.ensures found.paths found.opens
           (subst (λ l. Does request answer
           (record { opener = between; out = before; log = g.L.Sink.taken l }) new unchanged)
-          found.quiet told.does);
+          found.quiet is_logged.does);
       given = λ job lists whole.
           let there = subst (λ at. AreAt at (job.request.def ∷ job.request.paths)
           (job.def ∷ job.files)) (sym (opens_same old between (place ∷ []) found.opens).at)
           lists.there in
           subst (λ l. Ran job answer (record { out = before; log = g.L.Sink.taken l })
           (record { out = new.out; log = new.log })) found.quiet
-          (told.given job (request_known old.at asked job place c.in-Ok.paths c.place_of.ensures
+          (is_logged.given job (request_known old.at asked job place c.in-Ok.paths c.place_of.ensures
           found.paths lists) there whole);
       happened = λ job lists whole.
           let there = subst (λ at. AreAt at (job.request.def ∷ job.request.paths)
@@ -52,7 +52,7 @@ returns-in-Ok g c =
           let is = request_known old.at asked job place c.in-Ok.paths c.place_of.ensures found.paths
           lists in
           noted job c.run_request-status.new.happened _ request is refl refl refl refl
-          (told.happened job is there whole);
+          (is_logged.happened job is there whole);
     }
 
 pub returns : goal.returns

@@ -2,7 +2,7 @@ use Rattle.std.proofs.Common.{◌≡◌, ◌+◌, ◌<◌, ◌∙◌, length, ma
 use Rattle.std.proofs.Common.{option_map, sym, ap, subst, arith, rules, []}
 use Rattle.std.proofs.lemmas.List.{length-map, get_or-map}
 use Rattle.cvr_run.specs.Refusals.{cause_in}
-use Rattle.cvr_run.specs.Told.{LogsFirst}
+use Rattle.cvr_run.specs.Logged.{LogsFirst}
 use Rattle.cvr_run.proofs.Outcomes.{due_where_told, none_where_not, refused_here, wanted_here}
 use Rattle.cvr_run.proofs.Outcomes.{accepted_here, unwanted_here}
 use Rattle.cvr_run.proofs.Telling.{tells_none, tells_noted, tells_accepted}
@@ -37,15 +37,15 @@ loop-place-preserved g c =
     elim c.match-cause_in.branch [
       | in-Some w ↦
           let cause = w.in-Some.cause.now in
-          let told : Some cause ≡ cause_in o =
+          let is_logged : Some cause ≡ cause_in o =
           sym (ap (option_map (λ c. c.now)) w.in-Some.is) ∙ c.cause_in.ensures in
           let now = w.note.new.self in
           record {
             any_refusal = ap (λ r. r.any_refusal) w.refusals-is
-                ∙ refused_here rs n o lt at cause before.any_refusal now.any_refusal told
+                ∙ refused_here rs n o lt at cause before.any_refusal now.any_refusal is_logged
                 was.any_refusal w.note.ensures.any_refusal;
             file_lacking = ap (λ r. r.file_lacking) w.refusals-is
-                ∙ wanted_here rs n o lt at cause before.file_lacking now.file_lacking told
+                ∙ wanted_here rs n o lt at cause before.file_lacking now.file_lacking is_logged
                 was.file_lacking w.note.ensures.file_lacking;
             log = λ dues due.
                 subst (λ r. LogsFirst (record { texts = texts; dues = dues })
@@ -58,17 +58,17 @@ loop-place-preserved g c =
                 (omega (arith, lt, due.count))
                 (w.text.ensures ∙ (ap text_of w.index-arguments-place.is ∙ sym
                 (get_or-map text_of named n w.index-arguments-place.result [] there)))
-                (due_where_told rs n o lt at dues due cause told) w.note.ensures.file_lacking
-                w.note.ensures.told));
+                (due_where_told rs n o lt at dues due cause is_logged) w.note.ensures.file_lacking
+                w.note.ensures.is_logged));
           }
       | in_default w ↦
-          let told : None ≡ cause_in o =
+          let is_logged : None ≡ cause_in o =
           sym (ap (option_map (λ c. c.now)) w.in_default.is) ∙ c.cause_in.ensures in
           record {
             any_refusal = ap (λ r. r.any_refusal) w.refusals-is
-                ∙ accepted_here rs n o lt at before.any_refusal told was.any_refusal;
+                ∙ accepted_here rs n o lt at before.any_refusal is_logged was.any_refusal;
             file_lacking = ap (λ r. r.file_lacking) w.refusals-is
-                ∙ unwanted_here rs n o lt at before.file_lacking told was.file_lacking;
+                ∙ unwanted_here rs n o lt at before.file_lacking is_logged was.file_lacking;
             log = λ dues due.
                 subst (λ r. LogsFirst (record { texts = texts; dues = dues })
                 (n + 1) r (g.L.Sink.taken c.args.log.now) (g.L.Sink.taken c.match-cause_in.log))
@@ -78,7 +78,7 @@ loop-place-preserved g c =
                 (sym w.log-is)
                 (tells_accepted (record { texts = texts; dues = dues }) _ _ n
                 before (was.log dues due) within (omega (arith, lt, due.count))
-                (none_where_not rs n o lt at dues due told)));
+                (none_where_not rs n o lt at dues due is_logged)));
           }
     ]
 

@@ -1,7 +1,7 @@
 use Rattle.std.proofs.Common.{◌≡◌, List, map, take}
 use Rattle.std.specs.List.{list_any}
 use Rattle.cvr_run.specs.Refusals.{Due, is_refusal, is_want, AreDue}
-use Rattle.cvr_run.specs.Told.{LogsFirst}
+use Rattle.cvr_run.specs.Logged.{LogsFirst}
 use Rattle.cvr_run.proofs.noting.note_refused.Given as goal
 
 -- what the outcomes so far say, and what was logged of them

@@ -31,7 +31,7 @@ returns-in-Ok-Some g c =
       by_null = c.args.listing.now.by_null;
     } in
     let asks = rw c.in-Ok-Some.field-0-is at c.in-Ok-Some.ensures.some in
-    let told = c.run_listed.ensures in
+    let is_logged = c.run_listed.ensures in
     record {
       responds = record {
         version = λ asks. absurd (c.requires.no_version asks);
@@ -39,14 +39,14 @@ returns-in-Ok-Some g c =
         unopened = neither words c.requires.no_version c.requires.no_code;
         listed = λ other also. subst (λ (l : ListedRequest).
             AnswersListed l c.run_listed.result old new unchanged)
-            (one_listed words asked other asks also) (inr told.does);
+            (one_listed words asked other asks also) (inr is_logged.does);
         works = λ _ _ none. absurd (none asked asks);
-        given = λ job given whole. told.given job
+        given = λ job given whole. is_logged.given job
             (given_lists old.opener.at words asked job asks given) whole;
         asked = λ r is. absurd (asks.free r is);
-        says = does_listed_same asked c.run_listed.result old new unchanged told.does;
+        says = does_listed_same asked c.run_listed.result old new unchanged is_logged.does;
       };
-      happened = λ job given whole. told.happened job
+      happened = λ job given whole. is_logged.happened job
           (given_lists old.opener.at words asked job asks given) whole;
     }
 

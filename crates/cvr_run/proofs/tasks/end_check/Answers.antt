@@ -3,7 +3,7 @@ use Rattle.std.specs.List.{list_any}
 use Rattle.cvr_run.specs.Accepted.{is_refused}
 use Rattle.cvr_run.specs.Outcome.{check_lines}
 use Rattle.cvr_run.specs.Printing.{Prints}
-use Rattle.cvr_run.specs.Told.{import_dues}
+use Rattle.cvr_run.specs.Logged.{import_dues}
 use Rattle.cvr_run.proofs.Endings.{ends_in_memory}
 use Rattle.cvr_run.proofs.Printed.{ends_after, tells_after}
 use Rattle.cvr_run.proofs.Telling.{wanted_unprinted, all_due}
@@ -16,15 +16,15 @@ returns-in-Ok-clause-ran g c = λ definition files taken.
     let before = g.W.Sink.taken c.args.out.now in
     let after = g.W.Sink.taken c.print_text.new.out in
     let printed = c.print_text.result in
-    let told = c.in-Ok.ensures in
-    let prints = subst (Prints before after printed None) (taken.made told.working)
+    let is_logged = c.in-Ok.ensures in
+    let prints = subst (Prints before after printed None) (taken.made is_logged.working)
     c.print_text.ensures.printed in
     record {
       ends = ends_after before after printed None lines c.in-Ok.refusals
-          (list_any (is_refused definition) files) _ prints (λ m is. absurd (cc)) told.whole
-          (told.any_refusal definition files taken.due) c.end_with.ensures.status;
+          (list_any (is_refused definition) files) _ prints (λ m is. absurd (cc)) is_logged.whole
+          (is_logged.any_refusal definition files taken.due) c.end_with.ensures.status;
       log = tells_after (import_dues definition paths files) (length files) c.in-Ok.refusals _ _ _
-          (told.log definition files taken.due) (all_due definition files) told.whole before after
+          (is_logged.log definition files taken.due) (all_due definition files) is_logged.whole before after
           printed None lines _ prints c.end_with.ensures.status c.end_with.ensures.log;
     }
 

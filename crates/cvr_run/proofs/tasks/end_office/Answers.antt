@@ -3,7 +3,7 @@ use Rattle.std.specs.List.{list_any}
 use Rattle.cvr_run.specs.Accepted.{is_refused}
 use Rattle.cvr_run.specs.Outcome.{content_of_files, facts_fault, facts_text, task_fault}
 use Rattle.cvr_run.specs.Printing.{Prints}
-use Rattle.cvr_run.specs.Told.{import_dues}
+use Rattle.cvr_run.specs.Logged.{import_dues}
 use Rattle.cvr_run.proofs.Endings.{ends_in_memory}
 use Rattle.cvr_run.proofs.Merging.{no_facts_text}
 use Rattle.cvr_run.proofs.Printed.{ends_after, tells_after}
@@ -17,21 +17,21 @@ returns-in-Ok-clause-ran g c = λ definition files is taken.
     let before = g.W.Sink.taken c.args.out.now in
     let after = g.W.Sink.taken c.print_office-printed.new.out in
     let printed = c.print_office-printed.result in
-    let told = c.in-Ok.ensures in
+    let is_logged = c.in-Ok.ensures in
     let prints =
     subst (λ h. Prints before after printed (facts_fault definition task h)
-    (facts_text definition task h)) (taken.made told.working)
+    (facts_text definition task h)) (taken.made is_logged.working)
     (subst (λ d. Prints before after printed (facts_fault d task held) (facts_text d task held)) is
     c.print_office-printed.ensures) in
     record {
       ends = ends_after before after printed (task_fault definition task files)
           (facts_text definition task (content_of_files definition files)) c.in-Ok.refusals
           (list_any (is_refused definition) files) _ prints
-          (no_facts_text definition task (content_of_files definition files)) told.whole
-          (told.any_refusal definition files taken.due) c.end_with.ensures.status;
+          (no_facts_text definition task (content_of_files definition files)) is_logged.whole
+          (is_logged.any_refusal definition files taken.due) c.end_with.ensures.status;
       log = tells_after (import_dues definition c.args.paths.now files) (length files)
-          c.in-Ok.refusals _ _ _ (told.log definition files taken.due) (all_due definition files)
-          told.whole before after printed (task_fault definition task files)
+          c.in-Ok.refusals _ _ _ (is_logged.log definition files taken.due) (all_due definition files)
+          is_logged.whole before after printed (task_fault definition task files)
           (facts_text definition task (content_of_files definition files)) _ prints
           c.end_with.ensures.status c.end_with.ensures.log;
     }

@@ -5,7 +5,7 @@ use Rattle.cdf_types.specs.Device.{Taken}
 use Rattle.cvr_office.specs.declared.event.Outcome.{Outcome}
 use Rattle.cvr_run.specs.declared.refusals.Refusals.{Refusals}
 use Rattle.cvr_run.specs.Refusals.{AreDue}
-use Rattle.cvr_run.specs.Told.{file_dues, import_dues, LogsFirst}
+use Rattle.cvr_run.specs.Logged.{file_dues, import_dues, LogsFirst}
 use Rattle.cvr_run.proofs.Collected.{refused_files}
 use Rattle.cvr_run.proofs.Steps.{refused_as_due}
 use Rattle.cvr_run.proofs.Telling.{all_due, lacks}
@@ -27,20 +27,20 @@ returns g c =
     let rs = c.args.outcomes.now in
     let paths = c.args.paths.now in
     let refusals = c.note_refused-refusals.result in
-    let told = c.note_refused-refusals.ensures in
+    let is_logged = c.note_refused-refusals.ensures in
     let before = g.L.Sink.taken c.args.log.now in
     let after = g.L.Sink.taken c.note_refused-refusals.new.log in
-    let working = sym told.file_lacking ∙ c.if-refusals.false in
+    let working = sym is_logged.file_lacking ∙ c.if-refusals.false in
     record {
       any_refusal = λ definition files due.
-          told.any_refusal
+          is_logged.any_refusal
           ∙ (refused_as_due (file_dues definition files) rs due.count due.each working
           ∙ refused_files definition files);
       whole = c.if-refusals.false;
       working = working;
       log = λ definition files due.
           logged definition paths files refusals before after rs due
-          (told.log (file_dues definition files) due);
+          (is_logged.log (file_dues definition files) due);
       status = tt;
       cut_short = tt;
     }

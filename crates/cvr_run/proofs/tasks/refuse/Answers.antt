@@ -1,6 +1,6 @@
 use Rattle.std.proofs.Common.{◌∙◌, [], sym}
 use Rattle.cvr_run.specs.Outcome.{run_fault}
-use Rattle.cvr_run.specs.Told.{last_lines}
+use Rattle.cvr_run.specs.Logged.{last_lines}
 use Rattle.cvr_run.proofs.Accepted.{none_last}
 use Rattle.cvr_run.proofs.Happenings.{happens_refused}
 use Rattle.cvr_run.proofs.Printed.{ends_unsound}
@@ -24,12 +24,12 @@ returns-clause-ran g c = λ def files out working first.
           definition_log task what def paths files fault none.result noted.new.self _ _
           c.as_str.result.now (last_lines (run_fault task def files) out.failed) c.as_str.ensures
           first none.ensures.file_lacking none.ensures.path_unspelled noted.ensures.file_lacking
-          (none_last task def files _ fault working) noted.ensures.told
+          (none_last task def files _ fault working) noted.ensures.is_logged
           (λ e. whole (c.status.ensures ∙ e));
       cut_short = λ want.
           definition_cut_short task what def paths files fault none.result noted.new.self _ _
           c.as_str.result.now [] c.as_str.ensures first none.ensures.file_lacking
-          none.ensures.path_unspelled noted.ensures.file_lacking out.failed noted.ensures.told
+          none.ensures.path_unspelled noted.ensures.file_lacking out.failed noted.ensures.is_logged
           (sym c.status.ensures ∙ want);
     }
 

@@ -4,7 +4,7 @@ use Rattle.cvr_run.specs.Ends.{RanBeside}
 use Rattle.cvr_run.specs.Outcome.{check_lines, content_of_files}
 use Rattle.cvr_run.specs.Refusals.{is_want}
 use Rattle.cvr_run.specs.Taken.{AreTaken}
-use Rattle.cvr_run.specs.Told.{import_dues}
+use Rattle.cvr_run.specs.Logged.{import_dues}
 use Rattle.cvr_words.specs.declared.request.Task.TheVariants.{Check}
 use Rattle.cvr_run.proofs.Collected.{as_many, taken_none}
 use Rattle.cvr_run.proofs.Had.{stops_behind}

@@ -8,7 +8,7 @@ use Rattle.cvr_run.specs.Log.{memory_line}
 use Rattle.cvr_run.specs.Outcome.{content_of_files, facts_text, files_refused, task_fault}
 use Rattle.cvr_run.specs.Refusals.{is_want}
 use Rattle.cvr_run.specs.Taken.{AreTaken}
-use Rattle.cvr_run.specs.Told.{import_dues}
+use Rattle.cvr_run.specs.Logged.{import_dues}
 use Rattle.cvr_run.proofs.Collected.{as_many, held_none, of_only, one_of, taken_none, taken_so}
 use Rattle.cvr_run.proofs.Had.{stops_at_once, stops_behind}
 use Rattle.cvr_run.proofs.Happenings.{keeps_due, stops_not_whole}

@@ -5,7 +5,7 @@ use Rattle.cvr_run.specs.Drill.{drill_refused, drill_text}
 use Rattle.cvr_run.specs.Ends.{Ends}
 use Rattle.cvr_run.specs.Happened.{Keeps}
 use Rattle.cvr_run.specs.Outcome.{content_of_files, files_of}
-use Rattle.cvr_run.specs.Told.{drill_dues, TellsRun}
+use Rattle.cvr_run.specs.Logged.{drill_dues, TellsRun}
 use Rattle.cvr_run.proofs.Had.{stops_behind}
 use Rattle.cvr_run.proofs.Happenings.{stops_not_whole}
 use Rattle.cvr_run.proofs.tasks.run_steps.Goals as goal

@@ -3,14 +3,14 @@ use Rattle.cvr_run.proofs.tasks.run_task.Goals as goal
 
 pub returns-in-Currents-clause-happened : goal.returns-in-Currents-clause-happened
 returns-in-Currents-clause-happened g c =
-    let told = c.run_office.ensures.happened in
+    let is_logged = c.run_office.ensures.happened in
     elim c.in-Currents.is [
-      | inl currents ↦ rw currents told
+      | inl currents ↦ rw currents is_logged
       | inr other ↦ elim other [
-        | inl conflicts ↦ rw conflicts told
+        | inl conflicts ↦ rw conflicts is_logged
         | inr other ↦ elim other [
-          | inl tally ↦ rw tally told
-          | inr merge ↦ rw merge.3 told
+          | inl tally ↦ rw tally is_logged
+          | inr merge ↦ rw merge.3 is_logged
         ]
       ]
     ]

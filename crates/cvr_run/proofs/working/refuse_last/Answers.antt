@@ -2,7 +2,7 @@ use Rattle.std.proofs.Common.{inl, inr, subst}
 use Rattle.cvr_office.specs.Outcomes.{no_frame}
 use Rattle.cvr_run.specs.Ends.{Ran}
 use Rattle.cvr_run.specs.Given.{AreHad, StopsAmong}
-use Rattle.cvr_run.specs.Told.{LogsSome}
+use Rattle.cvr_run.specs.Logged.{LogsSome}
 use Rattle.cvr_run.specs.declared.given.Files.TheVariants.{Opened}
 use Rattle.cvr_run.proofs.Happenings.{stops_not_whole}
 use Rattle.cvr_run.proofs.Had.{stops_behind}

@@ -4,7 +4,7 @@ use Rattle.cvr_run.specs.Ends.{RanBeside}
 use Rattle.cvr_run.specs.Given.{HadWhole, StopsOr}
 use Rattle.cvr_run.specs.Happened.{Keeps}
 use Rattle.cvr_run.specs.Outcome.{content_of_files}
-use Rattle.cvr_run.specs.Told.{task_dues}
+use Rattle.cvr_run.specs.Logged.{task_dues}
 use Rattle.cvr_run.specs.declared.given.Files.TheVariants.{Opened}
 use Rattle.cvr_run.proofs.Beside.{ran_beside}
 use Rattle.cvr_run.proofs.Happenings.{happens_beside}

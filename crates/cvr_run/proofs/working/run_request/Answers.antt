@@ -18,7 +18,7 @@ returns-in-Ok g c =
       out = g.W.Sink.taken c.args.out.now;
       log = g.L.Sink.taken c.args.log.now;
     } in
-    let between = g.O.Open.state c.read_told.new.opener in
+    let between = g.O.Open.state c.read_logged.new.opener in
     let new : Devices = record {
       opener = g.O.Open.state c.run_behind.new.opener;
       out = g.W.Sink.taken c.run_behind.new.out;
@@ -27,13 +27,13 @@ returns-in-Ok g c =
     let unchanged = c.run_behind.new.out ≡ c.args.out.now in
     let def = c.as_slice-def.result.now in
     let path = c.as_str.result.now in
-    let told = c.in-Ok.ensures in
+    let is_logged = c.in-Ok.ensures in
     let read : IsRead (old.opener.at request.def) def =
     subst (λ p. IsRead (old.opener.at p) def) c.as_str.ensures
-    (subst (IsRead (old.opener.at path)) (sym c.as_slice-def.ensures.value) told.bytes) in
+    (subst (IsRead (old.opener.at path)) (sym c.as_slice-def.ensures.value) is_logged.bytes) in
     let opened : Opens old.opener between (request.def ∷ []) =
-    subst (λ p. Opens old.opener between (p ∷ [])) c.as_str.ensures told.opens in
-    let quiet : c.read_told.new.log ≡ c.args.log.now = c.in-Ok.ensures.quiet in
+    subst (λ p. Opens old.opener between (p ∷ [])) c.as_str.ensures is_logged.opens in
+    let quiet : c.read_logged.new.log ≡ c.args.log.now = c.in-Ok.ensures.quiet in
     let does : Does request answer old new unchanged = elim c.run_behind.ensures.ran [
       | inl stops ↦ inl (
         stops.0,
@@ -80,22 +80,22 @@ returns g c =
       log = g.L.Sink.taken c.args.log.now;
     } in
     let new : Devices = record {
-      opener = g.O.Open.state c.read_told.new.opener;
+      opener = g.O.Open.state c.read_logged.new.opener;
       out = old.out;
-      log = g.L.Sink.taken c.read_told.new.log;
+      log = g.L.Sink.taken c.read_logged.new.log;
     } in
     let unchanged = c.args.out.now ≡ c.args.out.now in
     let path = c.as_str.result.now in
     let cause = c.in-Err.fault in
-    let told = c.in-Err.ensures in
+    let is_logged = c.in-Err.ensures in
     let does : Does request answer old new unchanged = inl (
       refl,
       (
         unread_line path cause,
         subst (λ p. Stops old.opener new.opener (p ∷ request.paths) answer (unread_line path cause))
             c.as_str.ensures (stops_first old.opener new.opener request.paths answer path cause
-            told.device told.absent told.opens c.from.ensures),
-        told.told,
+            is_logged.device is_logged.absent is_logged.opens c.from.ensures),
+        is_logged.is_logged,
       ),
     ) in
     record {

@@ -10,10 +10,10 @@ use Rattle.cdf_parts.specs.Parts.{array_at}
 use Rattle.cdf_parts.proofs.Laws.{whole_array, whole_there}
 use Rattle.cdf_typed.specs.Typed.{snapshot_of, cvr_of}
 use Rattle.cvr_fact_types.specs.declared.name.RecordName.{RecordName}
-use Rattle.cvr_facts.specs.Lists.{record_name, told_header, told_under}
+use Rattle.cvr_facts.specs.Lists.{record_name, stated_header, stated_under}
 use Rattle.cvr_facts.proofs.Lemmas.{in_map}
 use Rattle.cvr_office.specs.declared.any_fact.AnyFact.TheVariants as any
-use Rattle.cvr_lists.specs.Kept.{record_told}
+use Rattle.cvr_lists.specs.Kept.{record_stated}
 use Rattle.cvr_lists.proofs.kept.FactsKeep.keep.Goals as goal
 
 -- what is put in between two lists stands there
@@ -40,20 +40,20 @@ returns c cvrs at were =
     let old = c.args.kept.now.facts.items in
     let one = snapshot_of contests in
     let is = c.in_ok-header.ensures contests in
-    let fact = λ (key : RecordName) (d : Data). any.Snapshot (told_under contests key (one d)) in
+    let fact = λ (key : RecordName) (d : Data). any.Snapshot (stated_under contests key (one d)) in
     let values = array_at (codes "CVRSnapshot") (view c.args.cvr.now) in
     let snapshots = sym (map-map (fact c.in_ok-header.header.key) view c.items_at-snapshots.result.now)
     ∙ (λ i. map (fact (is i).key) (c.items_at-snapshots.ensures i))
-    ∙ sym (map-map (λ s. any.Snapshot (told_under contests (record_name cvr) s)) one values)
-    ∙ sym (map-map any.Snapshot (told_under contests (record_name cvr)) (map one values)) in
+    ∙ sym (map-map (λ s. any.Snapshot (stated_under contests (record_name cvr) s)) one values)
+    ∙ sym (map-map any.Snapshot (stated_under contests (record_name cvr)) (map one values)) in
     let now = c.in_ok-insert.ensures.items
     ∙ (λ i. insert (c.in_ok-add_snapshots.ensures i)
     ((c.len-start.ensures ∙ c.args.kept.now.facts.ok.0) i) (c.in_ok-shared.ensures i))
     ∙ (λ i. insert (old ++ snapshots i) (length old) (any.Header (is i)))
-    ∙ between old _ (any.Header (told_header cvr)) in
+    ∙ between old _ (any.Header (stated_header cvr)) in
     record {
       facts = now
-          ∙ (λ i. were.facts i ++ sym (append-nil (record_told contests cvr)) i)
-          ∙ sym (flat_map-append (record_told contests) cvrs (cvr ∷ []));
+          ∙ (λ i. were.facts i ++ sym (append-nil (record_stated contests cvr)) i)
+          ∙ sym (flat_map-append (record_stated contests) cvrs (cvr ∷ []));
       count = omega (arith, at, length-append cvrs (cvr ∷ []));
     }

@@ -15,12 +15,12 @@ returns-in_ok-push_count-in-Ok c = λ definition paths files rs was.
     let text = string_bytes c.args.self.now.text in
     let path = c.args.path.now in
     let file = c.args.file.now.items in
-    let told = c.in-Ok.ensures in
+    let is_logged = c.in-Ok.ensures in
     let is : c.as_slice.result.now ≡ file = c.as_slice.ensures.value in
     let accepted : first_refusal own file ≡ None =
-    subst (λ f. first_refusal own f ≡ None) is told.accepted in
+    subst (λ f. first_refusal own f ≡ None) is is_logged.accepted in
     let count : c.in-Ok.records ≡ record_count (value_in file) =
-    subst (λ f. c.in-Ok.records ≡ record_count (value_in f)) is told.count in (
+    subst (λ f. c.in-Ok.records ≡ record_count (value_in f)) is is_logged.count in (
       was.0,
       taken_more definition paths files rs path file _
           (text ≡ check_lines definition paths files) _ was.1

@@ -1,5 +1,5 @@
 use Rattle.cvr_run.proofs.ThreeFiles.{none_or_all, after_lacking}
-use Rattle.cvr_run.proofs.examples.memory_ends_a_log_as_told.Goals as goal
+use Rattle.cvr_run.proofs.examples.memory_ends_a_log_as_stated.Goals as goal
 
 pub returns : goal.returns
 returns c = record {

@@ -86,10 +86,10 @@ pub data Telling : Type 0 where
   Lacking : Telling
   Unspelled : Telling
 
-abbrev pub told_line : Telling → List ℕ → Due → List ℕ
-told_line AsDue what due = refusal_line what due.cause
-told_line Lacking what due = refusal_line what due.want
-told_line Unspelled what due = memory_line
+abbrev pub logged_line : Telling → List ℕ → Due → List ℕ
+logged_line AsDue what due = refusal_line what due.cause
+logged_line Lacking what due = refusal_line what due.want
+logged_line Unspelled what due = memory_line
 
 -- only what takes memory can run out of it, and only a line with a path can be left unspelled
 abbrev pub can_be : Telling → Due → Bool
@@ -110,9 +110,9 @@ abbrev pub is_short : Telling → Bool
 is_short telling = is_lacking telling || is_unspelled telling
 
 -- the lines of the first, as many as there are tellings
-abbrev pub told_lines : List Telling → List (List ℕ) → List Due → List ℕ
-told_lines tellings texts dues =
-    flat_map (λ one. told_line one.0 one.1.0 one.1.1) (zip tellings (zip texts dues))
+abbrev pub logged_lines : List Telling → List (List ℕ) → List Due → List ℕ
+logged_lines tellings texts dues =
+    flat_map (λ one. logged_line one.0 one.1.0 one.1.1) (zip tellings (zip texts dues))
 
 -- each of them can be logged so
 abbrev pub can_all : List Telling → List Due → Bool
@@ -127,7 +127,7 @@ pub record LogsFirst (of : Dues) (n : ℕ) (refusals : Refusals) (old new : Take
   pub possible : can_all tellings of.dues ≡ true
   pub file_lacking : refusals.file_lacking ≡ list_any is_lacking tellings
   pub path_unspelled : refusals.path_unspelled ≡ list_any is_unspelled tellings
-  pub logs : Logs old new (told_lines tellings of.texts of.dues)
+  pub logs : Logs old new (logged_lines tellings of.texts of.dues)
 
 -- what stands in the log of a run that ends since memory ran out: all lines, one of them `Lacking`;
 -- all, none `Lacking` but one `Unspelled`, and then the last lines; or none or all, none `Lacking`,
@@ -137,14 +137,14 @@ pub record IsCutShort (of : Dues) (fault : Option MergeFault) (out_failed : Bool
   pub tellings : List Telling
   pub possible : can_all tellings of.dues ≡ true
   pub ends : ((length tellings ≡ length of.dues) × (list_any is_lacking tellings ≡ true)
-      × (text ≡ told_lines tellings of.texts of.dues))
+      × (text ≡ logged_lines tellings of.texts of.dues))
       ⊎ ((length tellings ≡ length of.dues) × (list_any is_lacking tellings ≡ false)
       × (list_any is_unspelled tellings ≡ true)
-      × (text ≡ told_lines tellings of.texts of.dues ++ last_lines fault out_failed))
+      × (text ≡ logged_lines tellings of.texts of.dues ++ last_lines fault out_failed))
       ⊎ (((length tellings ≡ 0) ⊎ (length tellings ≡ length of.dues))
       × (list_any is_lacking tellings ≡ false)
       × (out_failed ≡ false)
-      × (text ≡ told_lines tellings of.texts of.dues ++ memory_line))
+      × (text ≡ logged_lines tellings of.texts of.dues ++ memory_line))
 
 -- the same of a whole run, that of the definition included
 abbrev pub IsRunCutShort : Job → Bool → List ℕ → Type 0
@@ -152,7 +152,7 @@ IsRunCutShort job out_failed text =
     let task = job.request.task in
     let due = file_due (first_unsound job.def) in
     ((telling : Telling) × (can_be telling due ≡ true) × (is_short telling ≡ true)
-    × (text ≡ told_line telling job.request.def due))
+    × (text ≡ logged_line telling job.request.def due))
     ⊎ ((is_unsound job.def ≡ false)
     × IsCutShort (task_dues (frame_in job.def) task job.request.paths job.files)
     (run_fault task job.def job.files) out_failed text)

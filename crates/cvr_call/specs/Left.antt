@@ -62,7 +62,7 @@ pub record Tells (answer : Answer) (old new : Rooms) (sizes : CvrSizes) (result 
   pub put : Puts answer.text answer.log old new sizes
 
 -- the caller gets none: the rooms stay as they were, and the sizes are 0
-pub record IsUntold (old new : Rooms) (sizes : CvrSizes) : Type 0 where
+pub record IsUnanswered (old new : Rooms) (sizes : CvrSizes) : Type 0 where
   pub text : new.text ≡ old.text
   pub log : new.log ≡ old.log
   pub text_size : sizes.text ≡ 0
