@@ -20,7 +20,7 @@ use Rattle.cdf_form.specs.declared.table.Kind.{Kind}
 use Rattle.cdf_form.specs.declared.table.Kind.TheVariants.{One, Array}
 use Rattle.cdf_form.specs.Tables.{Entry, table, any, classes_of}
 use Rattle.cdf_form.specs.Form.{find_class}
-use Rattle.cdf_form.specs.HasForm.{HasForm, class, items, IsRow}
+use Rattle.cdf_form.specs.HasForm.{HasForm, class, items, IsEntry}
 use Rattle.cdf_node.specs.Items.{list_of}
 use Rattle.cdf_parts.specs.Parts.{array_at}
 use Rattle.cdf_parts.proofs.Laws.{list_of-items_of}
@@ -107,12 +107,12 @@ resolves ds ms some left each = record {
 abbrev records_kind : Kind
 records_kind = Array (leaf.Object group.Cvrs) 0 any key.Free
 
--- a row of that name is the row of the records
+-- an entry of that name is the entry of the records
 abbrev HasKind : Class → Type 0
-HasKind c = (r : Entry) → IsRow (table c) r → bytes_eq r.name records ≡ true → r.kind ≡ records_kind
+HasKind c = (r : Entry) → IsEntry (table c) r → bytes_eq r.name records ≡ true → r.kind ≡ records_kind
 
-row_kind : HasKind class_of.CastVoteRecordReport
-row_kind r row h = grind arith
+entry_kind : HasKind class_of.CastVoteRecordReport
+entry_kind r entry h = grind arith
 
 records_form : (ds : Items) → ((i : ℕ) (e : Data) → get_item i ds ≡ Some e
     → HasForm (One (leaf.Object group.Cvrs)) e) → items_len ds ≤ any
@@ -150,11 +150,11 @@ module _ (ds : Items) (ms : Members) where
         → HasForm (One (leaf.Object group.Reports)) (object (with_items_at records ds ms))
     form_stays (class {c = c} is needs parts) =
         let kinds : HasKind c =
-        class_of_group HasKind group.Reports (object ms) c (row_kind, tt) is in
+        class_of_group HasKind group.Reports (object ms) c (entry_kind, tt) is in
         class {c = c} (ap (λ o. option_and_then (find_class (classes_of group.Reports))
         (option_and_then as_str o)) (found_other records ds (codes "@type") ms refl) ∙ is)
-        (λ r row must. there r _ refl (needs r row must))
-        (λ r e row found. part r e _ refl (kinds r row) (parts r e row) found)
+        (λ r entry must. there r _ refl (needs r entry must))
+        (λ r e entry found. part r e _ refl (kinds r entry) (parts r e entry) found)
 
 -- ---- together
 

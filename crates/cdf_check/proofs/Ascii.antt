@@ -9,11 +9,11 @@ use Rattle.std.proofs.lemmas.Str.Ascii.{IsAscii-nil, IsAscii-cons}
 use Rattle.serde_json.specs.Data.{null}
 use Rattle.serde_json.specs.Read.{read}
 use Rattle.cdf_types.specs.declared.fault.ReadFault.{ReadFault}
-use Rattle.cdf_form.specs.Reading.{max_file, value_of}
+use Rattle.cdf_form.specs.Reading.{max_file, value_of, of_value}
 use Rattle.cdf_form.proofs.Lemmas.{and-left, and-right}
 use Rattle.cdf_definition.specs.Frame.{Frame, frame_of, IsSame}
 use Rattle.cdf_definition.proofs.Lemmas.{frame_of-put, frame_put}
-use Rattle.cdf_definition.specs.Acceptance.{of_value, own_refusal, value_refusal, first_unsound}
+use Rattle.cdf_definition.specs.Acceptance.{own_refusal, value_refusal, first_unsound}
 use Rattle.cdf_definition.specs.Acceptance.{first_refusal, frame_in}
 
 abbrev pub all_ascii : List ℕ → Bool

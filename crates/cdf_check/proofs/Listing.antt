@@ -15,27 +15,27 @@ use Rattle.cdf_form.specs.Tables as tables
 use Rattle.cdf_form.specs.Tables.{table, classes_of, any, required_member, optional_member}
 use Rattle.cdf_form.specs.Form.{key_text}
 use Rattle.cdf_parts.specs.Parts.{array_at, id_of, the_election}
-use Rattle.cdf_form.specs.ByRow.{AllClasses, find_row, HasRow, ListApart}
-use Rattle.cdf_form.proofs.Laws.{row_of, items_have_form, items_are_apart}
+use Rattle.cdf_form.specs.ByEntry.{AllClasses, find_entry, HasEntry, ListApart}
+use Rattle.cdf_form.proofs.Laws.{entry_named, items_have_form, items_are_apart}
 use Rattle.cdf_definition.specs.Named.{IdText, id_and_text, ids_of}
 use Rattle.cdf_definition.specs.Frame.{entries_at}
 use Rattle.cdf_definition.specs.Acceptance.{IsReport}
 use Rattle.cdf_check.specs.Laws.{IsListOf, ListsLaw, AreFoundByIds, PlacesLaw}
 use Rattle.cdf_definition.proofs.Lemmas.{at_head, at_tail, election_is, election_listed}
 use Rattle.cdf_check.proofs.Entries.{AreAlone, same_by_id}
-use Rattle.cdf_definition.specs.Depths.{id_row, election_row}
-use Rattle.cdf_definition.proofs.Laws.{by_id_law, report_row, has_id, one_election}
+use Rattle.cdf_definition.specs.Depths.{id_entry, election_entry}
+use Rattle.cdf_definition.proofs.Laws.{by_id_law, report_entry, has_id, one_election}
 use Rattle.cdf_form.specs.HasForm.{HasForm}
 
-abbrev contest_row : tables.Entry
-contest_row = required_member (codes "Contest") (Array (leaf.Object group.Contests) 0 any key.Id)
+abbrev contest_entry : tables.Entry
+contest_entry = required_member (codes "Contest") (Array (leaf.Object group.Contests) 0 any key.Id)
 
 election_form : (d : Data) → IsReport d
     → HasForm (One (leaf.Object group.Elections)) (the_election d)
 election_form d h =
     let one = one_election d h in
     subst (λ e. HasForm (One (leaf.Object group.Elections)) e) (sym (election_is d one.0 one.1))
-    (items_have_form (report_row election_row d refl h) one.0 (election_listed d one.0 one.1))
+    (items_have_form (report_entry election_entry d refl h) one.0 (election_listed d one.0 one.1))
 
 -- each value has an id
 abbrev HaveIds : List Data → Type 0
@@ -125,29 +125,29 @@ found name d h apart place lt =
 -- ---- arrays of objects with ids
 
 module _ {b : Bool} {n : List ℕ} {g : Group} {d : Data}
-    (each : AllClasses (λ c. find_row (codes "@id") (table c) ≡ Some id_row) (classes_of g))
-    (row : HasRow b n (Array (leaf.Object g) 0 any key.Id) d) where
+    (each : AllClasses (λ c. find_entry (codes "@id") (table c) ≡ Some id_entry) (classes_of g))
+    (entry : HasEntry b n (Array (leaf.Object g) 0 any key.Id) d) where
   have_ids : HaveIds (array_at n d)
-  have_ids e c = has_id g e each (items_have_form row e c)
+  have_ids e c = has_id g e each (items_have_form entry e c)
 
-  list_of_row : IsListOf (entries_at n d) n d
-  list_of_row = listed n d (alone (array_at n d) have_ids (items_are_apart row))
+  list_of_entry : IsListOf (entries_at n d) n d
+  list_of_entry = listed n d (alone (array_at n d) have_ids (items_are_apart entry))
 
-  found_of_row : AreFoundByIds n d
-  found_of_row = found n d have_ids (items_are_apart row)
+  found_of_entry : AreFoundByIds n d
+  found_of_entry = found n d have_ids (items_are_apart entry)
 
-abbrev units_row : tables.Entry
-units_row = required_member (codes "GpUnit") (Array (leaf.Object group.GpUnits) 0 any key.Id)
+abbrev units_entry : tables.Entry
+units_entry = required_member (codes "GpUnit") (Array (leaf.Object group.GpUnits) 0 any key.Id)
 
-abbrev parties_row : tables.Entry
-parties_row = optional_member (codes "Party") (Array (leaf.Object group.Parties) 0 any key.Id)
+abbrev parties_entry : tables.Entry
+parties_entry = optional_member (codes "Party") (Array (leaf.Object group.Parties) 0 any key.Id)
 
-abbrev devices_row : tables.Entry
-devices_row = required_member (codes "ReportingDevice")
+abbrev devices_entry : tables.Entry
+devices_entry = required_member (codes "ReportingDevice")
     (Array (leaf.Object group.ReportingDevices) 0 any key.Id)
 
-abbrev selections_row : tables.Entry
-selections_row = optional_member (codes "ContestSelection")
+abbrev selections_entry : tables.Entry
+selections_entry = optional_member (codes "ContestSelection")
     (Array (leaf.Object group.ContestSelections) 0 any key.Id)
 
 alone_one : (e : IdText) → AreAlone (e ∷ [])
@@ -162,17 +162,17 @@ one_alone d h =
 pub lists : ListsLaw
 lists d h = (
   listed (codes "Election") d (one_alone d h),
-  list_of_row (refl, tt) (report_row units_row d refl h),
-  list_of_row (refl, tt) (report_row parties_row d refl h),
-  list_of_row (refl, tt) (report_row devices_row d refl h),
+  list_of_entry (refl, tt) (report_entry units_entry d refl h),
+  list_of_entry (refl, tt) (report_entry parties_entry d refl h),
+  list_of_entry (refl, tt) (report_entry devices_entry d refl h),
 )
 
 pub found_by_ids : PlacesLaw
 found_by_ids d h =
-    let row =
-    row_of group.Elections contest_row (the_election d) (refl, tt) (election_form d h) in (
-      found_of_row (refl, (refl, (refl, (refl, (refl, tt))))) row,
-      λ c a. found_of_row (refl, (refl, (refl, (refl, tt))))
-          (row_of group.Contests selections_row c (refl, (refl, (refl, (refl, (refl, tt)))))
-          (items_have_form row c a)),
+    let entry =
+    entry_named group.Elections contest_entry (the_election d) (refl, tt) (election_form d h) in (
+      found_of_entry (refl, (refl, (refl, (refl, (refl, tt))))) entry,
+      λ c a. found_of_entry (refl, (refl, (refl, (refl, tt))))
+          (entry_named group.Contests selections_entry c (refl, (refl, (refl, (refl, (refl, tt)))))
+          (items_have_form entry c a)),
     )

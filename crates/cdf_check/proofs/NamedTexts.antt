@@ -19,7 +19,7 @@ use Rattle.std.proofs.lemmas.Slice.Eq.{bytes_eq-Decides}
 use Rattle.serde_json.specs.Data.{Data}
 use Rattle.serde_json.specs.Find.{as_str}
 use Rattle.cdf_form.specs.Form.{Step, at_member, at_item}
-use Rattle.cdf_parts.specs.Kept.{bytes_of}
+use Rattle.cdf_parts.specs.Ids.{bytes_of}
 use Rattle.cdf_parts.specs.Parts.{array_at, text_in}
 use Rattle.cdf_parts.specs.Places.{Texts}
 use Rattle.cdf_form.proofs.Lemmas.{and-left, and-right}

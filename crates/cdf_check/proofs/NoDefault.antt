@@ -27,8 +27,8 @@ use Rattle.cdf_form.specs.HasForm.{HasForm}
 use Rattle.cdf_parts.specs.Parts.{text_at, instant_of, ok_of}
 use Rattle.cdf_parts.specs.Places.{Texts, place_in, contest_ids}
 use Rattle.cdf_form.proofs.Lemmas.{some_of}
-use Rattle.cdf_form.specs.ByRow.{HasRow, IsTextual}
-use Rattle.cdf_form.proofs.Laws.{row_of, is_object, text_has_form, may_be_text, must_text_in}
+use Rattle.cdf_form.specs.ByEntry.{HasEntry, IsTextual}
+use Rattle.cdf_form.proofs.Laws.{entry_named, is_object, text_has_form, may_be_text, must_text_in}
 use Rattle.cdf_form.proofs.Laws.{must_have_form, moment_is_read, listed_is_among, count_form}
 use Rattle.cdf_form.proofs.Laws.{is_an_array, items_have_form, items_are_few, items_are_some}
 use Rattle.cdf_typed.specs.Typed.{kind_named, indication_named, allocation_named}
@@ -98,13 +98,13 @@ allocation_is_named s h =
 
 -- ---- one member
 
-must_have_text : {n : List ℕ} {l : Leaf} {d : Data} → HasRow true n (One l) d → IsTextual l
+must_have_text : {n : List ℕ} {l : Leaf} {d : Data} → HasEntry true n (One l) d → IsTextual l
     → HasText n d
-must_have_text row q = rw (must_text_in row q) refl
+must_have_text entry q = rw (must_text_in entry q) refl
 
-must_be_listed : {n : List ℕ} {l : Listing} {d : Data} → HasRow true n (One (leaf.Listed l)) d
+must_be_listed : {n : List ℕ} {l : Listing} {d : Data} → HasEntry true n (One (leaf.Listed l)) d
     → list_any (bytes_eq (text_at n d)) (listed_in l) ≡ true
-must_be_listed {n = n} {l = l} {d = d} row = listed_is_among l (text_at n d) (must_have_form row tt)
+must_be_listed {n = n} {l = l} {d = d} entry = listed_is_among l (text_at n d) (must_have_form entry tt)
 
 count_read : (n : List ℕ) (d e : Data) → get n d ≡ Some e → HasForm (One leaf.Count) e
     → HasCount n d
@@ -113,25 +113,25 @@ count_read n d e at f =
     let is : get n d ≡ Some (number (unsigned p.0)) = at ∙ ap Some p.1 in
     (p.0, ap (λ o. option_and_then as_u64 (option_and_then as_number o)) is, p.2)
 
-may_have_count : {b : Bool} {n : List ℕ} {d : Data} → HasRow b n (One leaf.Count) d
+may_have_count : {b : Bool} {n : List ℕ} {d : Data} → HasEntry b n (One leaf.Count) d
     → MayHaveCount n d
-may_have_count {n = n} {d = d} row = λ e at. count_read n d e at (row.part e at)
+may_have_count {n = n} {d = d} entry = λ e at. count_read n d e at (entry.part e at)
 
-must_have_count : {n : List ℕ} {d : Data} → HasRow true n (One leaf.Count) d → HasCount n d
-must_have_count row = let p = some_of _ (row.there refl) in may_have_count row p.0 p.1
+must_have_count : {n : List ℕ} {d : Data} → HasEntry true n (One leaf.Count) d → HasCount n d
+must_have_count entry = let p = some_of _ (entry.there refl) in may_have_count entry p.0 p.1
 
 -- ---- votes
 
 position_read : (d : Data) → HasForm (One (leaf.Object group.SelectionPositions)) d
     → PositionIsRead d
 position_read d f =
-    let mark = row_of group.SelectionPositions
+    let mark = entry_named group.SelectionPositions
     (required_member (codes "HasIndication") (One (leaf.Listed listing.IndicationStatus))) d
     (refl, tt) f in
-    let allocable = row_of group.SelectionPositions
+    let allocable = entry_named group.SelectionPositions
     (optional_member (codes "IsAllocable") (One (leaf.Listed listing.AllocationStatus))) d
     (refl, tt) f in
-    let votes = row_of group.SelectionPositions
+    let votes = entry_named group.SelectionPositions
     (required_member (codes "NumberVotes") (One leaf.Count)) d (refl, tt) f in
     record {
       indication = indication_is_named (text_at (codes "HasIndication") d) (must_be_listed mark);
@@ -144,9 +144,9 @@ position_read d f =
 selection_read : (ids : Texts) (d : Data) → HasForm (One (leaf.Object group.CvrContestSelections)) d
     → Names ids (codes "ContestSelectionId") d → SelectionIsRead ids d
 selection_read ids d f names =
-    let id = row_of group.CvrContestSelections
+    let id = entry_named group.CvrContestSelections
     (optional_member (codes "ContestSelectionId") (One leaf.Text)) d (refl, tt) f in
-    let positions = row_of group.CvrContestSelections
+    let positions = entry_named group.CvrContestSelections
     (required_member (codes "SelectionPosition")
     (Array (leaf.Object group.SelectionPositions) 1 64 key.Free)) d (refl, tt) f in
     record {
@@ -163,15 +163,15 @@ selection_read ids d f names =
 contest_read : (scope : Scope) (d : Data) → HasForm (One (leaf.Object group.CvrContests)) d
     → VoteResolves scope d → ContestIsRead scope.contests d
 contest_read scope d f r =
-    let id = row_of group.CvrContests (required_member (codes "ContestId") (One leaf.Text)) d
+    let id = entry_named group.CvrContests (required_member (codes "ContestId") (One leaf.Text)) d
     (refl, tt) f in
-    let overvotes = row_of group.CvrContests (optional_member (codes "Overvotes") (One leaf.Count))
+    let overvotes = entry_named group.CvrContests (optional_member (codes "Overvotes") (One leaf.Count))
     d (refl, tt) f in
-    let undervotes = row_of group.CvrContests
+    let undervotes = entry_named group.CvrContests
     (optional_member (codes "Undervotes") (One leaf.Count)) d (refl, tt) f in
-    let write_ins = row_of group.CvrContests (optional_member (codes "WriteIns") (One leaf.Count)) d
+    let write_ins = entry_named group.CvrContests (optional_member (codes "WriteIns") (One leaf.Count)) d
     (refl, tt) f in
-    let votes = row_of group.CvrContests
+    let votes = entry_named group.CvrContests
     (optional_member (codes "CVRContestSelection")
     (Array (leaf.Object group.CvrContestSelections) 0 65536 key.Free)) d (refl, tt) f in
     record {
@@ -200,7 +200,7 @@ has_instant s h = ok_and (parse_timestamp s) (not (list_any (λ b. b == 91) s)) 
 
 annotation_read : (d : Data) → HasForm (One (leaf.Object group.Annotations)) d → AnnotationIsRead d
 annotation_read d f =
-    let stamp = row_of group.Annotations (optional_member (codes "TimeStamp") (One leaf.Moment)) d
+    let stamp = entry_named group.Annotations (optional_member (codes "TimeStamp") (One leaf.Moment)) d
     (refl, tt) f in
     record {
       text = may_be_text stamp tt;
@@ -211,13 +211,13 @@ pub snapshot_read : (scope : Scope) (d : Data) → HasForm (One (leaf.Object gro
     → SnapshotResolves scope d → SnapshotIsRead scope.contests d
 snapshot_read scope d f r =
     let id =
-    row_of group.Snapshots (required_member (codes "@id") (One leaf.Name)) d (refl, tt) f in
-    let type = row_of group.Snapshots (required_member (codes "Type")
+    entry_named group.Snapshots (required_member (codes "@id") (One leaf.Name)) d (refl, tt) f in
+    let type = entry_named group.Snapshots (required_member (codes "Type")
     (One (leaf.Listed listing.CvrType))) d (refl, tt) f in
-    let annotations = row_of group.Snapshots
+    let annotations = entry_named group.Snapshots
     (optional_member (codes "Annotation")
     (Array (leaf.Object group.Annotations) 0 any key.Free)) d (refl, tt) f in
-    let votes = row_of group.Snapshots (optional_member (codes "CVRContest")
+    let votes = entry_named group.Snapshots (optional_member (codes "CVRContest")
     (Array (leaf.Object group.CvrContests) 0 any key.Contest)) d (refl, tt) f in
     record {
       id = must_have_text id tt;
@@ -235,15 +235,15 @@ snapshot_read scope d f r =
 cvr_read : (scope : Scope) (d : Data) → HasForm (One (leaf.Object group.Cvrs)) d
     → CvrResolves scope d → CvrIsRead scope.contests d
 cvr_read scope d f r =
-    let device = row_of group.Cvrs (required_member (codes "CreatingDeviceId") (One leaf.Name)) d
+    let device = entry_named group.Cvrs (required_member (codes "CreatingDeviceId") (One leaf.Name)) d
     (refl, tt) f in
     let unique =
-    row_of group.Cvrs (required_member (codes "UniqueId") (One leaf.Name)) d (refl, tt) f in
-    let unit = row_of group.Cvrs (optional_member (codes "BallotStyleUnitId") (One leaf.Text)) d
+    entry_named group.Cvrs (required_member (codes "UniqueId") (One leaf.Name)) d (refl, tt) f in
+    let unit = entry_named group.Cvrs (optional_member (codes "BallotStyleUnitId") (One leaf.Text)) d
     (refl, tt) f in
     let batch =
-    row_of group.Cvrs (optional_member (codes "BatchId") (One leaf.Text)) d (refl, tt) f in
-    let snapshots = row_of group.Cvrs (required_member (codes "CVRSnapshot")
+    entry_named group.Cvrs (optional_member (codes "BatchId") (One leaf.Text)) d (refl, tt) f in
+    let snapshots = entry_named group.Cvrs (required_member (codes "CVRSnapshot")
     (Array (leaf.Object group.Snapshots) 1 any key.Id)) d (refl, tt) f in
     let own = is_object group.Cvrs d f in
     record {
@@ -261,15 +261,15 @@ cvr_read scope d f r =
 
 device_read : (d : Data) → HasForm (One (leaf.Object group.ReportingDevices)) d
     → HasText (codes "@id") d
-device_read d f = must_have_text (row_of group.ReportingDevices
+device_read d f = must_have_text (entry_named group.ReportingDevices
     (required_member (codes "@id") (One leaf.Name)) d (refl, tt) f) tt
 
 pub report_read : (d : Data) → HasForm (One (leaf.Object group.Reports)) d → Resolves d
     → ReportIsRead (scope_of d).contests d
 report_read d f r =
-    let devices = row_of group.Reports (required_member (codes "ReportingDevice")
+    let devices = entry_named group.Reports (required_member (codes "ReportingDevice")
     (Array (leaf.Object group.ReportingDevices) 0 any key.Id)) d (refl, tt) f in
-    let cvrs = row_of group.Reports (optional_member (codes "CVR")
+    let cvrs = entry_named group.Reports (optional_member (codes "CVR")
     (Array (leaf.Object group.Cvrs) 0 any key.Free)) d (refl, tt) f in
     record {
       listed = devices.there refl;

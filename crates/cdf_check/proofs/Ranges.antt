@@ -20,8 +20,8 @@ use Rattle.cdf_form.specs.HasForm.{HasForm}
 use Rattle.cdf_parts.specs.Parts.{array_at, text_at, text_in}
 use Rattle.cdf_parts.specs.Places.{Texts, place_in, Contest, contest_ids, selections_at}
 use Rattle.cdf_form.proofs.Lemmas.{some_of}
-use Rattle.cdf_form.proofs.Laws.{fits_of, row_of, items_have_form, items_are_apart}
-use Rattle.cdf_form.specs.ByRow.{ListApart}
+use Rattle.cdf_form.proofs.Laws.{fits_of, entry_named, items_have_form, items_are_apart}
+use Rattle.cdf_form.specs.ByEntry.{ListApart}
 use Rattle.cdf_typed.specs.Typed.{count_at, position_of, selection_place, selection_vote_of}
 use Rattle.cdf_typed.specs.Typed.{contest_vote_of, snapshot_of, cvr_of, report_of}
 use Rattle.cdf_typed.specs.Range.{IsCount, SelectionInRange, ContestInRange, SnapshotInRange}
@@ -151,10 +151,10 @@ snapshot_in_range : (contests : List Contest) (d : Data)
     → SnapshotInRange contests (snapshot_of contests d)
 snapshot_in_range contests d f h =
     let xs = array_at (codes "CVRContest") d in
-    let row = row_of group.Snapshots (optional_member (codes "CVRContest")
+    let entry = entry_named group.Snapshots (optional_member (codes "CVRContest")
     (Array (leaf.Object group.CvrContests) 0 any key.Contest)) d (refl, tt) f in
     record {
-      once = rw map-map (distinct_places contests xs (items_are_apart row) h.votes.items);
+      once = rw map-map (distinct_places contests xs (items_are_apart entry) h.votes.items);
       votes = each_mapped (contest_vote_of contests) (ContestInRange contests) xs
           (λ e a. contest_in_range contests e (h.votes.items e a));
     }
@@ -164,32 +164,32 @@ snapshot_in_range contests d f h =
 cvr_in_range : (contests : List Contest) (d : Data) → HasForm (One (leaf.Object group.Cvrs)) d
     → CvrIsRead contests d → CvrInRange contests (cvr_of contests d)
 cvr_in_range contests d f h =
-    let row = row_of group.Cvrs (required_member (codes "CVRSnapshot")
+    let entry = entry_named group.Cvrs (required_member (codes "CVRSnapshot")
     (Array (leaf.Object group.Snapshots) 1 any key.Id)) d (refl, tt) f in
     each_mapped (snapshot_of contests) (SnapshotInRange contests) (array_at (codes "CVRSnapshot") d)
-    (λ e a. snapshot_in_range contests e (items_have_form row e a) (h.snapshots.items e a))
+    (λ e a. snapshot_in_range contests e (items_have_form entry e a) (h.snapshots.items e a))
 
 pub report_in_range : (contests : List Contest) (d : Data)
     → HasForm (One (leaf.Object group.Reports)) d → ReportIsRead contests d
     → ReportInRange contests (report_of contests d)
 report_in_range contests d f h =
-    let row = row_of group.Reports (optional_member (codes "CVR")
+    let entry = entry_named group.Reports (optional_member (codes "CVR")
     (Array (leaf.Object group.Cvrs) 0 any key.Free)) d (refl, tt) f in
     each_mapped (cvr_of contests) (CvrInRange contests) (array_at (codes "CVR") d)
-    (λ e a. cvr_in_range contests e (items_have_form row e a) (h.cvrs.items e a))
+    (λ e a. cvr_in_range contests e (items_have_form entry e a) (h.cvrs.items e a))
 
 pub record_in_range : RecordInRangeLaw
 record_in_range contests d none names =
     let scope = contests_alone contests in
     let f : HasForm (One (leaf.Object group.Cvrs)) d =
     fits_of d (One (leaf.Object group.Cvrs)) key.Free refl (none_right _ none) in
-    let row = row_of group.Cvrs (required_member (codes "CVRSnapshot")
+    let entry = entry_named group.Cvrs (required_member (codes "CVRSnapshot")
     (Array (leaf.Object group.Snapshots) 1 any key.Id)) d (refl, tt) f in
     let resolved = (all_items (in_snapshot scope) (SnapshotResolves scope) (snapshot_law scope)
     (codes "CVRSnapshot") d).0 names in
     each_mapped (snapshot_of contests) (SnapshotInRange contests) (array_at (codes "CVRSnapshot") d)
-    (λ e a. snapshot_in_range contests e (items_have_form row e a)
-    (snapshot_read scope e (items_have_form row e a) (resolved e a)))
+    (λ e a. snapshot_in_range contests e (items_have_form entry e a)
+    (snapshot_read scope e (items_have_form entry e a) (resolved e a)))
 
 -- ---- accepted files
 

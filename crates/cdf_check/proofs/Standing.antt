@@ -12,14 +12,14 @@ use Rattle.cdf_form.specs.declared.table.Key.TheVariants as key
 use Rattle.cdf_form.specs.declared.table.Kind.TheVariants.{One, Array}
 use Rattle.cdf_form.specs.Tables.{Entry, table, required_member, optional_member, any, classes_of}
 use Rattle.cdf_form.specs.Form.{find_class}
-use Rattle.cdf_form.specs.HasForm.{HasForm, IsRow}
+use Rattle.cdf_form.specs.HasForm.{HasForm, IsEntry}
 use Rattle.cdf_parts.specs.Parts.{array_at, ids_at, id_of, text_at, the_election}
 use Rattle.cdf_parts.specs.Places.{Texts, contest_of}
 use Rattle.cdf_parts.specs.Proper.{MembersAreWell, IsProper}
 use Rattle.cdf_parts.specs.Removing.{without}
 use Rattle.cdf_form.specs.Reading.{value_of}
-use Rattle.cdf_form.specs.ByRow.{HasRow}
-use Rattle.cdf_form.proofs.Laws.{has_class, only_class, row_of, is_object, must_be_text}
+use Rattle.cdf_form.specs.ByEntry.{HasEntry}
+use Rattle.cdf_form.proofs.Laws.{has_class, only_class, entry_named, is_object, must_be_text}
 use Rattle.cdf_form.proofs.Laws.{items_have_form}
 use Rattle.cdf_parts.proofs.Laws.{gone, others_stay, without_well, without_proper, read-proper}
 use Rattle.cdf_parts.proofs.Laws.{proper_deeper}
@@ -46,42 +46,42 @@ use Rattle.cdf_definition.proofs.Laws.{report_proper, listed_proper}
 reads_back : (n : ℕ) (d : Data) → n ≤ max_depth → IsProper n d → read (compact_text d) ≡ Some d
 reads_back n d h p = read-proper d (proper_deeper n max_depth d h p)
 
--- ---- rows
+-- ---- entries
 
-abbrev id_row : Entry
-id_row = required_member (codes "@id") (One leaf.Name)
+abbrev id_entry : Entry
+id_entry = required_member (codes "@id") (One leaf.Name)
 
-abbrev cvrs_row : Entry
-cvrs_row = optional_member (codes "CVR") (Array (leaf.Object group.Cvrs) 0 any key.Free)
+abbrev cvrs_entry : Entry
+cvrs_entry = optional_member (codes "CVR") (Array (leaf.Object group.Cvrs) 0 any key.Free)
 
-abbrev devices_row : Entry
-devices_row = required_member (codes "ReportingDevice")
+abbrev devices_entry : Entry
+devices_entry = required_member (codes "ReportingDevice")
     (Array (leaf.Object group.ReportingDevices) 0 any key.Id)
 
-abbrev snapshots_row : Entry
-snapshots_row =
+abbrev snapshots_entry : Entry
+snapshots_entry =
     required_member (codes "CVRSnapshot") (Array (leaf.Object group.Snapshots) 1 any key.Id)
 
-abbrev device_row : Entry
-device_row = required_member (codes "CreatingDeviceId") (One leaf.Name)
+abbrev device_entry : Entry
+device_entry = required_member (codes "CreatingDeviceId") (One leaf.Name)
 
-abbrev unique_row : Entry
-unique_row = required_member (codes "UniqueId") (One leaf.Name)
+abbrev unique_entry : Entry
+unique_entry = required_member (codes "UniqueId") (One leaf.Name)
 
 device_form : (d e : Data) → HasForm (One (leaf.Object group.Reports)) d
     → Contains (array_at (codes "ReportingDevice") d) e
     → HasForm (One (leaf.Object group.ReportingDevices)) e
-device_form d e f a = items_have_form (row_of group.Reports devices_row d (refl, tt) f) e a
+device_form d e f a = items_have_form (entry_named group.Reports devices_entry d (refl, tt) f) e a
 
 cvr_form : (d e : Data) → HasForm (One (leaf.Object group.Reports)) d
     → Contains (array_at (codes "CVR") d) e
     → HasForm (One (leaf.Object group.Cvrs)) e
-cvr_form d e f a = items_have_form (row_of group.Reports cvrs_row d (refl, tt) f) e a
+cvr_form d e f a = items_have_form (entry_named group.Reports cvrs_entry d (refl, tt) f) e a
 
 snapshot_form : (d e : Data) → HasForm (One (leaf.Object group.Cvrs)) d
     → Contains (array_at (codes "CVRSnapshot") d) e
     → HasForm (One (leaf.Object group.Snapshots)) e
-snapshot_form d e f a = items_have_form (row_of group.Cvrs snapshots_row d (refl, tt) f) e a
+snapshot_form d e f a = items_have_form (entry_named group.Cvrs snapshots_entry d (refl, tt) f) e a
 
 -- ---- headers
 
@@ -107,12 +107,12 @@ header_proper n ms h =
     (without_proper n (codes "CVRSnapshot") ms h)
 
 module _ (d h : Data) (f : HasForm (One (leaf.Object group.Cvrs)) d) (of : IsHeaderOf d h) where
-  cvr_row : (r : Entry) → IsRow (table class.Cvr) r → HasRow r.required r.name r.kind d
-  cvr_row r i =
+  cvr_entry : (r : Entry) → IsEntry (table class.Cvr) r → HasEntry r.required r.name r.kind d
+  cvr_entry r i =
       let c = has_class f in
       let same : c.its ≡ class.Cvr =
       class_of_group (λ x. x ≡ class.Cvr) group.Cvrs d c.its (refl, tt) c.its_is in
-      c.row r (subst (λ x. IsRow (table x) r) (sym same) i)
+      c.entry r (subst (λ x. IsEntry (table x) r) (sym same) i)
 
   pub header_form : HasHeaderForm h
   header_form = record {
@@ -120,8 +120,8 @@ module _ (d h : Data) (f : HasForm (One (leaf.Object group.Cvrs)) d) (of : IsHea
         ap (λ o. option_and_then (find_class (classes_of group.Cvrs)) (option_and_then as_str o))
         (of.others (codes "@type") (is_kept (codes "@type") refl refl))
         ∙ only_class group.Cvrs class.Cvr d (refl, tt) f;
-    needed = λ r i kept must. subst IsSome (sym (of.others r.name kept)) ((cvr_row r i).there must);
-    member = λ r e i kept at. (cvr_row r i).part e (sym (of.others r.name kept) ∙ at);
+    needed = λ r i kept must. subst IsSome (sym (of.others r.name kept)) ((cvr_entry r i).there must);
+    member = λ r e i kept at. (cvr_entry r i).part e (sym (of.others r.name kept) ∙ at);
     no_snapshots = of.no_snapshots;
     no_current = of.no_current;
   }
@@ -130,12 +130,12 @@ module _ (d h : Data) (f : HasForm (One (leaf.Object group.Cvrs)) d) (of : IsHea
       ≡ Some (string (text_at (codes "CreatingDeviceId") d))
   header_device =
       of.others (codes "CreatingDeviceId") (is_kept (codes "CreatingDeviceId") refl refl)
-      ∙ must_be_text (row_of group.Cvrs device_row d (refl, tt) f) tt
+      ∙ must_be_text (entry_named group.Cvrs device_entry d (refl, tt) f) tt
 
   pub header_unique : get (codes "UniqueId") h ≡ Some (string (text_at (codes "UniqueId") d))
   header_unique =
       of.others (codes "UniqueId") (is_kept (codes "UniqueId") refl refl)
-      ∙ must_be_text (row_of group.Cvrs unique_row d (refl, tt) f) tt
+      ∙ must_be_text (entry_named group.Cvrs unique_entry d (refl, tt) f) tt
 
 -- what is to hold of a header, told of its CVR
 abbrev Stands : Scope → Data → Type 0
@@ -181,7 +181,7 @@ module _ (bytes : List ℕ) (d : Data) (is : value_of bytes ≡ Some d) (r : IsR
         record {
           proper = p;
           form = f;
-          id_is = must_be_text (row_of group.ReportingDevices id_row e (refl, tt) f) tt;
+          id_is = must_be_text (entry_named group.ReportingDevices id_entry e (refl, tt) f) tt;
         },
         reads_back 125 e (omega arith) p,
       )
@@ -214,7 +214,7 @@ module _ (bytes : List ℕ) (d : Data) (is : value_of bytes ≡ Some d) (r : IsR
           proper = p;
           form = f;
           references = snapshot_wider (scope_of d) wide w.contests s e;
-          id_is = must_be_text (row_of group.Snapshots id_row s (refl, tt) f) tt;
+          id_is = must_be_text (entry_named group.Snapshots id_entry s (refl, tt) f) tt;
         },
         reads_back 123 s (omega arith) p,
       )

@@ -5,6 +5,6 @@ pub mod Seen
 pub mod Wider
 pub mod Laws
 pub mod Defaults
-pub mod Rows
+pub mod FileExamples
 pub mod Examples
 pub mod Utf8

@@ -9,6 +9,7 @@ ghost use Rattle.cdf_check.specs.Examples.{ContestOfRecord, SelectionOfContest};
 ghost use Rattle.cdf_check.specs.Examples.{OtherElection, OtherUnit, OtherParty, OtherDevice};
 ghost use Rattle.cdf_check.specs.Examples.{SameWithOtherDevice, SameWithOtherRecord};
 ghost use Rattle.cdf_check.specs.Examples.{OtherByElection, OtherByUnit, OtherByParty};
+ghost use Rattle.cdf_check.specs.FileExamples as file;
 
 /// A report that has each reference is accepted; where all name nothing, all are reported in order.
 pub fn reports()
@@ -59,4 +60,21 @@ pub fn same_definitions()
     ensures election { OtherByElection }
     ensures unit { OtherByUnit }
     ensures party { OtherByParty }
+{}
+
+/// Worked examples: a small report, and files that differ from it in a place.
+pub fn worked_files()
+    ensures one_definition { file.OneDefinition }
+    ensures one_file { file.OneFile }
+    ensures first_fault { file.FirstFault }
+    ensures fraction_first { file.FractionFirst }
+    ensures fractional_votes { file.FractionalVotes }
+    ensures escaped_path { file.EscapedPath }
+    ensures repeated_snapshot { file.RepeatedSnapshot }
+    ensures other_selection { file.OtherSelection }
+    ensures unknown_contest { file.UnknownContest }
+    ensures unknown_current { file.UnknownCurrent }
+    ensures other_election { file.OtherElection }
+    ensures other_unit { file.OtherUnit }
+    ensures reference_first { file.ReferenceFirst }
 {}

@@ -17,14 +17,15 @@ ghost use Rattle.cdf_check.specs.Seen.{IsJudged};
 ghost use Rattle.cdf_check.specs.Within.{RestSettles};
 
 use crate::fractions::file_fraction;
+use crate::keep::Keep;
 use crate::record_names::RecordNames;
 use crate::seen::Seen;
 use crate::unnamed::reference_fault;
-use cdf_definition::{Definition, Keep, check_value, fault_refusal, has_rest};
+use cdf_definition::{Definition, check_value, has_rest};
 use cdf_form::float::find_float;
 use cdf_form::found::{Found, Step, Stop};
 use cdf_form::leaf::class_of;
-use cdf_form::read::document_fault;
+use cdf_form::read::{document_fault, fault_refusal};
 use cdf_form::table::Group;
 use cdf_node::Node;
 use cdf_parts::ids::Ids;

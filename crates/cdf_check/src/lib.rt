@@ -7,14 +7,15 @@ pub mod defaults;
 pub mod examples;
 mod fractions;
 mod judge;
+mod keep;
 pub mod law;
 mod read;
 mod record_names;
-pub mod rows;
 mod seen;
 mod text_set;
 mod typed;
 mod unnamed;
 
-pub use cdf_definition::{Definition, Keep};
+pub use cdf_definition::Definition;
+pub use keep::Keep;
 pub use read::{check_file, check_report};

@@ -5,10 +5,12 @@ ghost use Rattle.cdf_typed.specs.Range.{ReportInRange};
 ghost use Rattle.cdf_definition.specs.Acceptance.{Valid, first_refusal, report_in};
 
 use crate::judge::judge;
+use crate::keep::Keep;
 use crate::seen::Looks;
 use crate::typed::Typed;
 use bumpalo::Bump;
-use cdf_definition::{Definition, Keep, file_text};
+use cdf_definition::Definition;
+use cdf_form::read::file_text;
 use cdf_pull::read_text_fold;
 use cdf_types::{ReadFault, Report, ReportingDevice, Seq};
 use json::Scratch;

@@ -10,8 +10,9 @@ ghost use Rattle.cdf_form.specs.Records.{cvr_faults};
 ghost use Rattle.cdf_check.specs.Seen.{in_file, AreKept, IsSeen};
 
 use crate::defaults::places_of_a_record;
+use crate::keep::Keep;
 use crate::record_names::RecordNames;
-use cdf_definition::{Definition, Keep, names_own};
+use cdf_definition::{Definition, names_own};
 use cdf_form::float::find_float;
 use cdf_form::found::{Found, Step, Stop};
 use cdf_form::path::pointer;

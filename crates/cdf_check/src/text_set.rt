@@ -12,7 +12,7 @@ pub(crate) struct TextSet {
 
 impl Model for TextSet {
     ghost use Rattle.cdf_parts.specs.Places.{Texts};
-    ghost use Rattle.cdf_parts.specs.Kept.{bytes_of};
+    ghost use Rattle.cdf_parts.specs.Ids.{bytes_of};
 
     ghost Value = { Texts };
 

@@ -1,6 +1,6 @@
 ghost use Rattle.std.specs.Prelude.{◌≡◌};
 
-use cdf_definition::Keep;
+use crate::keep::Keep;
 use cdf_node::Node;
 use cdf_parts::contests::Contests;
 use cdf_typed::read_cvr;

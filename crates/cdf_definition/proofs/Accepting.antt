@@ -10,13 +10,13 @@ use Rattle.cdf_types.specs.declared.fault.ReadFault.TheVariants.{TooLong, Refere
 use Rattle.cdf_form.specs.Form.{Fault, first}
 use Rattle.cdf_form.specs.Form as form
 use Rattle.cdf_form.specs.Path.{path_text}
-use Rattle.cdf_form.specs.Reading.{value_of, max_file, document_faults, refusal_of}
+use Rattle.cdf_form.specs.Reading.{value_of, max_file, document_faults, refusal_of, of_value}
+use Rattle.cdf_form.specs.Reading.{of_file}
 use Rattle.cdf_definition.specs.Paths.{Path}
 use Rattle.cdf_definition.specs.References.{missing_paths}
 use Rattle.cdf_definition.specs.Agreement.{disagreements, Agrees}
 use Rattle.cdf_definition.specs.Frame.{Frame}
-use Rattle.cdf_definition.specs.Acceptance.{Holds, IsReport, own_refusal, value_refusal, of_value}
-use Rattle.cdf_definition.specs.Acceptance.{of_file}
+use Rattle.cdf_definition.specs.Acceptance.{Holds, IsReport, own_refusal, value_refusal}
 use Rattle.cdf_definition.specs.Laws.{ValueLaw, SoundFileLaw, ValidFileLaw}
 use Rattle.cdf_definition.proofs.Agreeing.{agreement}
 use Rattle.cdf_definition.proofs.Sounding.{sound}
@@ -80,7 +80,7 @@ file_none : (f : Data → Option ReadFault) (bytes : List ℕ) → of_file f byt
     → (d : Data) × Holds bytes d × (f d ≡ None)
 file_none f bytes e = file_at _ (length bytes) max_file f (value_of bytes) refl e
 
-pub is_short : (n m : ℕ) → n ≤ m → nat_le n m ≡ true
+is_short : (n m : ℕ) → n ≤ m → nat_le n m ≡ true
 is_short n m h = grind (arith, nat_tests)
 
 pub file_holds : (f : Data → Option ReadFault) (bytes : List ℕ) (d : Data) → Holds bytes d

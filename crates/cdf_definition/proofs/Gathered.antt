@@ -14,7 +14,7 @@ use Rattle.std.proofs.lemmas.List.{take_more, map-append, append_assoc}
 use Rattle.cdf_node.specs.View.{view}
 use Rattle.cdf_node.specs.declared.node.Node.{Node}
 use Rattle.cdf_parts.specs.Places.{Texts, place_in}
-use Rattle.cdf_parts.specs.Kept.{bytes_of}
+use Rattle.cdf_parts.specs.Ids.{bytes_of}
 use Rattle.cdf_parts.proofs.Lemmas.{length-bytes_of}
 use Rattle.cdf_definition.specs.Named.{IdText, id_and_text, by_id, map_entries, ids_of, texts_of}
 use Rattle.cdf_definition.specs.Named.{text_of}

@@ -9,7 +9,7 @@ pub mod ById
 pub mod Gathered
 pub mod OneElection
 pub mod Resting
-pub mod Rows
+pub mod Entries
 pub mod Items
 pub mod Contests
 pub mod Depths

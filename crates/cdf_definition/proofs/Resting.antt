@@ -14,21 +14,21 @@ use Rattle.cdf_form.specs.declared.table.Leaf.TheVariants as leaf
 use Rattle.cdf_form.specs.declared.table.Kind.TheVariants.{One}
 use Rattle.cdf_form.specs.Tables.{Entry, table}
 use Rattle.cdf_form.specs.Form.{class_in}
-use Rattle.cdf_form.specs.HasForm.{IsRow, HasForm, class}
-use Rattle.cdf_form.specs.ByRow.{HasRow}
+use Rattle.cdf_form.specs.HasForm.{IsEntry, HasForm, class}
+use Rattle.cdf_form.specs.ByEntry.{HasEntry}
 use Rattle.cdf_form.proofs.Laws.{has_class, only_class}
 use Rattle.cdf_parts.specs.Parts.{array_at, id_of}
 use Rattle.cdf_definition.specs.References.{Scope, scope_of}
 use Rattle.cdf_definition.specs.Resolves.{Names, AllName, Each, CvrResolves, SelectionResolves}
 use Rattle.cdf_definition.specs.Resolves.{ElectionResolves, Resolves}
-use Rattle.cdf_definition.specs.Lists.{is_list, SameLists, HasRows, HasRest}
+use Rattle.cdf_definition.specs.Lists.{is_list, SameLists, HasEntries, HasRest}
 use Rattle.cdf_definition.specs.Lists.{RestOfReportLaw, RestLaw}
 
--- ---- rows
+-- ---- entries
 
--- what a row says of a value
+-- what an entry says of a value
 abbrev pub Holds : Data → Entry → Type 0
-Holds d r = HasRow r.required r.name r.kind d
+Holds d r = HasEntry r.required r.name r.kind d
 
 same_at : (c d : Data) → SameLists c d → (n : List ℕ) → is_list n ≡ true → get n c ≡ get n d
 same_at c d s n is = go (bytes_eq n (codes "Election")) (bytes_eq n (codes "GpUnit")) refl refl is
@@ -42,25 +42,25 @@ same_at c d s n is = go (bytes_eq n (codes "Election")) (bytes_eq n (codes "GpUn
     go false true e f h = at (codes "GpUnit") f s.units
     go false false e f h = at (codes "Party") h s.parties
 
-row_same : (c d : Data) → SameLists c d → (r : Entry) → is_list r.name ≡ true → Holds c r
+entry_same : (c d : Data) → SameLists c d → (r : Entry) → is_list r.name ≡ true → Holds c r
     → Holds d r
-row_same c d s r is h =
+entry_same c d s r is h =
     let e = same_at c d s r.name is in
     record { there = λ q. subst IsSome e (h.there q); part = λ x at. h.part x (e ∙ at) }
 
-all_rows : (c d : Data) → SameLists c d → (rs : List Entry)
-    → ((r : Entry) → IsRow rs r → Holds c r) → HasRows rs d → (r : Entry) → IsRow rs r → Holds d r
-all_rows c d s [] h rest r i = absurd i
-all_rows c d s (x ∷ rs) h rest r (inl is) = subst (Holds d) is (go (is_list x.name) refl)
+all_entries : (c d : Data) → SameLists c d → (rs : List Entry)
+    → ((r : Entry) → IsEntry rs r → Holds c r) → HasEntries rs d → (r : Entry) → IsEntry rs r → Holds d r
+all_entries c d s [] h rest r i = absurd i
+all_entries c d s (x ∷ rs) h rest r (inl is) = subst (Holds d) is (go (is_list x.name) refl)
   where
     go : (b : Bool) → is_list x.name ≡ b → Holds d x
-    go true e = row_same c d s x e (h x (inl refl))
+    go true e = entry_same c d s x e (h x (inl refl))
     go false e = rest.0 e
-all_rows c d s (x ∷ rs) h rest r (inr i) = all_rows c d s rs (λ y j. h y (inr j)) rest.1 r i
+all_entries c d s (x ∷ rs) h rest r (inr i) = all_entries c d s rs (λ y j. h y (inr j)) rest.1 r i
 
-rows_all : (d : Data) (rs : List Entry) → ((r : Entry) → IsRow rs r → Holds d r) → HasRows rs d
-rows_all d [] h = tt
-rows_all d (x ∷ rs) h = ((λ e. h x (inl refl)), rows_all d rs (λ r i. h r (inr i)))
+entries_all : (d : Data) (rs : List Entry) → ((r : Entry) → IsEntry rs r → Holds d r) → HasEntries rs d
+entries_all d [] h = tt
+entries_all d (x ∷ rs) h = ((λ e. h x (inl refl)), entries_all d rs (λ r i. h r (inr i)))
 
 -- ---- the form
 
@@ -70,17 +70,17 @@ Report d = HasForm (One (leaf.Object group.Reports)) d
 class_is : (d : Data) → Report d → class_in group.Reports d ≡ Some its.CastVoteRecordReport
 class_is d f = only_class group.Reports its.CastVoteRecordReport d (refl, tt) f
 
-rows_of_report : (d : Data) → Report d → (r : Entry) → IsRow (table its.CastVoteRecordReport) r
+entries_of_report : (d : Data) → Report d → (r : Entry) → IsEntry (table its.CastVoteRecordReport) r
     → Holds d r
-rows_of_report d f =
+entries_of_report d f =
     let h = has_class f in
     let only = class_is d f in
     let is : h.its ≡ its.CastVoteRecordReport = cc (h.its_is, only) in
-    subst (λ (c : Class). (r : Entry) → IsRow (table c) r → Holds d r) is h.row
+    subst (λ (c : Class). (r : Entry) → IsEntry (table c) r → Holds d r) is h.entry
 
 form : (c d : Data) → SameLists c d → Report c → HasRest d → Report d
 form c d s f rest =
-    let all = all_rows c d s (table its.CastVoteRecordReport) (rows_of_report c f) rest.rows in
+    let all = all_entries c d s (table its.CastVoteRecordReport) (entries_of_report c f) rest.entries in
     class rest.class_is (λ r i q. (all r i).there q) (λ r e i at. (all r i).part e at)
 
 -- ---- references
@@ -127,7 +127,7 @@ pub rest_of_report : RestOfReportLaw
 rest_of_report d r = record {
   whole = r.whole;
   class_is = class_is d r.form;
-  rows = rows_all d (table its.CastVoteRecordReport) (rows_of_report d r.form);
+  entries = entries_all d (table its.CastVoteRecordReport) (entries_of_report d r.form);
   devices = r.references.devices;
 }
 

@@ -1,13 +1,11 @@
 -- Which files are accepted, and what is answered for the others: the first cause that applies.
 -- (This project's own; JSON: RFC 8259.)
-use Rattle.std.specs.Prelude.{◌≡◌, ℕ, ◌≤◌, List, length, if◌then◌else◌, nat_le, Option, Some, None}
-use Rattle.std.specs.Prelude.{option_map, unwrap_or, false}
+use Rattle.std.specs.Prelude.{◌≡◌, ℕ, ◌≤◌, List, length, Option, Some, option_map, unwrap_or, false}
 use Rattle.std.specs.Option.{option_or}
 use Rattle.serde_json.specs.Data.{Data, null}
 use Rattle.serde_json.specs.Written.{has_float}
 use Rattle.cdf_types.specs.declared.fault.ReadFault.{ReadFault}
-use Rattle.cdf_types.specs.declared.fault.ReadFault.TheVariants.{TooLong, NotJson, Reference}
-use Rattle.cdf_types.specs.declared.fault.ReadFault.TheVariants.{Disagrees}
+use Rattle.cdf_types.specs.declared.fault.ReadFault.TheVariants.{Reference, Disagrees}
 use Rattle.cdf_types.specs.declared.report.Report.{Report}
 use Rattle.cdf_form.specs.declared.table.Group.TheVariants as group
 use Rattle.cdf_form.specs.declared.table.Leaf.TheVariants as leaf
@@ -15,7 +13,7 @@ use Rattle.cdf_form.specs.declared.table.Kind.TheVariants.{One}
 use Rattle.cdf_form.specs.HasForm.{HasForm}
 use Rattle.cdf_form.specs.Form as form
 use Rattle.cdf_form.specs.Path.{path_text}
-use Rattle.cdf_form.specs.Reading.{value_of, max_file, document_faults, refusal_of}
+use Rattle.cdf_form.specs.Reading.{value_of, max_file, document_faults, refusal_of, of_file}
 use Rattle.cdf_parts.specs.Places.{Contest}
 use Rattle.cdf_typed.specs.Typed.{report_of}
 use Rattle.cdf_form.specs.Form.{first}
@@ -57,16 +55,6 @@ own_refusal d = option_or (option_map refusal_of (form.first (document_faults d)
 abbrev pub value_refusal : Frame → Data → Option ReadFault
 value_refusal frame d = option_or (own_refusal d)
     (option_map (λ p. Disagrees (path_text p)) (first (disagreements frame d)))
-
--- of a file's value, if it has one
-abbrev pub of_value : (Data → Option ReadFault) → Option Data → Option ReadFault
-of_value refusal None = Some NotJson
-of_value refusal (Some d) = refusal d
-
--- of a file, by what refuses its value
-abbrev pub of_file : (Data → Option ReadFault) → List ℕ → Option ReadFault
-of_file refusal bytes =
-    if nat_le (length bytes) max_file then of_value refusal (value_of bytes) else Some TooLong
 
 -- why a file is refused as a definition, if it is: it is too long; else it is no JSON; else its
 -- value is refused by itself

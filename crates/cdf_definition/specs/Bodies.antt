@@ -10,7 +10,7 @@ use Rattle.cdf_form.specs.declared.table.Leaf.TheVariants as leaf
 use Rattle.cdf_form.specs.declared.table.Kind.TheVariants.{One}
 use Rattle.cdf_form.specs.Tables.{Entry, table}
 use Rattle.cdf_form.specs.Form.{class_in}
-use Rattle.cdf_form.specs.HasForm.{HasForm, IsRow}
+use Rattle.cdf_form.specs.HasForm.{HasForm, IsEntry}
 use Rattle.cdf_parts.specs.Proper.{IsProper}
 use Rattle.cdf_definition.specs.References.{Scope, in_snapshot, in_cvr}
 
@@ -21,9 +21,9 @@ IsInHeader name = (name ≢ codes "CVRSnapshot") × (name ≢ codes "CurrentSnap
 -- a CVR but for its two members CVRSnapshot and CurrentSnapshotId
 pub record HasHeaderForm (d : Data) : Type 0 where
   pub class_is : class_in group.Cvrs d ≡ Some class.Cvr
-  pub needed : (r : Entry) → IsRow (table class.Cvr) r → IsInHeader r.name → r.required ≡ true
+  pub needed : (r : Entry) → IsEntry (table class.Cvr) r → IsInHeader r.name → r.required ≡ true
       → IsSome (get r.name d)
-  pub member : (r : Entry) (e : Data) → IsRow (table class.Cvr) r → IsInHeader r.name
+  pub member : (r : Entry) (e : Data) → IsEntry (table class.Cvr) r → IsInHeader r.name
       → get r.name d ≡ Some e → HasForm r.kind e
   pub no_snapshots : get (codes "CVRSnapshot") d ≡ None
   pub no_current : get (codes "CurrentSnapshotId") d ≡ None

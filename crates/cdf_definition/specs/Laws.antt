@@ -80,6 +80,6 @@ abbrev pub OneElectionLaw : Type 0
 OneElectionLaw = (d : Data) → IsReport d → (e : Data) × (array_at (codes "Election") d ≡ e ∷ [])
 
 -- a header keeps each member but for the two that it leaves out
-abbrev pub KeptLaw : Type 0
-KeptLaw = (name : List ℕ) → bytes_eq name (codes "CVRSnapshot") ≡ false
+abbrev pub HeaderMembersLaw : Type 0
+HeaderMembersLaw = (name : List ℕ) → bytes_eq name (codes "CVRSnapshot") ≡ false
     → bytes_eq name (codes "CurrentSnapshotId") ≡ false → IsInHeader name

@@ -10,7 +10,7 @@ use Rattle.cdf_form.specs.declared.table.Class.TheVariants as class
 use Rattle.cdf_form.specs.declared.table.Group.TheVariants as group
 use Rattle.cdf_form.specs.Tables.{Entry, table}
 use Rattle.cdf_form.specs.Form.{class_in}
-use Rattle.cdf_form.specs.ByRow.{HasRow}
+use Rattle.cdf_form.specs.ByEntry.{HasEntry}
 use Rattle.cdf_parts.specs.Parts.{array_at, ids_at}
 use Rattle.cdf_definition.specs.Frame.{Frame, frame_of}
 use Rattle.cdf_definition.specs.Resolves.{AllName}
@@ -36,17 +36,18 @@ HasLists f d = ∥ ((c : Data) × IsSound c × (f ≡ frame_of c) × SameLists c
 
 -- ---- beside the lists
 
--- what the rows say of a value, but for those of lists
-abbrev pub HasRows : List Entry → Data → Type 0
-HasRows [] d = ⊤
-HasRows (r ∷ rs) d = (is_list r.name ≡ false → HasRow r.required r.name r.kind d) × HasRows rs d
+-- what the entries say of a value, but for those of lists
+abbrev pub HasEntries : List Entry → Data → Type 0
+HasEntries [] d = ⊤
+HasEntries (r ∷ rs) d =
+    (is_list r.name ≡ false → HasEntry r.required r.name r.kind d) × HasEntries rs d
 
 -- no number is fractional, the rest has the form of a report, and each device that is said to have
 -- generated it is listed
 pub record HasRest (d : Data) : Type 0 where
   pub whole : has_float d ≡ false
   pub class_is : class_in group.Reports d ≡ Some class.CastVoteRecordReport
-  pub rows : HasRows (table class.CastVoteRecordReport) d
+  pub entries : HasEntries (table class.CastVoteRecordReport) d
   pub devices : AllName (ids_at (codes "ReportingDevice") d) (codes "ReportGeneratingDeviceIds") d
 
 -- that of a report is

@@ -3,7 +3,7 @@ ghost use Rattle.cdf_node.specs.View.{view};
 ghost use Rattle.serde_json.specs.Written.{has_float};
 ghost use Rattle.cdf_types.specs.declared.fault.ReadFault.TheVariants.{Reference, Disagrees};
 ghost use Rattle.cdf_form.specs.Form as form;
-ghost use Rattle.cdf_form.specs.Found.{fault_of, path_of};
+ghost use Rattle.cdf_form.specs.Found.{path_of};
 ghost use Rattle.cdf_form.specs.Path.{path_text};
 ghost use Rattle.cdf_form.specs.Reading.{IsMemory, refusal_of, document_faults};
 ghost use Rattle.cdf_form.specs.Form.{first};
@@ -16,25 +16,12 @@ use crate::agreement::first_differing;
 use crate::definition::Definition;
 use crate::look::first_of;
 use crate::references::first_missing;
-use cdf_form::found::{Found, Path, Stop};
+use cdf_form::found::{Path, Stop};
 use cdf_form::path::pointer;
-use cdf_form::read::document_fault;
+use cdf_form::read::{document_fault, fault_refusal};
 use cdf_node::Node;
 use cdf_types::{Memory, ReadFault};
 use std::alloc::Global;
-
-/// The answer that reports a fault of form.
-///
-/// # Errors
-/// `Memory` where a growth was refused.
-pub fn fault_refusal(alloc: Global, found: &Found<'_>) -> Result<ReadFault, Memory>
-    ensures { IfOk result (λ e. e ≡ refusal_of (fault_of found.now)) }
-{
-    Ok(ReadFault::Schema {
-        path: pointer(alloc, &found.path)?,
-        rule: found.rule,
-    })
-}
 
 // Whether the numbers and the form of a report are right.
 fn check_form(alloc: Global, value: &Node<'_>) -> Result<(), ReadFault>

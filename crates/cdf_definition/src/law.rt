@@ -1,7 +1,8 @@
 ghost use Rattle.cdf_definition.specs.Laws.{ByIdLaw, TwoOfOneId, ReferencesLaw, RecordLaw};
 ghost use Rattle.cdf_definition.specs.Laws.{SnapshotLaw, AgreementLaw, SoundLaw, ValueLaw};
-ghost use Rattle.cdf_definition.specs.Laws.{SoundFileLaw, ValidFileLaw, OneElectionLaw, KeptLaw};
-ghost use Rattle.cdf_definition.specs.Depths.{ReportRowLaw, HasIdLaw, WasReadLaw};
+ghost use Rattle.cdf_definition.specs.Laws.{SoundFileLaw, ValidFileLaw, OneElectionLaw};
+ghost use Rattle.cdf_definition.specs.Laws.{HeaderMembersLaw};
+ghost use Rattle.cdf_definition.specs.Depths.{ReportEntryLaw, HasIdLaw, WasReadLaw};
 ghost use Rattle.cdf_definition.specs.Depths.{ReportIsProperLaw, ListedIsProperLaw};
 ghost use Rattle.cdf_definition.specs.Lists.{RestOfReportLaw, RestLaw};
 
@@ -34,16 +35,16 @@ pub fn one_election()
     ensures { OneElectionLaw }
 {}
 
-/// Each row of the table of reports holds of a report, and an object of a group whose classes have
-/// ids has one.
-pub fn report_rows()
-    ensures each_row { ReportRowLaw }
+/// Each entry of the table of reports holds of a report, and an object of a group whose classes
+/// have ids has one.
+pub fn report_entries()
+    ensures each_entry { ReportEntryLaw }
     ensures id { HasIdLaw }
 {}
 
 /// The header of a cast vote record keeps each member but for two.
-pub fn headers_keep()
-    ensures { KeptLaw }
+pub fn header_members()
+    ensures { HeaderMembersLaw }
 {}
 
 /// A report's value nests at most 127 deep, and an item of an array in it two levels less.

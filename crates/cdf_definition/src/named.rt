@@ -37,7 +37,7 @@ impl Named {
     ghost use Rattle.std.specs.List.{list_any, zip};
     ghost use Rattle.cdf_node.specs.View.{view};
     ghost use Rattle.serde_json.specs.Written.{has_float};
-    ghost use Rattle.cdf_parts.specs.Kept.{bytes_of};
+    ghost use Rattle.cdf_parts.specs.Ids.{bytes_of};
     ghost use Rattle.cdf_definition.specs.Named.{id_and_text, by_id, map_entries, ids_of, texts_of};
     ghost use Rattle.cdf_definition.specs.Named.{text_of};
 

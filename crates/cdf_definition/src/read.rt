@@ -2,14 +2,14 @@ ghost use Rattle.std.specs.Prelude.{◌≡◌, Option, None, Some, IfOk, IfErr, 
 ghost use Rattle.serde_json.specs.Data.{Data};
 ghost use Rattle.cdf_node.specs.View.{view};
 ghost use Rattle.cdf_types.specs.declared.fault.ReadFault.{ReadFault};
-ghost use Rattle.cdf_form.specs.Reading.{IsMemory};
+ghost use Rattle.cdf_form.specs.Reading.{IsMemory, of_file};
 ghost use Rattle.cdf_definition.specs.Sound.{IsSound};
-ghost use Rattle.cdf_definition.specs.Acceptance.{Holds, Sound, first_unsound, of_file, frame_in};
+ghost use Rattle.cdf_definition.specs.Acceptance.{Holds, Sound, first_unsound, frame_in};
 
 use crate::check::check_own;
 use crate::definition::Definition;
-use crate::text::file_text;
 use bumpalo::Bump;
+use cdf_form::read::file_text;
 use cdf_node::{Node, read_text};
 use cdf_types::ReadFault;
 use json::Scratch;

@@ -1,11 +1,11 @@
 ghost use Rattle.std.specs.Prelude.{◌≡◌, ◌↔◌, codes, IfOk, IsTrue, true};
 ghost use Rattle.cdf_node.specs.View.{view};
 ghost use Rattle.cdf_form.specs.Tables.{entries_of};
-ghost use Rattle.cdf_form.specs.ByRow.{HasRow};
+ghost use Rattle.cdf_form.specs.ByEntry.{HasEntry};
 ghost use Rattle.cdf_form.specs.Laws.{is_keyed, are_keyed};
 ghost use Rattle.cdf_definition.specs.Resolves.{AllName};
 ghost use Rattle.cdf_parts.specs.Parts.{ids_at};
-ghost use Rattle.cdf_definition.specs.Lists.{is_list, HasRows, HasRest};
+ghost use Rattle.cdf_definition.specs.Lists.{is_list, HasEntries, HasRest};
 
 use crate::look::{Each, Look, Text};
 use crate::references::class_in;
@@ -25,29 +25,29 @@ fn is_list(name: &str) -> bool
     name == "Election" || name == "GpUnit" || name == "Party"
 }
 
-// Whether a row holds of a value.
-fn has_row(alloc: Global, value: &Node<'_>, row: &Member) -> Result<bool, Memory>
-    requires { is_keyed row.now.kind ≡ true }
+// Whether an entry holds of a value.
+fn has_entry(alloc: Global, value: &Node<'_>, entry: &Member) -> Result<bool, Memory>
+    requires { is_keyed entry.now.kind ≡ true }
     ensures { IfOk result (λ is. IsTrue is
-        ↔ HasRow row.now.required row.now.name.now row.now.kind (view value.now)) }
+        ↔ HasEntry entry.now.required entry.now.name.now entry.now.kind (view value.now)) }
 {
-    let Some(member) = value.get(row.name) else {
-        return Ok(!row.required);
+    let Some(member) = value.get(entry.name) else {
+        return Ok(!entry.required);
     };
-    match walk(alloc, false, member, row.kind, Key::Free) {
+    match walk(alloc, false, member, entry.kind, Key::Free) {
         Ok(()) => Ok(true),
         Err(Stop::Memory(refused)) => Err(refused),
         Err(Stop::Fault(_)) => Ok(false),
     }
 }
 
-// Whether each of these rows holds of a value, but for those of lists.
-fn has_rows(alloc: Global, value: &Node<'_>, rows: &'static [Member]) -> Result<bool, Memory>
-    requires { are_keyed (entries_of rows.now) ≡ true }
-    ensures { IfOk result (λ is. IsTrue is ↔ HasRows (entries_of rows.now) (view value.now)) }
+// Whether each of these entries holds of a value, but for those of lists.
+fn has_entries(alloc: Global, value: &Node<'_>, entries: &'static [Member]) -> Result<bool, Memory>
+    requires { are_keyed (entries_of entries.now) ≡ true }
+    ensures { IfOk result (λ is. IsTrue is ↔ HasEntries (entries_of entries.now) (view value.now)) }
 {
-    for row in rows {
-        if !is_list(row.name) && !has_row(alloc, value, row)? {
+    for entry in entries {
+        if !is_list(entry.name) && !has_entry(alloc, value, entry)? {
             return Ok(false);
         }
     }
@@ -77,6 +77,6 @@ pub fn has_rest(alloc: Global, devices: &Ids, value: &Node<'_>) -> Result<bool, 
     let Some(Class::CastVoteRecordReport) = class_in(Group::Reports, value) else {
         return Ok(false);
     };
-    let rows = class_members(Class::CastVoteRecordReport);
-    Ok(has_rows(alloc, value, rows)? && generated_by(alloc, devices, value)?)
+    let entries = class_members(Class::CastVoteRecordReport);
+    Ok(has_entries(alloc, value, entries)? && generated_by(alloc, devices, value)?)
 }

@@ -24,12 +24,12 @@ use Rattle.cdf_form.specs.declared.table.Kind.TheVariants.{One, Array}
 use Rattle.cdf_form.specs.Tables.{Entry, table, classes_of, type_text}
 use Rattle.cdf_form.specs.Form.{Step, Fault, under, unless, demand_faults, find_class, class_faults}
 use Rattle.cdf_form.specs.Form.{type_text_faults, type_faults, leaf_faults, class_in, class_below}
-use Rattle.cdf_form.specs.Form.{rows_of, length_faults, key_text, is_among, add_text, mark_of}
-use Rattle.cdf_form.specs.Form.{repeat_faults, row_faults, rows_faults, faults, items_faults}
+use Rattle.cdf_form.specs.Form.{class_entries, length_faults, key_text, is_among, add_text, mark_of}
+use Rattle.cdf_form.specs.Form.{repeat_faults, entry_faults, table_faults, faults, items_faults}
 use Rattle.cdf_form.specs.Form.{member_look}
-use Rattle.cdf_form.specs.Laws.{is_keyed, are_keyed, key_has_row, leaf_has_row, all_have_row}
+use Rattle.cdf_form.specs.Laws.{is_keyed, are_keyed, key_has_entry, leaf_has_entry, all_have_entry}
 use Rattle.cdf_form.specs.Laws.{has_entry, TablesInOrder}
-use Rattle.cdf_form.specs.HasForm.{IsRow, HasForm, text, name, count, whole, truth, moment, listed}
+use Rattle.cdf_form.specs.HasForm.{IsEntry, HasForm, text, name, count, whole, truth, moment, listed}
 use Rattle.cdf_form.specs.HasForm.{class, items}
 use Rattle.cdf_form.proofs.Apart.{ApartFrom, apart_places, apart_from}
 use Rattle.cdf_form.proofs.Parts.{faults-one, faults-array, faults-no_array}
@@ -95,29 +95,29 @@ both_right false b e = cc
 table_keyed : (c : Class) → are_keyed (table c) ≡ true
 table_keyed c = grind arith
 
-row_keyed : (rs : List Entry) (r : Entry) → are_keyed rs ≡ true → IsRow rs r
+entry_keyed : (rs : List Entry) (r : Entry) → are_keyed rs ≡ true → IsEntry rs r
     → is_keyed r.kind ≡ true
-row_keyed [] r e h = absurd h
-row_keyed (x ∷ xs) r e (inl same) = subst (λ y. is_keyed y.kind ≡ true) same (both_left _ _ e)
-row_keyed (x ∷ xs) r e (inr later) = row_keyed xs r (both_right _ _ e) later
+entry_keyed [] r e h = absurd h
+entry_keyed (x ∷ xs) r e (inl same) = subst (λ y. is_keyed y.kind ≡ true) same (both_left _ _ e)
+entry_keyed (x ∷ xs) r e (inr later) = entry_keyed xs r (both_right _ _ e) later
 
--- ---- rows
+-- ---- entries
 
-rows_nil : (look : List ℕ → Kind → Option (List Fault)) (m : Key) (rs : List Entry) (r : Entry)
-    → rows_faults look m rs ≡ [] → IsRow rs r → row_faults m r (look r.name r.kind) ≡ []
-rows_nil look m [] r e h = absurd h
-rows_nil look m (x ∷ xs) r e (inl same) =
-    subst (λ y. row_faults m y (look y.name y.kind) ≡ []) same (under_nil _ _ (left_nil _ _ e))
-rows_nil look m (x ∷ xs) r e (inr later) = rows_nil look m xs r (right_nil _ _ e) later
+entries_nil : (look : List ℕ → Kind → Option (List Fault)) (m : Key) (rs : List Entry) (r : Entry)
+    → table_faults look m rs ≡ [] → IsEntry rs r → entry_faults m r (look r.name r.kind) ≡ []
+entries_nil look m [] r e h = absurd h
+entries_nil look m (x ∷ xs) r e (inl same) =
+    subst (λ y. entry_faults m y (look y.name y.kind) ≡ []) same (under_nil _ _ (left_nil _ _ e))
+entries_nil look m (x ∷ xs) r e (inr later) = entries_nil look m xs r (right_nil _ _ e) later
 
 needed_at : (m : Key) (r : Entry) (o : Option Data)
-    → row_faults m r (option_map (λ e. faults e r.kind key.Free) o) ≡ [] → r.required ≡ true
+    → entry_faults m r (option_map (λ e. faults e r.kind key.Free) o) ≡ [] → r.required ≡ true
     → IsSome o
 needed_at m r None e q = let n = not_false r.required (unless_nil _ _ e) in cc
 needed_at m r (Some d) e q = search rules
 
 part_at : (m : Key) (r : Entry) (o : Option Data) (e : Data)
-    → row_faults m r (option_map (λ x. faults x r.kind key.Free) o) ≡ [] → o ≡ Some e
+    → entry_faults m r (option_map (λ x. faults x r.kind key.Free) o) ≡ [] → o ≡ Some e
     → faults e r.kind key.Free ≡ []
 part_at m r None e h is = cc
 part_at m r (Some d) e h is =
@@ -128,7 +128,7 @@ part_at m r (Some d) e h is =
 fits_one : (d : Data) (l : Leaf) (m : Key)
     → ((r : Entry) (e : Data) → get r.name d ≡ Some e → is_keyed r.kind ≡ true
     → faults e r.kind key.Free ≡ [] → HasForm r.kind e) → leaf_faults l d ≡ []
-    → rows_faults (member_look d) m (rows_of (class_below l d)) ≡ [] → HasForm (One l) d
+    → table_faults (member_look d) m (class_entries (class_below l d)) ≡ [] → HasForm (One l) d
 fits_one d leaf.Text m part e h = let w = wanted_nil _ _ _ e in text w.1.0
 fits_one d leaf.Name m part e h =
     let w = wanted_nil _ _ _ e in name w.1.0 (not_false _ (unless_nil _ _ w.1.1))
@@ -142,12 +142,12 @@ fits_one d (leaf.Listed l) m part e h =
     let w = wanted_nil _ _ _ e in listed w.1.0 (unless_nil _ _ w.1.1)
 fits_one d (leaf.Object g) m part e h =
     let c = object_nil g d e in
-    let rows : rows_faults (member_look d) m (table c.0) ≡ [] =
-    ap (λ o. rows_faults (member_look d) m (rows_of o)) (sym c.1) ∙ h in
+    let entries : table_faults (member_look d) m (table c.0) ≡ [] =
+    ap (λ o. table_faults (member_look d) m (class_entries o)) (sym c.1) ∙ h in
     class c.1 (λ r in_table q. needed_at m r (get r.name d)
-    (rows_nil (member_look d) m (table c.0) r rows in_table) q)
-    (λ r x in_table is. part r x is (row_keyed (table c.0) r (table_keyed c.0) in_table)
-    (part_at m r (get r.name d) x (rows_nil (member_look d) m (table c.0) r rows in_table) is))
+    (entries_nil (member_look d) m (table c.0) r entries in_table) q)
+    (λ r x in_table is. part r x is (entry_keyed (table c.0) r (table_keyed c.0) in_table)
+    (part_at m r (get r.name d) x (entries_nil (member_look d) m (table c.0) r entries in_table) is))
 
 one_nil : (d : Data) (l : Leaf) (m : Key)
     → ((r : Entry) (e : Data) → get r.name d ≡ Some e → is_keyed r.kind ≡ true
@@ -165,22 +165,22 @@ le_from a b e = grind (arith, nat_tests)
 
 -- ---- no key twice
 
-has_row_at : (n : List ℕ) (r : Entry) (rs : List Entry) (b : Bool) → bytes_eq n r.name ≡ b
+has_entry_at : (n : List ℕ) (r : Entry) (rs : List Entry) (b : Bool) → bytes_eq n r.name ≡ b
     → (b || has_entry n rs) ≡ true → (has_entry n rs ≡ true
-    → (x : Entry) × (IsRow rs x × (n ≡ x.name))) → (x : Entry) × (IsRow (r ∷ rs) x × (n ≡ x.name))
-has_row_at n r rs true is q later = (r, (inl refl, (bytes_eq-Decides n r.name).0 is))
-has_row_at n r rs false is q later = let x = later q in (x.0, (inr x.1.0, x.1.1))
+    → (x : Entry) × (IsEntry rs x × (n ≡ x.name))) → (x : Entry) × (IsEntry (r ∷ rs) x × (n ≡ x.name))
+has_entry_at n r rs true is q later = (r, (inl refl, (bytes_eq-Decides n r.name).0 is))
+has_entry_at n r rs false is q later = let x = later q in (x.0, (inr x.1.0, x.1.1))
 
 repeat_at : (m : Key) (r : Entry) (o : Option Data) (e : Data)
-    → row_faults m r (option_map (λ x. faults x r.kind key.Free) o) ≡ [] → o ≡ Some e
+    → entry_faults m r (option_map (λ x. faults x r.kind key.Free) o) ≡ [] → o ≡ Some e
     → repeat_faults m r.name ≡ []
 repeat_at m r None e h is = cc
 repeat_at m r (Some d) e h is = right_nil _ _ h
 
-has_row_out : (n : List ℕ) (rs : List Entry) → has_entry n rs ≡ true
-    → (r : Entry) × (IsRow rs r × (n ≡ r.name))
-has_row_out n [] q = cc
-has_row_out n (r ∷ rs) q = has_row_at n r rs (bytes_eq n r.name) refl q (has_row_out n rs)
+has_entry_out : (n : List ℕ) (rs : List Entry) → has_entry n rs ≡ true
+    → (r : Entry) × (IsEntry rs r × (n ≡ r.name))
+has_entry_out n [] q = cc
+has_entry_out n (r ∷ rs) q = has_entry_at n r rs (bytes_eq n r.name) refl q (has_entry_out n rs)
 
 find_at : (n : List ℕ) (b : Bool) (x : Class) (rest : Option Class) (c : Class)
     → has_entry n (table x) ≡ true → (rest ≡ Some c → has_entry n (table c) ≡ true)
@@ -189,41 +189,41 @@ find_at n true x rest c here later is =
     let same : x ≡ c = cc in subst (λ y. has_entry n (table y) ≡ true) same here
 find_at n false x rest c here later is = later is
 
-find_has_row : (n : List ℕ) (s : List ℕ) (cs : List Class) (c : Class) → all_have_row n cs ≡ true
+find_has_entry : (n : List ℕ) (s : List ℕ) (cs : List Class) (c : Class) → all_have_entry n cs ≡ true
     → find_class cs s ≡ Some c → has_entry n (table c) ≡ true
-find_has_row n s [] c q is = cc
-find_has_row n s (x ∷ cs) c q is = find_at n (bytes_eq s (type_text x)) x (find_class cs s) c
-    (both_left _ _ q) (find_has_row n s cs c (both_right _ _ q)) is
+find_has_entry n s [] c q is = cc
+find_has_entry n s (x ∷ cs) c q is = find_at n (bytes_eq s (type_text x)) x (find_class cs s) c
+    (both_left _ _ q) (find_has_entry n s cs c (both_right _ _ q)) is
 
 and_then_some : {A B : Type 0} (f : A → Option B) (o : Option A) (b : B)
     → option_and_then f o ≡ Some b → (a : A) × ((o ≡ Some a) × (f a ≡ Some b))
 and_then_some f None b is = cc
 and_then_some f (Some a) b is = (a, (refl, is))
 
--- a marked item has a fault, if its class has a row for the key
-marked_row : (d : Data) (m : Key) (n s : List ℕ) (rs : List Entry) → has_entry n rs ≡ true
+-- a marked item has a fault, if its class has an entry for the key
+marked_entry : (d : Data) (m : Key) (n s : List ℕ) (rs : List Entry) → has_entry n rs ≡ true
     → option_and_then as_str (get n d) ≡ Some s → (repeat_faults m n ≡ [] → ⊥)
-    → rows_faults (member_look d) m rs ≡ [] → ⊥
-marked_row d m n s rs q is stands e =
-    let r = has_row_out n rs q in
+    → table_faults (member_look d) m rs ≡ [] → ⊥
+marked_entry d m n s rs q is stands e =
+    let r = has_entry_out n rs q in
     let x = and_then_some as_str (get n d) s is in
-    let none : row_faults m r.0 (member_look d r.0.name r.0.kind) ≡ [] =
-    rows_nil (member_look d) m rs r.0 e r.1.0 in
+    let none : entry_faults m r.0 (member_look d r.0.name r.0.kind) ≡ [] =
+    entries_nil (member_look d) m rs r.0 e r.1.0 in
     let there : get r.0.name d ≡ Some x.0 = ap (λ y. get y d) (sym r.1.1) ∙ x.1.0 in
     stands (subst (λ y. repeat_faults m y ≡ []) (sym r.1.1)
     (repeat_at m r.0 (get r.0.name d) x.0 none there))
 
 marked_object : (d : Data) (g : Group) (m : Key) (n s : List ℕ)
-    → all_have_row n (classes_of g) ≡ true → option_and_then as_str (get n d) ≡ Some s
+    → all_have_entry n (classes_of g) ≡ true → option_and_then as_str (get n d) ≡ Some s
     → (repeat_faults m n ≡ [] → ⊥) → faults d (One (leaf.Object g)) m ≡ [] → ⊥
 marked_object d g m n s q is stands e =
     let h = sym (faults-one d (leaf.Object g) m) ∙ e in
     let c = object_nil g d (left_nil _ _ h) in
     let t = and_then_some (find_class (classes_of g))
     (option_and_then as_str (get (codes "@type") d)) c.0 c.1 in
-    let rows : rows_faults (member_look d) m (table c.0) ≡ [] =
-    ap (λ o. rows_faults (member_look d) m (rows_of o)) (sym c.1) ∙ right_nil _ _ h in
-    marked_row d m n s (table c.0) (find_has_row n t.0 (classes_of g) c.0 q t.1.1) is stands rows
+    let entries : table_faults (member_look d) m (table c.0) ≡ [] =
+    ap (λ o. table_faults (member_look d) m (class_entries o)) (sym c.1) ∙ right_nil _ _ h in
+    marked_entry d m n s (table c.0) (find_has_entry n t.0 (classes_of g) c.0 q t.1.1) is stands entries
 
 stands_id : repeat_faults key.Id (codes "@id") ≡ [] → ⊥
 stands_id e = cc
@@ -231,12 +231,12 @@ stands_id e = cc
 stands_contest : repeat_faults key.Contest (codes "ContestId") ≡ [] → ⊥
 stands_contest e = cc
 
-marked_leaf : (l : Leaf) (d : Data) (m : Key) (n s : List ℕ) → leaf_has_row n l ≡ true
+marked_leaf : (l : Leaf) (d : Data) (m : Key) (n s : List ℕ) → leaf_has_entry n l ≡ true
     → option_and_then as_str (get n d) ≡ Some s → (repeat_faults m n ≡ [] → ⊥)
     → faults d (One l) m ≡ [] → ⊥
 marked_leaf l d m n s q is stands e = grind (arith, marked_object)
 
-marked : (l : Leaf) (k : Key) (d : Data) (s : List ℕ) → key_has_row k l ≡ true
+marked : (l : Leaf) (k : Key) (d : Data) (s : List ℕ) → key_has_entry k l ≡ true
     → key_text k d ≡ Some s → faults d (One l) k ≡ [] → ⊥
 marked l key.Free d s q is e = cc
 marked l key.Id d s q is e = marked_leaf l d key.Id (codes "@id") s q is stands_id e
@@ -249,14 +249,14 @@ split_mark l k d true never e = absurd (never e)
 split_mark l k d false never e = refl
 
 apart_at : (l : Leaf) (k : Key) (d : Data) (seen : List (List ℕ)) (o : Option (List ℕ))
-    → key_text k d ≡ o → key_has_row k l ≡ true
+    → key_text k d ≡ o → key_has_entry k l ≡ true
     → faults d (One l) (if is_among o seen then k else key.Free) ≡ [] → is_among o seen ≡ false
 apart_at l k d seen None is q e = refl
 apart_at l k d seen (Some s) is q e =
     split_mark l k d (is_among (Some s) seen) (marked l k d s q is) e
 
 items_apart : (ds : Items) (l : Leaf) (k : Key) (i : ℕ) (seen : List (List ℕ))
-    → key_has_row k l ≡ true → items_faults ds l k i seen ≡ [] → ApartFrom k seen ds
+    → key_has_entry k l ≡ true → items_faults ds l k i seen ≡ [] → ApartFrom k seen ds
 items_apart no_items l k i seen q h = tt
 items_apart (item d ds) l k i seen q h = (
   apart_at l k d seen (key_text k d) refl q (under_nil _ _ (left_nil _ _ h)),
@@ -350,17 +350,17 @@ absent_ok : (b : Bool) (r : Rule) → (b ≡ true → ⊥) → unless (not b) r 
 absent_ok true r never = absurd (never refl)
 absent_ok false r never = refl
 
-row_ok : (r : Entry) (o : Option Data) → (r.required ≡ true → IsSome o)
+entry_ok : (r : Entry) (o : Option Data) → (r.required ≡ true → IsSome o)
     → ((e : Data) → o ≡ Some e → faults e r.kind key.Free ≡ [])
-    → row_faults key.Free r (option_map (λ x. faults x r.kind key.Free) o) ≡ []
-row_ok r None needed part = absent_ok r.required _ (λ q. true≢false (sym (needed q)))
-row_ok r (Some e) needed part = rw (part e refl)
+    → entry_faults key.Free r (option_map (λ x. faults x r.kind key.Free) o) ≡ []
+entry_ok r None needed part = absent_ok r.required _ (λ q. true≢false (sym (needed q)))
+entry_ok r (Some e) needed part = rw (part e refl)
 
-rows_ok : (d : Data) (rs : List Entry) →
-    ((r : Entry) → IsRow rs r → row_faults key.Free r (member_look d r.name r.kind) ≡ [])
-    → rows_faults (member_look d) key.Free rs ≡ []
-rows_ok d [] each = refl
-rows_ok d (r ∷ rs) each = rw (each r (inl refl), rows_ok d rs (λ x h. each x (inr h)))
+entries_ok : (d : Data) (rs : List Entry) →
+    ((r : Entry) → IsEntry rs r → entry_faults key.Free r (member_look d r.name r.kind) ≡ [])
+    → table_faults (member_look d) key.Free rs ≡ []
+entries_ok d [] each = refl
+entries_ok d (r ∷ rs) each = rw (each r (inl refl), entries_ok d rs (λ x h. each x (inr h)))
 
 nat_le_from : (a b : ℕ) → a ≤ b → nat_le a b ≡ true
 nat_le_from a b h = grind (arith, nat_tests)
@@ -390,7 +390,7 @@ no_faults (moment {d = d} is n) = plain_ok d leaf.Moment refl (rw (is, n))
 no_faults (listed {d = d} {l = l} is n) = plain_ok d (leaf.Listed l) refl (rw (is, n))
 no_faults (class {d = d} {g = g} {c = c} is needed part) =
     rw (faults-one d (leaf.Object g) key.Free, object_ok g d c is, is)
-    (rows_ok d (table c) (λ r h. row_ok r (get r.name d) (needed r h)
+    (entries_ok d (table c) (λ r h. entry_ok r (get r.name d) (needed r h)
     (λ e there. no_faults (part r e h there))))
 no_faults (items {d = d} {ds = ds} {l = l} {least = least} {most = most} {k = k} is lo hi each
     apart) =

@@ -20,10 +20,10 @@ use Rattle.cdf_form.specs.declared.table.Key.{Key}
 use Rattle.cdf_form.specs.declared.table.Kind.TheVariants.{One, Array}
 use Rattle.cdf_form.specs.Tables.{Entry, table, classes_of, type_text, listed_in}
 use Rattle.cdf_form.specs.Form.{is_count, is_moment, class_in, find_class}
-use Rattle.cdf_form.specs.HasForm.{IsRow, HasForm, text, name, count, moment, listed, class, items}
+use Rattle.cdf_form.specs.HasForm.{IsEntry, HasForm, text, name, count, moment, listed, class, items}
 use Rattle.cdf_node.specs.Items.{list_of}
 use Rattle.cdf_parts.specs.Parts.{array_at, text_in, text_at}
-use Rattle.cdf_form.specs.ByRow.{AllClasses, find_row, HasRow, HasClass, IsTextual, ListApart}
+use Rattle.cdf_form.specs.ByEntry.{AllClasses, find_entry, HasEntry, HasClass, IsTextual, ListApart}
 
 -- ---- values by their kinds
 
@@ -51,17 +51,17 @@ is_text_in n s d is = go (get n d) is
     go None e = absurd (cc)
     go (Some x) e = ap Some (is_string x s e)
 
--- ---- classes and rows
+-- ---- classes and entries
 
-row_at : (b : Bool) (n : List ℕ) (x r : Entry) (rs : List Entry)
-    → (find_row n rs ≡ Some r → IsRow rs r) → cond b (Some x) (find_row n rs) ≡ Some r
-    → IsRow (x ∷ rs) r
-row_at true n x r rs later is = inl (inside x r is)
-row_at false n x r rs later is = inr (later is)
+entry_at : (b : Bool) (n : List ℕ) (x r : Entry) (rs : List Entry)
+    → (find_entry n rs ≡ Some r → IsEntry rs r) → cond b (Some x) (find_entry n rs) ≡ Some r
+    → IsEntry (x ∷ rs) r
+entry_at true n x r rs later is = inl (inside x r is)
+entry_at false n x r rs later is = inr (later is)
 
-pub row_in : (n : List ℕ) (rs : List Entry) (r : Entry) → find_row n rs ≡ Some r → IsRow rs r
-row_in n [] r is = absurd (cc)
-row_in n (x ∷ rs) r is = row_at (bytes_eq n x.name) n x r rs (row_in n rs r) is
+pub entry_in : (n : List ℕ) (rs : List Entry) (r : Entry) → find_entry n rs ≡ Some r → IsEntry rs r
+entry_in n [] r is = absurd (cc)
+entry_in n (x ∷ rs) r is = entry_at (bytes_eq n x.name) n x r rs (entry_in n rs r) is
 
 class_at : (b : Bool) (P : Class → Type 0) (x c : Class) (rest : Option Class)
     → P x → (rest ≡ Some c → P c) → cond b (Some x) rest ≡ Some c → P c
@@ -87,7 +87,7 @@ pub has_class : {g : Group} {d : Data} → HasForm (One (leaf.Object g)) d → H
 has_class (class {c = c} is needed part) = record {
   its = c;
   its_is = is;
-  row = λ r i. record { there = needed r i; part = λ e at. part r e i at };
+  entry = λ r i. record { there = needed r i; part = λ e at. part r e i at };
 }
 
 -- an object of a group of one class has that class
@@ -97,15 +97,15 @@ only_class g c d only f =
     let h = has_class f in
     h.its_is ∙ ap Some (class_of_group (λ x. x ≡ c) g d h.its only h.its_is)
 
--- a row that each class of the group has, found by computing: `(refl, tt)` for one class, `(refl,
+-- an entry that each class of the group has, found by computing: `(refl, tt)` for one class, `(refl,
 -- (refl, tt))` for two
-pub row_of : (g : Group) (r : Entry) (d : Data)
-    → AllClasses (λ c. find_row r.name (table c) ≡ Some r) (classes_of g)
-    → HasForm (One (leaf.Object g)) d → HasRow r.required r.name r.kind d
-row_of g r d each f =
+pub entry_named : (g : Group) (r : Entry) (d : Data)
+    → AllClasses (λ c. find_entry r.name (table c) ≡ Some r) (classes_of g)
+    → HasForm (One (leaf.Object g)) d → HasEntry r.required r.name r.kind d
+entry_named g r d each f =
     let h = has_class f in
-    h.row r (row_in r.name (table h.its) r
-    (class_of_group (λ c. find_row r.name (table c) ≡ Some r) g d h.its each h.its_is))
+    h.entry r (entry_in r.name (table h.its) r
+    (class_of_group (λ c. find_entry r.name (table c) ≡ Some r) g d h.its each h.its_is))
 
 -- an object is an object
 pub is_object : (g : Group) (d : Data) → HasForm (One (leaf.Object g)) d
@@ -162,32 +162,32 @@ listed_is_among l s f = go f refl
     go (listed {s = t} is h) same =
         subst (λ x. list_any (bytes_eq x) (listed_in l) ≡ true) (inside t s (sym is ∙ same)) h
 
-module _ {b : Bool} {n : List ℕ} {l : Leaf} {d : Data} (row : HasRow b n (One l) d) where
+module _ {b : Bool} {n : List ℕ} {l : Leaf} {d : Data} (entry : HasEntry b n (One l) d) where
   -- the text under the name has the form
   pub text_has_form : (s : List ℕ) → text_in n d ≡ Some s → HasForm (One l) (string s)
-  text_has_form s is = row.part (string s) (is_text_in n s d is)
+  text_has_form s is = entry.part (string s) (is_text_in n s d is)
 
   -- what is there is a text
   pub may_be_text : IsTextual l → (e : Data) → get n d ≡ Some e → IsSome (text_in n d)
-  may_be_text q e at = let p = textual_form l e q (row.part e at) in rw (at, p.1) refl
+  may_be_text q e at = let p = textual_form l e q (entry.part e at) in rw (at, p.1) refl
 
 -- a required text is the one that a reader finds
-pub must_be_text : {n : List ℕ} {l : Leaf} {d : Data} → HasRow true n (One l) d → IsTextual l
+pub must_be_text : {n : List ℕ} {l : Leaf} {d : Data} → HasEntry true n (One l) d → IsTextual l
     → get n d ≡ Some (string (text_at n d))
-must_be_text {n = n} {l = l} {d = d} row q =
-    let p = some_of (get n d) (row.there refl) in
-    let t = textual_form l p.0 q (row.part p.0 p.1) in
+must_be_text {n = n} {l = l} {d = d} entry q =
+    let p = some_of (get n d) (entry.there refl) in
+    let t = textual_form l p.0 q (entry.part p.0 p.1) in
     let is : get n d ≡ Some (string t.0) = p.1 ∙ ap Some (is_string p.0 t.0 t.1) in
     is ∙ ap (λ s. Some (string s)) (sym (ap (λ o. unwrap_or (option_and_then as_str o) []) is))
 
-pub must_text_in : {n : List ℕ} {l : Leaf} {d : Data} → HasRow true n (One l) d → IsTextual l
+pub must_text_in : {n : List ℕ} {l : Leaf} {d : Data} → HasEntry true n (One l) d → IsTextual l
     → text_in n d ≡ Some (text_at n d)
-must_text_in {n = n} {l = l} {d = d} row q = ap (option_and_then as_str) (must_be_text row q)
+must_text_in {n = n} {l = l} {d = d} entry q = ap (option_and_then as_str) (must_be_text entry q)
 
 -- and it has the form
-pub must_have_form : {n : List ℕ} {l : Leaf} {d : Data} → HasRow true n (One l) d → IsTextual l
+pub must_have_form : {n : List ℕ} {l : Leaf} {d : Data} → HasEntry true n (One l) d → IsTextual l
     → HasForm (One l) (string (text_at n d))
-must_have_form {n = n} {d = d} row q = row.part (string (text_at n d)) (must_be_text row q)
+must_have_form {n = n} {d = d} entry q = entry.part (string (text_at n d)) (must_be_text entry q)
 
 -- ---- counts
 
@@ -236,15 +236,15 @@ items_form {l = l} (items {ds = ds} is lo hi each apart) =
     )
 
 module _ {b : Bool} {n : List ℕ} {l : Leaf} {least most : ℕ} {k : Key} {d : Data}
-    (row : HasRow b n (Array l least most k) d) where
+    (entry : HasEntry b n (Array l least most k) d) where
   -- what is there is an array
   pub is_an_array : (e : Data) → get n d ≡ Some e → IsSome (as_array e)
-  is_an_array e at = let p = items_form (row.part e at) in rw p.1 refl
+  is_an_array e at = let p = items_form (entry.part e at) in rw p.1 refl
 
   -- the items of what is there
   pub found_items : (e : Data) → get n d ≡ Some e → HasItems l least most k (array_at n d)
   found_items e at =
-      let p = items_form (row.part e at) in
+      let p = items_form (entry.part e at) in
       let same : array_at n d ≡ list_of p.0 = rw (at, p.1) refl in
       subst (λ xs. HasItems l least most k xs) (sym same) p.2
 
@@ -274,6 +274,6 @@ module _ {b : Bool} {n : List ℕ} {l : Leaf} {least most : ℕ} {k : Key} {d : 
 
 -- a required array has at least so many items
 pub items_are_some : {n : List ℕ} {l : Leaf} {least most : ℕ} {k : Key} {d : Data}
-    → HasRow true n (Array l least most k) d → least ≤ length (array_at n d)
-items_are_some {n = n} {d = d} row =
-    let p = some_of (get n d) (row.there refl) in (found_items row p.0 p.1).some
+    → HasEntry true n (Array l least most k) d → least ≤ length (array_at n d)
+items_are_some {n = n} {d = d} entry =
+    let p = some_of (get n d) (entry.there refl) in (found_items entry p.0 p.1).some

@@ -20,8 +20,8 @@ use Rattle.cdf_form.specs.declared.table.Kind.TheVariants.{One, Array}
 use Rattle.cdf_form.specs.Tables.{Entry}
 use Rattle.std.proofs.lemmas.List.{drop_more}
 use Rattle.cdf_form.specs.Form.{Step, at_item, mark_of, key_text, add_text, Fault, here}
-use Rattle.cdf_form.specs.Form.{deeper_fault, under, first, leaf_faults, class_below, rows_of}
-use Rattle.cdf_form.specs.Form.{length_faults, rows_faults, faults, items_faults, found_faults}
+use Rattle.cdf_form.specs.Form.{deeper_fault, under, first, leaf_faults, class_below, class_entries}
+use Rattle.cdf_form.specs.Form.{length_faults, table_faults, faults, items_faults, found_faults}
 use Rattle.cdf_form.specs.Form.{member_look}
 
 -- ---- the first of a list
@@ -58,16 +58,16 @@ found_faults-get_member no_members name kind = refl
 found_faults-get_member (member l d ms) name kind = rw (found_faults-get_member ms name kind)
     (look-match_ordering (slice_cmp nat_cmp name l) kind (get_member name ms) (Some d))
 
-rows_faults-look : (look other : List ℕ → Kind → Option (List Fault)) (mark : Key)
+table_faults-look : (look other : List ℕ → Kind → Option (List Fault)) (mark : Key)
     → ((name : List ℕ) (kind : Kind) → look name kind ≡ other name kind) → (rs : List Entry)
-    → rows_faults look mark rs ≡ rows_faults other mark rs
-rows_faults-look look other mark same [] = refl
-rows_faults-look look other mark same (r ∷ rs) =
-    rw (same r.name r.kind, rows_faults-look look other mark same rs)
+    → table_faults look mark rs ≡ table_faults other mark rs
+table_faults-look look other mark same [] = refl
+table_faults-look look other mark same (r ∷ rs) =
+    rw (same r.name r.kind, table_faults-look look other mark same rs)
 
 flat-one : (d : Data) (l : Leaf) (look : List ℕ → Kind → Option (List Fault)) (mark : Key)
     → class_below l d ≡ None → leaf_faults l d
-    ≡ leaf_faults l d ++ rows_faults look mark (rows_of (class_below l d))
+    ≡ leaf_faults l d ++ table_faults look mark (class_entries (class_below l d))
 flat-one d l look mark e = rw e (append-nil (leaf_faults l d))
 
 none_below : (d : Data) (l : Leaf) → ((name : List ℕ) → get name d ≡ None) → class_below l d ≡ None
@@ -75,7 +75,7 @@ none_below d l e = grind arith
 
 pub faults-one : (d : Data) (l : Leaf) (mark : Key)
     → faults d (One l) mark ≡ leaf_faults l d
-    ++ rows_faults (member_look d) mark (rows_of (class_below l d))
+    ++ table_faults (member_look d) mark (class_entries (class_below l d))
 faults-one null l mark = flat-one null l (member_look null) mark (none_below null l (λ name. refl))
 faults-one (boolean b) l mark =
     flat-one (boolean b) l (member_look (boolean b)) mark (none_below (boolean b) l (λ name. refl))
@@ -86,8 +86,8 @@ faults-one (string s) l mark =
 faults-one (array ds) l mark =
     flat-one (array ds) l (member_look (array ds)) mark (none_below (array ds) l (λ name. refl))
 faults-one (object ms) l mark = ap (λ fs. leaf_faults l (object ms) ++ fs)
-    (rows_faults-look (λ name kind. found_faults ms name kind) (member_look (object ms)) mark
-    (λ name kind. found_faults-get_member ms name kind) (rows_of (class_below l (object ms))))
+    (table_faults-look (λ name kind. found_faults ms name kind) (member_look (object ms)) mark
+    (λ name kind. found_faults-get_member ms name kind) (class_entries (class_below l (object ms))))
 
 -- ---- arrays
 
@@ -119,7 +119,7 @@ array_first d ds kind l least most n k mark is of len =
 
 pub one_first : (d : Data) (l : Leaf) (mark : Key)
     → first (faults d (One l) mark) ≡ option_or (first (leaf_faults l d))
-    (first (rows_faults (member_look d) mark (rows_of (class_below l d))))
+    (first (table_faults (member_look d) mark (class_entries (class_below l d))))
 one_first d l mark = rw (faults-one d l mark) (first-append _ _)
 
 -- ---- items

@@ -15,7 +15,7 @@ use Rattle.cdf_form.specs.declared.table.Kind.{Kind}
 use Rattle.cdf_form.specs.declared.table.Kind.TheVariants.{One, Array}
 use Rattle.cdf_form.specs.Tables.{Entry, optional_member, table, type_text, classes_of, any}
 use Rattle.cdf_form.specs.Form.{Step, at_member, Fault, deeper_fault, under, first, find_class}
-use Rattle.cdf_form.specs.Form.{type_faults, rows_of, repeat_faults, row_faults, rows_faults}
+use Rattle.cdf_form.specs.Form.{type_faults, class_entries, repeat_faults, entry_faults, table_faults}
 use Rattle.cdf_form.specs.Form.{faults, member_look}
 use Rattle.cdf_form.specs.Records.{cvrs_faults, RecordsFirstLaw, RecordsApartLaw}
 use Rattle.cdf_form.proofs.Parts.{first-append_some, first-under, faults-one, faults-array}
@@ -43,34 +43,34 @@ array_of_records ds f few e = rw (
   length_ok 0 any (items_len ds) (omega arith) few,
 ) e
 
-row_there : (ms : Members) (r : Entry) (e : Data) (f : Fault) → get_member r.name ms ≡ Some e
+entry_there : (ms : Members) (r : Entry) (e : Data) (f : Fault) → get_member r.name ms ≡ Some e
     → first (faults e r.kind key.Free) ≡ Some f
-    → first (row_faults key.Free r (member_look (object ms) r.name r.kind)) ≡ Some f
-row_there ms r e f there h =
-    ap (λ o. first (row_faults key.Free r (option_map (λ x. faults x r.kind key.Free) o))) there
+    → first (entry_faults key.Free r (member_look (object ms) r.name r.kind)) ≡ Some f
+entry_there ms r e f there h =
+    ap (λ o. first (entry_faults key.Free r (option_map (λ x. faults x r.kind key.Free) o))) there
     ∙ first-append_some (faults e r.kind key.Free) (repeat_faults key.Free r.name) f h
 
-row_first : (s : Step) (xs ys : List Fault) (f : Fault) → first xs ≡ Some f
+entry_first : (s : Step) (xs ys : List Fault) (f : Fault) → first xs ≡ Some f
     → first (under s xs ++ ys) ≡ Some (deeper_fault s f)
-row_first s xs ys f e = first-append_some (under s xs) ys (deeper_fault s f)
+entry_first s xs ys f e = first-append_some (under s xs) ys (deeper_fault s f)
     (first-under s xs ∙ ap (option_map (deeper_fault s)) e)
 
-rows_begin : (ms : Members) (r : Entry) (rs : List Entry) (f : Fault)
-    → first (row_faults key.Free r (member_look (object ms) r.name r.kind)) ≡ Some f
-    → first (rows_faults (member_look (object ms)) key.Free (r ∷ rs))
+entries_begin : (ms : Members) (r : Entry) (rs : List Entry) (f : Fault)
+    → first (entry_faults key.Free r (member_look (object ms) r.name r.kind)) ≡ Some f
+    → first (table_faults (member_look (object ms)) key.Free (r ∷ rs))
     ≡ Some (deeper_fault (at_member r.name) f)
-rows_begin ms r rs f e = row_first (at_member r.name)
-    (row_faults key.Free r (member_look (object ms) r.name r.kind))
-    (rows_faults (member_look (object ms)) key.Free rs) f e
+entries_begin ms r rs f e = entry_first (at_member r.name)
+    (entry_faults key.Free r (member_look (object ms) r.name r.kind))
+    (table_faults (member_look (object ms)) key.Free rs) f e
 
--- a report's table begins with the row of its records
-rows_first : (ms : Members) (ds : Items) (f : Fault) → get_member records ms ≡ Some (array ds)
+-- a report's table begins with the entry of its records
+entries_first : (ms : Members) (ds : Items) (f : Fault) → get_member records ms ≡ Some (array ds)
     → items_len ds ≤ any → first (cvrs_faults ds) ≡ Some f
-    → first (rows_faults (member_look (object ms)) key.Free (table class_of.CastVoteRecordReport))
+    → first (table_faults (member_look (object ms)) key.Free (table class_of.CastVoteRecordReport))
     ≡ Some (deeper_fault (at_member records) f)
-rows_first ms ds f there few e = rows_begin ms (optional_member records records_kind)
+entries_first ms ds f there few e = entries_begin ms (optional_member records records_kind)
     (drop 1 (table class_of.CastVoteRecordReport)) f
-    (row_there ms (optional_member records records_kind) (array ds) f there
+    (entry_there ms (optional_member records records_kind) (array ds) f there
     (array_of_records ds f few e))
 
 pub records_first : RecordsFirstLaw
@@ -80,7 +80,7 @@ records_first ms ds f class there few e =
       object_ok group.Reports
           (object ms) class_of.CastVoteRecordReport class,
       class,
-    ) (rows_first ms ds f there few e)
+    ) (entries_first ms ds f there few e)
 
 -- ---- a report and one that differs from it in its records alone
 
@@ -94,20 +94,20 @@ module _ (ms left : Members) (ds : Items)
     (here : get_member records ms ≡ Some (array ds))
     (empty : get_member records left ≡ Some (array no_items)) (few : items_len ds ≤ any)
     (right : cvrs_faults ds ≡ []) where
-  rows_same : (rs : List Entry) → others_only rs ≡ true
-      → rows_faults (member_look (object ms)) key.Free rs
-      ≡ rows_faults (member_look (object left)) key.Free rs
-  rows_same [] e = refl
-  rows_same (r ∷ rs) e =
+  entries_same : (rs : List Entry) → others_only rs ≡ true
+      → table_faults (member_look (object ms)) key.Free rs
+      ≡ table_faults (member_look (object left)) key.Free rs
+  entries_same [] e = refl
+  entries_same (r ∷ rs) e =
       let looked : member_look (object ms) r.name r.kind
       ≡ member_look (object left) r.name r.kind = ap
       (option_map (λ d. faults d r.kind key.Free)) (same r.name (not-true _ (and-left _ _ e)))
       in
-      ap (λ o. under (at_member r.name) (row_faults key.Free r o)
-      ++ rows_faults (member_look (object ms)) key.Free rs) looked
+      ap (λ o. under (at_member r.name) (entry_faults key.Free r o)
+      ++ table_faults (member_look (object ms)) key.Free rs) looked
       ∙ ap (λ fs. under (at_member r.name)
-      (row_faults key.Free r (member_look (object left) r.name r.kind)) ++ fs)
-      (rows_same rs (and-right _ _ e))
+      (entry_faults key.Free r (member_look (object left) r.name r.kind)) ++ fs)
+      (entries_same rs (and-right _ _ e))
 
   array_right : faults (array ds) records_kind key.Free ≡ []
   array_right = rw (
@@ -121,28 +121,28 @@ module _ (ms left : Members) (ds : Items)
   records_look = ap (option_map (λ d. faults d records_kind key.Free)) here ∙ ap Some array_right
       ∙ ap (option_map (λ d. faults d records_kind key.Free)) (sym empty)
 
-  table_same : rows_faults (member_look (object ms)) key.Free (table class_of.CastVoteRecordReport)
-      ≡ rows_faults (member_look (object left)) key.Free (table class_of.CastVoteRecordReport)
+  table_same : table_faults (member_look (object ms)) key.Free (table class_of.CastVoteRecordReport)
+      ≡ table_faults (member_look (object left)) key.Free (table class_of.CastVoteRecordReport)
   table_same =
-      let row = optional_member records records_kind in
+      let entry = optional_member records records_kind in
       let rest = drop 1 (table class_of.CastVoteRecordReport) in
-      ap (λ o. under (at_member records) (row_faults key.Free row o)
-      ++ rows_faults (member_look (object ms)) key.Free rest) records_look
+      ap (λ o. under (at_member records) (entry_faults key.Free entry o)
+      ++ table_faults (member_look (object ms)) key.Free rest) records_look
       ∙ ap (λ fs. under (at_member records)
-      (row_faults key.Free row (member_look (object left) records records_kind)) ++ fs)
-      (rows_same rest refl)
+      (entry_faults key.Free entry (member_look (object left) records records_kind)) ++ fs)
+      (entries_same rest refl)
 
-  class_same : (b : Bool) → rows_faults (member_look (object ms)) key.Free
-      (rows_of (if b then Some class_of.CastVoteRecordReport else None))
-      ≡ rows_faults (member_look (object left)) key.Free
-      (rows_of (if b then Some class_of.CastVoteRecordReport else None))
+  class_same : (b : Bool) → table_faults (member_look (object ms)) key.Free
+      (class_entries (if b then Some class_of.CastVoteRecordReport else None))
+      ≡ table_faults (member_look (object left)) key.Free
+      (class_entries (if b then Some class_of.CastVoteRecordReport else None))
   class_same true = table_same
   class_same false = refl
 
-  text_same : (o : Option (List ℕ)) → rows_faults (member_look (object ms)) key.Free
-      (rows_of (option_and_then (find_class (classes_of group.Reports)) o))
-      ≡ rows_faults (member_look (object left)) key.Free
-      (rows_of (option_and_then (find_class (classes_of group.Reports)) o))
+  text_same : (o : Option (List ℕ)) → table_faults (member_look (object ms)) key.Free
+      (class_entries (option_and_then (find_class (classes_of group.Reports)) o))
+      ≡ table_faults (member_look (object left)) key.Free
+      (class_entries (option_and_then (find_class (classes_of group.Reports)) o))
   text_same None = refl
   text_same (Some s) = class_same (bytes_eq s (type_text class_of.CastVoteRecordReport))
 
@@ -154,8 +154,8 @@ module _ (ms left : Members) (ds : Items)
   apart =
       faults-one (object ms) (leaf.Object group.Reports) key.Free
       ∙ ap (λ o. type_faults group.Reports o
-      ++ rows_faults (member_look (object ms)) key.Free
-      (rows_of (option_and_then (find_class (classes_of group.Reports))
+      ++ table_faults (member_look (object ms)) key.Free
+      (class_entries (option_and_then (find_class (classes_of group.Reports))
       (option_and_then as_str o)))) type_same
       ∙ ap (λ fs. type_faults group.Reports (get_member (codes "@type") left) ++ fs)
       (text_same (option_and_then as_str (get_member (codes "@type") left)))

@@ -16,7 +16,7 @@ use Rattle.cdf_form.specs.declared.table.Key.{Key}
 use Rattle.cdf_form.specs.declared.table.Kind.{Kind}
 use Rattle.cdf_form.specs.declared.table.Member.{Member}
 use Rattle.cdf_form.specs.Tables.{Entry, entry_of, entries_of}
-use Rattle.cdf_form.specs.Form.{Fault, at_member, deeper_fault, first, row_faults, rows_faults}
+use Rattle.cdf_form.specs.Form.{Fault, at_member, deeper_fault, first, entry_faults, table_faults}
 use Rattle.cdf_form.specs.Found.{StopsAt}
 use Rattle.cdf_form.specs.Laws.{is_below_all, is_in_order}
 use Rattle.cdf_form.proofs.Parts.{first-append_none, first-append_some, first-under}
@@ -29,38 +29,38 @@ tells_more : (s : Stop) (xs ys : List Fault) → StopsAt s (first xs) → StopsA
 tells_more (stop.Fault f) xs ys h = first-append_some xs ys _ h
 tells_more (stop.Memory m) xs ys h = tt
 
--- a fault of the row at a place is the first of the rows from there on
-pub rows_stop : (look : List ℕ → Kind → Option (List Fault)) (mark : Key) (rs : List Member) (i : ℕ)
+-- a fault of the entry at a place is the first of the entries from there on
+pub entries_stop : (look : List ℕ → Kind → Option (List Fault)) (mark : Key) (rs : List Member) (i : ℕ)
     (r : Member) → i < length rs → (s : Stop)
     → StopsAt s (option_map (deeper_fault (at_member (get_or rs i r).name.now))
-    (first (row_faults mark (entry_of (get_or rs i r))
+    (first (entry_faults mark (entry_of (get_or rs i r))
     (look (get_or rs i r).name.now (get_or rs i r).kind))))
-    → StopsAt s (first (rows_faults look mark (entries_of (drop i rs))))
-rows_stop look mark rs i r lt s h =
-    let here = ap (λ xs. rows_faults look mark (entries_of xs)) (drop_more rs i r lt) in
+    → StopsAt s (first (table_faults look mark (entries_of (drop i rs))))
+entries_stop look mark rs i r lt s h =
+    let here = ap (λ xs. table_faults look mark (entries_of xs)) (drop_more rs i r lt) in
     tells_as s _ _ (sym (ap first here))
     (tells_more s _ _ (tells_as s _ _ (sym (first-under _ _)) h))
 
--- where the row at a place has no fault, the first is that of the rows behind it
-pub rows_go : (look : List ℕ → Kind → Option (List Fault)) (mark : Key) (rs : List Member) (i : ℕ)
+-- where the entry at a place has no fault, the first is that of the entries behind it
+pub entries_go : (look : List ℕ → Kind → Option (List Fault)) (mark : Key) (rs : List Member) (i : ℕ)
     (r : Member) → i < length rs
-    → first (row_faults mark (entry_of (get_or rs i r))
+    → first (entry_faults mark (entry_of (get_or rs i r))
     (look (get_or rs i r).name.now (get_or rs i r).kind)) ≡ None
-    → first (rows_faults look mark (entries_of (drop (i + 1) rs)))
-    ≡ first (rows_faults look mark (entries_of (drop i rs)))
-rows_go look mark rs i r lt e =
-    let here = ap (λ (xs : List Member). first (rows_faults look mark (entries_of xs)))
+    → first (table_faults look mark (entries_of (drop (i + 1) rs)))
+    ≡ first (table_faults look mark (entries_of (drop i rs)))
+entries_go look mark rs i r lt e =
+    let here = ap (λ (xs : List Member). first (table_faults look mark (entries_of xs)))
     (drop_more rs i r lt) in
     sym (here ∙ first-append_none _ _ (first-under _ _
     ∙ ap (option_map (deeper_fault (at_member (get_or rs i r).name.now))) e))
 
 -- a member that may be absent
-pub may_lack : (mark : Key) (r : Entry) → r.required ≡ false → first (row_faults mark r None) ≡ None
+pub may_lack : (mark : Key) (r : Entry) → r.required ≡ false → first (entry_faults mark r None) ≡ None
 may_lack mark r e = rw e refl
 
--- ---- the members of rows that rise
+-- ---- the members of entries that rise
 
--- at the name of each row, these members have what the value has
+-- at the name of each entry, these members have what the value has
 abbrev pub AllFound : Data → Members → List Entry → Type 0
 AllFound d ms [] = ⊤
 AllFound d ms (r ∷ rs) = (get_member r.name ms ≡ get r.name d) × AllFound d ms rs
@@ -102,7 +102,7 @@ found_behind d ms left k (r ∷ rs) below same h =
       found_behind d ms left k rs more same h.1,
     )
 
--- what is found at the row at a place is the value's
+-- what is found at the entry at a place is the value's
 pub found_at : (d : Data) (ms : Members) (rs : List Member) (i : ℕ) (r : Member) → i < length rs
     → AllFound d ms (entries_of (drop i rs))
     → get_member (get_or rs i r).name.now ms ≡ get (get_or rs i r).name.now d
@@ -110,7 +110,7 @@ found_at d ms rs i r lt h =
     let here = ap (λ (xs : List Member). entries_of xs) (drop_more rs i r lt) in
     (subst (AllFound d ms) here h).0
 
--- and behind it the members that are left have those of the rows that are left, which rise
+-- and behind it the members that are left have those of the entries that are left, which rise
 pub rise_on : (rs : List Member) (i : ℕ) (r : Member) → i < length rs
     → is_in_order (entries_of (drop i rs)) ≡ true → is_in_order (entries_of (drop (i + 1) rs)) ≡ true
 rise_on rs i r lt h =
@@ -124,9 +124,9 @@ pub found_on : (d : Data) (ms left : Members) (rs : List Member) (i : ℕ) (r : 
     → ((q : List ℕ) → Before (get_or rs i r).name.now q → get_member q left ≡ get_member q ms)
     → AllFound d left (entries_of (drop (i + 1) rs))
 found_on d ms left rs i r lt rise h same =
-    let rows = ap (λ (xs : List Member). entries_of xs) (drop_more rs i r lt) in
+    let entries = ap (λ (xs : List Member). entries_of xs) (drop_more rs i r lt) in
     let here = ap (λ (xs : List Member). is_in_order (entries_of xs)) (drop_more rs i r lt) in
     found_behind d ms left (get_or rs i r).name.now (entries_of (drop (i + 1) rs))
     (and-left (is_below_all (get_or rs i r).name.now (entries_of (drop (i + 1) rs)))
     (is_in_order (entries_of (drop (i + 1) rs))) (sym here ∙ rise))
-    same (subst (AllFound d ms) rows h).1
+    same (subst (AllFound d ms) entries h).1

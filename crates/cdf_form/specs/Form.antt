@@ -162,20 +162,20 @@ repeat_faults key.Contest name =
     unless (not (bytes_eq name (codes "ContestId"))) rule.RepeatedContest
 
 -- the faults of one member, whose value has those of `found`
-abbrev pub row_faults : Key → Entry → Option (List Fault) → List Fault
-row_faults mark r None = unless (not r.required) rule.Missing
-row_faults mark r (Some fs) = fs ++ repeat_faults mark r.name
+abbrev pub entry_faults : Key → Entry → Option (List Fault) → List Fault
+entry_faults mark r None = unless (not r.required) rule.Missing
+entry_faults mark r (Some fs) = fs ++ repeat_faults mark r.name
 
 -- those of all members of a table, each looked up by its name
-abbrev pub rows_faults : (List ℕ → Kind → Option (List Fault)) → Key → List Entry → List Fault
-rows_faults look mark [] = []
-rows_faults look mark (r ∷ rs) =
-    under (at_member r.name) (row_faults mark r (look r.name r.kind)) ++ rows_faults look mark rs
+abbrev pub table_faults : (List ℕ → Kind → Option (List Fault)) → Key → List Entry → List Fault
+table_faults look mark [] = []
+table_faults look mark (r ∷ rs) =
+    under (at_member r.name) (entry_faults mark r (look r.name r.kind)) ++ table_faults look mark rs
 
 -- the table of a class, if there is one
-abbrev pub rows_of : Option Class → List Entry
-rows_of None = []
-rows_of (Some c) = table c
+abbrev pub class_entries : Option Class → List Entry
+class_entries None = []
+class_entries (Some c) = table c
 
 -- a value with no parts
 abbrev pub flat_faults : Kind → Data → List Fault
@@ -196,7 +196,7 @@ class_below l d = None
 abbrev pub members_faults : Kind → Members → (List ℕ → Kind → Option (List Fault)) → Key
     → List Fault
 members_faults (One l) ms look mark =
-    leaf_faults l (object ms) ++ rows_faults look mark (rows_of (class_below l (object ms)))
+    leaf_faults l (object ms) ++ table_faults look mark (class_entries (class_below l (object ms)))
 members_faults (Array l least most k) ms look mark = here rule.WrongKind ∷ []
 
 abbrev mutual

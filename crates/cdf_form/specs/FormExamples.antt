@@ -33,8 +33,8 @@ abbrev pub HasOneFault : List ℕ → List ℕ → ℕ → Type 0
 HasOneFault text path number = all_faults text ≡ Some ((path, number) ∷ [])
 
 -- it has no fault
-abbrev pub TellsNothing : List ℕ → Type 0
-TellsNothing text = all_faults text ≡ Some []
+abbrev pub HasNoFault : List ℕ → Type 0
+HasNoFault text = all_faults text ≡ Some []
 
 -- ---- the report's parts
 
@@ -90,27 +90,27 @@ contest_path = codes "/CVR/0/CVRSnapshot/0/CVRContest/0/"
 -- ---- reports without a fault
 
 abbrev pub SmallReport : Type 0
-SmallReport = TellsNothing (with_units unit)
+SmallReport = HasNoFault (with_units unit)
 
 abbrev pub OneContest : Type 0
-OneContest = TellsNothing (with_contests (contest []))
+OneContest = HasNoFault (with_contests (contest []))
 
 -- members that no table lists may hold anything but a number that isn't whole
 abbrev pub UnlistedMember : Type 0
-UnlistedMember = TellsNothing (with_more (codes "\"Extra\":{\"@type\":[null,-5]},"))
+UnlistedMember = HasNoFault (with_more (codes "\"Extra\":{\"@type\":[null,-5]},"))
 
 -- an offset in place of `Z`
 abbrev pub OtherOffset : Type 0
-OtherOffset = TellsNothing (with_date (codes "2024-11-05T15:00:00-05:00"))
+OtherOffset = HasNoFault (with_date (codes "2024-11-05T15:00:00-05:00"))
 
 -- the greatest count
 abbrev pub GreatestCount : Type 0
-GreatestCount = TellsNothing (with_contests (contest (codes ",\"Overvotes\":4294967295")))
+GreatestCount = HasNoFault (with_contests (contest (codes ",\"Overvotes\":4294967295")))
 
 -- one id in two arrays
 abbrev pub IdOfTwoClasses : Type 0
 IdOfTwoClasses =
-    TellsNothing (with_more (codes "\"Party\":[{\"@id\":\"p1\",\"@type\":\"CVR.Party\"}],"))
+    HasNoFault (with_more (codes "\"Party\":[{\"@id\":\"p1\",\"@type\":\"CVR.Party\"}],"))
 
 -- ---- rules 1, 2 and 5: objects
 

@@ -1,6 +1,6 @@
 -- What a path and a fault that were found stand for. (This project's own.)
 use Rattle.std.specs.Prelude.{◌≡◌, List, map, reverse, Option, Some}
-use Rattle.cdf_form.specs.declared.found.Step.{Step as Kept}
+use Rattle.cdf_form.specs.declared.found.Step.{Step as Stored}
 use Rattle.cdf_form.specs.declared.found.Step.TheVariants.{Member, Item}
 use Rattle.cdf_form.specs.declared.found.Path.{Path}
 use Rattle.cdf_form.specs.declared.found.Found.{Found}
@@ -9,7 +9,7 @@ use Rattle.cdf_form.specs.declared.found.Stop.TheVariants as stop
 use Rattle.cdf_form.specs.Form.{Step, at_member, at_item, Fault}
 
 -- the step that was found, as a step of a path
-abbrev pub step_of : Kept → Step
+abbrev pub step_of : Stored → Step
 step_of (Member name) = at_member name.now
 step_of (Item i) = at_item i
 

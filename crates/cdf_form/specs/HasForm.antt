@@ -17,10 +17,10 @@ use Rattle.cdf_form.specs.declared.table.Kind.TheVariants.{One, Array}
 use Rattle.cdf_form.specs.Tables.{Entry, table, listed_in}
 use Rattle.cdf_form.specs.Form.{is_empty, is_count, is_moment, class_in, key_text}
 
--- r is one of the rows
-abbrev pub IsRow : List Entry → Entry → Type 0
-IsRow [] r = ⊥
-IsRow (x ∷ xs) r = (x ≡ r) ⊎ IsRow xs r
+-- r is one of the entries
+abbrev pub IsEntry : List Entry → Entry → Type 0
+IsEntry [] r = ⊥
+IsEntry (x ∷ xs) r = (x ≡ r) ⊎ IsEntry xs r
 
 -- no text under the key stands at two places
 abbrev pub AreApart : Key → Items → Type 0
@@ -46,8 +46,8 @@ pub data HasForm : Kind → Data → Type 0 where
       → list_any (bytes_eq s) (listed_in l) ≡ true
       → HasForm (One (leaf.Listed l)) d
   class : {d : Data} {g : Group} {c : Class} → class_in g d ≡ Some c
-      → ((r : Entry) → IsRow (table c) r → r.required ≡ true → IsSome (get r.name d))
-      → ((r : Entry) (e : Data) → IsRow (table c) r → get r.name d ≡ Some e → HasForm r.kind e)
+      → ((r : Entry) → IsEntry (table c) r → r.required ≡ true → IsSome (get r.name d))
+      → ((r : Entry) (e : Data) → IsEntry (table c) r → get r.name d ≡ Some e → HasForm r.kind e)
       → HasForm (One (leaf.Object g)) d
   items : {d : Data} {ds : Items} {l : Leaf} {least most : ℕ} {k : Key} → as_array d ≡ Some ds
       → least ≤ items_len ds → items_len ds ≤ most

@@ -22,23 +22,23 @@ abbrev pub has_entry : List ℕ → List Entry → Bool
 has_entry n [] = false
 has_entry n (r ∷ rs) = bytes_eq n r.name || has_entry n rs
 
-abbrev pub all_have_row : List ℕ → List Class → Bool
-all_have_row n [] = true
-all_have_row n (c ∷ cs) = has_entry n (table c) && all_have_row n cs
+abbrev pub all_have_entry : List ℕ → List Class → Bool
+all_have_entry n [] = true
+all_have_entry n (c ∷ cs) = has_entry n (table c) && all_have_entry n cs
 
-abbrev pub leaf_has_row : List ℕ → Leaf → Bool
-leaf_has_row n (leaf.Object g) = all_have_row n (classes_of g)
-leaf_has_row n l = false
+abbrev pub leaf_has_entry : List ℕ → Leaf → Bool
+leaf_has_entry n (leaf.Object g) = all_have_entry n (classes_of g)
+leaf_has_entry n l = false
 
-abbrev pub key_has_row : Key → Leaf → Bool
-key_has_row key.Free l = true
-key_has_row key.Id l = leaf_has_row (codes "@id") l
-key_has_row key.Contest l = leaf_has_row (codes "ContestId") l
+abbrev pub key_has_entry : Key → Leaf → Bool
+key_has_entry key.Free l = true
+key_has_entry key.Id l = leaf_has_entry (codes "@id") l
+key_has_entry key.Contest l = leaf_has_entry (codes "ContestId") l
 
--- the classes below an array with a key have a row for that key
+-- the classes below an array with a key have an entry for that key
 abbrev pub is_keyed : Kind → Bool
 is_keyed (One l) = true
-is_keyed (Array l least most k) = key_has_row k l
+is_keyed (Array l least most k) = key_has_entry k l
 
 abbrev pub are_keyed : List Entry → Bool
 are_keyed [] = true
@@ -48,7 +48,7 @@ are_keyed (r ∷ rs) = is_keyed r.kind && are_keyed rs
 abbrev pub FormLaw : Type 0
 FormLaw = (k : Kind) (d : Data) → is_keyed k ≡ true → (faults d k key.Free ≡ []) ↔ HasForm k d
 
--- the rows of a table stand in byte order of their names, each name once
+-- the entries of a table stand in byte order of their names, each name once
 abbrev pub is_below_all : List ℕ → List Entry → Bool
 is_below_all n [] = true
 is_below_all n (r ∷ rs) = is_lt (slice_cmp nat_cmp n r.name) && is_below_all n rs

@@ -8,6 +8,6 @@ pub mod Reading
 pub mod Laws
 pub mod Listings
 pub mod Records
-pub mod ByRow
+pub mod ByEntry
 pub mod FormExamples
 pub mod TableExamples

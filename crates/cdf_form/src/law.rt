@@ -11,11 +11,11 @@ ghost use Rattle.cdf_form.specs.Reading.{max_file};
 ghost use Rattle.cdf_form.specs.Records.{RecordsFirstLaw, RecordsApartLaw};
 ghost use Rattle.cdf_form.specs.Laws.{FormLaw, TablesInOrder, WholeLaw, NoFloatFaults};
 ghost use Rattle.cdf_form.specs.Laws.{WholeDocument};
-ghost use Rattle.cdf_form.specs.ByRow.{HasClassLaw, OnlyClassLaw, RowLaw, ObjectLaw, TextLaw};
-ghost use Rattle.cdf_form.specs.ByRow.{MayBeTextLaw, MustBeTextLaw, MustBeFoundLaw};
-ghost use Rattle.cdf_form.specs.ByRow.{MustHaveFormLaw};
-ghost use Rattle.cdf_form.specs.ByRow.{MomentFormLaw, ListedFormLaw, CountFormLaw, ArrayLaw};
-ghost use Rattle.cdf_form.specs.ByRow.{ItemsLaw, FewLaw, SomeLaw, ApartLaw};
+ghost use Rattle.cdf_form.specs.ByEntry.{HasClassLaw, OnlyClassLaw, EntryLaw, ObjectLaw, TextLaw};
+ghost use Rattle.cdf_form.specs.ByEntry.{MayBeTextLaw, MustBeTextLaw, MustBeFoundLaw};
+ghost use Rattle.cdf_form.specs.ByEntry.{MustHaveFormLaw};
+ghost use Rattle.cdf_form.specs.ByEntry.{MomentFormLaw, ListedFormLaw, CountFormLaw, ArrayLaw};
+ghost use Rattle.cdf_form.specs.ByEntry.{ItemsLaw, FewLaw, SomeLaw, ApartLaw};
 
 /// A value has no fault exactly where it has the form of its kind.
 ///
@@ -24,7 +24,7 @@ pub fn form_law()
     ensures { FormLaw }
 {}
 
-/// Each table's rows stand in byte order of their names.
+/// Each table's entries stand in byte order of their names.
 pub fn tables_in_order()
     ensures { TablesInOrder }
 {}
@@ -47,18 +47,18 @@ pub fn records_apart()
     ensures { RecordsApartLaw }
 {}
 
-/// An object that has the form of a group has a class of it, and each row of that class's table
+/// An object that has the form of a group has a class of it, and each entry of that class's table
 /// holds of it.
-pub fn rows_hold()
+pub fn entries_hold()
     ensures its_class { HasClassLaw }
     ensures only_class { OnlyClassLaw }
     ensures is_object { ObjectLaw }
-    ensures each_row { RowLaw }
+    ensures each_entry { EntryLaw }
 {}
 
-/// What stands under a row of texts is a text of the row's kind; where it is required it is there,
-/// and a reader finds it.
-pub fn texts_by_row()
+/// What stands under an entry of texts is a text of the entry's kind; where it is required it is
+/// there, and a reader finds it.
+pub fn texts_by_entry()
     ensures has_form { TextLaw }
     ensures is_text { MayBeTextLaw }
     ensures is_there { MustBeTextLaw }
@@ -73,9 +73,9 @@ pub fn kinds_of_values()
     ensures counts { CountFormLaw }
 {}
 
-/// What stands under a row of arrays is an array. Each item has the form, they are as many as the
-/// row allows, and no two have one text under its key.
-pub fn items_by_row()
+/// What stands under an entry of arrays is an array. Each item has the form, they are as many as
+/// the entry allows, and no two have one text under its key.
+pub fn items_by_entry()
     ensures is_array { ArrayLaw }
     ensures have_form { ItemsLaw }
     ensures most { FewLaw }

@@ -7,7 +7,7 @@ ghost use Rattle.cdf_node.specs.Order.{IsSorted, ItemsAreSorted};
 ghost use Rattle.cdf_node.specs.View.{view, items_view, members_view};
 ghost use Rattle.cdf_form.specs.declared.table.Key.TheVariants.{Free};
 ghost use Rattle.cdf_form.specs.Form.{first, faults, here, items_faults, length_faults};
-ghost use Rattle.cdf_form.specs.Form.{repeat_faults, row_faults, rows_faults, member_look};
+ghost use Rattle.cdf_form.specs.Form.{repeat_faults, entry_faults, table_faults, member_look};
 ghost use Rattle.cdf_form.specs.Form.{key_text, mark_of, add_text};
 ghost use Rattle.cdf_form.specs.Found.{StopsAt};
 ghost use Rattle.cdf_form.specs.Laws.{is_in_order};
@@ -157,7 +157,7 @@ fn walk_one<'f>(
     match leaf {
         Leaf::Object(group) => {
             let class = class_of(alloc, group, value)?;
-            walk_rows(alloc, sorted, value, class_members(class), mark)
+            walk_entries(alloc, sorted, value, class_members(class), mark)
         }
         Leaf::Text
         | Leaf::Name
@@ -180,59 +180,59 @@ fn members_of<'t>(value: &Node<'t>) -> &'t [(&'t str, Node<'t>)]
     value.as_object().unwrap_or_default()
 }
 
-// Rows rise by name, and so do the members of what was read. So each row's member is looked for
-// behind those before it, and mostly is the next one.
+// Entries rise by name, and so do the members of what was read. So each entry's member is looked
+// for behind those before it, and mostly is the next one.
 #[cycle(walk)]
 #[tactic(auto, using(crate::proofs::Parts::part_is_lighter, crate::proofs::Walking::found_at))]
-fn walk_rows<'f>(
+fn walk_entries<'f>(
     alloc: Global,
     sorted: bool,
     value: &Node<'_>,
-    rows: &'static [Member],
+    entries: &'static [Member],
     mark: Key,
 ) -> Result<(), Stop<'f>>
-    requires rise { is_in_order (entries_of rows.now) ≡ true }
+    requires rise { is_in_order (entries_of entries.now) ≡ true }
     requires names { OnTrue sorted (IsSorted (view value.now)) }
     ensures none { OnOk result
-        (first (rows_faults (member_look (view value.now)) mark (entries_of rows.now)) ≡ None) }
-    ensures fault { IfErr result (λ s.
-        StopsAt s (first (rows_faults (member_look (view value.now)) mark (entries_of rows.now)))) }
+        (first (table_faults (member_look (view value.now)) mark (entries_of entries.now)) ≡ None) }
+    ensures fault { IfErr result (λ s. StopsAt s
+        (first (table_faults (member_look (view value.now)) mark (entries_of entries.now)))) }
 {
     let members = members_of(value);
     let mut place = 0;
-    for row in rows {
-        let (found, next) = find_from(members, sorted, place, row.name);
+    for entry in entries {
+        let (found, next) = find_from(members, sorted, place, entry.name);
         place = next;
         match found {
-            None => if row.required {
-                return Err(Stop::at(alloc, Rule::Missing).under(Step::Member(row.name)));
+            None => if entry.required {
+                return Err(Stop::at(alloc, Rule::Missing).under(Step::Member(entry.name)));
             },
-            Some(member) => match walk_member(alloc, sorted, member, row, mark) {
+            Some(member) => match walk_member(alloc, sorted, member, entry, mark) {
                 Ok(()) => {}
-                Err(stop) => return Err(stop.under(Step::Member(row.name))),
+                Err(stop) => return Err(stop.under(Step::Member(entry.name))),
             },
         }
     }
     Ok(())
 }
 
-// A member that a row lists.
+// A member that an entry lists.
 #[cycle(walk)]
 fn walk_member<'f>(
     alloc: Global,
     sorted: bool,
     member: &Node<'_>,
-    row: &Member,
+    entry: &Member,
     mark: Key,
 ) -> Result<(), Stop<'f>>
     requires names { OnTrue sorted (IsSorted (view member.now)) }
-    ensures none { OnOk result (first (row_faults mark (entry_of row.now)
-        (Some (faults (view member.now) row.now.kind Free))) ≡ None) }
-    ensures fault { IfErr result (λ s. StopsAt s (first (row_faults mark (entry_of row.now)
-        (Some (faults (view member.now) row.now.kind Free))))) }
+    ensures none { OnOk result (first (entry_faults mark (entry_of entry.now)
+        (Some (faults (view member.now) entry.now.kind Free))) ≡ None) }
+    ensures fault { IfErr result (λ s. StopsAt s (first (entry_faults mark (entry_of entry.now)
+        (Some (faults (view member.now) entry.now.kind Free))))) }
 {
-    walk(alloc, sorted, member, row.kind, Key::Free)?;
-    match repeat_rule(mark, row.name) {
+    walk(alloc, sorted, member, entry.kind, Key::Free)?;
+    match repeat_rule(mark, entry.name) {
         Some(rule) => Err(Stop::at(alloc, rule)),
         None => Ok(()),
     }

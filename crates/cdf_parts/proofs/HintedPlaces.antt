@@ -8,7 +8,7 @@ use Rattle.std.proofs.lemmas.List.{get_or_default}
 use Rattle.std.proofs.lemmas.List.Elements.{All-set}
 use Rattle.std.proofs.lemmas.Slice.Eq.{bytes_eq-Decides}
 use Rattle.cdf_parts.specs.Places.{place_in}
-use Rattle.cdf_parts.specs.Kept.{bytes_of, HasPlaces, IsHint, HasHints}
+use Rattle.cdf_parts.specs.Ids.{bytes_of, HasPlaces, IsHint, HasHints}
 use Rattle.cdf_parts.proofs.Places.{get_or-bytes_of, length-bytes_of}
 
 -- a place, counted from i, at which the id is s

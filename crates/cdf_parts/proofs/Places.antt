@@ -17,7 +17,7 @@ use Rattle.cdf_node.specs.View.{view}
 use Rattle.cdf_node.specs.declared.node.Node.{Node}
 use Rattle.cdf_parts.specs.Parts.{id_of}
 use Rattle.cdf_parts.specs.Places.{place_in}
-use Rattle.cdf_parts.specs.Kept.{bytes_of, HasPlaces}
+use Rattle.cdf_parts.specs.Ids.{bytes_of, HasPlaces}
 
 pub get_or-bytes_of : (xs : List (String Global)) (i : ℕ) (d : String Global)
     → get_or (bytes_of xs) i (string_bytes d) ≡ string_bytes (get_or xs i d)

@@ -1,6 +1,6 @@
 pub mod Parts
 pub mod Places
-pub mod Kept
+pub mod Ids
 pub mod Proper
 pub mod TextLaws
 pub mod Removing

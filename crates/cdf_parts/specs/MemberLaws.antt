@@ -24,8 +24,8 @@ abbrev pub FoundLaw : Type 0
 FoundLaw = (k : List ℕ) (d : Data) (ms : Members) → get_member k (put k d ms) ≡ Some d
 
 -- The other members stay where one is put in.
-abbrev pub OthersKeptLaw : Type 0
-OthersKeptLaw = (q k : List ℕ) (d : Data) (ms : Members) → q ≢ k
+abbrev pub OthersStandLaw : Type 0
+OthersStandLaw = (q k : List ℕ) (d : Data) (ms : Members) → q ≢ k
     → get_member q (put k d ms) ≡ get_member q ms
 
 -- A member put in where it was absent and taken out again leaves the members as they were.

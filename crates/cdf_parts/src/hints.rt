@@ -1,6 +1,6 @@
 ghost use Rattle.std.specs.Prelude.{◌≡◌, IfOk, IfSome, Some};
 ghost use Rattle.cdf_parts.specs.Places.{Texts, place_in};
-ghost use Rattle.cdf_parts.specs.Kept.{bytes_of, HasPlaces, HasHints};
+ghost use Rattle.cdf_parts.specs.Ids.{bytes_of, HasPlaces, HasHints};
 
 use cdf_types::Memory;
 use std::alloc::Global;

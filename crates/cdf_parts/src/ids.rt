@@ -3,7 +3,7 @@ ghost use Rattle.std.specs.List.{list_any};
 ghost use Rattle.cdf_node.specs.View.{view};
 ghost use Rattle.cdf_parts.specs.Parts.{id_of};
 ghost use Rattle.cdf_parts.specs.Places.{place_in};
-ghost use Rattle.cdf_parts.specs.Kept.{bytes_of};
+ghost use Rattle.cdf_parts.specs.Ids.{bytes_of};
 
 use crate::hints::{hinted, hints_of};
 use crate::noting::note_place;
@@ -36,7 +36,7 @@ impl Drop for Ids {
 
 impl Model for Ids {
     ghost use Rattle.cdf_parts.specs.Places.{Texts};
-    ghost use Rattle.cdf_parts.specs.Kept.{bytes_of, HasPlaces, HasHints};
+    ghost use Rattle.cdf_parts.specs.Ids.{bytes_of, HasPlaces, HasHints};
 
     ghost Value = { Texts };
 

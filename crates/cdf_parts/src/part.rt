@@ -2,7 +2,7 @@ ghost use Rattle.std.specs.Prelude.{◌≡◌, map, option_map, option_and_then,
 ghost use Rattle.serde_json.specs.Find.{get, as_array};
 ghost use Rattle.cdf_node.specs.View.{view, items_view};
 ghost use Rattle.cdf_parts.specs.Parts.{text_at, text_in, array_at, instant_of, the_election};
-ghost use Rattle.cdf_parts.specs.Kept.{bytes_of};
+ghost use Rattle.cdf_parts.specs.Ids.{bytes_of};
 
 use cdf_node::Node;
 use cdf_types::Memory;

@@ -3,7 +3,7 @@
 ghost use Rattle.cdf_parts.specs.TextLaws.{ReadIsWellLaw, ReadIsShallowLaw, ReadIsProperLaw};
 ghost use Rattle.cdf_parts.specs.TextLaws.{ReadsBackLaw, ReadAgainLaw, OneTextLaw};
 ghost use Rattle.cdf_parts.specs.MemberLaws.{GoneLaw, OthersStayLaw, AbsentLaw, FoundLaw};
-ghost use Rattle.cdf_parts.specs.MemberLaws.{OthersKeptLaw};
+ghost use Rattle.cdf_parts.specs.MemberLaws.{OthersStandLaw};
 ghost use Rattle.cdf_parts.specs.MemberLaws.{TakenOutLaw, PutBackLaw, WithoutIsWellLaw};
 ghost use Rattle.cdf_parts.specs.MemberLaws.{WithoutIsWholeLaw, WithoutIsProperLaw, PutIsProperLaw};
 ghost use Rattle.cdf_parts.specs.PartLaws.{MemberIsProperLaw, ItemIsProperLaw, ArrayIsProperLaw};
@@ -43,7 +43,7 @@ pub fn take_out()
 /// Putting a member into an object changes that one alone.
 pub fn put_in()
     ensures found { FoundLaw }
-    ensures others { OthersKeptLaw }
+    ensures others { OthersStandLaw }
 {}
 
 /// Taking out undoes putting in, and putting in undoes taking out.

@@ -31,6 +31,6 @@ NameLaw = (name : List ℕ) (ds : Items) (ms : Members)
     → get_member name (with_items_at name ds ms) ≡ option_map (λ _. array ds) (get_member name ms)
 
 -- no fraction comes in
-abbrev pub KeepsWholeLaw : Type 0
-KeepsWholeLaw = (name : List ℕ) (ds : Items) (ms : Members) → items_have_float ds ≡ false
+abbrev pub StaysWholeLaw : Type 0
+StaysWholeLaw = (name : List ℕ) (ds : Items) (ms : Members) → items_have_float ds ≡ false
     → members_have_float ms ≡ false → members_have_float (with_items_at name ds ms) ≡ false

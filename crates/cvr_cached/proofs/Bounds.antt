@@ -44,7 +44,7 @@ module _ (frame : Frame) (s : Stored) (count : ℕ) (held : IsHeld s count)
   summed_each e at x in_it =
       let here = Contains-append_right d (flat_map (λ (e : RecordName × List AnyFact). e.1) es) x
       (in_flat (λ (e : RecordName × List AnyFact). e.1) e x es at in_it) in
-      summed frame (set_of (fact_list d es)) is.plain.keeps x
+      summed frame (set_of (fact_list d es)) is.plain.can_hold x
       (in_set fact_total fact_exact (map fact_of (fact_list d es)) (fact_of x)
       (in_map fact_of x (fact_list d es) here)) (is.plain.spelled x here)
 
@@ -54,7 +54,7 @@ module _ (frame : Frame) (s : Stored) (count : ℕ) (held : IsHeld s count)
   cell_below : (q : RowKey) (j : Column) → cell_of (get s.totals.rows q) j < total_limit
   cell_below q j =
       let same = agrees_rows frame d es is.plain held.own
-      (currents_are_sums frame (set_of (fact_list d es)) is.plain.keeps) s.totals.rows rows_at q
+      (currents_are_sums frame (set_of (fact_list d es)) is.plain.can_hold) s.totals.rows rows_at q
       j in
       let most = values_le (λ facts. shares (pairs_of facts) q j) sum_limit es
       (λ e at. shares_le frame.contests e.1 (summed_each e at) q j sum_limit (most_votes j)) in

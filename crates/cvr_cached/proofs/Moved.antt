@@ -121,7 +121,7 @@ module _ (frame : Frame) (d : List AnyFact) (es : Entries) (plain : IsPlain fram
   sums_of_parts None None a b =
       ap length (pairs_are facts None None (sym a) (sym b)) ∙ ap many (nows None b).body
   sums_of_parts None (Some n) a b = absurd
-      (headed frame s plain.keeps k n.body (sym (nows (Some n) b).body) (sym (heads None a).body))
+      (headed frame s plain.can_hold k n.body (sym (nows (Some n) b).body) (sym (heads None a).body))
   sums_of_parts (Some h) None a b =
       ap length (pairs_are facts (Some h) None (sym a) (sym b)) ∙ ap many (nows None b).body
   sums_of_parts (Some h) (Some n) a b =

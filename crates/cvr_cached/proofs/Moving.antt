@@ -16,19 +16,19 @@ use Rattle.cvr_facts.proofs.Laws.{text_total, text_exact, choice_total, Contains
 use Rattle.cvr_facts.proofs.Laws.{Contains-snapshot_bodies}
 use Rattle.cvr_facts.proofs.Lemmas.{greatest_is, has_greatest, is_greatest, none_listed}
 use Rattle.cvr_tally.specs.declared.key.RowKey.{RowKey}
-use Rattle.cvr_office.specs.Keeps.{Keeps}
+use Rattle.cvr_office.specs.CanHold.{CanHold}
 use Rattle.cvr_office.specs.Names.{records}
 use Rattle.cvr_office.specs.Tallied.{unit_of, batch_of, sums_of_body}
 use Rattle.cvr_office.proofs.Lemmas.{records-given, set_is}
 use Rattle.cvr_cached.specs.Moves.{contests_at, RowsOfRecordLaw, NothingMovesLaw}
 
 -- a record with a snapshot has a header
-pub headed : (frame : Frame) (s : Facts) → Keeps frame s → (k : RecordName) (body : List ℕ)
+pub headed : (frame : Frame) (s : Facts) → CanHold frame s → (k : RecordName) (body : List ℕ)
     → current s k ≡ Some body → header s k ≡ None → ⊥
-headed frame s keeps k body is none =
+headed frame s can_hold k body is none =
     let at = (greatest_is choice_total (snapshot_bodies s k) body is).listed in
     let fact = (Contains-snapshot_bodies s k body).0 at in
-    let head = (keeps.whole (Snapshot k.device k.unique fact.0 body) fact.1).header in
+    let head = (can_hold.whole (Snapshot k.device k.unique fact.0 body) fact.1).header in
     let there = (Contains-header_bodies s k head.0).1 head.1 in
     let top = has_greatest text_total (header_bodies s k)
     (λ empty. none_listed head.0 (subst (λ bs. Contains bs head.0) empty there)) in
@@ -36,7 +36,7 @@ headed frame s keeps k body is none =
     sym none ∙ is_greatest text_total text_exact (header_bodies s k) top.0 top.1 in
     Prim.cc clash
 
-module _ (frame : Frame) (s : Facts) (keeps : Keeps frame s) (k : RecordName) where
+module _ (frame : Frame) (s : Facts) (can_hold : CanHold frame s) (k : RecordName) where
   abbrev sums : Option (List ℕ) → List VoteSums
   sums o = option_map_or (sums_of_body frame.contests) o []
 
@@ -49,11 +49,11 @@ module _ (frame : Frame) (s : Facts) (keeps : Keeps frame s) (k : RecordName) wh
   rows_with : (head now : Option (List ℕ)) → header s k ≡ head → current s k ≡ now
       → length (sums now) ≡ length (keys_with head now)
   rows_with None None a b = refl
-  rows_with None (Some body) a b = absurd (headed frame s keeps k body b a)
+  rows_with None (Some body) a b = absurd (headed frame s can_hold k body b a)
   rows_with (Some h) now a b = sym (length-map (sums now) (key_of h))
 
 pub rows_of_record : RowsOfRecordLaw
-rows_of_record frame s r keeps = rows_with frame s keeps r (header s r) (current s r) refl refl
+rows_of_record frame s r can_hold = rows_with frame s can_hold r (header s r) (current s r) refl refl
 
 never : (b : Bool) → (b && not b) ≡ true → ⊥
 never true e = false≢true e

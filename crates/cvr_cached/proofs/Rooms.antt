@@ -27,7 +27,7 @@ use Rattle.cvr_tally.specs.Keys.{is_key}
 use Rattle.cvr_office.specs.declared.any_fact.AnyFact.{AnyFact}
 use Rattle.cvr_office.specs.declared.any_fact.AnyFact.TheVariants as any
 use Rattle.cvr_office.specs.Adding.{IsSums, AreSums, key_for, sums_for}
-use Rattle.cvr_office.specs.Keeps.{Keeps}
+use Rattle.cvr_office.specs.CanHold.{CanHold}
 use Rattle.cvr_office.specs.Place.{fact_of}
 use Rattle.cvr_office.specs.Plain.{IsSpelled}
 use Rattle.cvr_office.specs.Runs.{as_snapshot, snapshots}
@@ -48,9 +48,9 @@ use Rattle.cvr_cached.proofs.RowLink.{sum_pairs, share_found}
 
 -- ---- a spelled fact of a set that is kept
 
-pub summed : (frame : Frame) (s : Facts) → Keeps frame s → (x : AnyFact)
+pub summed : (frame : Frame) (s : Facts) → CanHold frame s → (x : AnyFact)
     → contains s (fact_of x) ≡ true → IsSpelled frame.contests x → IsSummed frame.contests x
-summed frame s keeps x held spelled = grind (arith, facts_are_sums)
+summed frame s can_hold x held spelled = grind (arith, facts_are_sums)
 
 -- ---- the most that a content adds to a column
 

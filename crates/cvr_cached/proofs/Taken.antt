@@ -23,7 +23,7 @@ use Rattle.cvr_tally.specs.declared.row.Row.{Row}
 use Rattle.cvr_tally.specs.Rows.{row_closed, IsTotals}
 use Rattle.cvr_office.specs.declared.any_fact.AnyFact.{AnyFact}
 use Rattle.cvr_office.specs.Adding.{CurrentsAreSums}
-use Rattle.cvr_office.specs.Keeps.{Keeps}
+use Rattle.cvr_office.specs.CanHold.{CanHold}
 use Rattle.cvr_office.specs.Names.{record_of}
 use Rattle.cvr_office.specs.Place.{fact_of, any_cmp}
 use Rattle.cvr_office.specs.Plain.{set_of, IsPlain, IsPut}
@@ -89,7 +89,7 @@ module _ (s : Stored) (more : List AnyFact) (allowed : CanTake s more) (s' : Sto
     rises = put.rises;
     spelled = spelled_put allowed.frame.contests (facts_of s) more (facts_of s') put
         allowed.before.plain.spelled allowed.spelled;
-    keeps = subst (Keeps allowed.frame) (sym put.set) allowed.keeps;
+    can_hold = subst (CanHold allowed.frame) (sym put.set) allowed.can_hold;
   }
 
   pub cached_after : s'.totals.contests ≡ s.totals.contests → IsCached allowed.frame s'
@@ -125,7 +125,7 @@ module _ (s : Stored) (count : ℕ) (more : List AnyFact) (held : IsHeld s count
   before = set_of (facts_of s)
 
   sums : CurrentsAreSums contests before
-  sums = currents_are_sums allowed.frame before allowed.before.plain.keeps
+  sums = currents_are_sums allowed.frame before allowed.before.plain.can_hold
 
   rows_at : s.totals.rows ≡ rows contests before
   rows_at = held.rows_are ∙ ap (λ cs. rows cs before) allowed.before.contests_are
@@ -144,11 +144,11 @@ module _ (s : Stored) (count : ℕ) (more : List AnyFact) (held : IsHeld s count
   }
 
   summed_of : (x : AnyFact) → (Contains (facts_of s) x ⊎ Contains more x) → IsSummed contests x
-  summed_of x (inl was) = summed allowed.frame _ allowed.keeps x
+  summed_of x (inl was) = summed allowed.frame _ allowed.can_hold x
       (in_union fact_total fact_exact before (set_of more) (fact_of x)
       (inl (in_set fact_total fact_exact (map fact_of (facts_of s)) (fact_of x)
       (in_map fact_of x (facts_of s) was)))) (allowed.before.plain.spelled x was)
-  summed_of x (inr came) = summed allowed.frame _ allowed.keeps x
+  summed_of x (inr came) = summed allowed.frame _ allowed.can_hold x
       (in_union fact_total fact_exact before (set_of more) (fact_of x)
       (inr (in_set fact_total fact_exact (map fact_of more) (fact_of x)
       (in_map fact_of x more came)))) (allowed.spelled x came)
@@ -212,7 +212,7 @@ module _ (s : Stored) (count : ℕ) (more : List AnyFact) (held : IsHeld s count
         record {
           own = own;
           rows_are = rows_agree allowed.frame s'.devices s'.records plain own
-              (currents_are_sums allowed.frame after plain.keeps) s'.totals.rows agrees
+              (currents_are_sums allowed.frame after plain.can_hold) s'.totals.rows agrees
               (long_rows whole is) ∙ ap (λ cs. rows cs after) (sym is);
           counted = counted ∙ sym (listed_long s'.devices s'.records);
           fits = fits;

@@ -13,7 +13,7 @@ use Rattle.cvr_fact_types.specs.Facts.{name_cmp}
 use Rattle.cvr_tally.specs.Rows.{TotalsValue}
 use Rattle.cvr_office.specs.declared.any_fact.AnyFact.{AnyFact}
 use Rattle.cvr_office.specs.declared.any_fact.AnyFact.TheVariants as any
-use Rattle.cvr_office.specs.Keeps.{Keeps}
+use Rattle.cvr_office.specs.CanHold.{CanHold}
 use Rattle.cvr_office.specs.Names.{record_of}
 use Rattle.cvr_office.specs.Place.{fact_of, any_cmp}
 use Rattle.cvr_office.specs.Plain.{set_of, IsPlain, IsSpelled, Content, coded_content}
@@ -67,7 +67,7 @@ pub record CanTake (s : Stored) (more : List AnyFact) : Type 0 where
   pub frame : Frame
   pub before : IsCached frame s
   pub spelled : (fact : AnyFact) → Contains more fact → IsSpelled frame.contests fact
-  pub keeps : Keeps frame (union (set_of (facts_of s)) (set_of more))
+  pub can_hold : CanHold frame (union (set_of (facts_of s)) (set_of more))
 
 -- ---- the office
 

@@ -8,7 +8,7 @@ use Rattle.cdf_definition.specs.Frame.{Frame}
 use Rattle.cvr_fact_types.specs.declared.name.RecordName.{RecordName}
 use Rattle.cvr_fact_types.specs.Facts.{Facts}
 use Rattle.cvr_facts.specs.Choosing.{current}
-use Rattle.cvr_office.specs.Keeps.{Keeps}
+use Rattle.cvr_office.specs.CanHold.{CanHold}
 use Rattle.cvr_office.specs.Names.{records}
 use Rattle.cvr_office.specs.Tallied.{sums_of_body, keys_at}
 
@@ -30,7 +30,7 @@ move_count contests s t =
 
 -- in what an office holds, these contests are as many as the rows that the record stands in
 abbrev pub RowsOfRecordLaw : Type 0
-RowsOfRecordLaw = (frame : Frame) (s : Facts) (r : RecordName) → Keeps frame s
+RowsOfRecordLaw = (frame : Frame) (s : Facts) (r : RecordName) → CanHold frame s
     → contests_at frame.contests s r ≡ length (keys_at frame.contests s r)
 
 -- where no fact is new, no row is changed

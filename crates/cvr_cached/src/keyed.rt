@@ -85,7 +85,7 @@ impl KeyedContent {
         ensures same { self.new ≡ self.old }
         ensures here { OnOk result
             ((q : RowKey) → is_row_of self.old q ≡ true → has_row totals.new.rows q ≡ true) }
-        ensures kept { (q : RowKey) → has_row totals.old.rows q ≡ true → has_row totals.new.rows q
+        ensures stay { (q : RowKey) → has_row totals.old.rows q ≡ true → has_row totals.new.rows q
             ≡ true }
         ensures cells { (q : RowKey) (j : Column) → cell totals.new.rows q j
             ≡ cell totals.old.rows q j }

@@ -44,7 +44,7 @@ impl Store {
     ghost use Rattle.std.specs.List.Sorted.{IsStrictlySortedBy};
     ghost use Rattle.cvr_fact_types.specs.declared.name.RecordName.{RecordName};
     ghost use Rattle.cvr_office.specs.declared.any_fact.AnyFact.{AnyFact};
-    ghost use Rattle.cvr_office.specs.Keeps.{starting_content};
+    ghost use Rattle.cvr_office.specs.CanHold.{starting_content};
     ghost use Rattle.cvr_office.specs.Names.{record_of};
     ghost use Rattle.cvr_office.specs.Place.{fact_of, any_cmp};
     ghost use Rattle.cvr_office.specs.Plain.{set_of};

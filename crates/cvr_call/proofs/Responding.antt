@@ -4,7 +4,7 @@ use Rattle.cdf_types.specs.MemorySink.{SinkState}
 use Rattle.cvr_words.specs.declared.fault.LineFault.{LineFault}
 use Rattle.cvr_words.specs.declared.request.Request.{Request}
 use Rattle.cvr_run.specs.declared.status.Status.{Status}
-use Rattle.cvr_run.specs.Answered.{Answers, Does, TellsWords}
+use Rattle.cvr_run.specs.Answered.{Answers, Does, LogsWords}
 use Rattle.cvr_run.specs.Devices.{Devices, Outputs}
 use Rattle.cvr_run.specs.Explained.{Explains}
 use Rattle.cvr_run.specs.Listed.{AnswersListed, ListedRequest}
@@ -16,7 +16,7 @@ use Rattle.cvr_call.specs.Responds.{IsAnswer, devices_with}
 -- ---- what follows from an unchanged output
 
 tells : {U V : Type 0} (fault : LineFault) (status : Status) (old new : Outputs) → (U → V)
-    → TellsWords fault status old new U → TellsWords fault status old new V
+    → LogsWords fault status old new U → LogsWords fault status old new V
 tells fault status old new more handed_over = record {
   status = handed_over.status;
   quiet = λ help. more (handed_over.quiet help);

@@ -57,7 +57,7 @@ pub record HasPut (old new : Rooms) (sizes : CvrSizes) : Type 0 where
   pub put : Puts text log old new sizes
 
 -- the caller gets an answer: its text and log are put; the status is the program's where both fit
-pub record Tells (answer : Answer) (old new : Rooms) (sizes : CvrSizes) (result : ℕ) : Type 0 where
+pub record Leaves (answer : Answer) (old new : Rooms) (sizes : CvrSizes) (result : ℕ) : Type 0 where
   pub status : result ≡ (if fits answer old then code_of answer.status else no_room)
   pub put : Puts answer.text answer.log old new sizes
 

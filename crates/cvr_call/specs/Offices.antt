@@ -10,7 +10,7 @@ use Rattle.cdf_parts.specs.Parts.{record_count}
 use Rattle.cdf_definition.specs.Acceptance.{Sound, Valid, frame_in, value_in}
 use Rattle.cdf_definition.specs.Frame.{IsSame}
 use Rattle.cvr_facts.specs.Reports.{facts}
-use Rattle.cvr_office.specs.Keeps.{starting_content}
+use Rattle.cvr_office.specs.CanHold.{starting_content}
 use Rattle.cvr_office.specs.Readers.{growth}
 use Rattle.cvr_cached.specs.Held.{Holding}
 use Rattle.cvr_call.specs.Left.{no_memory, no_room, put_into}
@@ -73,7 +73,7 @@ fault_status fault.Memory = no_memory
 fault_status fault = refused
 
 -- a fault is reported: its numbers, and its path in a room as far as it fits, with its length
-pub record TellsFault (fault : ReadFault) (old new : List ℕ) (handed_over : CvrRefusal)
+pub record LeavesFault (fault : ReadFault) (old new : List ℕ) (handed_over : CvrRefusal)
     : Type 0 where
   pub code : handed_over.code ≡ code_number fault
   pub rule : handed_over.rule ≡ rule_number fault
@@ -81,9 +81,9 @@ pub record TellsFault (fault : ReadFault) (old new : List ℕ) (handed_over : Cv
   pub size : handed_over.path ≡ length (fault_path fault)
 
 -- the fault of a file is reported, if it has one
-abbrev pub TellsFirst : Option ReadFault → List ℕ → List ℕ → CvrRefusal → Type 0
-TellsFirst None old new handed_over = ⊥
-TellsFirst (Some fault) old new handed_over = TellsFault fault old new handed_over
+abbrev pub LeavesFirst : Option ReadFault → List ℕ → List ℕ → CvrRefusal → Type 0
+LeavesFirst None old new handed_over = ⊥
+LeavesFirst (Some fault) old new handed_over = LeavesFault fault old new handed_over
 
 -- ---- an import
 
@@ -119,5 +119,5 @@ pub record TextOfTwo : Type 0 where
 
 -- E4 at the path `/a`, in a room of three bytes
 abbrev pub PathOfTwo : Type 0
-PathOfTwo = TellsFault (fault.Reference (codes "/a")) (1 ∷ 2 ∷ 3 ∷ []) (47 ∷ 97 ∷ 3 ∷ [])
+PathOfTwo = LeavesFault (fault.Reference (codes "/a")) (1 ∷ 2 ∷ 3 ∷ []) (47 ∷ 97 ∷ 3 ∷ [])
     (record { code = 4; rule = 0; path = 2 })

@@ -3,7 +3,7 @@ ghost use Rattle.std.specs.Prelude.{if◌then◌else◌};
 ghost use Rattle.cvr_run.specs.Status.{code_of};
 ghost use Rattle.cvr_call.specs.Given.{Given, IsInput};
 ghost use Rattle.cvr_call.specs.Responds.{Answer, IsAnswer};
-ghost use Rattle.cvr_call.specs.Left.{HasPut, IsUnanswered, Tells, no_input, no_memory, no_room};
+ghost use Rattle.cvr_call.specs.Left.{HasPut, IsUnanswered, Leaves, no_input, no_memory, no_room};
 ghost use Rattle.cvr_call.specs.Left.{put_into};
 
 use crate::answer::answer_input;
@@ -66,7 +66,7 @@ pub extern "C" fn cvr_call(
 ) -> u8
     ensures handed_over { (given : Given) → IsInput input.now ends.now words given
         → (result ≡ no_memory) ⊎ ((answer : Answer) × IsAnswer given answer
-        × Tells answer (record { text = text.old; log = log.old })
+        × Leaves answer (record { text = text.old; log = log.old })
         (record { text = text.new; log = log.new }) sizes.new result) }
     ensures no_input { result ≡ no_input → (given : Given)
         → ¬ IsInput input.now ends.now words given }

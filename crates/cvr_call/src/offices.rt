@@ -9,13 +9,13 @@ ghost use Rattle.cvr_office.specs.Tallied.{tally};
 ghost use Rattle.cvr_run.specs.Currents.{conflict_text, currents};
 ghost use Rattle.cvr_call.specs.Handle.{Beside, Does, no_office};
 ghost use Rattle.cvr_call.specs.Offices.{IsAnswered, IsNew, Joined, Shows, ShowsUnless};
-ghost use Rattle.cvr_call.specs.Offices.{TellsFault, TellsFirst, TookIn};
+ghost use Rattle.cvr_call.specs.Offices.{LeavesFault, LeavesFirst, TookIn};
 ghost use Rattle.cvr_call.specs.Offices.{done, other_definition, refused};
 ghost use Rattle.cvr_call.specs.Left.{no_memory, no_room};
 
 use crate::call::{answer_code, put};
 use crate::office::CvrOffice;
-use crate::refusal::{CvrRefusal, tell_refusal};
+use crate::refusal::{CvrRefusal, leave_refusal};
 use cdf_check::Definition;
 use cdf_types::{Memory, ReadFault};
 use cvr_cached::CachedOffice;
@@ -62,8 +62,8 @@ pub extern "C" fn cvr_office_new(
     ensures made { result ≡ done → IfSome office.new.office (IsNew definition.now) }
     ensures there { result ≡ done → office.new.office ≢ None }
     ensures fault { result ≡ refused
-        → TellsFirst (first_unsound definition.now) path.old path.new refusal.new }
-    ensures memory { result ≡ no_memory → TellsFault NoMemory path.old path.new refusal.new }
+        → LeavesFirst (first_unsound definition.now) path.old path.new refusal.new }
+    ensures memory { result ≡ no_memory → LeavesFault NoMemory path.old path.new refusal.new }
     ensures unchanged { result ≢ done → office.new.office ≡ office.old.office }
     ensures quiet { result ≡ done → (path.new ≡ path.old) × (refusal.new ≡ refusal.old) }
     ensures answered { IsAnswered refused result }
@@ -73,7 +73,7 @@ pub extern "C" fn cvr_office_new(
             office.put(held);
             Status::Done.code()
         }
-        Err(fault) => tell_refusal(&fault, path, refusal),
+        Err(fault) => leave_refusal(&fault, path, refusal),
     }
 }
 
@@ -86,12 +86,12 @@ fn import_into(
     refusal: &mut CvrRefusal,
 ) -> u8
     ensures took_in { result ≡ done → TookIn file.now receipt.new office.old office.new }
-    ensures fault { result ≡ refused → TellsFirst
+    ensures fault { result ≡ refused → LeavesFirst
         (first_refusal office.old.content.frame file.now) path.old path.new refusal.new }
-    ensures memory { result ≡ no_memory → TellsFault NoMemory path.old path.new refusal.new }
+    ensures memory { result ≡ no_memory → LeavesFault NoMemory path.old path.new refusal.new }
     ensures unchanged { result ≢ done → office.new.content.facts ≡ office.old.content.facts }
     ensures definition { office.new.content.frame ≡ office.old.content.frame }
-    ensures kept { result ≢ done → receipt.new ≡ receipt.old }
+    ensures same { result ≢ done → receipt.new ≡ receipt.old }
     ensures quiet { result ≡ done → (path.new ≡ path.old) × (refusal.new ≡ refusal.old) }
     ensures answered { IsAnswered refused result }
 {
@@ -101,7 +101,7 @@ fn import_into(
             receipt.new_facts = found.new_facts;
             Status::Done.code()
         }
-        Err(fault) => tell_refusal(&fault, path, refusal),
+        Err(fault) => leave_refusal(&fault, path, refusal),
     }
 }
 
@@ -119,14 +119,14 @@ pub extern "C" fn cvr_office_import(
     ensures took_in { Does office.old.office office.new.office result
         (λ old new. result ≡ done → TookIn file.now receipt.new old new) }
     ensures fault { Does office.old.office office.new.office result
-        (λ old new. result ≡ refused → TellsFirst
+        (λ old new. result ≡ refused → LeavesFirst
         (first_refusal old.content.frame file.now) path.old path.new refusal.new) }
-    ensures memory { result ≡ no_memory → TellsFault NoMemory path.old path.new refusal.new }
+    ensures memory { result ≡ no_memory → LeavesFault NoMemory path.old path.new refusal.new }
     ensures unchanged { Does office.old.office office.new.office result
         (λ old new. result ≢ done → new.content.facts ≡ old.content.facts) }
     ensures definition { Does office.old.office office.new.office result
         (λ old new. new.content.frame ≡ old.content.frame) }
-    ensures kept { result ≢ done → receipt.new ≡ receipt.old }
+    ensures same { result ≢ done → receipt.new ≡ receipt.old }
     ensures quiet { (result ≡ done) ⊎ (result ≡ no_office)
         → (path.new ≡ path.old) × (refusal.new ≡ refusal.old) }
     ensures answered { Does office.old.office office.new.office result
@@ -147,7 +147,7 @@ fn join_into(office: &mut CachedOffice, other: &CachedOffice, new_facts: &mut us
         → ¬ IsSame office.old.content.frame other.now.content.frame }
     ensures unchanged { result ≢ done → office.new.content.facts ≡ office.old.content.facts }
     ensures definition { office.new.content.frame ≡ office.old.content.frame }
-    ensures kept { result ≢ done → new_facts.new ≡ new_facts.old }
+    ensures same { result ≢ done → new_facts.new ≡ new_facts.old }
     ensures answered { IsAnswered other_definition result }
 {
     match office.join(other) {
@@ -181,7 +181,7 @@ pub extern "C" fn cvr_office_join(
     ensures definition { Does office.old.office office.new.office result
         (λ old new. new.content.frame ≡ old.content.frame) }
     ensures other { other.new.office ≡ other.old.office }
-    ensures kept { result ≢ done → new_facts.new ≡ new_facts.old }
+    ensures same { result ≢ done → new_facts.new ≡ new_facts.old }
     ensures answered { Does office.old.office office.new.office result (λ old new.
         Beside other.old.office result (λ theirs. IsAnswered other_definition result)) }
 {
@@ -199,7 +199,7 @@ pub extern "C" fn cvr_office_join(
 }
 
 /// Puts bytes into a room, with their length, and answers the status of the call.
-pub fn tell_bytes(bytes: &[u8], room: &mut [u8], size: &mut usize) -> u8
+pub fn leave_bytes(bytes: &[u8], room: &mut [u8], size: &mut usize) -> u8
     ensures { Shows bytes.now room.old room.new size.new result }
 {
     *size = bytes.len();
@@ -207,7 +207,7 @@ pub fn tell_bytes(bytes: &[u8], room: &mut [u8], size: &mut usize) -> u8
 }
 
 // Puts a text into a room, with its length, and answers the status of the call.
-fn tell_text(handed_over: Result<String, Memory>, room: &mut [u8], size: &mut usize) -> u8
+fn leave_text(handed_over: Result<String, Memory>, room: &mut [u8], size: &mut usize) -> u8
     ensures handed_over { MatchResult handed_over
         (λ text. Shows (string_bytes text) room.old room.new size.new result)
         (λ _. result ≡ no_memory) }
@@ -215,7 +215,7 @@ fn tell_text(handed_over: Result<String, Memory>, room: &mut [u8], size: &mut us
         → (room.new ≡ room.old) × (size.new ≡ size.old) }
 {
     match handed_over {
-        Ok(text) => tell_bytes(text.as_bytes(), room, size),
+        Ok(text) => leave_bytes(text.as_bytes(), room, size),
         Err(_) => Status::Memory.code(),
     }
 }
@@ -238,7 +238,7 @@ pub extern "C" fn cvr_office_tally(
     let Some(held) = office.take(alloc) else {
         return NO_OFFICE;
     };
-    let status = tell_text(held.tally_text(alloc), text, size);
+    let status = leave_text(held.tally_text(alloc), text, size);
     office.put(held);
     status
 }
@@ -260,7 +260,7 @@ pub extern "C" fn cvr_office_currents(
     let Some(held) = office.take(alloc) else {
         return NO_OFFICE;
     };
-    let status = tell_text(currents_text(alloc, &*held), text, size);
+    let status = leave_text(currents_text(alloc, &*held), text, size);
     office.put(held);
     status
 }
@@ -292,7 +292,7 @@ pub extern "C" fn cvr_office_conflicts(
     let Some(held) = office.take(alloc) else {
         return NO_OFFICE;
     };
-    let status = tell_text(conflict_lines(alloc, &held), text, size);
+    let status = leave_text(conflict_lines(alloc, &held), text, size);
     office.put(held);
     status
 }

@@ -1,5 +1,5 @@
 ghost use Rattle.std.specs.Prelude.{◌≡◌};
-ghost use Rattle.cvr_call.specs.Offices.{TellsFault, code_number, fault_path, fault_status};
+ghost use Rattle.cvr_call.specs.Offices.{LeavesFault, code_number, fault_path, fault_status};
 ghost use Rattle.cvr_call.specs.Offices.{rule_number};
 
 use crate::call::put;
@@ -35,8 +35,8 @@ fn parts(fault: &ReadFault) -> (u8, u8, &str)
 }
 
 /// Reports why a file was refused, with its path in a room, and answers the status of the call.
-pub fn tell_refusal(fault: &ReadFault, room: &mut [u8], refusal: &mut CvrRefusal) -> u8
-    ensures handed_over { TellsFault fault.now room.old room.new refusal.new }
+pub fn leave_refusal(fault: &ReadFault, room: &mut [u8], refusal: &mut CvrRefusal) -> u8
+    ensures handed_over { LeavesFault fault.now room.old room.new refusal.new }
     ensures status { result ≡ fault_status fault.now }
 {
     let (code, rule, path) = parts(fault);

@@ -6,7 +6,7 @@ ghost use Rattle.cvr_call.specs.Left.{no_memory, no_room};
 ghost use Rattle.cvr_call.specs.Volume.{ShowsVolume, merge_status};
 
 use crate::office::CvrOffice;
-use crate::offices::{NO_OFFICE, tell_bytes};
+use crate::offices::{NO_OFFICE, leave_bytes};
 use cdf_types::MemorySink;
 use cvr_cached::CachedOffice;
 use cvr_cli::{MergeFault, PrintFault, Status, print_volume};
@@ -60,7 +60,7 @@ fn put_volume(
     }
     let mut out = MemorySink::new(alloc, usize::MAX, 0);
     match print_volume(alloc, office, date, device, number, &mut out) {
-        Ok(()) => tell_bytes(out.taken(), room, size),
+        Ok(()) => leave_bytes(out.taken(), room, size),
         Err(fault) => fault_status(fault),
     }
 }

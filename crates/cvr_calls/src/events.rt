@@ -1,4 +1,4 @@
-use crate::offices::tell;
+use crate::offices::write_office;
 use cdf_types::{Memory, ReadFault};
 use cvr_collect::{Cause, Event, JoinFault, Office, Outcome, play};
 use std::alloc::Global;
@@ -39,7 +39,7 @@ fn name_of(cause: &Cause) -> &'static str {
 }
 
 // Writes the number of new facts, or the refusal.
-fn tell_outcome(text: &mut String, outcome: &Outcome) -> Result<(), Memory> {
+fn write_outcome(text: &mut String, outcome: &Outcome) -> Result<(), Memory> {
     let printed = match outcome {
         Outcome::Accepted(count) => write!(text, "{count} "),
         Outcome::Refused(cause) => write!(text, "{} ", name_of(cause)),
@@ -57,7 +57,7 @@ fn first_same<O: Office>(offices: &[O], office: &O) -> usize {
 }
 
 // Writes what an office counts, and the first that is the same.
-fn tell_counts<O: Office>(text: &mut String, offices: &[O], office: &O) -> Result<(), Memory> {
+fn write_counts<O: Office>(text: &mut String, offices: &[O], office: &O) -> Result<(), Memory> {
     let (records, facts) = (office.record_count(), office.fact_count());
     let (bodies, same) = (office.greatest_count(), first_same(offices, office));
     write!(text, " {records} {facts} {bodies} {same}")?;
@@ -75,7 +75,7 @@ fn played<O: Office>(
 }
 
 /// Plays the events of these words, and writes the outcomes and what the offices then count.
-pub fn tell_events<O: Office>(
+pub fn write_events<O: Office>(
     alloc: Global,
     offices: &mut [O],
     files: &[Vec<u8>],
@@ -84,24 +84,24 @@ pub fn tell_events<O: Office>(
 ) -> Result<(), ReadFault> {
     let events = events_of(alloc, words)?;
     for outcome in &played(alloc, offices, files, events.as_slice())? {
-        tell_outcome(text, outcome)?;
+        write_outcome(text, outcome)?;
     }
     text.push_str("|")?;
     for office in offices.iter() {
-        tell_counts(text, offices, office)?;
+        write_counts(text, offices, office)?;
     }
     text.push_str("\n")?;
     Ok(())
 }
 
 /// Writes what offices answer, and which of them are the same as the first.
-pub fn tell_answers<O: Office>(
+pub fn write_answers<O: Office>(
     alloc: Global,
     offices: &[O],
     text: &mut String,
 ) -> Result<(), Memory> {
     for office in offices {
-        tell(alloc, office, text)?;
+        write_office(alloc, office, text)?;
         writeln!(text, "{}", first_same(offices, office) == 0)?;
     }
     Ok(())

@@ -23,7 +23,7 @@ fn facts_in(alloc: Global, definition: &Definition, bytes: &[u8]) -> Result<Fact
 
 // Writes a snapshot: its record, its id, its Type, and of each contest its place and the votes of
 // each selection.
-fn tell_snapshot(text: &mut String, snapshot: &SnapshotFact) -> Result<(), Memory> {
+fn write_snapshot(text: &mut String, snapshot: &SnapshotFact) -> Result<(), Memory> {
     let key = &snapshot.key;
     write!(
         text,
@@ -41,7 +41,7 @@ fn tell_snapshot(text: &mut String, snapshot: &SnapshotFact) -> Result<(), Memor
 }
 
 // Writes the bodies of devices and headers, and each snapshot, as their copies have them.
-fn tell_facts(alloc: Global, text: &mut String, list: &FactList) -> Result<(), Memory> {
+fn write_facts(alloc: Global, text: &mut String, list: &FactList) -> Result<(), Memory> {
     for device in list.devices.as_slice() {
         writeln!(text, "{}", device.copy()?.body)?;
     }
@@ -49,20 +49,20 @@ fn tell_facts(alloc: Global, text: &mut String, list: &FactList) -> Result<(), M
         writeln!(text, "{}", header.copy()?.body)?;
     }
     for snapshot in list.snapshots.as_slice() {
-        tell_snapshot(text, &snapshot.copy(alloc)?)?;
+        write_snapshot(text, &snapshot.copy(alloc)?)?;
     }
     Ok(())
 }
 
 // Writes the facts of a report, or why it is refused.
-fn tell_report(
+fn write_report(
     alloc: Global,
     text: &mut String,
     definition: &Definition,
     bytes: &[u8],
 ) -> Result<(), ReadFault> {
     match facts_in(alloc, definition, bytes) {
-        Ok(list) => tell_facts(alloc, text, &list)?,
+        Ok(list) => write_facts(alloc, text, &list)?,
         Err(ReadFault::Memory) => return Err(ReadFault::Memory),
         Err(fault) => writeln!(text, "{fault}")?,
     }
@@ -74,13 +74,13 @@ pub fn printed_facts(alloc: Global, files: &Files) -> Result<String, ReadFault> 
     let definition = read_definition(alloc, files.definition.as_slice())?;
     let mut text = String::new(alloc);
     for report in &files.checked {
-        tell_report(alloc, &mut text, &definition, report.as_slice())?;
+        write_report(alloc, &mut text, &definition, report.as_slice())?;
     }
     Ok(text)
 }
 
 // Writes faults of a path.
-fn tell_faults_at(text: &mut String, alloc: Global, path: &str) -> Result<(), Memory> {
+fn write_faults_at(text: &mut String, alloc: Global, path: &str) -> Result<(), Memory> {
     let reference = ReadFault::Reference {
         path: Body::new(path.to_string(alloc)?),
     };
@@ -95,7 +95,7 @@ fn tell_faults_at(text: &mut String, alloc: Global, path: &str) -> Result<(), Me
 /// How faults of another form are printed.
 pub fn printed_faults(alloc: Global) -> Result<String, ReadFault> {
     let mut text = String::new(alloc);
-    tell_faults_at(&mut text, alloc, "/GpUnit/0")?;
+    write_faults_at(&mut text, alloc, "/GpUnit/0")?;
     for fault in &[ReadFault::TooLong, ReadFault::NotJson, ReadFault::Memory] {
         writeln!(text, "{fault}")?;
     }

@@ -1,4 +1,4 @@
-use crate::events::{tell_answers, tell_events};
+use crate::events::{write_answers, write_events};
 use crate::offices::new_office;
 use crate::volumes::volumes_of;
 use cdf_types::ReadFault;
@@ -71,7 +71,7 @@ fn volumes_at<O: Office>(
 
 // Plays a step, `0: 1=2 1>0` with volumes of the first office as files, or `1=2 1>0` with the
 // reports; and writes what became of it.
-fn tell_step<O: Office>(
+fn write_step<O: Office>(
     alloc: Global,
     pool: &Pool,
     offices: &mut [O],
@@ -81,14 +81,14 @@ fn tell_step<O: Office>(
     match step.split_once(": ") {
         Some((giver, events)) => {
             let volumes = volumes_at(alloc, offices, giver)?;
-            tell_events(alloc, offices, volumes.as_slice(), events, text)
+            write_events(alloc, offices, volumes.as_slice(), events, text)
         }
-        None => tell_events(alloc, offices, pool.reports.as_slice(), step, text),
+        None => write_events(alloc, offices, pool.reports.as_slice(), step, text),
     }
 }
 
 // Plays steps, and writes what became of them, and what the offices then answer.
-fn tell_steps<O: Office>(
+fn write_steps<O: Office>(
     alloc: Global,
     pool: &Pool,
     offices: &mut [O],
@@ -96,9 +96,9 @@ fn tell_steps<O: Office>(
     text: &mut String,
 ) -> Result<(), ReadFault> {
     for step in steps.lines() {
-        tell_step(alloc, pool, offices, step, text)?;
+        write_step(alloc, pool, offices, step, text)?;
     }
-    tell_answers(alloc, offices, text)?;
+    write_answers(alloc, offices, text)?;
     Ok(())
 }
 
@@ -111,7 +111,7 @@ fn printed<O: Office + Drop>(
     let (places, steps) = history.split_once('\n').ok_or(ReadFault::NotJson)?;
     let mut offices: Vec<O> = offices_at(alloc, pool, places)?;
     let mut text = String::new(alloc);
-    tell_steps(alloc, pool, offices.as_mut_slice(), steps, &mut text)?;
+    write_steps(alloc, pool, offices.as_mut_slice(), steps, &mut text)?;
     Ok(text)
 }
 
@@ -120,7 +120,7 @@ fn printed_by_both(alloc: Global, pool: &Pool, history: &str) -> Result<String, 
     let mut text = printed::<PlainOffice>(alloc, pool, history)?;
     let cached = printed::<CachedOffice>(alloc, pool, history)?;
     if text.as_str() != cached.as_str() {
-        text.push_str("wrong: offices that remember tell\n")?;
+        text.push_str("wrong: offices that remember print\n")?;
         text.push_str(cached.as_str())?;
     }
     Ok(text)

@@ -62,7 +62,7 @@ fn take<O: Office>(
 
 /// Writes what an office answers: its counts of records, facts and most bodies of a name, current
 /// snapshots, conflicts and the tally.
-pub fn tell<O: Office>(alloc: Global, office: &O, text: &mut String) -> Result<(), Memory> {
+pub fn write_office<O: Office>(alloc: Global, office: &O, text: &mut String) -> Result<(), Memory> {
     let (records, facts) = (office.record_count(), office.fact_count());
     writeln!(text, "{records} {facts} {}", office.greatest_count())?;
     text.push_str(currents_text(alloc, office)?.as_str())?;
@@ -87,7 +87,7 @@ pub fn printed_imports<O: Office + Drop>(
     let mut text = String::new(alloc);
     let mut office: O = new_office(alloc, files.definition.as_slice())?;
     take(&mut office, &files.reports, &mut text)?;
-    tell(alloc, &office, &mut text)?;
+    write_office(alloc, &office, &mut text)?;
     Ok(text)
 }
 
@@ -103,6 +103,6 @@ pub fn printed_join<O: Office + Drop>(alloc: Global, files: &Files) -> Result<St
     )?;
     let new_facts = join(&mut office, &other)?;
     writeln!(text, "{new_facts} new facts")?;
-    tell(alloc, &office, &mut text)?;
+    write_office(alloc, &office, &mut text)?;
     Ok(text)
 }

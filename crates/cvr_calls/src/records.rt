@@ -6,7 +6,7 @@ use cvr_tally::{Row, RowKey, tally_text};
 use std::alloc::Global;
 
 // Writes the bodies of a record's headers, and each id with the number of its snapshots.
-fn tell_record(text: &mut String, record: &RecordFacts<'_>) -> Result<(), Memory> {
+fn write_record(text: &mut String, record: &RecordFacts<'_>) -> Result<(), Memory> {
     for header in record.headers.as_slice() {
         writeln!(text, "{}", header.body)?;
     }
@@ -17,11 +17,11 @@ fn tell_record(text: &mut String, record: &RecordFacts<'_>) -> Result<(), Memory
 }
 
 // Writes all facts of the first record of an office.
-fn tell_first<O: Office>(alloc: Global, office: &O, text: &mut String) -> Result<(), Memory> {
+fn write_first<O: Office>(alloc: Global, office: &O, text: &mut String) -> Result<(), Memory> {
     if let Some(key) = office.next_record(None) {
         writeln!(text, "{} {}", key.device, key.unique)?;
         if let Some(record) = office.record_facts(alloc, key)? {
-            tell_record(text, &record)?;
+            write_record(text, &record)?;
         }
     }
     Ok(())
@@ -31,18 +31,18 @@ fn tell_first<O: Office>(alloc: Global, office: &O, text: &mut String) -> Result
 pub fn printed_record<O: Office + Drop>(alloc: Global, files: &Files) -> Result<String, ReadFault> {
     let office: O = office_of(alloc, files)?;
     let mut text = String::new(alloc);
-    tell_first(alloc, &office, &mut text)?;
+    write_first(alloc, &office, &mut text)?;
     Ok(text)
 }
 
 // Writes the ballots of a row and its votes.
-fn tell_row(text: &mut String, row: &Row) -> Result<(), Memory> {
+fn write_row(text: &mut String, row: &Row) -> Result<(), Memory> {
     writeln!(text, "{} {:?}", row.ballots, row.votes.as_slice())?;
     Ok(())
 }
 
 // Writes the row of the first contest in a unit, of no batch.
-fn tell_row_in<O: Office>(
+fn write_row_in<O: Office>(
     alloc: Global,
     office: &O,
     unit: &str,
@@ -54,7 +54,7 @@ fn tell_row_in<O: Office>(
         batch: None,
     };
     match office.row(alloc, &key)? {
-        Some(row) => tell_row(text, &row)?,
+        Some(row) => write_row(text, &row)?,
         None => writeln!(text, "no row in {unit}")?,
     }
     Ok(())
@@ -64,8 +64,8 @@ fn tell_row_in<O: Office>(
 pub fn printed_rows<O: Office + Drop>(alloc: Global, files: &Files) -> Result<String, ReadFault> {
     let office: O = office_of(alloc, files)?;
     let mut text = String::new(alloc);
-    tell_row_in(alloc, &office, "p1", &mut text)?;
-    tell_row_in(alloc, &office, "p2", &mut text)?;
+    write_row_in(alloc, &office, "p1", &mut text)?;
+    write_row_in(alloc, &office, "p2", &mut text)?;
     text.push_str(tally_text(alloc, &office.totals(alloc)?)?.as_str())?;
     Ok(text)
 }

@@ -6,7 +6,7 @@ mod running;
 pub use cvr_run::{
     FileFault, HELD, Happened, Listing, MemoryFile, MemoryFiles, MergeFault, Open, OverRead,
     OverWrite, PrintFault, Status, conflicts_text, currents_text, examples, law, listing_of,
-    print_volume, read_file, rows,
+    print_volume, read_file,
 };
 pub use cvr_words::{Act, Request, Step, Task, WordFault, read_words};
 pub use running::{respond, run, work};

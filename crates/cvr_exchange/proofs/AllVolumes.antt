@@ -9,7 +9,7 @@ use Rattle.cvr_fact_types.specs.Facts.{Fact, Device, Header, Snapshot, Facts, fa
 use Rattle.cvr_fact_types.specs.Facts.{fact_exact}
 use Rattle.cvr_facts.specs.Reports.{facts}
 use Rattle.cvr_facts.proofs.Lemmas.{none_listed, head_or_tail, at_head, at_tail}
-use Rattle.cvr_office.specs.Keeps.{Keeps}
+use Rattle.cvr_office.specs.CanHold.{CanHold}
 use Rattle.cvr_office.proofs.Lemmas.{or_cases, or_left, or_right, contains-union_over}
 use Rattle.cvr_report.specs.Head.{Head}
 use Rattle.cvr_report.specs.Page.{volumes}
@@ -45,57 +45,57 @@ has_one p (y ∷ xs) x a h =
 -- ---- nothing is added, and nothing lost
 
 pub none_added : NothingAddedLaw
-none_added frame head s i f keeps can pos h = of_definition frame keeps.sound (contains s f)
-    (λ d known. fact_had frame head s i keeps can pos d known f h)
+none_added frame head s i f can_hold can pos h = of_definition frame can_hold.sound (contains s f)
+    (λ d known. fact_had frame head s i can_hold can pos d known f h)
 
 -- a fact is one of some volume
-pub in_some : (frame : Frame) (head : Head) (s : Facts) → Keeps frame s → CanHead frame head
+pub in_some : (frame : Frame) (head : Head) (s : Facts) → CanHold frame s → CanHead frame head
     → (f : Fact) → contains s f ≡ true
     → (i : ℕ) × (0 < i) × (i ≤ volumes s) × (contains (facts (volume frame head s i)) f ≡ true)
-in_some frame head s keeps can (Device id b) h =
+in_some frame head s can_hold can (Device id b) h =
     let n = device_number s id b h in (
       n.0,
       n.1,
       n.2,
-      of_definition frame keeps.sound (contains (facts (volume frame head s n.0)) (Device id b))
+      of_definition frame can_hold.sound (contains (facts (volume frame head s n.0)) (Device id b))
           (λ d known.
           subst (λ x. contains (facts (volume frame head s n.0)) (Device id x) ≡ true) n.3
-          (device_there frame head s n.0 keeps can n.1 d known id ((of_device_id s id).1 (b, h)))),
+          (device_there frame head s n.0 can_hold can n.1 d known id ((of_device_id s id).1 (b, h)))),
     )
-in_some frame head s keeps can (Header d u b) h =
+in_some frame head s can_hold can (Header d u b) h =
     let n = header_number s d u b h in (
       n.0,
       n.1,
       n.2,
-      of_definition frame keeps.sound (contains (facts (volume frame head s n.0)) (Header d u b))
+      of_definition frame can_hold.sound (contains (facts (volume frame head s n.0)) (Header d u b))
           (λ x known.
           subst (λ y. contains (facts (volume frame head s n.0)) (Header d u y) ≡ true) n.4
-          (header_there frame head s n.0 keeps can n.1 x known (record { device = d; unique = u })
+          (header_there frame head s n.0 can_hold can n.1 x known (record { device = d; unique = u })
           (header_record s d u b h) n.3)),
     )
-in_some frame head s keeps can (Snapshot d u id b) h =
+in_some frame head s can_hold can (Snapshot d u id b) h =
     let n = snapshot_number s d u id b h in (
       n.0,
       n.1,
       n.2,
-      of_definition frame keeps.sound (contains (facts (volume frame head s n.0))
+      of_definition frame can_hold.sound (contains (facts (volume frame head s n.0))
           (Snapshot d u id b)) (λ x known.
           subst (λ y. contains (facts (volume frame head s n.0)) (Snapshot d u id y) ≡ true) n.4
-          (snapshot_there frame head s n.0 keeps can n.1 x known (record { device = d; unique = u })
+          (snapshot_there frame head s n.0 can_hold can n.1 x known (record { device = d; unique = u })
           (snapshot_record s d u id b h) n.3 id
           ((of_id s (record { device = d; unique = u }) id).1 (b, h)))),
     )
 
 pub any_order : AnyOrderLaw
-any_order frame head s numbers keeps can all =
+any_order frame head s numbers can_hold can all =
     same_set fact_total fact_exact (facts_of_volumes frame head s numbers) s (λ f.
     contains-union_over (λ i. facts (volume frame head s i)) numbers f
     ∙ both_ways (list_any (λ i. contains (facts (volume frame head s i)) f) numbers) (contains s f)
     (λ h.
     let i = one_that_has (λ i. contains (facts (volume frame head s i)) f) numbers h in
-    none_added frame head s i.0 f keeps can ((all i.0).0 i.1).0 i.2)
+    none_added frame head s i.0 f can_hold can ((all i.0).0 i.1).0 i.2)
     (λ h.
-    let i = in_some frame head s keeps can f h in
+    let i = in_some frame head s can_hold can f h in
     has_one (λ i. contains (facts (volume frame head s i)) f) numbers i.0 ((all i.0).1 (i.1, i.2))
     i.3))
 
@@ -132,5 +132,5 @@ all_to n i = (
 )
 
 pub all_volumes : AllVolumesLaw
-all_volumes frame head s keeps can =
-    any_order frame head s (range_with_len 1 (volumes s)) keeps can (all_to (volumes s))
+all_volumes frame head s can_hold can =
+    any_order frame head s (range_with_len 1 (volumes s)) can_hold can (all_to (volumes s))

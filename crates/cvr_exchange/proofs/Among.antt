@@ -49,7 +49,7 @@ among frame head s starts files later past o numbers q imported h =
     ]
 
 pub all_among : AllAmongLaw
-all_among frame head s starts files later past o numbers q keeps can all imported h =
+all_among frame head s starts files later past o numbers q can_hold can all imported h =
     among frame head s starts files later past o numbers q imported
     (subst (λ t. contains (union (content starts files past o) t) q ≡ true)
-    (sym (any_order frame head s numbers keeps can all)) h)
+    (sym (any_order frame head s numbers can_hold can all)) h)

@@ -18,9 +18,9 @@ use Rattle.cdf_form.specs.Tables.{table, classes_of, any}
 use Rattle.cdf_form.specs.Form.{key_text}
 use Rattle.cdf_form.specs.HasForm.{HasForm, items}
 use Rattle.cdf_parts.specs.Parts.{id_of}
-use Rattle.cdf_form.specs.ByRow.{AllClasses, find_row}
+use Rattle.cdf_form.specs.ByEntry.{AllClasses, find_entry}
 use Rattle.cdf_parts.proofs.Lemmas.{inside}
-use Rattle.cdf_definition.specs.Depths.{id_row}
+use Rattle.cdf_definition.specs.Depths.{id_entry}
 use Rattle.cdf_definition.proofs.Laws.{has_id}
 use Rattle.cvr_fact_types.specs.Facts.{text_cmp}
 use Rattle.cvr_facts.proofs.Laws.{text_total}
@@ -72,7 +72,7 @@ id_place (x ∷ ds) (suc i) d s h at text = id_place ds i d s (λ e a. h e (at_t
 
 -- objects whose ids rise
 pub objects_form : (g : Group) (least : ℕ) (ds : List Data)
-    → AllClasses (λ c. find_row (codes "@id") (table c) ≡ Some id_row) (classes_of g)
+    → AllClasses (λ c. find_entry (codes "@id") (table c) ≡ Some id_entry) (classes_of g)
     → ((d : Data) → Contains ds d → HasForm (One (leaf.Object g)) d) → IsRising (map id_of ds)
     → least ≤ items_len (items_of ds) → items_len (items_of ds) ≤ any
     → HasForm (Array (leaf.Object g) least any key.Id) (array (items_of ds))

@@ -17,13 +17,13 @@ use Rattle.cvr_office.specs.declared.event.Event.TheVariants.{Import, Exchange}
 use Rattle.cvr_office.specs.declared.event.Outcome.{Outcome}
 use Rattle.cvr_office.specs.declared.event.Outcome.TheVariants.{Accepted, Refused}
 use Rattle.cvr_office.specs.Alike.{AreNewOfOne, ArePlayed, HaveSameFiles, BeganAlike}
-use Rattle.cvr_office.specs.Keeps.{Keeps, starting_content}
+use Rattle.cvr_office.specs.CanHold.{CanHold, starting_content}
 use Rattle.cvr_office.specs.Outcomes.{no_frame, AreOutcomes}
 use Rattle.cvr_office.specs.Reach.{History, Start, File, origin_cmp, origins_at, content}
 use Rattle.cvr_office.proofs.Laws.{answer_alike, same_definition, same_files, start_keeps}
 use Rattle.cvr_office.proofs.Lemmas.{origin_total, origin_exact, or_cases, tie_is}
 use Rattle.cvr_report.proofs.Laws.{same_volumes}
-use Rattle.cvr_exchange.specs.Laws.{BeganKept, ByFilesLaw, SamePassingLaw}
+use Rattle.cvr_exchange.specs.Laws.{CouldBegin, ByFilesLaw, SamePassingLaw}
 use Rattle.cvr_exchange.specs.Passing.{IsByFiles, begun, event, volumes_of}
 use Rattle.cvr_exchange.proofs.Histories.{after_import, after_exchange, imports_exchange}
 use Rattle.cvr_exchange.proofs.Kept.{history_kept}
@@ -153,13 +153,13 @@ module _ {Office : Type 0} (held : Office → Facts) (defined : Office → Frame
   many : length after ≡ length before
   many = sym (length-map after defined) ∙ (ap length played.definitions ∙ length-map before defined)
 
-  began_kept : Office → BeganKept (map defined before) (map held before)
+  began_kept : Office → CouldBegin (map defined before) (map held before)
   began_kept any k lt =
       let within : k < length before = let n = length-map before defined in omega (arith, lt, n) in
       let own = defined (get_or before k any) in
-      subst (λ f. Keeps f (get_or (map held before) k empty))
+      subst (λ f. CanHold f (get_or (map held before) k empty))
       (sym (get_or-map defined before k any no_frame within))
-      (subst (Keeps own) (sym (get_or-map held before k any empty within ∙ new.new k any within))
+      (subst (CanHold own) (sym (get_or-map held before k any empty within ∙ new.new k any within))
       (start_keeps own (new.sound k any within)))
 
   -- an office at a place afterwards

@@ -15,7 +15,7 @@ use Rattle.cvr_office.specs.declared.event.Event.{Event}
 use Rattle.cvr_office.specs.declared.event.Event.TheVariants.{Import, Exchange}
 use Rattle.cvr_office.specs.declared.event.Outcome.{Outcome}
 use Rattle.cvr_office.specs.declared.event.Outcome.TheVariants.{Accepted}
-use Rattle.cvr_office.specs.Keeps.{Keeps}
+use Rattle.cvr_office.specs.CanHold.{CanHold}
 use Rattle.cvr_office.specs.Outcomes.{no_frame, due_outcome}
 use Rattle.cvr_office.specs.Readers.{growth}
 use Rattle.cvr_office.specs.Reach.{History, File, Origins, origins_at, origin_facts, union_over}
@@ -127,7 +127,7 @@ module _ (starts : List Facts) (files : List (List ℕ)) (past : History) (o k :
 -- ---- imports of all volumes
 
 module _ (frame : Frame) (head : Head) (s : Facts) (files : List (List ℕ)) (o : ℕ)
-    (imports : History) (keeps : Keeps frame s) (can : CanHead frame head)
+    (imports : History) (can_hold : CanHold frame s) (can : CanHead frame head)
     (every : AreImportsOfAll frame head s files o imports) where
   brought_by : (e : Event × Outcome) (text : List ℕ) → IsImportOf files text o e
       → brings files e ≡ facts text
@@ -140,10 +140,10 @@ module _ (frame : Frame) (head : Head) (s : Facts) (files : List (List ℕ)) (o 
       (λ h.
       let e = one_that_has (λ e. contains (brings files e) f) imports h in
       let v = every.only e.0 e.1 in
-      none_added frame head s v.0 f keeps can v.1
+      none_added frame head s v.0 f can_hold can v.1
       (subst (λ t. contains t f ≡ true) (brought_by e.0 (volume frame head s v.0) v.3) e.2))
       (λ h.
-      let i = in_some frame head s keeps can f h in
+      let i = in_some frame head s can_hold can f h in
       let e = every.all i.0 i.1 i.2 in
       has_one (λ e. contains (brings files e) f) imports e.0 e.1
       (subst (λ t. contains t f ≡ true) (sym (brought_by e.0 (volume frame head s i.0) e.2))
@@ -153,19 +153,19 @@ module _ (frame : Frame) (head : Head) (s : Facts) (files : List (List ℕ)) (o 
   taken e a = let v = every.only e a in (v.3.file, v.3.count, v.3.event)
 
 pub imports_exchange : ImportsLaw
-imports_exchange frame head starts files imports past p o n keeps can every k =
+imports_exchange frame head starts files imports past p o n can_hold can every k =
     after_imports starts files past o k imports
-    (taken frame head (content starts files past p) files o imports keeps can every)
+    (taken frame head (content starts files past p) files o imports can_hold can every)
     ∙ (ap (λ t. cond (k == o) (union (content starts files past k) t) (content starts files past k))
-    (all_brought frame head (content starts files past p) files o imports keeps can every)
+    (all_brought frame head (content starts files past p) files o imports can_hold can every)
     ∙ sym (after_exchange starts files past p o n k))
 
 -- ---- an import that is accepted
 
 pub accepted : AcceptedLaw
-accepted frame head s i frames files held o f r keeps can pos short lo sound same lf is outcome =
+accepted frame head s i frames files held o f r can_hold can pos short lo sound same lf is outcome =
     let valid =
-    valid_for_same frame (get_or frames o no_frame) head s i keeps can pos short sound same in
+    valid_for_same frame (get_or frames o no_frame) head s i can_hold can pos short sound same in
     let none = (valid_file (get_or frames o no_frame) (volume frame head s i)).1 valid in
     elim (outcome.there lo lf) [
       | inl e ↦ inl (e ∙ (ap (λ t. due_outcome (first_refusal (get_or frames o no_frame) t)

@@ -17,13 +17,13 @@ use Rattle.cvr_facts.specs.Reports.{facts}
 use Rattle.cvr_facts.proofs.Laws.{text_total, text_exact}
 use Rattle.cvr_office.specs.declared.event.Event.TheVariants.{Import, Exchange}
 use Rattle.cvr_office.specs.declared.event.Outcome.TheVariants.{Accepted, Refused}
-use Rattle.cvr_office.specs.Keeps.{Keeps}
+use Rattle.cvr_office.specs.CanHold.{CanHold}
 use Rattle.cvr_office.specs.Outcomes.{no_frame, due_outcome, AreOutcomes, IsImportOutcome}
 use Rattle.cvr_office.specs.Outcomes.{IsExchangeOutcome}
 use Rattle.cvr_office.specs.Reach.{History, content}
 use Rattle.cvr_office.proofs.Laws.{import_keeps, join_keeps, content-none}
 use Rattle.cvr_office.proofs.Lemmas.{at_eq}
-use Rattle.cvr_exchange.specs.Laws.{BeganKept}
+use Rattle.cvr_exchange.specs.Laws.{CouldBegin}
 use Rattle.cvr_exchange.proofs.Histories.{after_import, after_exchange}
 
 -- ---- whether definitions are the same can be decided
@@ -72,7 +72,7 @@ module _ (frames : List Frame) (starts : List Facts) (files : List (List ℕ)) (
   frame_at o = get_or frames o no_frame
 
   abbrev AllKeep : (ℕ → Facts) → Type 0
-  AllKeep contents = (o : ℕ) → o < length frames → Keeps (frame_at o) (contents o)
+  AllKeep contents = (o : ℕ) → o < length frames → CanHold (frame_at o) (contents o)
 
   -- a file that was taken in is valid
   import_valid : (o f n : ℕ) → o < length frames
@@ -90,9 +90,9 @@ module _ (frames : List Frame) (starts : List Facts) (files : List (List ℕ)) (
   import_kept : (o f n : ℕ) → IsImportOutcome frames files held o f (Accepted n) → AllKeep held
       → AllKeep (content starts files ((Import o f, Accepted n) ∷ past))
   import_kept o f n out kept k lt =
-      subst (Keeps (frame_at k)) (sym (after_import starts files past o f n k)) (go (k == o) refl)
+      subst (CanHold (frame_at k)) (sym (after_import starts files past o f n k)) (go (k == o) refl)
     where
-      go : (b : Bool) → (k == o) ≡ b → Keeps (frame_at k)
+      go : (b : Bool) → (k == o) ≡ b → CanHold (frame_at k)
           (cond b (union (held k) (facts (get_or files f []))) (held k))
       go true e =
           let same = at_eq k o e in
@@ -121,9 +121,9 @@ module _ (frames : List Frame) (starts : List Facts) (files : List (List ℕ)) (
   exchange_kept : (p o n : ℕ) → IsExchangeOutcome frames held p o (Accepted n) → AllKeep held
       → AllKeep (content starts files ((Exchange p o, Accepted n) ∷ past))
   exchange_kept p o n out kept k lt =
-      subst (Keeps (frame_at k)) (sym (after_exchange starts files past p o n k)) (go (k == o) refl)
+      subst (CanHold (frame_at k)) (sym (after_exchange starts files past p o n k)) (go (k == o) refl)
     where
-      go : (b : Bool) → (k == o) ≡ b → Keeps (frame_at k)
+      go : (b : Bool) → (k == o) ≡ b → CanHold (frame_at k)
           (cond b (union (held k) (held p)) (held k))
       go true e =
           let same = at_eq k o e in
@@ -140,10 +140,10 @@ module _ (frames : List Frame) (starts : List Facts) (files : List (List ℕ)) (
 -- ---- all events
 
 pub history_kept : (frames : List Frame) (starts : List Facts) (files : List (List ℕ))
-    (past : History) → BeganKept frames starts → AreOutcomes starts frames files past
-    → (o : ℕ) → o < length frames → Keeps (get_or frames o no_frame) (content starts files past o)
+    (past : History) → CouldBegin frames starts → AreOutcomes starts frames files past
+    → (o : ℕ) → o < length frames → CanHold (get_or frames o no_frame) (content starts files past o)
 history_kept frames starts files [] began outs o lt =
-    subst (Keeps (get_or frames o no_frame)) (sym (content-none starts files o)) (began o lt)
+    subst (CanHold (get_or frames o no_frame)) (sym (content-none starts files o)) (began o lt)
 history_kept frames starts files ((Import k f, Accepted n) ∷ past) began outs o lt =
     import_kept frames starts files past k f n outs.0
     (history_kept frames starts files past began outs.1) o lt

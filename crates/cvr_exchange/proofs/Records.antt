@@ -16,7 +16,7 @@ use Rattle.cdf_form.specs.declared.table.Key.TheVariants as key
 use Rattle.cdf_form.specs.declared.table.Kind.TheVariants.{One, Array}
 use Rattle.cdf_form.specs.Tables.{Entry, table, classes_of, required_member, any}
 use Rattle.cdf_form.specs.Form.{class_in, find_class}
-use Rattle.cdf_form.specs.HasForm.{HasForm, IsRow, text, class}
+use Rattle.cdf_form.specs.HasForm.{HasForm, IsEntry, text, class}
 use Rattle.cdf_node.specs.Items.{list_of}
 use Rattle.cdf_parts.specs.Parts.{array_at, ids_at, id_of, text_at}
 use Rattle.cdf_parts.specs.Places.{Texts}
@@ -35,45 +35,45 @@ use Rattle.cvr_exchange.proofs.Arrays.{IsRising, objects_form}
 use Rattle.cvr_exchange.proofs.Clean.{IsClean, clean_string, clean_array, clean_put}
 use Rattle.cvr_exchange.proofs.Naming.{names_of, all_name_of, snapshot_of}
 
--- ---- rows of a table, one by one
+-- ---- entries of a table, one by one
 
-abbrev pub AllRows : (Entry → Type 0) → List Entry → Type 0
-AllRows P [] = ⊤
-AllRows P (r ∷ rs) = P r × AllRows P rs
+abbrev pub AllEntries : (Entry → Type 0) → List Entry → Type 0
+AllEntries P [] = ⊤
+AllEntries P (r ∷ rs) = P r × AllEntries P rs
 
 -- one after another
 infixr 5 ◌▸◌
 pub ◌▸◌ : {A B : Type 0} → A → B → A × B
 ◌▸◌ a b = (a, b)
 
-pub all_rows : (P : Entry → Type 0) (rs : List Entry) (r : Entry) → AllRows P rs → IsRow rs r → P r
-all_rows P [] r h i = absurd i
-all_rows P (x ∷ rs) r h (inl e) = subst P e h.0
-all_rows P (x ∷ rs) r h (inr i) = all_rows P rs r h.1 i
+pub all_entries : (P : Entry → Type 0) (rs : List Entry) (r : Entry) → AllEntries P rs → IsEntry rs r → P r
+all_entries P [] r h i = absurd i
+all_entries P (x ∷ rs) r h (inl e) = subst P e h.0
+all_entries P (x ∷ rs) r h (inr i) = all_entries P rs r h.1 i
 
--- ---- the rows of a CVR: those that its header keeps, and two
+-- ---- the entries of a CVR: those that its header keeps, and two
 
-abbrev snapshots_row : Entry
-snapshots_row = required_member snapshots_name (Array (leaf.Object group.Snapshots) 1 any key.Id)
+abbrev snapshots_entry : Entry
+snapshots_entry = required_member snapshots_name (Array (leaf.Object group.Snapshots) 1 any key.Id)
 
-abbrev current_row : Entry
-current_row = required_member current_name (One leaf.Text)
+abbrev current_entry : Entry
+current_entry = required_member current_name (One leaf.Text)
 
 abbrev Case : Entry → Type 0
-Case r = IsInHeader r.name ⊎ ((r ≡ snapshots_row) ⊎ (r ≡ current_row))
+Case r = IsInHeader r.name ⊎ ((r ≡ snapshots_entry) ⊎ (r ≡ current_entry))
 
--- a row of that name is that row
+-- an entry of that name is that entry
 abbrev OfName : List ℕ → Entry → Type 0
-OfName name row = (r : Entry) → IsRow (table class_of.Cvr) r → bytes_eq r.name name ≡ true
-    → r ≡ row
+OfName name entry = (r : Entry) → IsEntry (table class_of.Cvr) r → bytes_eq r.name name ≡ true
+    → r ≡ entry
 
-of_snapshots : OfName snapshots_name snapshots_row
+of_snapshots : OfName snapshots_name snapshots_entry
 of_snapshots r i h = grind arith
 
-of_current : OfName current_name current_row
+of_current : OfName current_name current_entry
 of_current r i h = grind arith
 
-cvr_case : (r : Entry) → IsRow (table class_of.Cvr) r → Case r
+cvr_case : (r : Entry) → IsEntry (table class_of.Cvr) r → Case r
 cvr_case r i = go (bytes_eq r.name snapshots_name) (bytes_eq r.name current_name) refl refl
   where
     go : (a b : Bool) → bytes_eq r.name snapshots_name ≡ a → bytes_eq r.name current_name ≡ b
@@ -147,7 +147,7 @@ module _ (ms : Members) (ds : List Data) (current : List ℕ) where
         (at_other (codes "@type") (is_kept (codes "@type") refl refl))
         ∙ head.form.class_is
 
-    needed_at : (r : Entry) → IsRow (table class_of.Cvr) r → Case r → r.required ≡ true
+    needed_at : (r : Entry) → IsEntry (table class_of.Cvr) r → Case r → r.required ≡ true
         → IsSome (get r.name (object made))
     needed_at r i (inl kept) q =
         subst IsSome (sym (at_other r.name kept)) (head.form.needed r i kept q)
@@ -158,7 +158,7 @@ module _ (ms : Members) (ds : List Data) (current : List ℕ) where
 
     module _ (rises : IsRising (map id_of ds)) (some : 1 ≤ items_len (items_of ds))
         (few : items_len (items_of ds) ≤ any) where
-      part_at : (r : Entry) → IsRow (table class_of.Cvr) r → Case r → (e : Data)
+      part_at : (r : Entry) → IsEntry (table class_of.Cvr) r → Case r → (e : Data)
           → get r.name (object made) ≡ Some e → HasForm r.kind e
       part_at r i (inl kept) e at = head.form.member r e i kept (sym (at_other r.name kept) ∙ at)
       part_at r i (inr (inl is)) e at =

@@ -18,7 +18,7 @@ use Rattle.cdf_form.specs.declared.table.Leaf.{Leaf}
 use Rattle.cdf_form.specs.declared.table.Leaf.TheVariants as leaf
 use Rattle.cdf_form.specs.declared.table.Key.TheVariants as key
 use Rattle.cdf_form.specs.declared.table.Kind.TheVariants.{One, Array}
-use Rattle.cdf_form.specs.Tables.{Entry as Row, table, classes_of, required_member, optional_member}
+use Rattle.cdf_form.specs.Tables.{Entry, table, classes_of, required_member, optional_member}
 use Rattle.cdf_form.specs.Tables.{any}
 use Rattle.cdf_form.specs.Form.{class_in, find_class}
 use Rattle.cdf_form.specs.HasForm.{HasForm, text, moment, listed, class}
@@ -37,12 +37,12 @@ use Rattle.cdf_definition.specs.Frame.{Frame}
 use Rattle.cdf_definition.specs.Named.{IdText, ids_of}
 use Rattle.cdf_definition.specs.References.{Scope, scope_of}
 use Rattle.cdf_definition.specs.Resolves.{Resolves, CvrResolves, ElectionResolves}
-use Rattle.cdf_definition.specs.Depths.{election_row}
-use Rattle.cdf_definition.proofs.Laws.{report_row, one_election}
+use Rattle.cdf_definition.specs.Depths.{election_entry}
+use Rattle.cdf_definition.proofs.Laws.{report_entry, one_election}
 use Rattle.cvr_fact_types.specs.declared.name.RecordName.{RecordName}
 use Rattle.cvr_fact_types.specs.Facts.{Device, Facts, fact_total, fact_exact}
 use Rattle.cvr_facts.proofs.Lemmas.{in_map, from_map, in_set}
-use Rattle.cvr_office.specs.Keeps.{Keeps}
+use Rattle.cvr_office.specs.CanHold.{CanHold}
 use Rattle.cvr_office.specs.Names.{records, devices}
 use Rattle.cvr_office.specs.Readers.{header_list}
 use Rattle.cvr_office.proofs.Lemmas.{from_filter}
@@ -56,7 +56,7 @@ use Rattle.cvr_exchange.proofs.Arrays.{IsRising, objects_form, values_form, only
 use Rattle.cvr_exchange.proofs.Clean.{IsClean, clean_array, clean_value}
 use Rattle.cvr_exchange.proofs.Definitions.{values, AreValuesOf, IsDefined}
 use Rattle.cvr_exchange.proofs.Naming.{AreAmong, election_more}
-use Rattle.cvr_exchange.proofs.Records.{AllRows, all_rows, ◌▸◌, at_snapshots}
+use Rattle.cvr_exchange.proofs.Records.{AllEntries, all_entries, ◌▸◌, at_snapshots}
 use Rattle.cvr_exchange.proofs.Shown.{of_device_id}
 use Rattle.cvr_exchange.proofs.Standing.{here, device_values, device_ids_are, devices_rise}
 use Rattle.cvr_exchange.proofs.Standing.{device_form, devices_clean, snapshot_values, record_value}
@@ -82,7 +82,7 @@ among_ids entries name d h n a =
     (subst (λ ids. Contains ids (id_of x.0)) h.ids
     (in_map id_of x.0 (values entries) (h.all x.0 x.1)))
 
-module _ (frame : Frame) (head : Head) (s : Facts) (i : ℕ) (keeps : Keeps frame s)
+module _ (frame : Frame) (head : Head) (s : Facts) (i : ℕ) (can_hold : CanHold frame s)
     (can : CanHead frame head) (pos : 0 < i) (d : Data) (known : IsDefined frame d) where
   abbrev E : Items
   E = items_of (values frame.elections)
@@ -94,7 +94,7 @@ module _ (frame : Frame) (head : Head) (s : Facts) (i : ℕ) (keeps : Keeps fram
   P = items_of (values frame.parties)
 
   abbrev D : Items
-  D = items_of (device_values frame s keeps i pos)
+  D = items_of (device_values frame s can_hold i pos)
 
   abbrev rs : List Data
   rs = map record_data (page s i).records
@@ -108,9 +108,9 @@ module _ (frame : Frame) (head : Head) (s : Facts) (i : ℕ) (keeps : Keeps fram
 
   -- ---- its arrays
 
-  pub devices_list : array_at (codes "ReportingDevice") V ≡ device_values frame s keeps i pos
+  pub devices_list : array_at (codes "ReportingDevice") V ≡ device_values frame s can_hold i pos
   devices_list = ap list_in (at_devices E U head.date head.device D P R)
-      ∙ list_of-items_of (device_values frame s keeps i pos)
+      ∙ list_of-items_of (device_values frame s can_hold i pos)
 
   pub cvrs_list : array_at (codes "CVR") V ≡ rs
   cvrs_list =
@@ -148,7 +148,7 @@ module _ (frame : Frame) (head : Head) (s : Facts) (i : ℕ) (keeps : Keeps fram
       let e = from_map (λ (e : IdText). e.0) head.device frame.devices
       (Contains-from_any (λ x y. (bytes_eq-Decides x y).0) head.device (ids_of frame.devices)
       can.device) in
-      let held = keeps.started (Device e.0.0 e.0.1)
+      let held = can_hold.started (Device e.0.0 e.0.1)
       (in_set fact_total fact_exact (map (λ (e : IdText). Device e.0 e.1) frame.devices)
       (Device e.0.0 e.0.1) (in_map (λ (e : IdText). Device e.0 e.1) e.0 frame.devices e.1)) in
       (e.0.1, subst (λ id. contains s (Device id e.0.1) ≡ true) e.2 held)
@@ -161,15 +161,15 @@ module _ (frame : Frame) (head : Head) (s : Facts) (i : ℕ) (keeps : Keeps fram
   records_clean : (c : Data) → Contains rs c → IsClean 125 c
   records_clean c a =
       let k = record_source c a in
-      subst (IsClean 125) k.3 (record_is_clean frame s keeps i pos k.0 k.1)
+      subst (IsClean 125) k.3 (record_is_clean frame s can_hold i pos k.0 k.1)
 
   volume_clean : IsClean 127 V
   volume_clean =
       made_clean E U head.date head.device D P R can.heading.text
-      (keeps.utf8 (Device head.device device_held.0) device_held.1).0
+      (can_hold.utf8 (Device head.device device_held.0) device_held.1).0
       (clean_array 125 (values frame.elections) known.elections.clean)
       (clean_array 125 (values frame.units) known.units.clean)
-      (clean_array 125 (device_values frame s keeps i pos) (devices_clean frame s keeps i pos))
+      (clean_array 125 (device_values frame s can_hold i pos) (devices_clean frame s can_hold i pos))
       (clean_array 125 (values frame.parties) known.parties.clean)
       (clean_array 125 rs records_clean)
 
@@ -182,14 +182,14 @@ module _ (frame : Frame) (head : Head) (s : Facts) (i : ℕ) (keeps : Keeps fram
   -- ---- its references
 
   abbrev its : Scope
-  its = here frame s keeps
+  its = here frame s can_hold
 
   scope_is : scope_of V ≡ its
   scope_is =
       let elections = ap (map id_of) elections_list ∙ known.elections.ids in
       let units = ap (map id_of) units_list ∙ known.units.ids in
       let parties = ap (map id_of) parties_list ∙ known.parties.ids in
-      let owned = ap (map id_of) devices_list ∙ device_ids_are frame s keeps i pos in
+      let owned = ap (map id_of) devices_list ∙ device_ids_are frame s can_hold i pos in
       let contests = ap (λ es. map contest_of (array_at (codes "Contest") (first_or_null es)))
       (elections_list ∙ known.election) ∙ sym known.contests in
       λ j. record {
@@ -205,7 +205,7 @@ module _ (frame : Frame) (head : Head) (s : Facts) (i : ℕ) (keeps : Keeps fram
     cvrs = λ c a.
         let k = record_source c (subst (λ xs. Contains xs c) cvrs_list a) in
         subst (λ sc. CvrResolves sc c) (sym scope_is)
-        (subst (CvrResolves its) k.3 (record_refers frame s keeps i pos k.0 k.1));
+        (subst (CvrResolves its) k.3 (record_refers frame s can_hold i pos k.0 k.1));
     elections = λ e a.
         let own = known.elections.each e (subst (λ xs. Contains xs e) elections_list a) in
         subst (λ sc. ElectionResolves sc e) (sym scope_is)
@@ -253,33 +253,33 @@ module _ (frame : Frame) (head : Head) (s : Facts) (i : ℕ) (keeps : Keeps fram
         let k = record_source c a in
         let part = listed_part (codes "CVR") V c (subst (λ xs. Contains xs c) (sym cvrs_list) a) in
         let at = at_snapshots (members_in (shown_body i (header_list s k.0)))
-        (snapshot_values frame s keeps i pos k.0 k.1) (current_id (shown_snapshots s i k.0)) in
+        (snapshot_values frame s can_hold i pos k.0 k.1) (current_id (shown_snapshots s i k.0)) in
         subst (HasForm (One (leaf.Object group.Cvrs))) k.3
-        (record_value frame s keeps i pos k.0 k.1
+        (record_value frame s can_hold i pos k.0 k.1
         (few_in (record_data (shown_record s i k.0)) snapshots_name
-        (items_of (snapshot_values frame s keeps i pos k.0 k.1))
+        (items_of (snapshot_values frame s can_hold i pos k.0 k.1))
         (subst (λ x. IsPart x V) (sym k.3) part) at))
 
     -- a member that is there has its form, and one that has to be there is
-    abbrev Fits : Row → Type 0
+    abbrev Fits : Entry → Type 0
     Fits r = (r.required ≡ true → IsSome (get r.name V))
         × ((e : Data) → get r.name V ≡ Some e → HasForm r.kind e)
 
-    has : (r : Row) (x : Data) → get r.name V ≡ Some x → HasForm r.kind x → Fits r
+    has : (r : Entry) (x : Data) → get r.name V ≡ Some x → HasForm r.kind x → Fits r
     has r x is f = (
       (λ q. subst IsSome (sym is) refl),
       λ e at.
           subst (HasForm r.kind) (inside x e (sym is ∙ at)) f,
     )
 
-    absent : (r : Row) → r.required ≡ false → get r.name V ≡ None → Fits r
+    absent : (r : Entry) → r.required ≡ false → get r.name V ≡ None → Fits r
     absent r free is = (
       (λ q. absurd (true≢false (sym q ∙ free))),
       λ e at. let clash : None
           ≡ Some e = sym is ∙ at in absurd (Prim.cc clash),
     )
 
-    may_have : (r : Row) (xs : Items) → r.required ≡ false → get r.name V ≡ unless_none xs
+    may_have : (r : Entry) (xs : Items) → r.required ≡ false → get r.name V ≡ unless_none xs
         → HasForm r.kind (array xs) → Fits r
     may_have r no_items free is f = absent r free is
     may_have r (item x xs) free is f = has r (array (item x xs)) is f
@@ -292,19 +292,19 @@ module _ (frame : Frame) (head : Head) (s : Facts) (i : ℕ) (keeps : Keeps fram
     election_form : (e : Data) → Contains (values frame.elections) e
         → HasForm (One (leaf.Object group.Elections)) e
     election_form e a =
-        items_have_form (report_row election_row d refl known.report) e (known.elections.each e a)
+        items_have_form (report_entry election_entry d refl known.report) e (known.elections.each e a)
 
     unit_form : (e : Data) → Contains (values frame.units) e
         → HasForm (One (leaf.Object group.GpUnits)) e
     unit_form e a =
-        items_have_form (report_row (required_member (codes "GpUnit")
+        items_have_form (report_entry (required_member (codes "GpUnit")
         (Array (leaf.Object group.GpUnits) 0 any key.Id)) d refl known.report) e
         (known.units.each e a)
 
     party_form : (e : Data) → Contains (values frame.parties) e
         → HasForm (One (leaf.Object group.Parties)) e
     party_form e a =
-        items_have_form (report_row (optional_member (codes "Party")
+        items_have_form (report_entry (optional_member (codes "Party")
         (Array (leaf.Object group.Parties) 0 any key.Id)) d refl known.report) e
         (known.parties.each e a)
 
@@ -316,8 +316,8 @@ module _ (frame : Frame) (head : Head) (s : Facts) (i : ℕ) (keeps : Keeps fram
         len_items (values frame.elections) ∙ ap length (known.election ∙ one.1) in
         (omega (arith, n), omega (arith, n))
 
-    rows : AllRows Fits (table class_of.CastVoteRecordReport)
-    rows =
+    fitting : AllEntries Fits (table class_of.CastVoteRecordReport)
+    fitting =
         may_have (optional_member (codes "CVR") (Array (leaf.Object group.Cvrs) 0 any key.Free)) R
         refl (at_cvrs E U head.date head.device D P R)
         (values_form (leaf.Object group.Cvrs) 0 any rs record_has_form (omega arith)
@@ -362,8 +362,8 @@ module _ (frame : Frame) (head : Head) (s : Facts) (i : ℕ) (keeps : Keeps fram
         (Array (leaf.Object group.ReportingDevices) 0 any key.Id)) (array D)
         (at_devices E U head.date head.device D P R)
         (objects_form group.ReportingDevices 0
-        (device_values frame s keeps i pos) (refl, tt)
-        (device_form frame s keeps i pos) (devices_rise frame s keeps i pos)
+        (device_values frame s can_hold i pos) (refl, tt)
+        (device_form frame s can_hold i pos) (devices_rise frame s can_hold i pos)
         (omega arith)
         (few (codes "ReportingDevice") D
         (at_devices E U head.date head.device D P R))) ▸
@@ -379,8 +379,8 @@ module _ (frame : Frame) (head : Head) (s : Facts) (i : ℕ) (keeps : Keeps fram
 
     volume_form : HasForm (One (leaf.Object group.Reports)) V
     volume_form =
-        class class_is (λ r j q. (all_rows Fits (table class_of.CastVoteRecordReport) r rows j).0 q)
-        (λ r e j at. (all_rows Fits (table class_of.CastVoteRecordReport) r rows j).1 e at)
+        class class_is (λ r j q. (all_entries Fits (table class_of.CastVoteRecordReport) r fitting j).0 q)
+        (λ r e j at. (all_entries Fits (table class_of.CastVoteRecordReport) r fitting j).1 e at)
 
     pub volume_valid : Valid frame (volume frame head s i)
     volume_valid = (

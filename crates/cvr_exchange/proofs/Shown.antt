@@ -18,7 +18,7 @@ use Rattle.cvr_facts.proofs.Laws.{text_total, text_exact, choice_total, choice_e
 use Rattle.cvr_facts.proofs.Lemmas.{at_head, at_tail, in_map, from_map}
 use Rattle.cdf_definition.specs.Frame.{Frame}
 use Rattle.cvr_office.specs.declared.conflict.ConflictName.TheVariants as name
-use Rattle.cvr_office.specs.Keeps.{Keeps}
+use Rattle.cvr_office.specs.CanHold.{CanHold}
 use Rattle.cvr_office.specs.Names.{records, devices, snapshot_ids, is_named, body_of}
 use Rattle.cvr_office.specs.Readers.{header_list, device_list, snapshot_list}
 use Rattle.cvr_office.proofs.Lemmas.{from_ordered, in_ordered, from_filter, in_filter}
@@ -95,7 +95,7 @@ shown_in : (i : ℕ) (xs : List (List ℕ)) (x : List ℕ) → 0 < i → Contain
     → Contains xs (shown_body i xs)
 shown_in i xs x pos at = let lt = at.1 in shown_listed i xs pos (omega (arith, lt))
 
-module _ (frame : Frame) (s : Facts) (keeps : Keeps frame s) (i : ℕ) (pos : 0 < i) where
+module _ (frame : Frame) (s : Facts) (can_hold : CanHold frame s) (i : ℕ) (pos : 0 < i) where
   pub device_shown : (id : List ℕ) → Contains (devices s) id
       → contains s (Device id (shown_body i (device_list s id))) ≡ true
   device_shown id at =
@@ -108,17 +108,17 @@ module _ (frame : Frame) (s : Facts) (keeps : Keeps frame s) (i : ℕ) (pos : 0 
         → contains s (Snapshot key.device key.unique id (shown_body i (snapshot_list s key id)))
         ≡ true
     snapshot_shown id at = (of_snapshot s key id _).0
-        (shown_listed i (snapshot_list s key id) pos (id_shows frame s keeps key id at))
+        (shown_listed i (snapshot_list s key id) pos (id_shows frame s can_hold key id at))
 
     module _ (at : Contains (records s) key) where
       pub header_shown : contains s (Header key.device key.unique
           (shown_body i (header_list s key))) ≡ true
       header_shown = (of_header s key _).0
-          (shown_listed i (header_list s key) pos (headed frame s keeps key at))
+          (shown_listed i (header_list s key) pos (headed frame s can_hold key at))
 
       pub some_id : (id : List ℕ) × Contains (snapshot_ids s key) id
       some_id =
-          let whole : HasRecord s key.device key.unique = keeps.whole
+          let whole : HasRecord s key.device key.unique = can_hold.whole
           (Header key.device key.unique (shown_body i (header_list s key))) header_shown in
           (whole.snapshot.0, (of_id s key whole.snapshot.0).1 (whole.snapshot.1, whole.snapshot.2))
 

@@ -31,7 +31,7 @@ use Rattle.cvr_facts.specs.Reports.{device_fact, header_fact, snapshot_fact}
 use Rattle.cvr_facts.specs.Stands.{Stands}
 use Rattle.cvr_facts.proofs.Laws.{text_total, text_exact}
 use Rattle.cvr_facts.proofs.Lemmas.{at_head, at_tail, in_map, from_map, ordered_rises}
-use Rattle.cvr_office.specs.Keeps.{Keeps, content_scope}
+use Rattle.cvr_office.specs.CanHold.{CanHold, content_scope}
 use Rattle.cvr_office.specs.Names.{records, devices, snapshot_ids, id_in}
 use Rattle.cvr_office.specs.Readers.{header_list, device_list, snapshot_list}
 use Rattle.cvr_office.specs.Under.{device_ids}
@@ -106,7 +106,7 @@ id_text d id is = ap (λ o. unwrap_or (option_and_then as_str o) []) is
 
 -- ---- bodies that are held
 
-module _ (frame : Frame) (s : Facts) (keeps : Keeps frame s) where
+module _ (frame : Frame) (s : Facts) (can_hold : CanHold frame s) where
   -- what the definition and the devices of the facts name
   abbrev pub here : Scope
   here = scope_in frame (devices s)
@@ -118,7 +118,7 @@ module _ (frame : Frame) (s : Facts) (keeps : Keeps frame s) where
 
   module _ (id b : List ℕ) (held : contains s (Device id b) ≡ true) where
     device_body : Stands (content_scope frame s) (Device id b)
-    device_body = keeps.stand (Device id b) held
+    device_body = can_hold.stand (Device id b) held
 
     device_is : data_of b ≡ device_body.0
     device_is = ap (λ o. unwrap_or o null) device_body.1.1
@@ -130,13 +130,13 @@ module _ (frame : Frame) (s : Facts) (keeps : Keeps frame s) where
     device_text = ap compact_text device_is ∙ sym device_body.1.0
 
     pub device_clean : IsClean 125 (data_of b)
-    device_clean = clean_read 125 b (data_of b) (keeps.utf8 (Device id b) held).1.0
+    device_clean = clean_read 125 b (data_of b) (can_hold.utf8 (Device id b) held).1.0
         (device_body.1.1 ∙ ap Some (sym device_is)) device_stands.proper
 
   module _ (device unique id b : List ℕ)
       (held : contains s (Snapshot device unique id b) ≡ true) where
     snapshot_body : Stands (content_scope frame s) (Snapshot device unique id b)
-    snapshot_body = keeps.stand (Snapshot device unique id b) held
+    snapshot_body = can_hold.stand (Snapshot device unique id b) held
 
     snapshot_is : data_of b ≡ snapshot_body.0
     snapshot_is = ap (λ o. unwrap_or o null) snapshot_body.1.1
@@ -150,15 +150,15 @@ module _ (frame : Frame) (s : Facts) (keeps : Keeps frame s) where
 
     pub snapshot_clean : IsClean 123 (data_of b)
     snapshot_clean =
-        clean_read 123 b (data_of b) (keeps.utf8 (Snapshot device unique id b) held).1.1.1.0
+        clean_read 123 b (data_of b) (can_hold.utf8 (Snapshot device unique id b) held).1.1.1.0
         (snapshot_body.1.1 ∙ ap Some (sym snapshot_is)) snapshot_stands.proper
 
     pub snapshot_id_utf8 : IsUtf8 id
-    snapshot_id_utf8 = (keeps.utf8 (Snapshot device unique id b) held).1.1.0
+    snapshot_id_utf8 = (can_hold.utf8 (Snapshot device unique id b) held).1.1.0
 
   module _ (device unique b : List ℕ) (held : contains s (Header device unique b) ≡ true) where
     header_body : Stands (content_scope frame s) (Header device unique b)
-    header_body = keeps.stand (Header device unique b) held
+    header_body = can_hold.stand (Header device unique b) held
 
     header_is : object (members_in b) ≡ header_body.0
     header_is =
@@ -174,7 +174,7 @@ module _ (frame : Frame) (s : Facts) (keeps : Keeps frame s) where
 
     pub header_clean : IsClean 125 (object (members_in b))
     header_clean =
-        clean_read 125 b (object (members_in b)) (keeps.utf8 (Header device unique b) held).1.1.0
+        clean_read 125 b (object (members_in b)) (can_hold.utf8 (Header device unique b) held).1.1.0
         (header_body.1.1 ∙ ap Some (sym header_is)) header_stands.proper
 
   -- ---- devices that a volume shows
@@ -189,7 +189,7 @@ module _ (frame : Frame) (s : Facts) (keeps : Keeps frame s) where
     pub device_ids_are : map id_of device_values ≡ devices s
     device_ids_are = ids_of_values shown_device (devices s) (λ id a.
         id_text (data_of (shown_device id)) id
-        (device_stands id (shown_device id) (device_shown frame s keeps i pos id a)).id_is)
+        (device_stands id (shown_device id) (device_shown frame s can_hold i pos id a)).id_is)
 
     pub devices_rise : IsRising (map id_of device_values)
     devices_rise = subst IsRising (sym device_ids_are) (ordered_rises text_cmp (device_ids s))
@@ -199,18 +199,18 @@ module _ (frame : Frame) (s : Facts) (keeps : Keeps frame s) where
     device_form d a =
         let p = value_source shown_device (devices s) d a in
         subst (λ x. HasForm (One (leaf.Object group.ReportingDevices)) x) p.2
-        (device_stands p.0 (shown_device p.0) (device_shown frame s keeps i pos p.0 p.1)).form
+        (device_stands p.0 (shown_device p.0) (device_shown frame s can_hold i pos p.0 p.1)).form
 
     pub devices_clean : (d : Data) → Contains device_values d → IsClean 125 d
     devices_clean d a =
         let p = value_source shown_device (devices s) d a in
         subst (IsClean 125) p.2 (device_clean p.0 (shown_device p.0)
-        (device_shown frame s keeps i pos p.0 p.1))
+        (device_shown frame s can_hold i pos p.0 p.1))
 
     pub device_back : (id : List ℕ) → Contains (devices s) id
         → device_fact (data_of (shown_device id)) ≡ Device id (shown_device id)
     device_back id a =
-        let held = device_shown frame s keeps i pos id a in
+        let held = device_shown frame s can_hold i pos id a in
         let name = id_text (data_of (shown_device id)) id
         (device_stands id (shown_device id) held).id_is in
         let text = device_text id (shown_device id) held in
@@ -232,11 +232,11 @@ module _ (frame : Frame) (s : Facts) (keeps : Keeps frame s) where
       current = current_id (shown_snapshots s i key)
 
       held_head : contains s (Header key.device key.unique head) ≡ true
-      held_head = header_shown frame s keeps i pos key at
+      held_head = header_shown frame s can_hold i pos key at
 
       held_snapshot : (id : List ℕ) → Contains (snapshot_ids s key) id
           → contains s (Snapshot key.device key.unique id (shown_snapshot id)) ≡ true
-      held_snapshot id a = snapshot_shown frame s keeps i pos key id a
+      held_snapshot id a = snapshot_shown frame s can_hold i pos key id a
 
       stands : HeaderStands here key.device key.unique (object (members_in head))
       stands = header_stands key.device key.unique head held_head
@@ -268,14 +268,14 @@ module _ (frame : Frame) (s : Facts) (keeps : Keeps frame s) where
 
       some_value : 1 ≤ items_len (items_of snapshot_values)
       some_value =
-          let one = some_id frame s keeps i pos key at in
+          let one = some_id frame s can_hold i pos key at in
           let lt = some_listed snapshot_values _
           (value_listed shown_snapshot (snapshot_ids s key) one.0 one.1) in
           omega (arith, lt, len_items snapshot_values)
 
       current_in : Contains (snapshot_ids s key) current
       current_in =
-          let one = some_id frame s keeps i pos key at in
+          let one = some_id frame s can_hold i pos key at in
           let lt = some_listed (shown_snapshots s i key) _
           (in_map (λ id. record { id = id; body = shown_snapshot id }) one.0
           (snapshot_ids s key) one.1) in

@@ -20,23 +20,23 @@ none_is None e = refl
 none_is (Some fault) e = absurd (Prim.cc e)
 
 pub valid : ValidLaw
-valid frame head s i keeps can pos short =
+valid frame head s i can_hold can pos short =
     (valid_file frame (volume frame head s i)).0
     (none_is (first_refusal frame (volume frame head s i))
-    (of_definition frame keeps.sound (is_none (first_refusal frame (volume frame head s i)))
+    (of_definition frame can_hold.sound (is_none (first_refusal frame (volume frame head s i)))
     (λ d known. ap is_none ((valid_file frame (volume frame head s i)).1
-    (volume_valid frame head s i keeps can pos d known short)))))
+    (volume_valid frame head s i can_hold can pos d known short)))))
 
 same_back : (f g : Frame) → IsSame f g → IsSame g f
 same_back f g h =
     record { elections = sym h.elections; units = sym h.units; parties = sym h.parties }
 
 pub valid_for_same : ValidForSameLaw
-valid_for_same frame other head s i keeps can pos short is same =
-    let v = valid frame head s i keeps can pos short in (
+valid_for_same frame other head s i can_hold can pos short is same =
+    let v = valid frame head s i can_hold can pos short in (
       v.0,
       v.1,
       v.2,
       agrees_alike other frame
-          (same_definitions other frame is keeps.sound (same_back frame other same)) v.0 v.3,
+          (same_definitions other frame is can_hold.sound (same_back frame other same)) v.0 v.3,
     )

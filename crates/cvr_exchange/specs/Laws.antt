@@ -16,7 +16,7 @@ use Rattle.cvr_office.specs.declared.event.Outcome.{Outcome}
 use Rattle.cvr_office.specs.declared.event.Outcome.TheVariants.{Accepted, Refused}
 use Rattle.cvr_office.specs.declared.event.Cause.TheVariants.{Read}
 use Rattle.cvr_office.specs.Readers.{growth}
-use Rattle.cvr_office.specs.Keeps.{Keeps}
+use Rattle.cvr_office.specs.CanHold.{CanHold}
 use Rattle.cvr_office.specs.Reach.{History, content}
 use Rattle.cvr_office.specs.Outcomes.{no_frame, IsImportOutcome, AreOutcomes}
 use Rattle.cvr_office.specs.Alike.{AreNewOfOne, ArePlayed, HaveSameFiles, AreAlike}
@@ -31,13 +31,13 @@ use Rattle.cvr_exchange.specs.Passing.{AreImportsOfAll, IsByFiles}
 
 -- a volume that is short enough for a file is accepted beside the giver's definition
 abbrev pub ValidLaw : Type 0
-ValidLaw = (frame : Frame) (head : Head) (s : Facts) (i : ℕ) → Keeps frame s → CanHead frame head
+ValidLaw = (frame : Frame) (head : Head) (s : Facts) (i : ℕ) → CanHold frame s → CanHead frame head
     → 0 < i
     → length (volume frame head s i) ≤ max_file → Valid frame (volume frame head s i)
 
 -- and beside any definition that is the same
 abbrev pub ValidForSameLaw : Type 0
-ValidForSameLaw = (frame other : Frame) (head : Head) (s : Facts) (i : ℕ) → Keeps frame s
+ValidForSameLaw = (frame other : Frame) (head : Head) (s : Facts) (i : ℕ) → CanHold frame s
     → CanHead frame head → 0 < i
     → length (volume frame head s i) ≤ max_file → IsFrame other → IsSame frame other
     → Valid other (volume frame head s i)
@@ -46,18 +46,18 @@ ValidForSameLaw = (frame other : Frame) (head : Head) (s : Facts) (i : ℕ) → 
 
 -- each fact of a volume is one of its giver's
 abbrev pub NothingAddedLaw : Type 0
-NothingAddedLaw = (frame : Frame) (head : Head) (s : Facts) (i : ℕ) (f : Fact) → Keeps frame s
+NothingAddedLaw = (frame : Frame) (head : Head) (s : Facts) (i : ℕ) (f : Fact) → CanHold frame s
     → CanHead frame head → 0 < i
     → contains (facts (volume frame head s i)) f ≡ true → contains s f ≡ true
 
 -- all volumes together have the giver's facts exactly, however long they are
 abbrev pub AllVolumesLaw : Type 0
-AllVolumesLaw = (frame : Frame) (head : Head) (s : Facts) → Keeps frame s → CanHead frame head
+AllVolumesLaw = (frame : Frame) (head : Head) (s : Facts) → CanHold frame s → CanHead frame head
     → facts_of_volumes frame head s (range_with_len 1 (volumes s)) ≡ s
 
 -- in any order, with any repeats
 abbrev pub AnyOrderLaw : Type 0
-AnyOrderLaw = (frame : Frame) (head : Head) (s : Facts) (numbers : List ℕ) → Keeps frame s
+AnyOrderLaw = (frame : Frame) (head : Head) (s : Facts) (numbers : List ℕ) → CanHold frame s
     → CanHead frame head
     → AreAllTo (volumes s) numbers → facts_of_volumes frame head s numbers ≡ s
 
@@ -68,7 +68,7 @@ AnyOrderLaw = (frame : Frame) (head : Head) (s : Facts) (numbers : List ℕ) →
 abbrev pub AcceptedLaw : Type 0
 AcceptedLaw = (frame : Frame) (head : Head) (s : Facts) (i : ℕ) (frames : List Frame)
     (files : List (List ℕ)) (held : ℕ → Facts) (o f : ℕ) (r : Outcome)
-    → Keeps frame s → CanHead frame head → 0 < i → length (volume frame head s i) ≤ max_file
+    → CanHold frame s → CanHead frame head → 0 < i → length (volume frame head s i) ≤ max_file
     → o < length frames → IsFrame (slice_index_or frames o no_frame)
     → IsSame frame (slice_index_or frames o no_frame)
     → f < length files → slice_index_or files f [] ≡ volume frame head s i
@@ -81,7 +81,7 @@ AcceptedLaw = (frame : Frame) (head : Head) (s : Facts) (i : ℕ) (frames : List
 abbrev pub ImportsLaw : Type 0
 ImportsLaw = (frame : Frame) (head : Head) (starts : List Facts) (files : List (List ℕ))
     (imports past : History) (p o n : ℕ)
-    → Keeps frame (content starts files past p) → CanHead frame head
+    → CanHold frame (content starts files past p) → CanHead frame head
     → AreImportsOfAll frame head (content starts files past p) files o imports
     → (k : ℕ) → content starts files (imports ++ past) k
     ≡ content starts files ((Exchange p o, Accepted n) ∷ past) k
@@ -99,7 +99,7 @@ AmongLaw = (frame : Frame) (head : Head) (s : Facts) (starts : List Facts) (file
 abbrev pub AllAmongLaw : Type 0
 AllAmongLaw = (frame : Frame) (head : Head) (s : Facts) (starts : List Facts)
     (files : List (List ℕ)) (later past : History) (o : ℕ) (numbers : List ℕ) (q : Fact)
-    → Keeps frame s → CanHead frame head → AreAllTo (volumes s) numbers
+    → CanHold frame s → CanHead frame head → AreAllTo (volumes s) numbers
     → AreImported frame head s files o numbers later
     → contains (union (content starts files past o) s) q ≡ true
     → contains (content starts files (later ++ past) o) q ≡ true
@@ -107,14 +107,14 @@ AllAmongLaw = (frame : Frame) (head : Head) (s : Facts) (starts : List Facts)
 -- ---- histories
 
 -- what each office holds at first keeps what an office keeps true
-abbrev pub BeganKept : List Frame → List Facts → Type 0
-BeganKept frames starts = (o : ℕ) → o < length frames
-    → Keeps (slice_index_or frames o no_frame) (slice_index_or starts o empty)
+abbrev pub CouldBegin : List Frame → List Facts → Type 0
+CouldBegin frames starts = (o : ℕ) → o < length frames
+    → CanHold (slice_index_or frames o no_frame) (slice_index_or starts o empty)
 
 -- offices that do by files what a history does hold what that history would give
 abbrev pub ByFilesLaw : Type 0
 ByFilesLaw = (frames : List Frame) (starts : List Facts) (files : List (List ℕ)) (by past : History)
-    → BeganKept frames starts → AreOutcomes starts frames files by
+    → CouldBegin frames starts → AreOutcomes starts frames files by
     → IsByFiles frames starts files by past
     → (o : ℕ) → content starts files by o ≡ content starts files past o
 

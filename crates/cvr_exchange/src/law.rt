@@ -8,8 +8,8 @@ use cvr_office::Office;
 /// A volume that is short enough for a file is accepted beside the definition of the office that
 /// wrote it, and beside any that is the same, whatever conflicts stand in it.
 ///
-/// Premises: what each office keeps (`keeps` of `Office::definition`), and a heading (`heading` of
-/// `Heading::date`) of a device that the definition lists. No law says that a volume is short
+/// Premises: what each office holds (`can_hold` of `Office::definition`), and a heading (`heading`
+/// of `Heading::date`) of a device that the definition lists. No law says that a volume is short
 /// enough for a file: a longer one is refused with E1.
 pub fn valid_volumes()
     ensures own { ValidLaw }

@@ -18,6 +18,6 @@ pub mod Positions
 pub mod AddingUp
 pub mod ByPlace
 pub mod Gathering
-pub mod WorkedRows
+pub mod WorkedFiles
 pub mod Laws
 pub mod Lemmas

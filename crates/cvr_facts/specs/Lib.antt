@@ -9,4 +9,4 @@ pub mod Stands
 pub mod Sources
 pub mod Laws
 pub mod SumLaws
-pub mod Rows
+pub mod Examples

@@ -4,18 +4,18 @@
 
 mod bodies;
 mod choice;
+pub mod examples;
 mod gather;
 mod join;
-mod kept;
 pub mod law;
 mod list;
-pub mod rows;
 mod sums;
+mod value;
 
 pub use bodies::BodySet;
 pub use choice::choice_cmp;
 pub use cvr_fact_types::{DeviceFact, HeaderFact, RecordName, SnapshotFact, VoteSums};
 pub use gather::facts_of;
 pub use join::{Join, join_both};
-pub use kept::{header_in, snapshot_in};
 pub use list::FactList;
+pub use value::{header_in, snapshot_in};

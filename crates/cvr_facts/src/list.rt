@@ -21,7 +21,7 @@ pub struct FactList {
 pub(crate) fn in_order<T: Ord + Drop>(mut facts: Vec<T>) -> Seq<T>
     ensures once { IsStrictlySortedBy T.cmp result }
     ensures stated { (fact : T) → Contains result fact → Contains facts.items fact }
-    ensures kept { (fact : T) → Contains facts.items fact
+    ensures each { (fact : T) → Contains facts.items fact
         → Any (λ other. T.cmp fact other ≡ Equal) result }
 {
     facts.sort_unstable();

@@ -27,7 +27,7 @@ use Rattle.cvr_facts.proofs.Lemmas.{in_map, from-filter_map}
 use Rattle.cvr_facts.specs.Sources.{cvrs_in, snapshots_in, Source, of_device, of_header}
 use Rattle.cvr_facts.specs.Sources.{of_snapshot}
 use Rattle.cvr_office.specs.Tallied.{sums_of_body}
-use Rattle.cvr_office.specs.Keeps.{Keeps}
+use Rattle.cvr_office.specs.CanHold.{CanHold}
 use Rattle.cvr_office.specs.Adding.{AreSums, CurrentsAreSums}
 use Rattle.cvr_office.proofs.Lemmas.{sums_in_place}
 use Rattle.std.proofs.lemmas.Map.Keys.{IsDistinct-prop}
@@ -78,7 +78,7 @@ sums_of_fact frame (Snapshot d u i b) key body range is =
       | false ↦ λ is. Prim.cc is
     ] is
 
-pub currents_are_sums : (frame : Frame) (s : Facts) → Keeps frame s
+pub currents_are_sums : (frame : Frame) (s : Facts) → CanHold frame s
     → CurrentsAreSums frame.contests s
 currents_are_sums frame s keeps key body is =
     let at =
@@ -89,7 +89,7 @@ currents_are_sums frame s keeps key body is =
     (source_in_range frame q.0 keeps.sound q.1 at.0 (fact_source q.0 at.0 q.2)) at.2)
 
 -- so are those of each snapshot
-pub facts_are_sums : (frame : Frame) (s : Facts) → Keeps frame s → (d u i b : List ℕ)
+pub facts_are_sums : (frame : Frame) (s : Facts) → CanHold frame s → (d u i b : List ℕ)
     → contains s (Snapshot d u i b) ≡ true → AreSums frame.contests (sums_of_body frame.contests b)
 facts_are_sums frame s keeps d u i b held =
     ∥∥₁_elim (keeps.given (Snapshot d u i b) held) (hlevel (IsDistinct-prop, ℕ_set, le_prop))

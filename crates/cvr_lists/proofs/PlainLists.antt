@@ -11,7 +11,7 @@ use Rattle.cvr_facts.specs.Unions.{empty_union}
 use Rattle.cvr_facts.proofs.Lemmas.{none_listed, in_map, from_map}
 use Rattle.cvr_office.specs.declared.any_fact.AnyFact.{AnyFact}
 use Rattle.cvr_office.specs.declared.any_fact.AnyFact.TheVariants as any
-use Rattle.cvr_office.specs.Keeps.{Keeps, starting_content}
+use Rattle.cvr_office.specs.CanHold.{CanHold, starting_content}
 use Rattle.cvr_office.specs.Place.{any_cmp, fact_of}
 use Rattle.cvr_office.specs.Plain.{set_of, IsSpelled, IsPlain, IsPut}
 use Rattle.cvr_office.proofs.Laws.{start_keeps}
@@ -61,5 +61,5 @@ module _ (frame : Frame) (none more new : List AnyFact) (empty_is : none ≡ [])
     rises = put.rises;
     spelled = spelled_put frame.contests none more new put
         (λ f at. absurd (none_listed f (subst (λ xs. Contains xs f) empty_is at))) own_spelled;
-    keeps = subst (Keeps frame) (sym start_is) (start_keeps frame sound);
+    can_hold = subst (CanHold frame) (sym start_is) (start_keeps frame sound);
   }

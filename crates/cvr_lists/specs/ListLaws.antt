@@ -20,7 +20,7 @@ use Rattle.cvr_office.specs.declared.any_fact.AnyFact.TheVariants as any
 use Rattle.cvr_office.specs.declared.conflict.ConflictName.{ConflictName}
 use Rattle.cvr_office.specs.declared.record_facts.RecordFacts.{RecordFacts}
 use Rattle.cvr_office.specs.Names.{name_of, is_named, record_of, records, conflicts, greatest_count}
-use Rattle.cvr_office.specs.Keeps.{starting_content}
+use Rattle.cvr_office.specs.CanHold.{starting_content}
 use Rattle.cvr_office.specs.Place.{fact_of, any_cmp}
 use Rattle.cvr_office.specs.Plain.{set_of, IsSpelled, IsPlain, IsPut}
 use Rattle.cvr_office.specs.Readers.{growth, IsHeader, IsCurrent, AreAllFactsOf}

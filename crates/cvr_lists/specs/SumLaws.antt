@@ -8,7 +8,7 @@ use Rattle.cvr_fact_types.specs.declared.sums.VoteSums.{VoteSums}
 use Rattle.cvr_fact_types.specs.Facts.{Facts, Snapshot}
 use Rattle.cvr_facts.specs.Choosing.{header, current}
 use Rattle.cvr_tally.specs.declared.key.RowKey.{RowKey}
-use Rattle.cvr_office.specs.Keeps.{Keeps}
+use Rattle.cvr_office.specs.CanHold.{CanHold}
 use Rattle.cvr_office.specs.Tallied.{unit_of, batch_of, sums_of_body, sums_at, row_over}
 use Rattle.cvr_office.specs.Adding.{IsSums, AreSums, CurrentsAreSums, added_sums, sums_for}
 use Rattle.cvr_office.specs.Adding.{row_with}
@@ -17,10 +17,10 @@ use Rattle.cvr_office.specs.Adding.{row_with}
 
 -- those of each current snapshot, and of each snapshot, are of contests of the definition
 abbrev pub CurrentSumsLaw : Type 0
-CurrentSumsLaw = (frame : Frame) (s : Facts) → Keeps frame s → CurrentsAreSums frame.contests s
+CurrentSumsLaw = (frame : Frame) (s : Facts) → CanHold frame s → CurrentsAreSums frame.contests s
 
 abbrev pub SnapshotSumsLaw : Type 0
-SnapshotSumsLaw = (frame : Frame) (s : Facts) → Keeps frame s → (d u i b : List ℕ)
+SnapshotSumsLaw = (frame : Frame) (s : Facts) → CanHold frame s → (d u i b : List ℕ)
     → contains s (Snapshot d u i b) ≡ true → AreSums frame.contests (sums_of_body frame.contests b)
 
 -- so are those of a record in a contest

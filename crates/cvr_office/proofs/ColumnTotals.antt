@@ -27,7 +27,7 @@ use Rattle.cvr_tally.specs.Keys.{keys_total, keys_exact}
 use Rattle.cvr_tally.specs.Rows.{number_in}
 use Rattle.cvr_tally.proofs.Lemmas.{number_in-row_by, number_in-row_by-le}
 use Rattle.cvr_office.specs.Names.{records}
-use Rattle.cvr_office.specs.Keeps.{Keeps}
+use Rattle.cvr_office.specs.CanHold.{CanHold}
 use Rattle.cvr_office.specs.Tallied.{sums_of_body, sums_at, stands_in, column_over, row_of}
 use Rattle.cvr_office.specs.Tallied.{row, rows}
 use Rattle.cvr_office.specs.Counting.{ColumnsLaw, AddUpLaw}
@@ -218,21 +218,21 @@ module _ (frame : Frame) (s : Facts) (c : ℕ) (column : Column) where
   whole None = refl
   whole (Some v) = omega arith
 
-  once : Keeps frame s → (r : RecordName) → Contains (records s) r
+  once : CanHold frame s → (r : RecordName) → Contains (records s) r
       → sum_by (λ q. cond (stands_in frame.contests s q r) (amount r) 0) (keys frame s c)
       ≡ amount r
-  once keeps r at =
+  once can_hold r at =
       amounts (λ q. stands_in frame.contests s q r) (amount r) (keys frame s c)
-      ∙ (ap (λ n. n * amount r) (each_record frame s c keeps r at)
+      ∙ (ap (λ n. n * amount r) (each_record frame s c can_hold r at)
       ∙ whole (sums_at frame.contests s c r))
 
 pub columns_add_up : ColumnsLaw
-columns_add_up frame s c column keeps =
+columns_add_up frame s c column can_hold =
     by_keys frame s c column (entries (rows frame.contests s)) (theirs frame s c column)
     ∙ (exchanged (stands_in frame.contests s) (amount frame s c column) (keys frame s c) (records s)
     ∙ sum_by-same (λ r. sum_by (λ q. cond (stands_in frame.contests s q r)
     (amount frame s c column r) 0) (keys frame s c)) (amount frame s c column) (records s)
-    (once frame s c column keeps))
+    (once frame s c column can_hold))
 
 -- ---- ballots
 
@@ -241,8 +241,8 @@ one_ballot None = refl
 one_ballot (Some v) = refl
 
 pub ballots_add_up : AddUpLaw
-ballots_add_up frame s c keeps =
-    columns_add_up frame s c Ballots keeps
+ballots_add_up frame s c can_hold =
+    columns_add_up frame s c Ballots can_hold
     ∙ (sum_by-same (amount frame s c Ballots) (λ r. weight (has frame s c r)) (records s)
     (λ r at. one_ballot (sums_at frame.contests s c r))
     ∙ sym (length-filter (has frame s c) (records s)))

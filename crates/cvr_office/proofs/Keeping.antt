@@ -19,7 +19,7 @@ use Rattle.cvr_facts.specs.Sources.{devices_in, Source, of_device, of_header, of
 use Rattle.cvr_facts.proofs.Laws.{device_listed, fact_source, fact_held}
 use Rattle.cvr_office.proofs.Standing.{facts_stand}
 use Rattle.cvr_office.proofs.FileRecords.{records_whole}
-use Rattle.cvr_office.specs.Keeps.{Keeps, content_scope}
+use Rattle.cvr_office.specs.CanHold.{CanHold, content_scope}
 use Rattle.cvr_office.specs.Laws.{ImportLaw, JoinLaw}
 use Rattle.cvr_office.specs.Under.{device_ids}
 use Rattle.cvr_office.proofs.Included.{IsWithin, of_union, left_within, right_within, includes}
@@ -48,8 +48,8 @@ stands_within frame s t w f h =
     stands_wider (content_scope frame s) (content_scope frame t)
     (more_devices frame (device_ids s) (device_ids t) (devices_within s t w)) f h
 
-pub union_keeps : (frame : Frame) (s t : Facts) → Keeps frame s → CanJoin frame t
-    → Keeps frame (union s t)
+pub union_keeps : (frame : Frame) (s t : Facts) → CanHold frame s → CanJoin frame t
+    → CanHold frame (union s t)
 union_keeps frame s t k j =
     let u = union s t in
     let l = left_within s t in
@@ -112,7 +112,7 @@ import_keeps frame s bytes valid k =
 -- ---- joins
 
 pub other_can_join : (frame other : Frame) (t : Facts) → AreEqualButDevices frame other
-    → Keeps other t → CanJoin frame t
+    → CanHold other t → CanJoin frame t
 other_can_join frame other t a k = record {
   given = λ f h. ∥∥₁_map (k.given f h) (λ q.
       (q.0, (q.1.0, q.1.1, q.1.2, agrees_alike frame other a q.1.0 q.1.3), q.2));

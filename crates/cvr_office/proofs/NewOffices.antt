@@ -14,7 +14,7 @@ use Rattle.cdf_check.proofs.Laws.{one_definition}
 use Rattle.cvr_fact_types.specs.Facts.{Facts}
 use Rattle.cvr_office.specs.declared.event.Event.TheVariants.{Import, Exchange}
 use Rattle.cvr_office.specs.declared.event.Outcome.TheVariants.{Accepted, Refused}
-use Rattle.cvr_office.specs.Keeps.{starting_content}
+use Rattle.cvr_office.specs.CanHold.{starting_content}
 use Rattle.cvr_office.specs.Reach.{Start, File, origin_cmp, History, origins_at, content}
 use Rattle.cvr_office.specs.Outcomes.{no_frame, AreOutcomes}
 use Rattle.cvr_office.specs.Alike.{AreNewOfOne, ArePlayed, HaveSameFiles, BeganAlike, SameFilesLaw}

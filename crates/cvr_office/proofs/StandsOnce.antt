@@ -32,7 +32,7 @@ use Rattle.cvr_tally.specs.declared.key.RowKey.{RowKey}
 use Rattle.cvr_tally.specs.Keys.{part_cmp, key_cmp, keys_total, keys_exact}
 use Rattle.cvr_tally.specs.Rows.{Rows}
 use Rattle.cvr_office.specs.Names.{records}
-use Rattle.cvr_office.specs.Keeps.{Keeps}
+use Rattle.cvr_office.specs.CanHold.{CanHold}
 use Rattle.cvr_office.specs.Tallied.{unit_of, batch_of, is_headed, sums_of_body, sums_at, stands_in}
 use Rattle.cvr_office.specs.Tallied.{row, row_of, rows}
 use Rattle.cvr_office.proofs.RecordMembers.{from_filter, in_filter}
@@ -137,13 +137,13 @@ module _ (frame : Frame) (s : Facts) (c : ℕ) where
   current_there (Some body) e = (body, refl)
 
   -- a record with the contest has a header
-  headed : Keeps frame s → (r : RecordName) → has r ≡ true
+  headed : CanHold frame s → (r : RecordName) → has r ≡ true
       → (head : List ℕ) × (header s r ≡ Some head)
-  headed keeps r is =
+  headed can_hold r is =
       let body = current_there (current s r) is in
       let listed = (greatest_is choice_total (snapshot_bodies s r) body.0 body.1).listed in
       let fact = (Contains-snapshot_bodies s r body.0).0 listed in
-      let head = (keeps.whole (Snapshot r.device r.unique fact.0 body.0) fact.1).header in
+      let head = (can_hold.whole (Snapshot r.device r.unique fact.0 body.0) fact.1).header in
       let at = (Contains-header_bodies s r head.0).1 head.1 in
       let top = has_greatest text_total (header_bodies s r)
       (λ none. none_listed head.0 (subst (λ bs. Contains bs head.0) none at)) in
@@ -193,13 +193,13 @@ module _ (frame : Frame) (s : Facts) (c : ℕ) where
         let batch = (Equal-is (part_cmp q.batch (batch_of head))).0 ties.1 in
         keys_exact q own (λ i. ordering_then (first i) (ordering_then (unit i) (batch i)))
 
-  pub each_record : Keeps frame s → (r : RecordName) → Contains (records s) r
+  pub each_record : CanHold frame s → (r : RecordName) → Contains (records s) r
       → count_by (λ q. stands_in frame.contests s q r) keys ≡ weight (has r)
-  each_record keeps r at =
+  each_record can_hold r at =
       elim (has r) as (λ b. has r ≡ b → count_by (λ q. stands_in frame.contests s q r) keys
       ≡ weight b) [
         | true ↦ λ is.
-            let head = headed keeps r is in
+            let head = headed can_hold r is in
             one_passes keys_total keys_exact (λ q. stands_in frame.contests s q r) keys
             (IsStrictlySortedBy-filter key_cmp (λ q. q.contest == c) (map_of.keys table) rising)
             (own r head.0 head.1) (own_only r head.0 head.1) (own_listed r head.0 head.1 at is)

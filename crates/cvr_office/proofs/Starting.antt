@@ -19,7 +19,7 @@ use Rattle.cvr_facts.specs.Stands.{Stands, IsOfRecord}
 use Rattle.cvr_facts.proofs.Lemmas.{from_map, from_set}
 use Rattle.cvr_facts.specs.Sources.{devices_in}
 use Rattle.cvr_facts.proofs.Laws.{device_listed, fact_held}
-use Rattle.cvr_office.specs.Keeps.{starting_content, content_scope}
+use Rattle.cvr_office.specs.CanHold.{starting_content, content_scope}
 use Rattle.cvr_office.specs.Laws.{StartLaw}
 use Rattle.cvr_office.proofs.OwnFrame.{own_valid, entry_source}
 use Rattle.cvr_office.proofs.ToldBodies.{IsDeviceBody, stated_device}

@@ -20,11 +20,11 @@ use Rattle.cdf_form.specs.Form.{Fault, faults}
 use Rattle.cdf_form.specs.HasForm.{HasForm}
 use Rattle.cdf_parts.specs.Parts.{id_of}
 use Rattle.cdf_parts.specs.Proper.{IsProper}
-use Rattle.cdf_form.proofs.Laws.{fits_of, no_faults, must_be_text, row_of}
+use Rattle.cdf_form.proofs.Laws.{fits_of, no_faults, must_be_text, entry_named}
 use Rattle.cdf_parts.proofs.Laws.{proper_read}
 use Rattle.cdf_parts.proofs.Lemmas.{inside}
 use Rattle.cdf_definition.specs.Bodies.{DeviceStands}
-use Rattle.cdf_definition.specs.Depths.{id_row}
+use Rattle.cdf_definition.specs.Depths.{id_entry}
 use Rattle.cvr_facts.specs.Stands.{Spells}
 
 -- a device's body that stands
@@ -74,7 +74,7 @@ module _ (id body : List ℕ) (known : ∥ IsDeviceBody id body ∥₁) (d : Dat
       fits_of d device_kind key.Free refl (none_is (faults d device_kind key.Free) told_none)
 
   told_at_id : get (codes "@id") d ≡ Some (string id)
-  told_at_id = must_be_text (row_of group.ReportingDevices id_row d (refl, tt) told_form) tt
+  told_at_id = must_be_text (entry_named group.ReportingDevices id_entry d (refl, tt) told_form) tt
       ∙ ap (λ s. Some (string s)) told_id
 
   told_proper : IsProper 125 d

@@ -17,7 +17,7 @@ use Rattle.cvr_facts.specs.Choosing.{header, current}
 use Rattle.cvr_tally.specs.declared.key.RowKey.{RowKey}
 use Rattle.cvr_office.specs.Names.{conflicts}
 use Rattle.cvr_office.specs.Readers.{IsHeader, IsCurrent}
-use Rattle.cvr_office.specs.Keeps.{starting_content, Keeps}
+use Rattle.cvr_office.specs.CanHold.{starting_content, CanHold}
 use Rattle.cvr_office.specs.Reach.{History, Start, File, origins_at, content}
 use Rattle.cvr_office.specs.Outcomes.{AreOutcomes}
 use Rattle.cvr_office.specs.Tallied.{row, rows, tally}
@@ -151,5 +151,5 @@ pub record IsUnitFor (s new : Facts) : Type 0 where
 
 -- a new office is the unit of joining among offices with the same starting facts
 abbrev pub NewOfficeLaw : Type 0
-NewOfficeLaw = (f g : Frame) (s : Facts) → Keeps g s → starting_content f ≡ starting_content g
+NewOfficeLaw = (f g : Frame) (s : Facts) → CanHold g s → starting_content f ≡ starting_content g
     → IsUnitFor s (starting_content f)

@@ -13,7 +13,7 @@ use Rattle.cvr_tally.specs.Rows.{Rows, number_in}
 use Rattle.cvr_office.specs.declared.conflict.ConflictName.{ConflictName}
 use Rattle.cvr_office.specs.Names.{records, count_under, conflicts}
 use Rattle.cvr_office.specs.Readers.{growth}
-use Rattle.cvr_office.specs.Keeps.{Keeps}
+use Rattle.cvr_office.specs.CanHold.{CanHold}
 use Rattle.cvr_office.specs.Tallied.{sums_at, rows}
 
 -- the facts of a set and those by which it grows are as many as those of the union
@@ -40,7 +40,7 @@ total_of_records contests s c column =
 
 -- these are the same
 abbrev pub ColumnsLaw : Type 0
-ColumnsLaw = (frame : Frame) (s : Facts) (c : ℕ) (column : Column) → Keeps frame s
+ColumnsLaw = (frame : Frame) (s : Facts) (c : ℕ) (column : Column) → CanHold frame s
     → total_of (rows frame.contests s) c column ≡ total_of_records frame.contests s c column
 
 -- the records whose current snapshot has a contest
@@ -49,5 +49,5 @@ records_with contests s c = filter (λ r. is_some (sums_at contests s c r)) (rec
 
 -- the ballots of a contest are as many as these records
 abbrev pub AddUpLaw : Type 0
-AddUpLaw = (frame : Frame) (s : Facts) (c : ℕ) → Keeps frame s
+AddUpLaw = (frame : Frame) (s : Facts) (c : ℕ) → CanHold frame s
     → total_of (rows frame.contests s) c Ballots ≡ length (records_with frame.contests s c)

@@ -13,7 +13,7 @@ use Rattle.cvr_fact_types.specs.Facts.{Fact, Facts}
 use Rattle.cvr_facts.specs.Reports.{facts}
 use Rattle.cvr_office.specs.Names.{records}
 use Rattle.cvr_office.specs.Readers.{next}
-use Rattle.cvr_office.specs.Keeps.{Keeps, starting_content}
+use Rattle.cvr_office.specs.CanHold.{CanHold, starting_content}
 use Rattle.cvr_tally.specs.declared.key.RowKey.{RowKey}
 use Rattle.cvr_tally.specs.declared.row.Row.{Row}
 use Rattle.cvr_office.specs.Tallied.{row, rows, stands_in}
@@ -23,15 +23,15 @@ use Rattle.cvr_office.specs.Tallied.{row, rows, stands_in}
 -- what an office keeps true of its facts holds of a new one, and after the import of a valid file,
 -- and after the join with an office of the same definition that keeps it
 abbrev pub StartLaw : Type 0
-StartLaw = (frame : Frame) → IsFrame frame → Keeps frame (starting_content frame)
+StartLaw = (frame : Frame) → IsFrame frame → CanHold frame (starting_content frame)
 
 abbrev pub ImportLaw : Type 0
-ImportLaw = (frame : Frame) (s : Facts) (bytes : List ℕ) → Valid frame bytes → Keeps frame s
-    → Keeps frame (union s (facts bytes))
+ImportLaw = (frame : Frame) (s : Facts) (bytes : List ℕ) → Valid frame bytes → CanHold frame s
+    → CanHold frame (union s (facts bytes))
 
 abbrev pub JoinLaw : Type 0
-JoinLaw = (frame other : Frame) (s t : Facts) → IsSame frame other → Keeps frame s → Keeps other t
-    → Keeps frame (union s t)
+JoinLaw = (frame other : Frame) (s t : Facts) → IsSame frame other → CanHold frame s
+    → CanHold other t → CanHold frame (union s t)
 
 -- ---- names in order
 

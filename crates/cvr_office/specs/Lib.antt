@@ -1,6 +1,6 @@
 pub mod Names
 pub mod Readers
-pub mod Keeps
+pub mod CanHold
 pub mod Under
 pub mod Own
 pub mod Reach

@@ -14,7 +14,7 @@ use Rattle.cvr_tally.specs.Rows.{coded_contests}
 use Rattle.cvr_office.specs.declared.any_fact.AnyFact.{AnyFact}
 use Rattle.cvr_office.specs.declared.any_fact.AnyFact.TheVariants as any
 use Rattle.cvr_office.specs.Place.{fact_of, any_cmp}
-use Rattle.cvr_office.specs.Keeps.{Keeps}
+use Rattle.cvr_office.specs.CanHold.{CanHold}
 
 -- the set of the facts of a list
 abbrev pub set_of : List AnyFact → Facts
@@ -69,7 +69,7 @@ IsSpelled contests (any.Snapshot s) = IsSpelledSnapshot contests s
 pub record IsPlain (frame : Frame) (items : List AnyFact) : Type 0 where
   pub rises : IsStrictlySortedBy any_cmp items
   pub spelled : (fact : AnyFact) → Contains items fact → IsSpelled frame.contests fact
-  pub keeps : Keeps frame (set_of items)
+  pub can_hold : CanHold frame (set_of items)
 
 -- what a list holds after another was put in
 pub record IsPut (old more new : List AnyFact) : Type 0 where

@@ -69,7 +69,7 @@ pub fn new_office()
 {}
 
 /// What an office keeps true of its facts holds at first, and after each import and join.
-pub fn keeping()
+pub fn holding()
     ensures start { StartLaw }
     ensures import { ImportLaw }
     ensures join { JoinLaw }

@@ -14,7 +14,7 @@ ghost use Rattle.cvr_tally.specs.declared.key.RowKey.{RowKey};
 ghost use Rattle.cvr_office.specs.Names.{records, devices, count_under, conflicts, greatest_count};
 ghost use Rattle.cvr_office.specs.declared.conflict.ConflictName.TheVariants as name;
 ghost use Rattle.cvr_office.specs.declared.fault.JoinFault.TheVariants as join_fault;
-ghost use Rattle.cvr_office.specs.Keeps.{starting_content, Keeps};
+ghost use Rattle.cvr_office.specs.CanHold.{starting_content, CanHold};
 ghost use Rattle.cvr_office.specs.Readers.{next, nth_from_one, growth, device_list, IsHeader};
 ghost use Rattle.cvr_office.specs.Readers.{IsCurrent, AreRecordFacts};
 ghost use Rattle.cvr_office.specs.Tallied.{row, rows, tally, total_limit, IsBelow};
@@ -56,7 +56,7 @@ pub trait Office {
     /// Its definition, which no call changes. Takes no memory.
     fn definition(&self) -> &Definition
         ensures is { result.now ≡ defined self.now }
-        ensures keeps { Keeps (defined self.now) (held self.now) };
+        ensures can_hold { CanHold (defined self.now) (held self.now) };
 
     /// Takes in the facts of a file that is accepted beside the definition.
     ///

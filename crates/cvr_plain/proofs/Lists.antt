@@ -15,7 +15,7 @@ use Rattle.cdf_definition.specs.Frame.{Frame, IsSame}
 use Rattle.cvr_facts.proofs.Lemmas.{tie_decides}
 use Rattle.cvr_fact_types.specs.Facts.{fact_cmp, fact_total, fact_exact}
 use Rattle.cvr_facts.specs.Reports.{facts}
-use Rattle.cvr_office.specs.Keeps.{Keeps}
+use Rattle.cvr_office.specs.CanHold.{CanHold}
 use Rattle.cvr_office.specs.Place.{fact_of, place_cmp, place_total, place_exact, any_cmp}
 use Rattle.cvr_office.specs.Plain.{set_of, IsSpelled, IsPlain, IsPut}
 use Rattle.cvr_office.specs.Runs.{AreSpelled}
@@ -57,8 +57,8 @@ module _ (frame : Frame) (bytes : List ℕ) (old more new : List AnyFact)
   plain_import spelled valid plain = record {
     rises = put.rises;
     spelled = spelled_put frame.contests old more new put plain.spelled spelled;
-    keeps = subst (Keeps frame) (sym import_is)
-        (import_keeps frame (set_of old) bytes valid plain.keeps);
+    can_hold = subst (CanHold frame) (sym import_is)
+        (import_keeps frame (set_of old) bytes valid plain.can_hold);
   }
 
 -- ---- another office's facts
@@ -67,13 +67,13 @@ pub plain_join : (frame other : Frame) (old theirs new : List AnyFact) → IsSam
     → IsPlain frame old → IsPlain other theirs → IsPut old theirs new → IsPlain frame new
 plain_join frame other old theirs new same mine plain put =
     let contests : other.contests ≡ frame.contests =
-    sym ((same_definitions frame other mine.keeps.sound plain.keeps.sound same).contests) in
+    sym ((same_definitions frame other mine.can_hold.sound plain.can_hold.sound same).contests) in
     record {
       rises = put.rises;
       spelled = spelled_put frame.contests old theirs new put mine.spelled
           (λ f at. subst (λ cs. IsSpelled cs f) contests (plain.spelled f at));
-      keeps = subst (Keeps frame) (sym put.set)
-          (join_keeps frame other (set_of old) (set_of theirs) same mine.keeps plain.keeps);
+      can_hold = subst (CanHold frame) (sym put.set)
+          (join_keeps frame other (set_of old) (set_of theirs) same mine.can_hold plain.can_hold);
     }
 
 -- whether they were put in or not

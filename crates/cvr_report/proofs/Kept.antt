@@ -25,7 +25,7 @@ use Rattle.cvr_facts.proofs.Laws.{text_total, text_exact, choice_total, choice_e
 use Rattle.cvr_facts.proofs.Lemmas.{at_head, at_tail, from-filter_map}
 use Rattle.cvr_office.specs.Names.{records, record_of, snapshot_ids}
 use Rattle.cvr_office.specs.Readers.{header_list, snapshot_list}
-use Rattle.cvr_office.specs.Keeps.{Keeps, content_scope}
+use Rattle.cvr_office.specs.CanHold.{CanHold, content_scope}
 use Rattle.cvr_office.proofs.Lemmas.{from_ordered, in_ordered}
 use Rattle.cvr_office.proofs.Laws.{name_exact, name_total, header_under, snapshot_under, id_under}
 use Rattle.cvr_report.specs.Record.{HasHeaderMembers, item_texts}
@@ -64,7 +64,7 @@ pub record IsKeptHeader (body : List ℕ) (ms : Members) : Type 0 where
 
 -- ---- the facts of a record
 
-module _ (frame : Frame) (s : Facts) (keeps : Keeps frame s) (key : RecordName) where
+module _ (frame : Frame) (s : Facts) (can_hold : CanHold frame s) (key : RecordName) where
   header_held : (b : List ℕ) → Contains (header_list s key) b
       → contains s (Header key.device key.unique b) ≡ true
   header_held b at = (header_under key s b).0
@@ -99,7 +99,7 @@ module _ (frame : Frame) (s : Facts) (keeps : Keeps frame s) (key : RecordName) 
       let found =
       from-filter_map record_of (items s) key (from_ordered name_total name_exact _ key at) in
       let whole =
-      of_whole found.0 found.2 (keeps.whole found.0 ((contains_iff s found.0).1 found.1)) in
+      of_whole found.0 found.2 (can_hold.whole found.0 ((contains_iff s found.0).1 found.1)) in
       some_listed _ whole.header.0 (in_ordered text_total text_exact _ whole.header.0
       ((header_under key s whole.header.0).1 whole.header.1))
 
@@ -107,7 +107,7 @@ module _ (frame : Frame) (s : Facts) (keeps : Keeps frame s) (key : RecordName) 
       → (ms : Members) × IsKeptHeader b ms
   header_kept b at =
       let stands : Stands (content_scope frame s) (Header key.device key.unique b) =
-      keeps.stand (Header key.device key.unique b) (header_held b at) in
+      can_hold.stand (Header key.device key.unique b) (header_held b at) in
       let found = object_of stands.0 _ stands.2.form.class_is in (
         found.0,
         record {
@@ -129,7 +129,7 @@ module _ (frame : Frame) (s : Facts) (keeps : Keeps frame s) (key : RecordName) 
       → compact_text (data_of b) ≡ b
   snapshot_kept id b at =
       let stands : Stands (content_scope frame s) (Snapshot key.device key.unique id b) =
-      keeps.stand (Snapshot key.device key.unique id b) (snapshot_held id b at) in
+      can_hold.stand (Snapshot key.device key.unique id b) (snapshot_held id b at) in
       ap (λ o. compact_text (unwrap_or o null)) stands.1.1 ∙ sym stands.1.0
 
 -- ---- lists of bodies

@@ -21,7 +21,7 @@ use Rattle.cvr_office.specs.declared.record_facts.IdFacts.{IdFacts}
 use Rattle.cvr_office.specs.declared.record_facts.RecordFacts.{RecordFacts}
 use Rattle.cvr_office.specs.Names.{snapshot_ids, most}
 use Rattle.cvr_office.specs.Readers.{header_list, snapshot_list, AreAllFactsOf}
-use Rattle.cvr_office.specs.Keeps.{Keeps}
+use Rattle.cvr_office.specs.CanHold.{CanHold}
 use Rattle.cvr_office.proofs.Lemmas.{map-map}
 use Rattle.cvr_report.specs.Record.{item_texts}
 use Rattle.cvr_report.specs.Page.{Shown, shown_body, shown_snapshots, shown_record, stands}
@@ -140,7 +140,7 @@ module _ (contests : List Contest) (s : Facts) (key : RecordName) (found : Recor
       ids_of None = refl
       ids_of (Some p) = refl
 
-module _ (frame : Frame) (s : Facts) (keeps : Keeps frame s) (key : RecordName)
+module _ (frame : Frame) (s : Facts) (can_hold : CanHold frame s) (key : RecordName)
     (found : RecordFacts) (are : AreAllFactsOf frame.contests s key found) where
   -- the facts can be shown
   pub can_show : 0 < length (header_list s key) → CanShow found
@@ -149,14 +149,14 @@ module _ (frame : Frame) (s : Facts) (keeps : Keeps frame s) (key : RecordName)
         ≡ length (header_list s key) = sym (length-map found.headers.items (λ h. h.now.body))
         ∙ ap length are.bodies in omega (arith, n, some);
     texts = λ h at. let kept =
-        header_kept frame s keeps key h.body (header_listed frame.contests s key found are h at) in
+        header_kept frame s can_hold key h.body (header_listed frame.contests s key found are h at) in
         let n = ap length kept.1.text in omega (arith, n);
     shot = λ g at.
         let n : length g.snapshots.items
         ≡ length (snapshot_list s key g.id.now) = sym
         (length-map g.snapshots.items (λ s. s.now.body))
         ∙ ap length (are.snapshots g at).bodies in
-        let m = id_shows frame s keeps key g.id.now (id_listed frame.contests s key found are g at)
+        let m = id_shows frame s can_hold key g.id.now (id_listed frame.contests s key found are g at)
         in
         omega (arith, n, m);
   }
@@ -177,10 +177,10 @@ module _ (frame : Frame) (s : Facts) (keeps : Keeps frame s) (key : RecordName)
           one.1 in
           let is : shown_body i (snapshot_list s key two.0) ≡ b =
           ap (λ (s : Shown). s.body) two.2 ∙ one.2 in
-          snapshot_kept frame s keeps key two.0 b
+          snapshot_kept frame s can_hold key two.0 b
           (subst (Contains (snapshot_list s key two.0)) is
           (shown_listed i (snapshot_list s key two.0) q
-          (id_shows frame s keeps key two.0 two.1)))
+          (id_shows frame s can_hold key two.0 two.1)))
 
   -- whether the record stands in a volume
   pub stands_is : (i : ℕ) → nat_le i (most (counts_of found)) ≡ stands s i key

@@ -30,7 +30,7 @@ use Rattle.cvr_facts.proofs.Lemmas.{in_map, from_map, from-filter_map}
 use Rattle.cvr_office.specs.declared.conflict.ConflictName.TheVariants as name
 use Rattle.cvr_office.specs.Names.{records, devices, device_in, is_named, body_of}
 use Rattle.cvr_office.specs.Readers.{device_list}
-use Rattle.cvr_office.specs.Keeps.{Keeps, content_scope}
+use Rattle.cvr_office.specs.CanHold.{CanHold, content_scope}
 use Rattle.cvr_office.proofs.Lemmas.{from_ordered, in_ordered, map-map, from_filter, in_filter}
 use Rattle.cvr_report.specs.Record.{comma_list, item_texts}
 use Rattle.cvr_report.specs.Writes.{list_text}
@@ -87,11 +87,11 @@ module _ (frame : Frame) (known : IsFrame frame) where
 
 -- ---- the bodies of devices
 
-module _ (frame : Frame) (s : Facts) (keeps : Keeps frame s) where
+module _ (frame : Frame) (s : Facts) (can_hold : CanHold frame s) where
   device_spelled : (id b : List ℕ) (f : Fact) → contains s f ≡ true
       → is_named (name.Device id) f ≡ true → body_of f ≡ b → IsSpelled b
   device_spelled id b (Device i c) at is e =
-      let stands : Stands (content_scope frame s) (Device i c) = keeps.stand (Device i c) at in
+      let stands : Stands (content_scope frame s) (Device i c) = can_hold.stand (Device i c) at in
       subst IsSpelled e (ap (λ o. compact_text (unwrap_or o null)) stands.1.1 ∙ sym stands.1.0)
   device_spelled id b (Header d u c) at is e = absurd (Prim.cc is)
   device_spelled id b (Snapshot d u i c) at is e = absurd (Prim.cc is)
@@ -129,23 +129,23 @@ regroup : (a b c d e f g h i j k m : List ℕ)
     ≡ (a ++ (b ++ (c ++ (d ++ (e ++ (f ++ (g ++ (h ++ (i ++ (j ++ k)))))))))) ++ m
 regroup a b c d e f g h i j k m = simp append_assoc
 
-pub whole_text : (frame : Frame) (date device : List ℕ) (s : Facts) (i : ℕ) → Keeps frame s → 0 < i
+pub whole_text : (frame : Frame) (date device : List ℕ) (s : Facts) (i : ℕ) → CanHold frame s → 0 < i
     → volume frame (record { date = date; device = device }) s i
     ≡ head_text ++ (list_text false (record_texts s i (records s))
     ++ (middle_text frame date device
     ++ (comma_list false (device_texts s i (devices s)) ++ end_text)))
-whole_text frame date device s i keeps q =
+whole_text frame date device s i can_hold q =
     let p = page s i in
-    let elections = texts_back (texts_of frame.elections) (elections_spelled frame keeps.sound) in
-    let units = texts_back (texts_of frame.units) (units_spelled frame keeps.sound) in
-    let parties = texts_back (texts_of frame.parties) (parties_spelled frame keeps.sound) in
+    let elections = texts_back (texts_of frame.elections) (elections_spelled frame can_hold.sound) in
+    let units = texts_back (texts_of frame.units) (units_spelled frame can_hold.sound) in
+    let parties = texts_back (texts_of frame.parties) (parties_spelled frame can_hold.sound) in
     let bodies : map (λ (s : Shown). s.body) p.devices
     ≡ device_texts s i (devices s) = sym
     (map-map (λ id. record { id = id; body = shown_body i (device_list s id) })
     (λ (s : Shown). s.body) (devices s)) in
     let devices_are : item_texts (values_of (map (λ (s : Shown). s.body) p.devices))
     ≡ device_texts s i (devices s) = ap (λ bs. item_texts (values_of bs)) bodies
-    ∙ texts_back (device_texts s i (devices s)) (devices_spelled frame s keeps i q) in
+    ∙ texts_back (device_texts s i (devices s)) (devices_spelled frame s can_hold i q) in
     let texts : item_texts (records_data p) ≡ record_texts s i (records s) =
     ap (λ ds. item_texts (items_of ds))
     (sym (map-map (shown_record s i) record_data (filter (stands s i) (records s))))

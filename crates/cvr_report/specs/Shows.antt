@@ -4,7 +4,7 @@ use Rattle.std.specs.List.{Contains}
 use Rattle.cdf_definition.specs.Frame.{Frame}
 use Rattle.cvr_fact_types.specs.declared.name.RecordName.{RecordName}
 use Rattle.cvr_fact_types.specs.Facts.{Facts}
-use Rattle.cvr_office.specs.Keeps.{Keeps}
+use Rattle.cvr_office.specs.CanHold.{CanHold}
 use Rattle.cvr_office.specs.Names.{records, snapshot_ids}
 use Rattle.cvr_office.specs.Readers.{header_list, snapshot_list}
 use Rattle.cvr_report.specs.Page.{shown_body}
@@ -21,10 +21,10 @@ ShownAtLaw = (i : ℕ) (bodies : List (List ℕ)) (other : List ℕ) → 0 < i �
 
 -- each record that an office holds has a header
 abbrev pub HeadedLaw : Type 0
-HeadedLaw = (frame : Frame) (s : Facts) → Keeps frame s → (key : RecordName)
+HeadedLaw = (frame : Frame) (s : Facts) → CanHold frame s → (key : RecordName)
     → Contains (records s) key → 0 < length (header_list s key)
 
 -- and each id of its snapshots a body
 abbrev pub IdHasBodyLaw : Type 0
-IdHasBodyLaw = (frame : Frame) (s : Facts) → Keeps frame s → (key : RecordName) (id : List ℕ)
+IdHasBodyLaw = (frame : Frame) (s : Facts) → CanHold frame s → (key : RecordName) (id : List ℕ)
     → Contains (snapshot_ids s key) id → 0 < length (snapshot_list s key id)

@@ -6,7 +6,7 @@ ghost use Rattle.cdf_parts.specs.Proper.{MembersAreWell};
 ghost use Rattle.cdf_definition.specs.Frame.{Frame};
 ghost use Rattle.cvr_fact_types.specs.declared.name.RecordName.{RecordName};
 ghost use Rattle.cvr_fact_types.specs.Facts.{Facts};
-ghost use Rattle.cvr_office.specs.Keeps.{Keeps};
+ghost use Rattle.cvr_office.specs.CanHold.{CanHold};
 ghost use Rattle.cvr_office.specs.Readers.{AreAllFactsOf};
 ghost use Rattle.cvr_report.specs.Record.{HasHeaderMembers, cvr_object, item_texts, comma_list};
 ghost use Rattle.cvr_report.specs.Page.{shown_record};
@@ -99,7 +99,7 @@ pub(crate) fn push_shown(
     requires number { 0 < i }
     requires some { CanShow found.now }
     ensures { OnOk result
-        ((frame : Frame) (s : Facts) (key : RecordName) → Keeps frame s
+        ((frame : Frame) (s : Facts) (key : RecordName) → CanHold frame s
         → AreAllFactsOf frame.contests s key found.now
         → out.new.items ≡ out.old.items ++ compact_text (record_data (shown_record s i key))) }
 {

@@ -6,7 +6,7 @@ ghost use Rattle.serde_json.specs.Written.{comma_if};
 ghost use Rattle.cdf_types.specs.Device.{Appends, AppendsProperPrefix};
 ghost use Rattle.cvr_office.specs.Names.{records, devices};
 ghost use Rattle.cvr_office.specs.Readers.{device_list};
-ghost use Rattle.cvr_office.specs.Keeps.{Keeps};
+ghost use Rattle.cvr_office.specs.CanHold.{CanHold};
 ghost use Rattle.cvr_report.specs.Record.{comma_list};
 ghost use Rattle.cvr_report.specs.Head.{is_device_of};
 ghost use Rattle.cvr_report.specs.Page.{volumes, shown_body};
@@ -58,7 +58,7 @@ fn write_record<O: Office, W: Sink>(
     requires working { (W.taken out.old).failed ≡ false }
     requires number { 0 < i }
     requires listed { Contains (records (O.held office.now)) key.now }
-    requires keeps { Keeps (O.defined office.now) (O.held office.now) }
+    requires can_hold { CanHold (O.defined office.now) (O.held office.now) }
     ensures stands { IfOk result (λ b. b ≡ is_some (record_text (O.held office.now) i key.now)) }
     ensures written { Writes (W.taken out.old) (W.taken out.new) result
         (record_piece later (record_text (O.held office.now) i key.now)) }
@@ -87,7 +87,7 @@ fn write_records<O: Office, W: Sink>(
 ) -> Result<(), WriteFault>
     requires working { (W.taken out.old).failed ≡ false }
     requires number { 0 < i }
-    requires keeps { Keeps (O.defined office.now) (O.held office.now) }
+    requires can_hold { CanHold (O.defined office.now) (O.held office.now) }
     ensures { Writes (W.taken out.old) (W.taken out.new) result
         (list_text false (record_texts (O.held office.now) i (records (O.held office.now)))) }
 {

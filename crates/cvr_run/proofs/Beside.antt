@@ -14,7 +14,7 @@ use Rattle.cvr_run.specs.Logged.{task_dues, IsCutShort}
 use Rattle.cvr_run.proofs.Accepted.{text_beside, refused_beside, is_sound, lines_beside}
 use Rattle.cvr_run.proofs.Accepted.{fault_beside}
 use Rattle.cvr_run.proofs.Endings.{ends_in_memory}
-use Rattle.cvr_run.proofs.Telling.{cut_at_once}
+use Rattle.cvr_run.proofs.Logging.{cut_at_once}
 
 pub ran_beside : (request : Request) (def : List ℕ) (definition : Frame) (files : List (List ℕ))
     (answer : Status) (old new : Outputs) → Sound def → definition ≡ frame_in def

@@ -12,10 +12,10 @@ use Rattle.std.proofs.lemmas.List.Folds.{list_any-append}
 use Rattle.cdf_types.specs.declared.fault.ReadFault.{ReadFault}
 use Rattle.cdf_types.specs.declared.fault.ReadFault.TheVariants.{Memory, TooLong}
 use Rattle.serde_json.specs.Data.{Data, null}
-use Rattle.cdf_form.specs.Reading.{max_file, value_of}
+use Rattle.cdf_form.specs.Reading.{max_file, value_of, of_value}
 use Rattle.cdf_parts.specs.Parts.{record_count}
 use Rattle.cdf_definition.specs.Frame.{Frame}
-use Rattle.cdf_definition.specs.Acceptance.{first_refusal, of_value, value_in, value_refusal}
+use Rattle.cdf_definition.specs.Acceptance.{first_refusal, value_in, value_refusal}
 use Rattle.cvr_fact_types.specs.Facts.{Facts, fact_total, fact_exact}
 use Rattle.cvr_facts.specs.Reports.{facts}
 use Rattle.cvr_facts.specs.Unions.{union_assoc, union_empty, empty_union}
@@ -23,7 +23,7 @@ use Rattle.cvr_office.specs.declared.event.Cause.TheVariants.{Read}
 use Rattle.cvr_office.specs.declared.event.Event.TheVariants.{Import}
 use Rattle.cvr_office.specs.declared.event.Outcome.{Outcome}
 use Rattle.cvr_office.specs.declared.event.Outcome.TheVariants.{Accepted}
-use Rattle.cvr_office.specs.Keeps.{starting_content}
+use Rattle.cvr_office.specs.CanHold.{starting_content}
 use Rattle.cvr_office.specs.Outcomes.{AreOutcomes}
 use Rattle.cvr_office.specs.Reach.{File, origin_facts, origins_at, union_over, content, history}
 use Rattle.cvr_office.specs.Readers.{growth}

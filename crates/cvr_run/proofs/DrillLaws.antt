@@ -19,7 +19,7 @@ use Rattle.cvr_facts.specs.Unions.{union_empty}
 use Rattle.cvr_facts.proofs.Lemmas.{in_map, from_map}
 use Rattle.cvr_office.specs.Alike.{HasReached}
 use Rattle.cvr_office.specs.declared.event.Event.{Event}
-use Rattle.cvr_office.specs.Keeps.{starting_content}
+use Rattle.cvr_office.specs.CanHold.{starting_content}
 use Rattle.cvr_office.specs.Names.{records}
 use Rattle.cvr_office.specs.Reach.{File, origins_at}
 use Rattle.cvr_office.proofs.Lemmas.{from_filter, in_filter}

@@ -26,7 +26,7 @@ use Rattle.cvr_office.specs.declared.event.Cause.{Cause}
 use Rattle.cvr_office.specs.declared.event.Cause.TheVariants.{NoOffice, NoFile}
 use Rattle.cvr_office.specs.declared.event.Event.{Event}
 use Rattle.cvr_office.specs.declared.event.Event.TheVariants.{Import, Exchange}
-use Rattle.cvr_office.specs.Keeps.{starting_content}
+use Rattle.cvr_office.specs.CanHold.{starting_content}
 use Rattle.cvr_office.specs.Reach.{Origin, Start, File, Origins, origin_cmp, History, origins_after}
 use Rattle.cvr_office.specs.Reach.{origins_at, origin_facts, union_over, content}
 use Rattle.cvr_office.proofs.Lemmas.{contains-union_over, over_insert, over_union, or_cases}

@@ -13,17 +13,17 @@ use Rattle.std.proofs.lemmas.Str.Ascii.{IsAscii-nil, IsAscii-cons}
 use Rattle.cdf_definition.specs.Frame.{Frame, frame_of}
 use Rattle.cdf_definition.specs.Acceptance.{value_in, frame_in, first_unsound}
 use Rattle.cdf_definition.proofs.Lemmas.{frame_of-put, frame_put}
-use Rattle.cdf_check.specs.Rows as file
+use Rattle.cdf_check.specs.FileExamples as file
 use Rattle.cvr_fact_types.specs.Facts.{Fact, Device, Header, Snapshot, Facts, fact_cmp, fact_total}
 use Rattle.cvr_fact_types.specs.Facts.{fact_exact}
 use Rattle.cvr_facts.specs.Choosing.{data_of}
 use Rattle.cvr_facts.specs.Reports.{report_facts, facts}
-use Rattle.cvr_facts.specs.Rows.{device_body, header_text}
+use Rattle.cvr_facts.specs.Examples.{device_body, header_text}
 use Rattle.cvr_facts.proofs.Lemmas.{from_list-append}
 use Rattle.cvr_office.specs.declared.event.Cause.{Cause}
 use Rattle.cvr_office.specs.declared.event.Event.{Event}
 use Rattle.cvr_office.specs.declared.event.Event.TheVariants.{Import, Exchange}
-use Rattle.cvr_office.specs.Keeps.{starting_content}
+use Rattle.cvr_office.specs.CanHold.{starting_content}
 use Rattle.cvr_office.proofs.Lemmas.{map-map}
 use Rattle.cvr_office.proofs.Laws.{content-none}
 use Rattle.cvr_words.specs.declared.request.Step.{Step}

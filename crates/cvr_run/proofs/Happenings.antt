@@ -23,7 +23,7 @@ use Rattle.cvr_run.specs.declared.happened.Happened.{Happened}
 use Rattle.cvr_run.specs.declared.refusals.Refusals.{Refusals}
 use Rattle.cvr_run.specs.declared.status.Status.{Status}
 use Rattle.cvr_run.specs.Given.{StopsAmong}
-use Rattle.cvr_run.specs.Happened.{causes, run_conflicts, Happens, IsNoted, Keeps}
+use Rattle.cvr_run.specs.Happened.{causes, run_conflicts, Happens, IsNoted, AreNoted}
 use Rattle.cvr_run.specs.HeldBytes.{held_part}
 use Rattle.cvr_run.specs.Job.{Job}
 use Rattle.cvr_run.specs.Opening.{At, Opener, AreAt, AreRead}
@@ -34,7 +34,7 @@ use Rattle.cvr_run.specs.Logged.{task_dues}
 use Rattle.cvr_run.proofs.Accepted.{is_sound, sound_first}
 use Rattle.cvr_run.proofs.HeldBytes.{held_conflicts, held_dues, held_unsound}
 use Rattle.cvr_run.proofs.Known.{not_whole, read_known, stopped}
-use Rattle.cvr_run.proofs.Telling.{status_whole}
+use Rattle.cvr_run.proofs.Logging.{status_whole}
 
 -- ---- what became of files or steps
 
@@ -61,7 +61,7 @@ each_cause (due ∷ dues) (r ∷ rs) same each working =
 pub keeps_due : (happened : Happened) (dues : List Due) (facts : Facts) (rs : List Outcome)
     → AreDue dues rs → list_any is_want rs ≡ false → happened.definition ≡ None
     → happened.outcomes.items ≡ rs → IfSome happened.several (λ n. n ≡ length (conflicts facts))
-    → Keeps happened dues facts
+    → AreNoted happened dues facts
 keeps_due happened dues facts rs due working none are several = record {
   definition = none;
   outcomes = ap (map cause_in) are ∙ each_cause dues rs due.count due.each working;
@@ -86,7 +86,7 @@ stops_not_whole Opened old new paths answer line stops whole =
 -- beside a definition that is accepted
 pub happens_beside : (request : Request) (def : List ℕ) (definition : Frame)
     (files : List (List ℕ)) (happened : Happened) → Sound def → definition ≡ frame_in def
-    → Keeps happened (task_dues definition request.task request.paths files).dues
+    → AreNoted happened (task_dues definition request.task request.paths files).dues
     (content_of_files definition files)
     → Happens (record { request = request; def = def; files = files }) happened
 happens_beside request def definition files happened sound is keeps = record {

@@ -11,7 +11,7 @@ use Rattle.cdf_form.specs.Reading.{value_of}
 use Rattle.cdf_definition.specs.Frame.{Frame}
 use Rattle.cdf_definition.specs.Acceptance.{own_refusal, first_unsound, frame_in}
 use Rattle.cvr_facts.specs.Reports.{facts}
-use Rattle.cvr_office.specs.Keeps.{starting_content}
+use Rattle.cvr_office.specs.CanHold.{starting_content}
 use Rattle.cvr_office.specs.Names.{conflicts}
 use Rattle.cvr_office.specs.Reach.{union_over}
 use Rattle.cvr_words.specs.declared.request.Task.{Task}

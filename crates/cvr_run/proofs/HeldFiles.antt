@@ -9,7 +9,8 @@ use Rattle.cdf_types.specs.declared.fault.ReadFault.{ReadFault}
 use Rattle.cdf_types.specs.declared.fault.ReadFault.TheVariants.{TooLong}
 use Rattle.cdf_form.specs.Reading.{max_file, value_of}
 use Rattle.cdf_definition.specs.Frame.{Frame}
-use Rattle.cdf_definition.specs.Acceptance.{own_refusal, value_refusal, of_value, of_file}
+use Rattle.cdf_definition.specs.Acceptance.{own_refusal, value_refusal}
+use Rattle.cdf_form.specs.Reading.{of_value, of_file}
 use Rattle.cdf_definition.specs.Acceptance.{first_refusal}
 use Rattle.cvr_run.specs.Accepted.{is_unsound, is_refused}
 use Rattle.cvr_run.specs.File.{held_bytes}

@@ -7,7 +7,7 @@ use Rattle.cdf_definition.specs.Acceptance.{first_refusal}
 use Rattle.cvr_facts.proofs.Lemmas.{at_head, at_tail}
 use Rattle.cvr_office.specs.declared.event.Event.{Event}
 use Rattle.cvr_office.specs.declared.event.Event.TheVariants.{Import}
-use Rattle.cvr_office.specs.Keeps.{starting_content}
+use Rattle.cvr_office.specs.CanHold.{starting_content}
 use Rattle.cvr_office.specs.Reach.{content}
 use Rattle.cvr_run.specs.Drill.{event_due, brings, outcome_by, past_of}
 use Rattle.cvr_run.specs.Laws.{imports}

@@ -10,8 +10,8 @@ pub mod CurrentLines
 pub mod Most
 mod Pieces
 pub mod Outcomes
-pub mod Telling
-pub mod ToldRows
+pub mod Logging
+pub mod RefusedRuns
 pub mod Collected
 pub mod Printed
 pub mod Beside

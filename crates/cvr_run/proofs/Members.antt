@@ -17,7 +17,7 @@ use Rattle.cdf_definition.proofs.Laws.{valid_file}
 use Rattle.cvr_fact_types.specs.Facts.{Fact, Facts, fact_cmp, fact_total, fact_exact}
 use Rattle.cvr_facts.specs.Reports.{report_facts, facts}
 use Rattle.cvr_facts.proofs.Lemmas.{at_head, at_tail}
-use Rattle.cvr_office.specs.Keeps.{starting_content}
+use Rattle.cvr_office.specs.CanHold.{starting_content}
 use Rattle.cvr_office.specs.Reach.{union_over}
 use Rattle.cvr_office.proofs.Lemmas.{or_cases, or_left, or_right, contains-union_over}
 use Rattle.cvr_run.specs.Laws.{HasAccepted, HaveSameBytes, HaveSameValues}

@@ -24,7 +24,7 @@ use Rattle.cvr_words.specs.declared.request.Task.{Task}
 use Rattle.cvr_run.specs.Merge.{merge_fault, merge_text}
 use Rattle.cvr_run.specs.Outcome.{facts_fault, facts_text}
 use Rattle.cvr_run.specs.Printing.{Prints, is_output, merge_part, of_head}
-use Rattle.cvr_run.proofs.Telling.{appended_none}
+use Rattle.cvr_run.proofs.Logging.{appended_none}
 
 -- ---- by the three tests
 

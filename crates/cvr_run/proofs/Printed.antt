@@ -22,8 +22,8 @@ use Rattle.cvr_run.specs.Outcome.{any_refused, run_text, task_refused, task_text
 use Rattle.cvr_run.specs.Refusals.{is_memory}
 use Rattle.cvr_run.specs.Printing.{Prints, is_output, merge_part, end_line, print_status}
 use Rattle.cvr_run.specs.Printing.{status_after}
-use Rattle.cvr_run.specs.Logged.{last_lines, Dues, LogsFirst, TellsRun}
-use Rattle.cvr_run.proofs.Telling.{appended_none, told_whole, wanted, cut_by_memory}
+use Rattle.cvr_run.specs.Logged.{last_lines, Dues, LogsFirst, LogsRun}
+use Rattle.cvr_run.proofs.Logging.{appended_none, told_whole, wanted, cut_by_memory}
 
 -- out of memory before anything was printed
 pub not_printed : {T : Type 0} (before : Taken) (r : Result T PrintFault)
@@ -246,7 +246,7 @@ module _ (of : Dues) (n : ℕ) (r : Refusals) (b m a : Taken) (so_far : LogsFirs
       (fault : Option MergeFault) (text : List ℕ) (s : Status)
       → Prints before after result fault text → (IsErrAnd result (λ e. e ≡ Memory) → ⊥)
       → s ≡ status_after result r → Logs m a (end_line result)
-      → TellsRun of fault s (record { out = before; log = b }) (record { out = after; log = a })
+      → LogsRun of fault s (record { out = before; log = b }) (record { out = after; log = a })
   tells_whole before after result fault text s prints other is logs =
       told_whole of n r b m a so_far fault after s before all working
       (λ want. wanting_is result r working other (sym is ∙ want))
@@ -257,7 +257,7 @@ module _ (of : Dues) (n : ℕ) (r : Refusals) (b m a : Taken) (so_far : LogsFirs
       (fault : Option MergeFault) (text : List ℕ) (s : Status)
       → Prints before after result fault text → s ≡ status_after result r
       → Logs m a (end_line result)
-      → TellsRun of fault s (record { out = before; log = b }) (record { out = after; log = a })
+      → LogsRun of fault s (record { out = before; log = b }) (record { out = after; log = a })
   tells_after {T} before after (Ok x) fault text s prints is logs =
       tells_whole {T = T} before after (Ok x) fault text s prints (λ e. e) is logs
   tells_after {T} before after (Err (Merge u)) fault text s prints is logs =

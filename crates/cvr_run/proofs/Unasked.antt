@@ -8,7 +8,7 @@ use Rattle.cvr_words.specs.Request.{IsRequest}
 use Rattle.cvr_words.specs.declared.fault.LineFault.{LineFault}
 use Rattle.cvr_words.specs.declared.request.Request.{Request}
 use Rattle.cvr_words.proofs.Laws.{no_line_fault_but_memory}
-use Rattle.cvr_run.specs.Answered.{TellsWords, help_text, is_help, words_line, words_status}
+use Rattle.cvr_run.specs.Answered.{LogsWords, help_text, is_help, words_line, words_status}
 use Rattle.cvr_run.specs.declared.printing.PrintFault.{PrintFault}
 use Rattle.cvr_run.specs.declared.printing.PrintFault.TheVariants as fault
 use Rattle.cvr_run.specs.declared.refusals.Refusals.{Refusals}
@@ -23,15 +23,15 @@ use Rattle.cvr_run.specs.Refusals.{status_of}
 use Rattle.cvr_run.specs.Logged.{out_line}
 use Rattle.cvr_run.proofs.Known.{not_whole}
 use Rattle.cvr_run.proofs.Printed.{whole_front}
-use Rattle.cvr_run.proofs.Telling.{appended_none}
+use Rattle.cvr_run.proofs.Logging.{appended_none}
 
 -- a fault that leaves the output as it was
 pub quiet_told : (unchanged : Type 0) (f k : LineFault) (answer : Status) (c b a : Taken) → f ≡ k
     → answer ≡ words_status k c.failed → unchanged → help_text k ≡ []
     → Logs b a (words_line k c.failed)
-    → TellsWords f answer (record { out = c; log = b }) (record { out = c; log = a }) unchanged
+    → LogsWords f answer (record { out = c; log = b }) (record { out = c; log = a }) unchanged
 quiet_told unchanged f k answer c b a is status quiet none log =
-    subst (λ (j : LineFault). TellsWords j answer (record { out = c; log = b })
+    subst (λ (j : LineFault). LogsWords j answer (record { out = c; log = b })
     (record { out = c; log = a }) unchanged) (sym is)
     (record {
       status = status;
@@ -87,7 +87,7 @@ pub help_told : {T : Type 0} (unchanged : Type 0) (k : LineFault) (printed : Res
     → IfErr printed (λ e. e ≡ fault.Device) → r.any_refusal ≡ false → r.file_lacking ≡ false
     → r.path_unspelled ≡ false
     → answer ≡ status_after printed r → Logs b a (end_line printed)
-    → TellsWords k answer (record { out = c; log = b }) (record { out = d; log = a }) unchanged
+    → LogsWords k answer (record { out = c; log = b }) (record { out = d; log = a }) unchanged
 help_told unchanged k (Ok x) r answer c d b a help p e any lacking unspelled is log = record {
   status = is ∙ (none_refused r any lacking unspelled
       ∙ (sym (ap (λ (o : Bool). if o then status.Device else status.Done) p.1)

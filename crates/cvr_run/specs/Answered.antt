@@ -50,7 +50,7 @@ words_status (BadStep place step) out_failed = status.CommandLine
 words_status Memory out_failed = status.Memory
 
 -- the fault is answered, and printed or logged; but for help the output stays unchanged
-pub record TellsWords (fault : LineFault) (answer : Status) (old new : Outputs)
+pub record LogsWords (fault : LineFault) (answer : Status) (old new : Outputs)
     (unchanged : Type 0) : Type 0 where
   pub status : answer ≡ words_status fault new.out.failed
   pub quiet : is_help fault ≡ false → unchanged
@@ -77,7 +77,7 @@ Answers words answer old new unchanged =
     ((request : Request) × IsRequest (with_program words) request
     × Does request answer old new unchanged)
     ⊎ ((fault : LineFault) × IsLineFault (with_program words) fault × Opens old.opener new.opener []
-    × TellsWords fault answer (outputs old) (outputs new) unchanged)
+    × LogsWords fault answer (outputs old) (outputs new) unchanged)
 
 -- the words ask for the request of a job, and its files stand at the paths
 pub record IsGiven (at : List ℕ → At) (words : List (List ℕ)) (job : Job) : Type 0 where

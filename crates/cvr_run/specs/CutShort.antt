@@ -13,18 +13,18 @@ abbrev pub three_dues : List Due
 three_dues = file_due (Some NotJson) ∷ file_due None ∷ file_due (Some TooLong) ∷ []
 
 -- the log of a run over them may be this text where the output works
-abbrev pub MayTell : List ℕ → Type 0
-MayTell text =
+abbrev pub MayLog : List ℕ → Type 0
+MayLog text =
     IsCutShort (record { texts = three_texts; dues = three_dues }) None false text
 
 -- by `memory` before any file, or after all, and not after the first
 abbrev pub NoneOrAll : Type 0
-NoneOrAll = MayTell (codes "memory\n") × MayTell (codes "a: E2\nc: E1\nmemory\n")
-    × (¬ MayTell (codes "a: E2\nmemory\n"))
+NoneOrAll = MayLog (codes "memory\n") × MayLog (codes "a: E2\nc: E1\nmemory\n")
+    × (¬ MayLog (codes "a: E2\nmemory\n"))
 
 -- where memory ran out for the second, the third is logged and nothing else
 abbrev pub AfterLacking : Type 0
 AfterLacking =
-    MayTell (codes "a: E2\nb: E6\nc: E1\n")
-    × (¬ MayTell (codes "a: E2\nb: E6\nmemory\n"))
-    × (¬ MayTell (codes "a: E2\nb: E6\nc: E1\nmemory\n"))
+    MayLog (codes "a: E2\nb: E6\nc: E1\n")
+    × (¬ MayLog (codes "a: E2\nb: E6\nmemory\n"))
+    × (¬ MayLog (codes "a: E2\nb: E6\nc: E1\nmemory\n"))

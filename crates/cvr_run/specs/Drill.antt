@@ -17,7 +17,7 @@ use Rattle.cvr_office.specs.declared.event.Event.TheVariants as event
 use Rattle.cvr_office.specs.declared.event.Outcome.{Outcome}
 use Rattle.cvr_office.specs.declared.event.Outcome.TheVariants.{Accepted, Refused}
 use Rattle.cvr_office.specs.declared.fault.JoinFault.TheVariants as join
-use Rattle.cvr_office.specs.Keeps.{starting_content}
+use Rattle.cvr_office.specs.CanHold.{starting_content}
 use Rattle.cvr_office.specs.Names.{records}
 use Rattle.cvr_office.specs.Outcomes.{no_frame}
 use Rattle.cvr_office.specs.Reach.{History, content}

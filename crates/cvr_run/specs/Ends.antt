@@ -11,7 +11,7 @@ use Rattle.cvr_run.specs.Log.{Logs}
 use Rattle.cvr_run.specs.Outcome.{run_text, run_fault, any_refused, IsWhole}
 use Rattle.cvr_run.specs.Outcome.{task_text, task_refused, task_fault}
 use Rattle.cvr_run.specs.Logged.{Dues, task_dues, run_lines, last_lines, IsRunCutShort, LogsSome}
-use Rattle.cvr_run.specs.Logged.{TellsRun}
+use Rattle.cvr_run.specs.Logged.{LogsRun}
 use Rattle.cvr_run.specs.declared.merge.MergeFault.{MergeFault}
 use Rattle.cvr_words.specs.declared.request.Task.{Task}
 
@@ -32,7 +32,7 @@ pub record Ends (old new : Taken) (text : List ℕ) (any_refused : Bool)
 pub record RanOver (text : List ℕ) (any_refused : Bool) (dues : Dues) (fault : Option MergeFault)
     (answer : Status) (old new : Outputs) : Type 0 where
   pub ends : Ends old.out new.out text any_refused answer
-  pub log : TellsRun dues fault answer old new
+  pub log : LogsRun dues fault answer old new
 
 -- the same of a task beside a definition
 abbrev pub RanBeside : Frame → Task → List (List ℕ) → List (List ℕ) → Status → Outputs → Outputs

@@ -222,8 +222,8 @@ with_devices = record {
 
 -- under a date and a device, the volume of a number has this fault, or none, and these lines are
 -- logged
-abbrev pub MergeTells : List ℕ → List ℕ → ℕ → Option MergeFault → List ℕ → Type 0
-MergeTells date device i fault lines = (merge_fault with_devices date device i
+abbrev pub MergeLogs : List ℕ → List ℕ → ℕ → Option MergeFault → List ℕ → Type 0
+MergeLogs date device i fault lines = (merge_fault with_devices date device i
     (from_list several_bodies) ≡ fault) × (merge_lines fault ≡ lines)
 
 abbrev pub at_eight : List ℕ
@@ -231,26 +231,26 @@ at_eight = codes "2024-11-06T08:00:00Z"
 
 -- a date without a time is no moment
 abbrev pub DateAlone : Type 0
-DateAlone = MergeTells (codes "2024-11-06") (codes "s1") 12 (Some NotMoment) (codes "merge: H1\n")
+DateAlone = MergeLogs (codes "2024-11-06") (codes "s1") 12 (Some NotMoment) (codes "merge: H1\n")
 
 -- it is reported before a device that isn't listed and a number above the volumes
 abbrev pub DateFirst : Type 0
-DateFirst = MergeTells (codes "2024-11-06") (codes "s2") 13 (Some NotMoment) (codes "merge: H1\n")
+DateFirst = MergeLogs (codes "2024-11-06") (codes "s2") 13 (Some NotMoment) (codes "merge: H1\n")
 
 abbrev pub DeviceAlone : Type 0
-DeviceAlone = MergeTells at_eight (codes "s2") 12 (Some NoDevice) (codes "merge: H2\n")
+DeviceAlone = MergeLogs at_eight (codes "s2") 12 (Some NoDevice) (codes "merge: H2\n")
 
 -- and such a device before such a number
 abbrev pub DeviceBeforeNumber : Type 0
-DeviceBeforeNumber = MergeTells at_eight (codes "s2") 13 (Some NoDevice) (codes "merge: H2\n")
+DeviceBeforeNumber = MergeLogs at_eight (codes "s2") 13 (Some NoDevice) (codes "merge: H2\n")
 
 -- for a number above the volumes the run reports how many there are
 abbrev pub NumberAlone : Type 0
-NumberAlone = MergeTells at_eight (codes "s1") 14 (Some (NoVolume 12)) (codes "merge: V1 12\n")
+NumberAlone = MergeLogs at_eight (codes "s1") 14 (Some (NoVolume 12)) (codes "merge: V1 12\n")
 
 -- of the last volume nothing
 abbrev pub LastVolume : Type 0
-LastVolume = MergeTells at_eight (codes "s1") 12 None []
+LastVolume = MergeLogs at_eight (codes "s1") 12 None []
 
 -- ---- a drill
 

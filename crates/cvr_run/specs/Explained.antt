@@ -81,7 +81,7 @@ pub record PrintsUse (asked : List (List ℕ)) (answer : Status) (old new : Outp
   pub printed : PrintsOwn explain_text answer old new
 
 -- no code is named, which is reported; the output stays unchanged
-pub record TellsNoCode (asked : List (List ℕ)) (answer : Status) (old new : Outputs)
+pub record LogsNoCode (asked : List (List ℕ)) (answer : Status) (old new : Outputs)
     (unchanged : Type 0) : Type 0 where
   pub unknown : first_code (parts_of asked) ≡ None
   pub some : ¬ AsksUse asked
@@ -93,4 +93,4 @@ pub record TellsNoCode (asked : List (List ℕ)) (answer : Status) (old new : Ou
 abbrev pub Explains : List (List ℕ) → Status → Outputs → Outputs → Type 0 → Type 0
 Explains asked answer old new unchanged =
     PrintsCode asked answer old new ⊎ PrintsUse asked answer old new
-    ⊎ TellsNoCode asked answer old new unchanged
+    ⊎ LogsNoCode asked answer old new unchanged

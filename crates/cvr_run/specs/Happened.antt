@@ -24,7 +24,7 @@ causes dues = map (λ due. due.cause) dues
 
 -- the definition was accepted; this was due to each file or step, in order; and the names with
 -- several texts were counted among these facts, or not counted
-pub record Keeps (happened : Happened) (dues : List Due) (facts : Facts) : Type 0 where
+pub record AreNoted (happened : Happened) (dues : List Due) (facts : Facts) : Type 0 where
   pub definition : happened.definition ≡ None
   pub outcomes : map cause_in happened.outcomes.items ≡ causes dues
   pub several : IfSome happened.several (λ n. n ≡ length (conflicts facts))

@@ -15,7 +15,7 @@ use Rattle.cvr_facts.specs.Reports.{facts}
 use Rattle.cvr_office.specs.declared.event.Event.{Event}
 use Rattle.cvr_office.specs.declared.event.Event.TheVariants.{Import}
 use Rattle.cvr_office.specs.Alike.{HasReached, HaveSameFiles}
-use Rattle.cvr_office.specs.Keeps.{starting_content}
+use Rattle.cvr_office.specs.CanHold.{starting_content}
 use Rattle.cvr_office.specs.Readers.{growth}
 use Rattle.cvr_office.specs.Reach.{History, File, origins_at, content}
 use Rattle.cvr_office.specs.Outcomes.{due_outcome, AreOutcomes}
@@ -35,7 +35,7 @@ use Rattle.cvr_run.specs.Log.{memory_line}
 use Rattle.cvr_run.specs.Merge.{merge_fault, merge_text}
 use Rattle.cvr_run.specs.Outcome.{accepted_facts, content_of_files}
 use Rattle.cvr_run.specs.Refusals.{Due}
-use Rattle.cvr_run.specs.Logged.{Telling, logged_lines, can_all, IsCutShort}
+use Rattle.cvr_run.specs.Logged.{Logging, logged_lines, can_all, IsCutShort}
 
 -- the imports of the first n files into one new office, each with the outcome that is due, the
 -- newest first
@@ -312,5 +312,5 @@ AloneOrEachLaw =
     (text : List ℕ)
     → IsCutShort (record { texts = texts; dues = dues }) fault out_failed text
     → (text ≡ memory_line)
-    ⊎ ((tellings : List Telling) × (rest : List ℕ) × (length tellings ≡ length dues)
-    × (can_all tellings dues ≡ true) × (text ≡ logged_lines tellings texts dues ++ rest))
+    ⊎ ((loggings : List Logging) × (rest : List ℕ) × (length loggings ≡ length dues)
+    × (can_all loggings dues ≡ true) × (text ≡ logged_lines loggings texts dues ++ rest))

@@ -28,6 +28,6 @@ pub mod Explained
 pub mod Responds
 pub mod HeldBytes
 pub mod Laws
-pub mod Rows
+pub mod RunExamples
 pub mod Examples
 pub mod Statuses

@@ -10,7 +10,7 @@ use Rattle.cvr_words.specs.declared.request.Request.{Request}
 use Rattle.cvr_words.specs.declared.request.Task.TheVariants.{Tally}
 use Rattle.cvr_run.specs.declared.status.Status.{Status}
 use Rattle.cvr_run.specs.declared.status.Status.TheVariants.{CommandLine}
-use Rattle.cvr_run.specs.Answered.{Does, IsGiven, TellsWords}
+use Rattle.cvr_run.specs.Answered.{Does, IsGiven, LogsWords}
 use Rattle.cvr_run.specs.Devices.{Devices, outputs}
 use Rattle.cvr_run.specs.File.{held_bytes}
 use Rattle.cvr_run.specs.Job.{Job}
@@ -100,7 +100,7 @@ DoesListed asked answer old new unchanged =
 -- that; or memory ran out for the words, and nothing is opened
 abbrev pub AnswersListed : ListedRequest → Status → Devices → Devices → Type 0 → Type 0
 AnswersListed asked answer old new unchanged =
-    (Opens old.opener new.opener [] × TellsWords fault.Memory answer (outputs old) (outputs new)
+    (Opens old.opener new.opener [] × LogsWords fault.Memory answer (outputs old) (outputs new)
     unchanged)
     ⊎ DoesListed asked answer old new unchanged
 

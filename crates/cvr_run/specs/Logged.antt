@@ -81,78 +81,78 @@ last_lines fault out_failed = merge_lines fault ++ out_line out_failed
 
 -- how a file or a step was logged: as it is due; or by `E6` or `J2`, since memory was refused for
 -- it; or by `memory`, since it was refused for the spelling of a path
-pub data Telling : Type 0 where
-  AsDue : Telling
-  Lacking : Telling
-  Unspelled : Telling
+pub data Logging : Type 0 where
+  AsDue : Logging
+  Lacking : Logging
+  Unspelled : Logging
 
-abbrev pub logged_line : Telling → List ℕ → Due → List ℕ
+abbrev pub logged_line : Logging → List ℕ → Due → List ℕ
 logged_line AsDue what due = refusal_line what due.cause
 logged_line Lacking what due = refusal_line what due.want
 logged_line Unspelled what due = memory_line
 
 -- only what takes memory can run out of it, and only a line with a path can be left unspelled
-abbrev pub can_be : Telling → Due → Bool
+abbrev pub can_be : Logging → Due → Bool
 can_be AsDue due = true
 can_be Lacking due = is_some due.want
 can_be Unspelled due = option_map_or has_path_in due.cause false
 
-abbrev pub is_lacking : Telling → Bool
+abbrev pub is_lacking : Logging → Bool
 is_lacking Lacking = true
-is_lacking telling = false
+is_lacking logging = false
 
-abbrev pub is_unspelled : Telling → Bool
+abbrev pub is_unspelled : Logging → Bool
 is_unspelled Unspelled = true
-is_unspelled telling = false
+is_unspelled logging = false
 
 -- whether memory ran out for it
-abbrev pub is_short : Telling → Bool
-is_short telling = is_lacking telling || is_unspelled telling
+abbrev pub is_short : Logging → Bool
+is_short logging = is_lacking logging || is_unspelled logging
 
--- the lines of the first, as many as there are tellings
-abbrev pub logged_lines : List Telling → List (List ℕ) → List Due → List ℕ
-logged_lines tellings texts dues =
-    flat_map (λ one. logged_line one.0 one.1.0 one.1.1) (zip tellings (zip texts dues))
+-- the lines of the first, as many as there are loggings
+abbrev pub logged_lines : List Logging → List (List ℕ) → List Due → List ℕ
+logged_lines loggings texts dues =
+    flat_map (λ one. logged_line one.0 one.1.0 one.1.1) (zip loggings (zip texts dues))
 
 -- each of them can be logged so
-abbrev pub can_all : List Telling → List Due → Bool
+abbrev pub can_all : List Logging → List Due → Bool
 can_all [] dues = true
-can_all (telling ∷ tellings) [] = false
-can_all (telling ∷ tellings) (due ∷ dues) = can_be telling due && can_all tellings dues
+can_all (logging ∷ loggings) [] = false
+can_all (logging ∷ loggings) (due ∷ dues) = can_be logging due && can_all loggings dues
 
 -- a log that took the lines of the first n of them, and what a run then keeps of its refusals
 pub record LogsFirst (of : Dues) (n : ℕ) (refusals : Refusals) (old new : Taken) : Type 0 where
-  pub tellings : List Telling
-  pub count : length tellings ≡ n
-  pub possible : can_all tellings of.dues ≡ true
-  pub file_lacking : refusals.file_lacking ≡ list_any is_lacking tellings
-  pub path_unspelled : refusals.path_unspelled ≡ list_any is_unspelled tellings
-  pub logs : Logs old new (logged_lines tellings of.texts of.dues)
+  pub loggings : List Logging
+  pub count : length loggings ≡ n
+  pub possible : can_all loggings of.dues ≡ true
+  pub file_lacking : refusals.file_lacking ≡ list_any is_lacking loggings
+  pub path_unspelled : refusals.path_unspelled ≡ list_any is_unspelled loggings
+  pub logs : Logs old new (logged_lines loggings of.texts of.dues)
 
 -- what stands in the log of a run that ends since memory ran out: all lines, one of them `Lacking`;
 -- all, none `Lacking` but one `Unspelled`, and then the last lines; or none or all, none `Lacking`,
 -- and then `memory`, where the output has not failed
 pub record IsCutShort (of : Dues) (fault : Option MergeFault) (out_failed : Bool)
     (text : List ℕ) : Type 0 where
-  pub tellings : List Telling
-  pub possible : can_all tellings of.dues ≡ true
-  pub ends : ((length tellings ≡ length of.dues) × (list_any is_lacking tellings ≡ true)
-      × (text ≡ logged_lines tellings of.texts of.dues))
-      ⊎ ((length tellings ≡ length of.dues) × (list_any is_lacking tellings ≡ false)
-      × (list_any is_unspelled tellings ≡ true)
-      × (text ≡ logged_lines tellings of.texts of.dues ++ last_lines fault out_failed))
-      ⊎ (((length tellings ≡ 0) ⊎ (length tellings ≡ length of.dues))
-      × (list_any is_lacking tellings ≡ false)
+  pub loggings : List Logging
+  pub possible : can_all loggings of.dues ≡ true
+  pub ends : ((length loggings ≡ length of.dues) × (list_any is_lacking loggings ≡ true)
+      × (text ≡ logged_lines loggings of.texts of.dues))
+      ⊎ ((length loggings ≡ length of.dues) × (list_any is_lacking loggings ≡ false)
+      × (list_any is_unspelled loggings ≡ true)
+      × (text ≡ logged_lines loggings of.texts of.dues ++ last_lines fault out_failed))
+      ⊎ (((length loggings ≡ 0) ⊎ (length loggings ≡ length of.dues))
+      × (list_any is_lacking loggings ≡ false)
       × (out_failed ≡ false)
-      × (text ≡ logged_lines tellings of.texts of.dues ++ memory_line))
+      × (text ≡ logged_lines loggings of.texts of.dues ++ memory_line))
 
 -- the same of a whole run, that of the definition included
 abbrev pub IsRunCutShort : Job → Bool → List ℕ → Type 0
 IsRunCutShort job out_failed text =
     let task = job.request.task in
     let due = file_due (first_unsound job.def) in
-    ((telling : Telling) × (can_be telling due ≡ true) × (is_short telling ≡ true)
-    × (text ≡ logged_line telling job.request.def due))
+    ((logging : Logging) × (can_be logging due ≡ true) × (is_short logging ≡ true)
+    × (text ≡ logged_line logging job.request.def due))
     ⊎ ((is_unsound job.def ≡ false)
     × IsCutShort (task_dues (frame_in job.def) task job.request.paths job.files)
     (run_fault task job.def job.files) out_failed text)
@@ -163,7 +163,7 @@ LogsSome P old new = (text : List ℕ) × P text × Logs old new text
 
 -- of the files or steps of a run that ended so, what the log took; the fault of a merge and a
 -- failed output come last
-pub record TellsRun (of : Dues) (fault : Option MergeFault) (answer : Status)
+pub record LogsRun (of : Dues) (fault : Option MergeFault) (answer : Status)
     (old new : Outputs) : Type 0 where
   pub log : answer ≢ Memory
       → Logs old.log new.log (refusal_lines of.texts of.dues ++ last_lines fault new.out.failed)

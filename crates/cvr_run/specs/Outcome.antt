@@ -20,7 +20,7 @@ use Rattle.cvr_run.specs.declared.status.Status.TheVariants.{Done, Refused}
 use Rattle.cvr_run.specs.Accepted.{is_unsound, is_refused, accepted_value}
 use Rattle.cvr_office.specs.Names.{conflicts}
 use Rattle.cvr_office.specs.Tallied.{tally}
-use Rattle.cvr_office.specs.Keeps.{starting_content}
+use Rattle.cvr_office.specs.CanHold.{starting_content}
 use Rattle.cvr_office.specs.Reach.{union_over}
 use Rattle.cvr_run.specs.Currents.{currents, conflict_text}
 use Rattle.cvr_run.specs.Drill.{drill_text, drill_refused}

@@ -1,5 +1,5 @@
 ghost use Rattle.std.specs.Prelude.{◌≡◌, map, false, string_bytes};
-ghost use Rattle.cvr_run.specs.Answered.{bad_step_line, IsGiven, TellsWords};
+ghost use Rattle.cvr_run.specs.Answered.{bad_step_line, IsGiven, LogsWords};
 ghost use Rattle.cvr_run.specs.Log.{Logs};
 ghost use Rattle.cvr_run.specs.Responds.{NotesEach, Works};
 
@@ -17,14 +17,14 @@ use cvr_words::{LineFault, read_line};
 use std::alloc::Global;
 
 /// Reports what is wrong with words. Takes no memory.
-pub fn tell_refused<L: Sink>(log: &mut L, text: &str)
+pub fn log_refused<L: Sink>(log: &mut L, text: &str)
     ensures { Logs (L.taken log.old) (L.taken log.new) text.now }
 {
     say(log, &[text.as_bytes()]);
 }
 
 // Reports a step that has no form.
-fn tell_bad_step<L: Sink>(log: &mut L, step: &str)
+fn log_bad_step<L: Sink>(log: &mut L, step: &str)
     ensures { Logs (L.taken log.old) (L.taken log.new) (bad_step_line step.now) }
 {
     let step = step.as_bytes();
@@ -32,16 +32,16 @@ fn tell_bad_step<L: Sink>(log: &mut L, step: &str)
 }
 
 // Says why words ask for no request: help is printed, all else goes to the log. Takes no memory.
-fn tell_fault<W: Sink, L: Sink>(fault: &LineFault, out: &mut W, log: &mut L) -> Status
+fn log_fault<W: Sink, L: Sink>(fault: &LineFault, out: &mut W, log: &mut L) -> Status
     requires { (W.taken out.old).failed ≡ false }
-    ensures { TellsWords fault.now result
+    ensures { LogsWords fault.now result
         (record { out = W.taken out.old; log = L.taken log.old })
         (record { out = W.taken out.new; log = L.taken log.new })
         (out.new ≡ out.old) }
 {
     match fault {
         LineFault::Refused { text } => {
-            tell_refused(log, text.as_str());
+            log_refused(log, text.as_str());
             Status::CommandLine
         }
         LineFault::Help { text } => {
@@ -49,7 +49,7 @@ fn tell_fault<W: Sink, L: Sink>(fault: &LineFault, out: &mut W, log: &mut L) -> 
             end_with(printed, Refusals::none(), log)
         }
         LineFault::BadStep { step, .. } => {
-            tell_bad_step(log, step.as_str());
+            log_bad_step(log, step.as_str());
             Status::CommandLine
         }
         LineFault::Memory => end_in_memory(log),
@@ -80,6 +80,6 @@ pub fn work<C: Office + Drop, O: Open, W: Sink, L: Sink>(
             happened.request = Some(request);
             status
         }
-        Err(fault) => tell_fault(&fault, out, log),
+        Err(fault) => log_fault(&fault, out, log),
     }
 }

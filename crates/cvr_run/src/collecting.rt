@@ -53,13 +53,13 @@ impl Take for Ignored {
 
 /// Keeps all files.
 #[derive(Drop)]
-pub struct Kept {
+pub struct Gathered {
     /// Their bytes, in order.
     pub files: Vec<Vec<u8>>,
 }
 
-impl Take for Kept {
-    ghost took = { λ kept _ _ files _. files_of kept.files.items ≡ files };
+impl Take for Gathered {
+    ghost took = { λ gathered _ _ files _. files_of gathered.files.items ≡ files };
 
     fn take(&mut self, alloc: Global, _path: &str, file: &Vec<u8>) -> Result<Outcome, Memory> {
         let mut bytes = Vec::new(alloc);
@@ -119,7 +119,7 @@ fn import_one<C: Office>(alloc: Global, office: &mut [C], file: &Vec<u8>) -> Res
 
 impl<C: Office + Drop> Collected<C> {
     ghost use Rattle.std.specs.Prelude.{◌≡◌, ◌∷◌, [], map, IfOk};
-    ghost use Rattle.cvr_office.specs.Keeps.{starting_content};
+    ghost use Rattle.cvr_office.specs.CanHold.{starting_content};
 
     /// A new office of a definition, which has taken no file.
     ///

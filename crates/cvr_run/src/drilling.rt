@@ -8,10 +8,10 @@ ghost use Rattle.cvr_run.specs.Drill.{drill_text, drill_contents, step_texts, Ar
 ghost use Rattle.cvr_run.specs.declared.status.Status.TheVariants.{Memory as NoMemory};
 ghost use Rattle.cvr_run.specs.declared.merge.MergeFault.{MergeFault};
 ghost use Rattle.cvr_run.specs.Ends.{Ends};
-ghost use Rattle.cvr_run.specs.Happened.{Keeps};
+ghost use Rattle.cvr_run.specs.Happened.{AreNoted};
 ghost use Rattle.cvr_run.specs.Outcome.{files_of, IsWhole};
 ghost use Rattle.cvr_run.specs.Refusals.{cause_in, is_refusal, is_want, AreDue, Due};
-ghost use Rattle.cvr_run.specs.Logged.{drill_dues, LogsFirst, TellsRun, IsCutShort, LogsSome};
+ghost use Rattle.cvr_run.specs.Logged.{drill_dues, LogsFirst, LogsRun, IsCutShort, LogsSome};
 
 use crate::ending::{end_in_memory, end_with};
 use crate::happened::Happened;
@@ -106,7 +106,7 @@ fn drill<O: Office + Drop, L: Sink>(
         (drill_dues definition.now count (files_of files.now) steps.now) (length steps.now) r.1
         (L.taken log.old) (L.taken log.new)) }
     ensures happened { IfOk result (λ r. r.1.file_lacking ≡ false
-        → (facts : Facts) → Keeps happened.new
+        → (facts : Facts) → AreNoted happened.new
         (drill_dues definition.now count (files_of files.now) steps.now).dues facts) }
     ensures unchanged { OnErr result (log.new ≡ log.old) }
 {
@@ -114,7 +114,7 @@ fn drill<O: Office + Drop, L: Sink>(
     let events = events_of(alloc, count, steps)?;
     let outcomes = play(alloc, offices.as_mut_slice(), files, events.as_slice())?;
     let refusals = note_refused(alloc, steps, outcomes.as_slice(), log);
-    happened.keep(outcomes, None);
+    happened.note(outcomes, None);
     Ok((offices, refusals))
 }
 
@@ -138,7 +138,7 @@ fn drill_all<O: Office + Drop, L: Sink>(
     ensures log { IfOk result (λ r. LogsFirst
         (drill_dues definition.now count (files_of files.now) steps.now) (length steps.now) r.1
         (L.taken log.old) (L.taken log.new)) }
-    ensures happened { OnOk result ((facts : Facts) → Keeps happened.new
+    ensures happened { OnOk result ((facts : Facts) → AreNoted happened.new
         (drill_dues definition.now count (files_of files.now) steps.now).dues facts) }
     ensures cut_short { OnErr result ((fault : Option MergeFault) → LogsSome
         (IsCutShort (drill_dues definition.now count (files_of files.now) steps.now) fault false)
@@ -169,11 +169,11 @@ pub fn run_drill<O: Office + Drop, W: Sink, L: Sink>(
     ensures ends { Ends (W.taken out.old) (W.taken out.new)
         (drill_text definition.now count (files_of files.now) steps.now)
         (drill_refused definition.now count (files_of files.now) steps.now) result }
-    ensures log { TellsRun (drill_dues definition.now count (files_of files.now) steps.now) None
+    ensures log { LogsRun (drill_dues definition.now count (files_of files.now) steps.now) None
         result
         (record { out = W.taken out.old; log = L.taken log.old })
         (record { out = W.taken out.new; log = L.taken log.new }) }
-    ensures happened { IsWhole result → (facts : Facts) → Keeps happened.new
+    ensures happened { IsWhole result → (facts : Facts) → AreNoted happened.new
         (drill_dues definition.now count (files_of files.now) steps.now).dues facts }
 {
     match drill_all::<O, L>(alloc, definition, count, steps, files, log, happened) {

@@ -6,7 +6,7 @@ ghost use Rattle.cvr_run.specs.Code.{code_name};
 ghost use Rattle.cvr_run.specs.Explained.{AsksCode, AsksUse, Explains, code_of, first_code};
 ghost use Rattle.cvr_run.specs.Explained.{parts_of};
 
-use crate::answering::tell_refused;
+use crate::answering::log_refused;
 use crate::code::{Code, all_codes, explain_use, no_code};
 use crate::own_words::print_own;
 use crate::status::Status;
@@ -116,6 +116,6 @@ pub fn explain<W: Sink, L: Sink>(asked: &[String], out: &mut W, log: &mut L) -> 
     if asks_use(asked) {
         return print_own(explain_use(), out, log);
     }
-    tell_refused(log, no_code());
+    log_refused(log, no_code());
     Status::CommandLine
 }

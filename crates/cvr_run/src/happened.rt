@@ -56,7 +56,7 @@ impl Happened {
 
     /// Keeps what became of each file or step beside a definition that is accepted. Takes no
     /// memory.
-    pub fn keep(&mut self, outcomes: Vec<Outcome>, several: Option<usize>)
+    pub fn note(&mut self, outcomes: Vec<Outcome>, several: Option<usize>)
         ensures definition { self.new.definition ≡ None }
         ensures outcomes { self.new.outcomes.items ≡ outcomes.items }
         ensures several { self.new.several ≡ several }

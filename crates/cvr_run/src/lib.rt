@@ -33,7 +33,6 @@ mod printing;
 mod reading;
 mod refusals;
 mod responding;
-pub mod rows;
 mod status;
 mod tasks;
 mod working;

@@ -45,7 +45,7 @@ fn text_of<'a>(bytes: &'a [u8]) -> Option<&'a str>
 }
 
 // Reports a file that is no list.
-fn tell_bad_list<L: Sink>(log: &mut L, path: &str)
+fn log_bad_list<L: Sink>(log: &mut L, path: &str)
     ensures { Logs (L.taken log.old) (L.taken log.new)
         (bad_list_line path.now) }
 {
@@ -82,7 +82,7 @@ fn paths_at<O: Open, L: Sink>(
             }
         },
         None => {
-            tell_bad_list(log, path);
+            log_bad_list(log, path);
             Err(Status::CommandLine)
         }
     }

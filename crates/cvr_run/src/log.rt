@@ -71,9 +71,9 @@ fn inner(text: &[u8]) -> &[u8]
     &text[1..text.len() - 1]
 }
 
-// Reports in the log a file that was refused by a rule at a path, as `tell_fault` does.
+// Reports in the log a file that was refused by a rule at a path, as `log_fault` does.
 #[tactic(auto, using(crate::proofs::Pieces::end_of_rule))]
-fn tell_rule<L: Sink>(
+fn log_rule<L: Sink>(
     alloc: Global,
     log: &mut L,
     what: &[u8],
@@ -95,8 +95,8 @@ fn tell_rule<L: Sink>(
 }
 
 // Reports in the log a file that was refused with this code for what stands at a path, as
-// `tell_fault` does.
-fn tell_at<L: Sink>(
+// `log_fault` does.
+fn log_at<L: Sink>(
     alloc: Global,
     log: &mut L,
     what: &[u8],
@@ -114,7 +114,7 @@ fn tell_at<L: Sink>(
 
 // Reports in the log a file that was refused. `Memory` where its path could not be spelled: the log
 // is then as it was.
-fn tell_fault<L: Sink>(
+fn log_fault<L: Sink>(
     alloc: Global,
     log: &mut L,
     what: &str,
@@ -129,9 +129,9 @@ fn tell_fault<L: Sink>(
     match fault {
         ReadFault::TooLong => say(log, &[what, b": E1\n"]),
         ReadFault::NotJson => say(log, &[what, b": E2\n"]),
-        ReadFault::Schema { path, rule } => return tell_rule(alloc, log, what, path, *rule),
-        ReadFault::Reference { path } => return tell_at(alloc, log, what, b": E4 ", path),
-        ReadFault::Disagrees { path } => return tell_at(alloc, log, what, b": E5 ", path),
+        ReadFault::Schema { path, rule } => return log_rule(alloc, log, what, path, *rule),
+        ReadFault::Reference { path } => return log_at(alloc, log, what, b": E4 ", path),
+        ReadFault::Disagrees { path } => return log_at(alloc, log, what, b": E5 ", path),
         ReadFault::Memory => say(log, &[what, b": E6\n"]),
     }
     Ok(())
@@ -142,14 +142,19 @@ fn tell_fault<L: Sink>(
 ///
 /// # Errors
 /// `Memory` where the path could not be spelled. The log is as it was.
-pub fn tell<L: Sink>(alloc: Global, log: &mut L, what: &str, cause: &Cause) -> Result<(), Memory>
+pub fn log_cause<L: Sink>(
+    alloc: Global,
+    log: &mut L,
+    what: &str,
+    cause: &Cause,
+) -> Result<(), Memory>
     ensures line { OnOk result
         (Logs (L.taken log.old) (L.taken log.new) (cause_line what.now cause.now)) }
     ensures unchanged { OnErr result (log.new ≡ log.old) }
     ensures pathless { has_path_in cause.now ≡ false → IsOk result }
 {
     match cause {
-        Cause::Read(fault) => return tell_fault(alloc, log, what, fault),
+        Cause::Read(fault) => return log_fault(alloc, log, what, fault),
         Cause::Join(JoinFault::OtherDefinition) => say(log, &[what.as_bytes(), b": J1\n"]),
         Cause::Join(JoinFault::Memory) => say(log, &[what.as_bytes(), b": J2\n"]),
         Cause::NoOffice => say(log, &[what.as_bytes(), b": N1\n"]),

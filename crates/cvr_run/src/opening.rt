@@ -66,7 +66,7 @@ fn read_at<O: Open>(opener: &mut O, path: &str, bytes: &mut Vec<u8>) -> Result<(
 }
 
 // Reports a file that was not read, by its path as given.
-fn tell_unread<L: Sink>(log: &mut L, path: &str, fault: FileFault)
+fn log_unread<L: Sink>(log: &mut L, path: &str, fault: FileFault)
     ensures { Logs (L.taken log.old) (L.taken log.new) (unread_line path.now fault) }
 {
     let path = path.as_bytes();
@@ -101,7 +101,7 @@ pub fn read_logged<O: Open, L: Sink>(
     match read_at(opener, path, bytes) {
         Ok(()) => Ok(()),
         Err(fault) => {
-            tell_unread(log, path, fault);
+            log_unread(log, path, fault);
             Err(fault)
         }
     }

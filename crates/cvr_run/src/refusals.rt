@@ -2,7 +2,7 @@ ghost use Rattle.std.specs.Prelude.{◌≡◌, ◌||◌, ◌⊎◌, Bool, true, 
 ghost use Rattle.cvr_run.specs.Log.{cause_line, memory_line, has_path_in, Logs};
 ghost use Rattle.cvr_run.specs.Refusals.{wants_memory};
 
-use crate::log::{say_memory, tell};
+use crate::log::{log_cause, say_memory};
 use crate::status::Status;
 use cdf_types::{Memory, ReadFault, Sink};
 use cvr_office::{Cause, JoinFault};
@@ -61,7 +61,7 @@ impl Refusals {
         if wants_memory(cause) {
             self.file_lacking = true;
         }
-        if let Err(_) = tell(alloc, log, what, cause) {
+        if let Err(_) = log_cause(alloc, log, what, cause) {
             self.path_unspelled = true;
             say_memory(log);
         }

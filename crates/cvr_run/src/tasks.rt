@@ -8,7 +8,7 @@ ghost use Rattle.cdf_types.specs.Device.{Taken};
 ghost use Rattle.cvr_run.specs.Accepted.{is_refused};
 ghost use Rattle.cvr_run.specs.Ends.{Ran, RanBeside, RanOver};
 ghost use Rattle.cvr_run.specs.Given.{AreAsMany, HadWhole, StopsOr};
-ghost use Rattle.cvr_run.specs.Happened.{Happens, Keeps};
+ghost use Rattle.cvr_run.specs.Happened.{Happens, AreNoted};
 ghost use Rattle.cvr_run.specs.Outcome.{content_of_files, check_lines, facts_text, files_of};
 ghost use Rattle.cvr_run.specs.Outcome.{files_refused, task_fault, IsWhole};
 ghost use Rattle.cvr_run.specs.Refusals.{is_want, AreDue};
@@ -19,7 +19,7 @@ ghost use Rattle.cvr_run.specs.declared.merge.MergeFault.{MergeFault};
 ghost use Rattle.cvr_run.specs.declared.status.Status.TheVariants.{Memory as NoMemory};
 ghost use Rattle.cvr_words.specs.declared.request.Task.TheVariants.{Check, Drill};
 
-use crate::collecting::{Collected, Counted, Kept, take_all};
+use crate::collecting::{Collected, Counted, Gathered, take_all};
 use crate::drilling::run_drill;
 use crate::ending::{end_in_memory, end_with};
 use crate::given::Files;
@@ -125,7 +125,7 @@ fn run_office<C: Office + Drop, O: Open, W: Sink, L: Sink>(
         (record { out = W.taken out.old; log = L.taken log.old })
         (record { out = W.taken out.new; log = L.taken log.new })) }
     ensures happened { HadWhole from.entry paths.now result
-        (O.state opener.old) (O.state opener.new) (λ files. Keeps happened.new
+        (O.state opener.old) (O.state opener.new) (λ files. AreNoted happened.new
         (import_dues definition paths.now files).dues (content_of_files definition files)) }
 {
     let Ok(mut taker) = Collected::<C>::new(alloc, definition) else {
@@ -136,7 +136,7 @@ fn run_office<C: Office + Drop, O: Open, W: Sink, L: Sink>(
             let office = &taker.offices[0];
             let status = end_office(alloc, office, task, paths, rs.as_slice(), out, log);
             let several = count_several(alloc, office, task, happened.counts_several);
-            happened.keep(rs, several);
+            happened.note(rs, several);
             status
         }
         Err(status) => status,
@@ -189,7 +189,7 @@ fn run_check<O: Open, W: Sink, L: Sink>(
         (record { out = W.taken out.old; log = L.taken log.old })
         (record { out = W.taken out.new; log = L.taken log.new })) }
     ensures happened { HadWhole from.entry paths.now result
-        (O.state opener.old) (O.state opener.new) (λ files. Keeps happened.new
+        (O.state opener.old) (O.state opener.new) (λ files. AreNoted happened.new
         (import_dues definition paths.now files).dues (content_of_files definition files)) }
 {
     let mut taker = Counted {
@@ -200,7 +200,7 @@ fn run_check<O: Open, W: Sink, L: Sink>(
         Ok(outcomes) => {
             let lines = taker.text.as_str();
             let status = end_check(alloc, lines, paths, outcomes.as_slice(), out, log);
-            happened.keep(outcomes, None);
+            happened.note(outcomes, None);
             status
         }
         Err(status) => status,
@@ -230,11 +230,11 @@ fn run_steps<C: Office + Drop, O: Open, W: Sink, L: Sink>(
         (record { out = W.taken out.old; log = L.taken log.old })
         (record { out = W.taken out.new; log = L.taken log.new })) }
     ensures happened { HadWhole from.entry paths.now result
-        (O.state opener.old) (O.state opener.new) (λ files. Keeps happened.new
+        (O.state opener.old) (O.state opener.new) (λ files. AreNoted happened.new
         (drill_dues definition.now count files steps.now).dues
         (content_of_files definition.now files)) }
 {
-    let mut taker = Kept {
+    let mut taker = Gathered {
         files: Vec::new(alloc),
     };
     match take_all(alloc, &mut taker, from, opener, paths, log) {
@@ -274,7 +274,7 @@ pub fn run_task<C: Office + Drop, O: Open, W: Sink, L: Sink>(
         (record { out = W.taken out.old; log = L.taken log.old })
         (record { out = W.taken out.new; log = L.taken log.new })) }
     ensures happened { HadWhole from.entry paths.now result
-        (O.state opener.old) (O.state opener.new) (λ files. Keeps happened.new
+        (O.state opener.old) (O.state opener.new) (λ files. AreNoted happened.new
         (task_dues definition task.now paths.now files).dues (content_of_files definition files)) }
 {
     match task {

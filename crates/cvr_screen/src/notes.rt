@@ -84,23 +84,23 @@ impl<'a, R: Files + Eprint + AllocGlobal> Notes<'a, R> {
         }
         if let Some(place) = closed.checked_sub(self.before) {
             if has_changed {
-                self.keep_change(place);
+                self.note_change(place);
             }
             if place == 0 {
-                self.keep_def(bytes);
+                self.note_definition(bytes);
             }
         }
     }
 
     // Keeps the bytes of the definition.
-    fn keep_def(&self, bytes: Option<Vec<u8>>) {
+    fn note_definition(&self, bytes: Option<Vec<u8>>) {
         if let Ok(mut def) = self.def.try_borrow_mut() {
             *def = bytes;
         }
     }
 
     // Keeps that a file was written to, of as many as are named.
-    fn keep_change(&self, place: usize) {
+    fn note_change(&self, place: usize) {
         if let Ok(mut all) = self.changed.try_borrow_mut() {
             if all.len() < NAMED {
                 let _ = all.push(place);

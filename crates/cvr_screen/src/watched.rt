@@ -17,7 +17,7 @@ pub struct Watched<'a, F: OpenFile, R: Files + Eprint + AllocGlobal> {
     // What the system says of it as it is opened; None where no note needs it.
     opened: Option<Metadata>,
     // Its bytes; None where they aren't kept.
-    kept: Option<Vec<u8>>,
+    bytes: Option<Vec<u8>>,
     progress: &'a Progress<'a, R>,
     notes: &'a Notes<'a, R>,
 }
@@ -37,19 +37,19 @@ impl<'a, F: OpenFile, R: Files + Eprint + AllocGlobal> Watched<'a, F, R> {
         Watched {
             file,
             opened,
-            kept: notes.open(),
+            bytes: notes.open(),
             progress,
             notes,
         }
     }
 
     // Keeps bytes that were read. Where memory is refused for them, none are kept.
-    fn keep(&mut self, read: &[u8])
+    fn add(&mut self, read: &[u8])
         ensures { self.new.file ≡ self.old.file }
     {
-        if let Some(mut bytes) = self.kept.take() {
+        if let Some(mut bytes) = self.bytes.take() {
             if bytes.extend_from_slice(read).is_ok() {
-                self.kept = Some(bytes);
+                self.bytes = Some(bytes);
             }
         }
     }
@@ -77,7 +77,7 @@ impl<F: Read + OpenFile, R: Files + Eprint + AllocGlobal> Read for Watched<'_, F
     fn read(&mut self, buffer: &mut [u8]) -> io::Result<usize> {
         let result = self.file.read(buffer);
         match &result {
-            Ok(count) => self.keep(&buffer[..*count]),
+            Ok(count) => self.add(&buffer[..*count]),
             Err(fault) => self.notes.fail(fault),
         }
         result
@@ -89,7 +89,7 @@ impl<F: OpenFile + Drop, R: Files + Eprint + AllocGlobal> Drop for Watched<'_, F
         let Watched {
             file,
             opened,
-            kept,
+            bytes,
             progress,
             notes,
         } = self;
@@ -100,7 +100,7 @@ impl<F: OpenFile + Drop, R: Files + Eprint + AllocGlobal> Drop for Watched<'_, F
         };
         drop(file);
         progress.count();
-        notes.close(kept, written, has_changed);
+        notes.close(bytes, written, has_changed);
     }
 }
 

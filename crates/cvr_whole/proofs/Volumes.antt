@@ -14,7 +14,7 @@ use Rattle.cvr_fact_types.specs.Facts.{Facts, fact_total, fact_exact}
 use Rattle.cvr_facts.specs.Reports.{facts}
 use Rattle.cvr_facts.specs.Unions.{union_assoc, union_same, union_empty}
 use Rattle.cvr_facts.proofs.Lemmas.{in_map, at_head, at_tail}
-use Rattle.cvr_office.specs.Keeps.{Keeps, starting_content}
+use Rattle.cvr_office.specs.CanHold.{CanHold, starting_content}
 use Rattle.cvr_office.specs.Reach.{union_over}
 use Rattle.cvr_office.proofs.Laws.{start_keeps, import_keeps, columns_add_up, ballots_add_up}
 use Rattle.cvr_report.specs.Head.{Head}
@@ -39,18 +39,18 @@ accepted definition file is = ap (λ (first : Option ReadFault).
 
 module _ (definition : Frame) where
   keeps_with : (t some : Facts) (first : Option ReadFault)
-      → (first ≡ None → Keeps definition (union t some)) → Keeps definition t
-      → Keeps definition (union t (if is_some first then empty else some))
+      → (first ≡ None → CanHold definition (union t some)) → CanHold definition t
+      → CanHold definition (union t (if is_some first then empty else some))
   keeps_with t some None more kept = more refl
   keeps_with t some (Some fault) more kept =
-      subst (Keeps definition) (sym (union_empty fact_total fact_exact t)) kept
+      subst (CanHold definition) (sym (union_empty fact_total fact_exact t)) kept
 
-  keeps_over : (t : Facts) (files : List (List ℕ)) → Keeps definition t
-      → Keeps definition (union t (union_over (accepted_facts definition) files))
+  keeps_over : (t : Facts) (files : List (List ℕ)) → CanHold definition t
+      → CanHold definition (union t (union_over (accepted_facts definition) files))
   keeps_over t [] kept =
-      subst (Keeps definition) (sym (union_empty fact_total fact_exact t)) kept
+      subst (CanHold definition) (sym (union_empty fact_total fact_exact t)) kept
   keeps_over t (file ∷ files) kept =
-      subst (Keeps definition)
+      subst (CanHold definition)
       (union_assoc fact_total fact_exact t (accepted_facts definition file)
       (union_over (accepted_facts definition) files))
       (keeps_over (union t (accepted_facts definition file)) files
@@ -58,7 +58,7 @@ module _ (definition : Frame) where
       (λ none. import_keeps definition t file ((valid_file definition file).0 none) kept) kept))
 
 held_keeps : (def : List ℕ) (files : List (List ℕ)) → Sound def
-    → Keeps (frame_in def) (held def files)
+    → CanHold (frame_in def) (held def files)
 held_keeps def files s =
     keeps_over (frame_in def) (starting_content (frame_in def)) files
     (start_keeps (frame_in def) (sound_frame def s))

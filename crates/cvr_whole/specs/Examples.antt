@@ -1,12 +1,12 @@
 -- Worked examples: a clean run, two that hold the same, and a volume in the place of a file. (This
 -- project's own.)
 use Rattle.std.specs.Prelude.{◌≡◌, ℕ, List, [], ◌∷◌, ◌++◌, codes}
-use Rattle.cdf_check.specs.Rows as file
+use Rattle.cdf_check.specs.FileExamples as file
 use Rattle.cvr_report.specs.Head.{Head}
 use Rattle.cvr_words.specs.declared.request.Task.TheVariants.{Currents}
 use Rattle.cvr_run.specs.Ends.{job_text}
 use Rattle.cvr_run.specs.Job.{Job}
-use Rattle.cvr_run.specs.Rows.{spelled_anew}
+use Rattle.cvr_run.specs.RunExamples.{spelled_anew}
 use Rattle.cvr_whole.specs.Runs.{HaveSameInput, IsClean}
 use Rattle.cvr_whole.specs.Volumes.{AreVolumes}
 

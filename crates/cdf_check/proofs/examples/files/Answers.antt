@@ -8,10 +8,10 @@ use Rattle.cdf_types.specs.declared.fault.ReadFault.TheVariants.{TooLong, Refere
 use Rattle.cdf_form.specs.Form.{Fault, first}
 use Rattle.cdf_form.specs.Form as form
 use Rattle.cdf_form.specs.Path.{path_text}
-use Rattle.cdf_form.specs.Reading.{value_of, document_faults, refusal_of}
+use Rattle.cdf_form.specs.Reading.{value_of, document_faults, refusal_of, of_value}
 use Rattle.cdf_definition.specs.Paths.{Path}
 use Rattle.cdf_definition.specs.References.{missing_paths}
-use Rattle.cdf_definition.specs.Acceptance.{own_refusal, of_value}
+use Rattle.cdf_definition.specs.Acceptance.{own_refusal}
 use Rattle.cdf_check.proofs.Ascii.{ascii_unsound}
 use Rattle.cdf_check.proofs.examples.files.Goals as goal
 

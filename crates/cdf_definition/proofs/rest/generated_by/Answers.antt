@@ -1,7 +1,7 @@
 use Rattle.std.specs.Prelude.{codes}
 use Rattle.cdf_node.specs.View.{view}
 use Rattle.cdf_form.specs.Found.{path_of}
-use Rattle.cdf_definition.proofs.Rows.{all_named}
+use Rattle.cdf_definition.proofs.Entries.{all_named}
 use Rattle.cdf_definition.proofs.rest.generated_by.Goals as goal
 
 pub returns : goal.returns

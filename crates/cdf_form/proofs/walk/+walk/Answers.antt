@@ -12,100 +12,100 @@ use Rattle.cdf_form.specs.declared.table.Leaf.TheVariants as leaf
 use Rattle.cdf_form.specs.declared.table.Key.TheVariants as key
 use Rattle.cdf_form.specs.Tables.{entry_of, entries_of}
 use Rattle.serde_json.specs.Find.{get}
-use Rattle.cdf_form.specs.Form.{first, at_member, deeper_fault, faults, items_faults, row_faults}
+use Rattle.cdf_form.specs.Form.{first, at_member, deeper_fault, faults, items_faults, entry_faults}
 use Rattle.cdf_form.specs.Form.{member_look, mark_of, key_text, add_text}
 use Rattle.cdf_form.proofs.Parts.{item_is_lighter, items_go, items_weight, part_is_lighter, weight}
 use Rattle.cdf_form.proofs.Sorted.{item_is_sorted, names_rise, part_is_sorted}
-use Rattle.cdf_form.proofs.Walking.{all_members, found_at, found_on, may_lack, rise_on, rows_go}
-use Rattle.cdf_form.proofs.Walking.{rows_stop, tells_as}
+use Rattle.cdf_form.proofs.Walking.{all_members, found_at, found_on, may_lack, rise_on, entries_go}
+use Rattle.cdf_form.proofs.Walking.{entries_stop, tells_as}
 use Rattle.cdf_form.proofs.walk.+walk.Goals as goal
-use Rattle.cdf_form.proofs.walk.+walk.Goals.{walk_rows-in-None+else-row, walk_rows-in-Some+in-Ok}
+use Rattle.cdf_form.proofs.walk.+walk.Goals.{walk_entries-in-None+else-entry, walk_entries-in-Some+in-Ok}
 
 -- ---- walk_rows
 
-abbrev no_row : Member
-no_row = record {
+abbrev no_entry : Member
+no_entry = record {
   name = record { ref_ptr = (0, 0); now = [] };
   required = false;
   kind = kind.One leaf.Text;
 }
 
-pub walk_rows-loop-row-init : goal.walk_rows-loop-row-init
-walk_rows-loop-row-init t c = record {
+pub walk_entries-loop-entry-init : goal.walk_entries-loop-entry-init
+walk_entries-loop-entry-init t c = record {
   same = refl;
   rise = c.requires.rise;
   within = omega arith;
-  there = all_members (view c.args.value.now) _ (entries_of c.args.rows.now)
+  there = all_members (view c.args.value.now) _ (entries_of c.args.entries.now)
       c.members_of-members.ensures;
 }
 
-pub walk_rows-walk_member-requires : goal.walk_rows-walk_member-requires
-walk_rows-walk_member-requires t c =
+pub walk_entries-walk_member-requires : goal.walk_entries-walk_member-requires
+walk_entries-walk_member-requires t c =
     let d = view c.args.value.now in
-    let rs = c.args.rows.now in
-    let i = c.loop-row.row-index in
-    let there : get (get_or rs i no_row).name.now d ≡ Some (view c.in-Some.member.now) =
-    sym (found_at d _ rs i no_row c.loop-row-test.true c.loop-row.invariant.there)
+    let rs = c.args.entries.now in
+    let i = c.loop-entry.entry-index in
+    let there : get (get_or rs i no_entry).name.now d ≡ Some (view c.in-Some.member.now) =
+    sym (found_at d _ rs i no_entry c.loop-entry-test.true c.loop-entry.invariant.there)
     ∙ sym c.find_from-next.ensures.value
     ∙ ap (option_map (λ (v : Bor Node). view v.now)) c.in-Some.is in
-    let lighter = part_is_lighter d (get_or rs i no_row).name.now _ there in
-    let names = part_is_sorted c.args.sorted d (get_or rs i no_row).name.now _ there
+    let lighter = part_is_lighter d (get_or rs i no_entry).name.now _ there in
+    let names = part_is_sorted c.args.sorted d (get_or rs i no_entry).name.now _ there
     c.requires.names in
     search rules
 
-pub walk_rows-find_from-next-requires-clause-rise :
-    goal.walk_rows-find_from-next-requires-clause-rise
-walk_rows-find_from-next-requires-clause-rise t c =
+pub walk_entries-find_from-next-requires-clause-rise :
+    goal.walk_entries-find_from-next-requires-clause-rise
+walk_entries-find_from-next-requires-clause-rise t c =
     names_rise c.args.sorted (view c.args.value.now) _ c.members_of-members.ensures c.requires.names
 
-pub walk_rows-loop-row-preserved : goal.walk_rows-loop-row-preserved
-walk_rows-loop-row-preserved t c =
+pub walk_entries-loop-entry-preserved : goal.walk_entries-loop-entry-preserved
+walk_entries-loop-entry-preserved t c =
     let d = view c.args.value.now in
-    let rs = c.args.rows.now in
-    let i = c.loop-row.row-index in
-    let r = get_or rs i no_row in
-    let lt = c.loop-row-test.true in
+    let rs = c.args.entries.now in
+    let i = c.loop-entry.entry-index in
+    let r = get_or rs i no_entry in
+    let lt = c.loop-entry-test.true in
     let at : get r.name.now d
     ≡ option_map (λ (v : Bor Node). view v.now) c.find_from-next.result.0 =
-    sym (found_at d _ rs i no_row lt c.loop-row.invariant.there)
+    sym (found_at d _ rs i no_entry lt c.loop-entry.invariant.there)
     ∙ sym c.find_from-next.ensures.value in
     let looked = λ (o : Option (Bor Node)).
-    first (row_faults c.args.mark (entry_of r) (option_map (λ (e : Data). faults e r.kind key.Free)
+    first (entry_faults c.args.mark (entry_of r) (option_map (λ (e : Data). faults e r.kind key.Free)
     (option_map (λ (v : Bor Node). view v.now) o))) in
-    let none : first (row_faults c.args.mark (entry_of r) (member_look d r.name.now r.kind))
+    let none : first (entry_faults c.args.mark (entry_of r) (member_look d r.name.now r.kind))
     ≡ None =
-    ap (λ (o : Option Data). first (row_faults c.args.mark (entry_of r)
+    ap (λ (o : Option Data). first (entry_faults c.args.mark (entry_of r)
     (option_map (λ (e : Data). faults e r.kind key.Free) o))) at
     ∙ elim c.match-found.branch [
-      | walk_rows-in-None+else-row w ↦
-          ap looked w.in-None.is ∙ may_lack c.args.mark (entry_of r) w.if-row.false
-      | walk_rows-in-Some+in-Ok w ↦ ap looked w.in-Some.is ∙ w.in-Ok.ensures.none
+      | walk_entries-in-None+else-entry w ↦
+          ap looked w.in-None.is ∙ may_lack c.args.mark (entry_of r) w.if-entry.false
+      | walk_entries-in-Some+in-Ok w ↦ ap looked w.in-Some.is ∙ w.in-Ok.ensures.none
     ] in
     record {
-      same = rows_go (member_look d) c.args.mark rs i no_row lt none ∙ c.loop-row.invariant.same;
-      rise = rise_on rs i no_row lt c.loop-row.invariant.rise;
+      same = entries_go (member_look d) c.args.mark rs i no_entry lt none ∙ c.loop-entry.invariant.same;
+      rise = rise_on rs i no_entry lt c.loop-entry.invariant.rise;
       within = c.find_from-next.ensures.place;
-      there = found_on d _ _ rs i no_row lt c.loop-row.invariant.rise c.loop-row.invariant.there
+      there = found_on d _ _ rs i no_entry lt c.loop-entry.invariant.rise c.loop-entry.invariant.there
           c.find_from-next.ensures.left;
     }
 
-pub walk_rows-returns-in-Err-clause-fault : goal.walk_rows-returns-in-Err-clause-fault
-walk_rows-returns-in-Err-clause-fault t c =
+pub walk_entries-returns-in-Err-clause-fault : goal.walk_entries-returns-in-Err-clause-fault
+walk_entries-returns-in-Err-clause-fault t c =
     let d = view c.args.value.now in
-    let rs = c.args.rows.now in
-    let i = c.loop-row.row-index in
-    let r = get_or rs i no_row in
+    let rs = c.args.entries.now in
+    let i = c.loop-entry.entry-index in
+    let r = get_or rs i no_entry in
     let there : get r.name.now d ≡ Some (view c.in-Some.member.now) =
-    sym (found_at d _ rs i no_row c.loop-row-test.true c.loop-row.invariant.there)
+    sym (found_at d _ rs i no_entry c.loop-entry-test.true c.loop-entry.invariant.there)
     ∙ sym c.find_from-next.ensures.value
     ∙ ap (option_map (λ (v : Bor Node). view v.now)) c.in-Some.is in
     let found = ap (λ o. option_map (deeper_fault (at_member r.name.now))
-    (first (row_faults c.args.mark (entry_of r)
+    (first (entry_faults c.args.mark (entry_of r)
     (option_map (λ e. faults e r.kind key.Free) o)))) there in
     let own = tells_as c.under-in-Err.result _ _ (sym found)
     (c.under-in-Err.ensures _ c.in-Err.ensures.fault) in
-    tells_as c.under-in-Err.result _ _ c.loop-row.invariant.same
-    (rows_stop (member_look d) c.args.mark rs i no_row c.loop-row-test.true
+    tells_as c.under-in-Err.result _ _ c.loop-entry.invariant.same
+    (entries_stop (member_look d) c.args.mark rs i no_entry c.loop-entry-test.true
     c.under-in-Err.result own)
 
 -- ---- walk_items

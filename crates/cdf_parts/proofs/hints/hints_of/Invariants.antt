@@ -1,4 +1,4 @@
-use Rattle.cdf_parts.specs.Kept.{bytes_of, HasHints}
+use Rattle.cdf_parts.specs.Ids.{bytes_of, HasHints}
 use Rattle.cdf_parts.proofs.hints.hints_of.Given as goal
 
 abbrev pub invariant-loop-id : goal.invariant-loop-id

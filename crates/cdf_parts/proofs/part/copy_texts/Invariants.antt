@@ -1,5 +1,5 @@
 use Rattle.std.proofs.Common.{◌≡◌, take}
-use Rattle.cdf_parts.specs.Kept.{bytes_of}
+use Rattle.cdf_parts.specs.Ids.{bytes_of}
 use Rattle.cdf_parts.proofs.part.copy_texts.Given as goal
 
 abbrev pub invariant-loop-text : goal.invariant-loop-text

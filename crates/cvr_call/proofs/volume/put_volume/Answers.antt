@@ -21,7 +21,7 @@ returns-in-Ok-print_volume-clause-volume c = rw (
   ← c.in-Ok-from_utf8.ensures.cases.0,
 ) (volume_shown _ _ _ _ _ _ _ _ c.in-Ok-print_volume.ensures.2
     (ap (λ s. s.taken) c.new-out.ensures) (ap Some c.taken.ensures ∙ c.in-Ok-print_volume.ensures.0)
-    c.tell_bytes.ensures)
+    c.leave_bytes.ensures)
 
 pub returns-clause-volume : goal.returns-clause-volume
 returns-clause-volume c = rw (

@@ -20,18 +20,18 @@ module _ (c : goal.After-in_order-3) where
   devices : Keeps fact_of_device stated.devices c.in_order.result
   devices = keeps fact_of_device device_cmp device_tied _ _ _
       (c.in_ok-devices.ensures ∙ ap (map stated_device) c.as_slice.ensures)
-      c.in_order.ensures.stated c.in_order.ensures.kept
+      c.in_order.ensures.stated c.in_order.ensures.each
 
   headers : Keeps fact_of_header stated.headers c.in_order-2.result
   headers = keeps fact_of_header header_cmp header_tied _ _ _
       (c.in_ok-headers.ensures ∙ ap (map stated_header) c.as_slice-2.ensures)
-      c.in_order-2.ensures.stated c.in_order-2.ensures.kept
+      c.in_order-2.ensures.stated c.in_order-2.ensures.each
 
   snapshots : Keeps fact_of_snapshot stated.snapshots c.in_order-3.result
   snapshots = keeps fact_of_snapshot snapshot_cmp snapshot_tied _ _ _
       (c.in_ok-snapshots.ensures
       ∙ ap (flat_map (stated_snapshots c.args.definition.now.contests)) c.as_slice-3.ensures)
-      c.in_order-3.ensures.stated c.in_order-3.ensures.kept
+      c.in_order-3.ensures.stated c.in_order-3.ensures.each
 
   abbrev list : FactList
   list = record {

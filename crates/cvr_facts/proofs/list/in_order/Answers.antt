@@ -16,8 +16,8 @@ returns-clause-stated g c fact h =
     (Contains-from_dedup _ _ fact (rw (c.new.ensures, dedup_is _ _ _ c.dedup.ensures.filtered) at
     h))
 
-pub returns-clause-kept : goal.returns-clause-kept
-returns-clause-kept g c fact h =
+pub returns-clause-each : goal.returns-clause-each
+returns-clause-each g c fact h =
     rw (c.new.ensures, dedup_is _ _ _ c.dedup.ensures.filtered)
     (kept_tied _ g.met.T.Eq.laws g.met.T.Ord.matches_eq _ fact
     (Contains-permutation _ _ fact c.sort_unstable.ensures.permutation h))

@@ -22,7 +22,7 @@ add_record-requires-clause-spelled c = λ fact at.
 pub add_record-requires-clause-sums : goal.add_record-requires-clause-sums
 add_record-requires-clause-sums c = subst (λ cs. CurrentsAreSums cs (set_of c.args.facts.now))
     (sym c.loop-next.invariant.same) (currents_are_sums c.args.definition.now
-    (set_of c.args.facts.now) c.requires.keeps)
+    (set_of c.args.facts.now) c.requires.can_hold)
 
 pub add_record-requires-clause-room : goal.add_record-requires-clause-room
 add_record-requires-clause-room c =
@@ -30,7 +30,7 @@ add_record-requires-clause-room c =
     walk_has_room c.args.definition.now.contests s c.loop-next.totals.rows
     (option_map (λ k. k.now) c.loop-next.next) c.loop-next.invariant.walked c.in-Some.name.now
     (ap (option_map (λ k. k.now)) c.in-Some.is)
-    (currents_are_sums c.args.definition.now s c.requires.keeps)
+    (currents_are_sums c.args.definition.now s c.requires.can_hold)
     (let few = records-le c.args.facts.now in let long = c.well_formed.1.1.0 in
     omega (arith, few, long))
 
@@ -45,7 +45,7 @@ loop-next-smaller c =
 pub loop-next-preserved : goal.loop-next-preserved
 loop-next-preserved c =
     let s = set_of c.args.facts.now in
-    let sums = currents_are_sums c.args.definition.now s c.requires.keeps in
+    let sums = currents_are_sums c.args.definition.now s c.requires.can_hold in
     record {
       same = c.in_ok-add_record.ensures.contests ∙ c.loop-next.invariant.same;
       walked =
@@ -75,6 +75,6 @@ returns-clause-below c =
     walk_below c.args.definition.now.contests s c.loop-next.totals.rows
     (option_map (λ k. k.now) c.loop-next.next) c.loop-next.invariant.walked
     (ap (option_map (λ k. k.now)) c.in_default.is)
-    (currents_are_sums c.args.definition.now s c.requires.keeps)
+    (currents_are_sums c.args.definition.now s c.requires.can_hold)
     (let few = records-le c.args.facts.now in let long = c.well_formed.1.1.0 in
     omega (arith, few, long))

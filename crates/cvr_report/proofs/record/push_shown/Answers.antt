@@ -17,7 +17,7 @@ on_ok (Err e) a f = a
 
 pub returns : goal.returns
 returns c =
-    on_ok c.push_record.result c.push_record.ensures (λ wrote frame s key keeps are.
+    on_ok c.push_record.result c.push_record.ensures (λ wrote frame s key can_hold are.
     let i = c.args.i in
     let r = c.args.found.now in
     let h = c.shown_header-header.result.now in
@@ -27,7 +27,7 @@ returns c =
     (λ (xs : List (Bor HeaderFact)). Contains (map (λ h. h.now) xs) h) hs
     c.shown_header-header.ensures.listed in
     let kept =
-    header_kept frame s keeps key h.body (header_listed frame.contests s key r are h listed) in
+    header_kept frame s can_hold key h.body (header_listed frame.contests s key r are h listed) in
     let body : h.body ≡ shown_body i (header_list s key) = c.shown_header-header.ensures.body
     ∙ (ap (λ (xs : List (Bor HeaderFact)). shown_body i (map (λ h. h.now.body) xs)) hs
     ∙ ap (shown_body i) are.bodies) in
@@ -38,5 +38,5 @@ returns c =
     c.requires.some.shot) in
     let members = sym (ap members_in (sym body) ∙ kept.1.members) in
     let all = wrote kept.0 ds kept.1.well kept.1.header kept.1.text
-    (ap (shown_bodies i) ids ∙ texts_are frame s keeps key r are i c.requires.number) in
+    (ap (shown_bodies i) ids ∙ texts_are frame s can_hold key r are i c.requires.number) in
     all ∙ (λ j. c.args.out.now.items ++ compact_text (cvr_object (members j) ds (current j))))

@@ -29,7 +29,7 @@ returns-then-not-stands-clause-stands g c =
     let are =
     subst (AreRecordFacts frame.contests s c.args.key.now) c.in-Some.is c.in_ok-found.ensures in
     let not : stands s c.args.i c.args.key.now
-    ≡ false = sym (stands_is frame s c.requires.keeps c.args.key.now c.in-Some.found are.1
+    ≡ false = sym (stands_is frame s c.requires.can_hold c.args.key.now c.in-Some.found are.1
     c.args.i) ∙ (sym c.stands.ensures ∙ c.if-not-stands.true) in
     sym (ap is_some (no_text s c.args.i c.args.key.now not))
 
@@ -40,7 +40,7 @@ returns-then-not-stands-clause-written g c =
     let are =
     subst (AreRecordFacts frame.contests s c.args.key.now) c.in-Some.is c.in_ok-found.ensures in
     let not : stands s c.args.i c.args.key.now
-    ≡ false = sym (stands_is frame s c.requires.keeps c.args.key.now c.in-Some.found are.1
+    ≡ false = sym (stands_is frame s c.requires.can_hold c.args.key.now c.in-Some.found are.1
     c.args.i) ∙ (sym c.stands.ensures ∙ c.if-not-stands.true) in (
       appended_none (g.W.Sink.taken c.args.out.now).bytes
           ∙ ap (λ o. taken_with (g.W.Sink.taken c.args.out.now).bytes (record_piece c.args.later o))
@@ -54,8 +54,8 @@ push_shown-requires-clause-some g c =
     let frame = g.O.Office.defined c.args.office.now in
     let are =
     subst (AreRecordFacts frame.contests s c.args.key.now) c.in-Some.is c.in_ok-found.ensures in
-    can_show frame s c.requires.keeps c.args.key.now c.in-Some.found are.1
-    (headed frame s c.requires.keeps c.args.key.now c.requires.listed)
+    can_show frame s c.requires.can_hold c.args.key.now c.in-Some.found are.1
+    (headed frame s c.requires.can_hold c.args.key.now c.requires.listed)
 
 pub returns-in_err-write_piece-clause-written : goal.returns-in_err-write_piece-clause-written
 returns-in_err-write_piece-clause-written g c =
@@ -64,7 +64,7 @@ returns-in_err-write_piece-clause-written g c =
     let key = c.args.key.now in
     let are = subst (AreRecordFacts frame.contests s key) c.in-Some.is c.in_ok-found.ensures in
     let is : stands s c.args.i key ≡ true = sym
-    (stands_is frame s c.requires.keeps key c.in-Some.found are.1 c.args.i)
+    (stands_is frame s c.requires.can_hold key c.in-Some.found are.1 c.args.i)
     ∙ (sym c.stands.ensures ∙ c.if-not-stands.false) in
     let text = compact_text (record_data (shown_record s c.args.i key)) in
     let lead : c.as_bytes.result.now ≡ lead_of c.args.later =
@@ -74,7 +74,7 @@ returns-in_err-write_piece-clause-written g c =
           ∙ ap lead_of (sym w.if-later.false)
     ] in
     let piece : c.as_slice.result.now ≡ record_piece c.args.later (record_text s c.args.i key) =
-    c.as_slice.ensures.value ∙ (c.in_ok-push_shown.ensures frame s key c.requires.keeps are.1
+    c.as_slice.ensures.value ∙ (c.in_ok-push_shown.ensures frame s key c.requires.can_hold are.1
     ∙ (ap (λ b. b ++ text) (c.in_ok-extend_from_slice.ensures.items
     ∙ (ap (λ b. b ++ c.as_bytes.result.now) c.clear.ensures.items ∙ lead))
     ∙ (lead_piece c.args.later text ∙ ap (record_piece c.args.later)
@@ -96,7 +96,7 @@ returns-clause-stands g c =
     let are =
     subst (AreRecordFacts frame.contests s c.args.key.now) c.in-Some.is c.in_ok-found.ensures in
     let is : stands s c.args.i c.args.key.now
-    ≡ true = sym (stands_is frame s c.requires.keeps c.args.key.now c.in-Some.found are.1
+    ≡ true = sym (stands_is frame s c.requires.can_hold c.args.key.now c.in-Some.found are.1
     c.args.i) ∙ (sym c.stands.ensures ∙ c.if-not-stands.false) in
     sym (ap is_some (some_text s c.args.i c.args.key.now is))
 
@@ -107,7 +107,7 @@ returns-clause-written g c =
     let key = c.args.key.now in
     let are = subst (AreRecordFacts frame.contests s key) c.in-Some.is c.in_ok-found.ensures in
     let is : stands s c.args.i key ≡ true = sym
-    (stands_is frame s c.requires.keeps key c.in-Some.found are.1 c.args.i)
+    (stands_is frame s c.requires.can_hold key c.in-Some.found are.1 c.args.i)
     ∙ (sym c.stands.ensures ∙ c.if-not-stands.false) in
     let text = compact_text (record_data (shown_record s c.args.i key)) in
     let lead : c.as_bytes.result.now ≡ lead_of c.args.later =
@@ -117,7 +117,7 @@ returns-clause-written g c =
           ∙ ap lead_of (sym w.if-later.false)
     ] in
     let piece : c.as_slice.result.now ≡ record_piece c.args.later (record_text s c.args.i key) =
-    c.as_slice.ensures.value ∙ (c.in_ok-push_shown.ensures frame s key c.requires.keeps are.1
+    c.as_slice.ensures.value ∙ (c.in_ok-push_shown.ensures frame s key c.requires.can_hold are.1
     ∙ (ap (λ b. b ++ text) (c.in_ok-extend_from_slice.ensures.items
     ∙ (ap (λ b. b ++ c.as_bytes.result.now) c.clear.ensures.items ∙ lead))
     ∙ (lead_piece c.args.later text ∙ ap (record_piece c.args.later)

@@ -34,7 +34,7 @@ returns-in_err-write_piece g c =
     let a1 = g.W.Sink.taken c.write_piece.new.out in
     let r = c.from_residual.result in
     subst (WritesOrLess b a1 r) (sym (whole_text frame h.date h.device s i
-    c.definition-definition.ensures.keeps c.requires.number))
+    c.definition-definition.ensures.can_hold c.requires.number))
     (cut_before b a1 r c.in_err-write_piece.field-0.0 head_text (R ++ (M ++ (D ++ end_text)))
     (records_left R M D) c.from_residual.ensures.1
     (some_prefix b a1 head_text c.in_err-write_piece.ensures.0, c.in_err-write_piece.ensures.1))
@@ -53,7 +53,7 @@ returns-in_err-write_records g c =
     let a2 = g.W.Sink.taken c.write_records.new.out in
     let r = c.from_residual-in_err-write_records.result in
     subst (WritesOrLess b a2 r) (sym (whole_text frame h.date h.device s i
-    c.definition-definition.ensures.keeps c.requires.number))
+    c.definition-definition.ensures.can_hold c.requires.number))
     (then_less b a1 a2 r head_text (R ++ (M ++ (D ++ end_text))) c.in_ok-write_piece.ensures.0
     (cut_before a1 a2 r c.in_err-write_records.field-0.0 R (M ++ (D ++ end_text)) (middle_left M D)
     c.from_residual-in_err-write_records.ensures.1 c.in_err-write_records.ensures))
@@ -72,7 +72,7 @@ returns-in_err-push_middle g c =
     let a2 = g.W.Sink.taken c.write_records.new.out in
     let r = c.from_residual-in_err-push_middle.result in
     subst (WritesOrLess b a2 r) (sym (whole_text frame h.date h.device s i
-    c.definition-definition.ensures.keeps c.requires.number))
+    c.definition-definition.ensures.can_hold c.requires.number))
     (then_less b a1 a2 r head_text (R ++ (M ++ (D ++ end_text))) c.in_ok-write_piece.ensures.0
     (then_less a1 a2 a2 r R (M ++ (D ++ end_text)) c.in_ok-write_records.ensures.0
     (no_memory a2 r (M ++ (D ++ end_text)) (middle_left M D)
@@ -98,7 +98,7 @@ returns-in_err-write_piece-2 g c =
     c.clear.ensures.items ∙ ap (λ d. middle_text d h.date h.device)
     c.definition-definition.ensures.is)) in
     subst (WritesOrLess b a3 r) (sym (whole_text frame h.date h.device s i
-    c.definition-definition.ensures.keeps c.requires.number))
+    c.definition-definition.ensures.can_hold c.requires.number))
     (then_less b a1 a3 r head_text (R ++ (M ++ (D ++ end_text))) c.in_ok-write_piece.ensures.0
     (then_less a1 a2 a3 r R (M ++ (D ++ end_text)) c.in_ok-write_records.ensures.0
     (subst (λ m. WritesOrLess a2 a3 r (m ++ (D ++ end_text))) middle
@@ -129,7 +129,7 @@ returns-in_err-write_devices g c =
     c.clear.ensures.items ∙ ap (λ d. middle_text d h.date h.device)
     c.definition-definition.ensures.is)) in
     subst (WritesOrLess b a4 r) (sym (whole_text frame h.date h.device s i
-    c.definition-definition.ensures.keeps c.requires.number))
+    c.definition-definition.ensures.can_hold c.requires.number))
     (then_less b a1 a4 r head_text (R ++ (M ++ (D ++ end_text))) c.in_ok-write_piece.ensures.0
     (then_less a1 a2 a4 r R (M ++ (D ++ end_text)) c.in_ok-write_records.ensures.0
     (then_less a2 a3 a4 r M (D ++ end_text)
@@ -159,7 +159,7 @@ returns g c =
     c.clear.ensures.items ∙ ap (λ d. middle_text d h.date h.device)
     c.definition-definition.ensures.is)) in
     subst (WritesOrLess b a5 r) (sym (whole_text frame h.date h.device s i
-    c.definition-definition.ensures.keeps c.requires.number))
+    c.definition-definition.ensures.can_hold c.requires.number))
     (then_less b a1 a5 r head_text (R ++ (M ++ (D ++ end_text))) c.in_ok-write_piece.ensures.0
     (then_less a1 a2 a5 r R (M ++ (D ++ end_text)) c.in_ok-write_records.ensures.0
     (then_less a2 a3 a5 r M (D ++ end_text)

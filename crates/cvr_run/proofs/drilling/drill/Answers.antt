@@ -76,9 +76,9 @@ returns g c =
           (is_logged.log (step_dues def n files steps)
           (subst (AreDue (step_dues def n files steps)) (sym c.as_slice-2.ensures.value)
           (steps_due def n files steps rs count out)));
-      happened = λ working facts. keeps_due c.keep.new.self (drill_dues def n files steps).dues
+      happened = λ working facts. keeps_due c.note.new.self (drill_dues def n files steps).dues
           facts rs (steps_due def n files steps rs count out) (wants working)
-          c.keep.ensures.definition c.keep.ensures.outcomes
-          (uncounted c.keep.new.self.several _ c.keep.ensures.several);
+          c.note.ensures.definition c.note.ensures.outcomes
+          (uncounted c.note.new.self.several _ c.note.ensures.several);
       unchanged = tt;
     }

@@ -3,7 +3,7 @@ use Rattle.std.proofs.lemmas.List.{length-map}
 use Rattle.cvr_run.specs.Drill.{step_due}
 use Rattle.cvr_run.specs.Outcome.{files_of}
 use Rattle.cvr_run.specs.Logged.{drill_dues}
-use Rattle.cvr_run.proofs.Telling.{lacks}
+use Rattle.cvr_run.proofs.Logging.{lacks}
 use Rattle.cvr_run.proofs.drilling.drill_all.Goals as goal
 
 pub returns-then-refusals-clause-cut_short : goal.returns-then-refusals-clause-cut_short

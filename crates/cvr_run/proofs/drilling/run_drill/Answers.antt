@@ -7,7 +7,7 @@ use Rattle.cvr_run.specs.Logged.{drill_dues}
 use Rattle.cvr_run.proofs.Endings.{ends_in_memory}
 use Rattle.cvr_run.proofs.Known.{not_whole}
 use Rattle.cvr_run.proofs.Printed.{ends_after, tells_after}
-use Rattle.cvr_run.proofs.Telling.{wanted_unprinted}
+use Rattle.cvr_run.proofs.Logging.{wanted_unprinted}
 use Rattle.cvr_run.proofs.drilling.run_drill.Goals as goal
 
 pub returns-in-Ok-clause-ends : goal.returns-in-Ok-clause-ends

@@ -50,7 +50,7 @@ returns-in-Some-clause-none g c =
 pub returns-clause-none : goal.returns-clause-none
 returns-clause-none g c =
     let path = c.args.path.now in
-    let a = g.L.Sink.taken c.tell_bad_list.new.log in (
+    let a = g.L.Sink.taken c.log_bad_list.new.log in (
       bad_list_line path,
       inr (record {
         text = c.read_logged.new.bytes.items;
@@ -61,5 +61,5 @@ returns-clause-none g c =
         said = refl;
       }),
       subst (λ l. Logs (g.L.Sink.taken l) a (bad_list_line path)) c.in_ok-read_logged.ensures.quiet
-          c.tell_bad_list.ensures,
+          c.log_bad_list.ensures,
     )

@@ -5,7 +5,7 @@ use Rattle.cvr_run.specs.Refusals.{cause_in}
 use Rattle.cvr_run.specs.Logged.{LogsFirst}
 use Rattle.cvr_run.proofs.Outcomes.{due_where_told, none_where_not, refused_here, wanted_here}
 use Rattle.cvr_run.proofs.Outcomes.{accepted_here, unwanted_here}
-use Rattle.cvr_run.proofs.Telling.{tells_none, tells_noted, tells_accepted}
+use Rattle.cvr_run.proofs.Logging.{tells_none, tells_noted, tells_accepted}
 use Rattle.cvr_run.proofs.noting.note_refused.Goals as goal
 use Rattle.cvr_run.proofs.noting.note_refused.Goals.{in-Some, in_default}
 

@@ -6,7 +6,7 @@ use Rattle.cvr_run.specs.Printing.{Prints}
 use Rattle.cvr_run.specs.Logged.{import_dues}
 use Rattle.cvr_run.proofs.Endings.{ends_in_memory}
 use Rattle.cvr_run.proofs.Printed.{ends_after, tells_after}
-use Rattle.cvr_run.proofs.Telling.{wanted_unprinted, all_due}
+use Rattle.cvr_run.proofs.Logging.{wanted_unprinted, all_due}
 use Rattle.cvr_run.proofs.tasks.end_check.Goals as goal
 
 pub returns-in-Ok-clause-ran : goal.returns-in-Ok-clause-ran

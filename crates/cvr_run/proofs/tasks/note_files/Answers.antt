@@ -8,7 +8,7 @@ use Rattle.cvr_run.specs.Refusals.{AreDue}
 use Rattle.cvr_run.specs.Logged.{file_dues, import_dues, LogsFirst}
 use Rattle.cvr_run.proofs.Collected.{refused_files}
 use Rattle.cvr_run.proofs.Steps.{refused_as_due}
-use Rattle.cvr_run.proofs.Telling.{all_due, lacks}
+use Rattle.cvr_run.proofs.Logging.{all_due, lacks}
 use Rattle.cvr_run.proofs.tasks.note_files.Goals as goal
 
 logged : (definition : Frame) (paths files : List (List ℕ)) (r : Refusals) (b a : Taken)

@@ -4,7 +4,7 @@ use Rattle.cvr_run.specs.Logged.{last_lines}
 use Rattle.cvr_run.proofs.Accepted.{none_last}
 use Rattle.cvr_run.proofs.Happenings.{happens_refused}
 use Rattle.cvr_run.proofs.Printed.{ends_unsound}
-use Rattle.cvr_run.proofs.Telling.{definition_log, definition_cut_short}
+use Rattle.cvr_run.proofs.Logging.{definition_log, definition_cut_short}
 use Rattle.cvr_run.proofs.tasks.refuse.Goals as goal
 
 pub returns-clause-ran : goal.returns-clause-ran

@@ -57,10 +57,10 @@ returns-in-Ok-clause-happened g c whole =
     ∙ c.end_check-status.ensures.lacking (λ e. not_whole _ (inr e) whole) in (
       had.0,
       had.1,
-      keeps_due c.keep.new.self (import_dues definition c.args.paths.now had.0).dues
+      keeps_due c.note.new.self (import_dues definition c.args.paths.now had.0).dues
           (content_of_files definition had.0) c.in-Ok.outcomes.items had.2.1.due working
-          c.keep.ensures.definition c.keep.ensures.outcomes
-          (uncounted c.keep.new.self.several _ c.keep.ensures.several),
+          c.note.ensures.definition c.note.ensures.outcomes
+          (uncounted c.note.new.self.several _ c.note.ensures.several),
     )
 
 pub returns-clause-happened : goal.returns-clause-happened

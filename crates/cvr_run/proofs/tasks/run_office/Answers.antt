@@ -95,14 +95,14 @@ returns-in-Ok-take_all-clause-happened g c whole =
     let content = (taken_so definition c.args.paths.now had.0 _ _ _
     (of_only held offices office office (content_of_files definition had.0) at) had.2.1).made
     working in
-    let after = c.keep.new.self in (
+    let after = c.note.new.self in (
       had.0,
       had.1,
       keeps_due after (import_dues definition c.args.paths.now had.0).dues
-          (content_of_files definition had.0) rs had.2.1.due working c.keep.ensures.definition
-          c.keep.ensures.outcomes
+          (content_of_files definition had.0) rs had.2.1.due working c.note.ensures.definition
+          c.note.ensures.outcomes
           (subst (λ o. IfSome o (λ n. n ≡ length (conflicts (content_of_files definition had.0))))
-          (sym c.keep.ensures.several)
+          (sym c.note.ensures.several)
           (subst (λ h. IfSome c.count_several-several.result (λ n. n ≡ length (conflicts h))) content
           c.count_several-several.ensures.counted)),
     )

@@ -3,9 +3,9 @@ use Rattle.cvr_office.specs.Outcomes.{no_frame}
 use Rattle.cvr_run.specs.Devices.{Outputs}
 use Rattle.cvr_run.specs.Drill.{drill_refused, drill_text}
 use Rattle.cvr_run.specs.Ends.{Ends}
-use Rattle.cvr_run.specs.Happened.{Keeps}
+use Rattle.cvr_run.specs.Happened.{AreNoted}
 use Rattle.cvr_run.specs.Outcome.{content_of_files, files_of}
-use Rattle.cvr_run.specs.Logged.{drill_dues, TellsRun}
+use Rattle.cvr_run.specs.Logged.{drill_dues, LogsRun}
 use Rattle.cvr_run.proofs.Had.{stops_behind}
 use Rattle.cvr_run.proofs.Happenings.{stops_not_whole}
 use Rattle.cvr_run.proofs.tasks.run_steps.Goals as goal
@@ -32,9 +32,9 @@ returns-in-Ok-clause-ran g c =
       record {
         ends = subst (λ fs. Ends old.out new.out (drill_text definition n fs steps)
             (drill_refused definition n fs steps) answer) files c.run_drill.ensures.ends;
-        log = subst (λ l. TellsRun (drill_dues definition n had.0 steps) None answer
+        log = subst (λ l. LogsRun (drill_dues definition n had.0 steps) None answer
             (record { out = old.out; log = g.L.Sink.taken l }) new) quiet
-            (subst (λ fs. TellsRun (drill_dues definition n fs steps) None answer
+            (subst (λ fs. LogsRun (drill_dues definition n fs steps) None answer
             (record { out = old.out; log = g.L.Sink.taken c.take_all.new.log }) new) files
             c.run_drill.ensures.log);
       },
@@ -54,7 +54,7 @@ returns-in-Ok-clause-happened g c whole =
     let facts = content_of_files definition had.0 in (
       had.0,
       had.1,
-      subst (λ fs. Keeps c.run_drill.new.happened
+      subst (λ fs. AreNoted c.run_drill.new.happened
           (drill_dues definition c.args.count fs c.args.steps.now).dues facts) files
           (c.run_drill.ensures.happened whole facts),
     )

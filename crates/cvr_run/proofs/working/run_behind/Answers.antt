@@ -2,7 +2,7 @@ use Rattle.std.proofs.Common.{◌≡◌, inl, inr, refl, subst}
 use Rattle.cvr_run.specs.Devices.{Devices, outputs}
 use Rattle.cvr_run.specs.Ends.{RanBeside}
 use Rattle.cvr_run.specs.Given.{HadWhole, StopsOr}
-use Rattle.cvr_run.specs.Happened.{Keeps}
+use Rattle.cvr_run.specs.Happened.{AreNoted}
 use Rattle.cvr_run.specs.Outcome.{content_of_files}
 use Rattle.cvr_run.specs.Logged.{task_dues}
 use Rattle.cvr_run.specs.declared.given.Files.TheVariants.{Opened}
@@ -51,7 +51,7 @@ returns-in-Ok-clause-happened g c whole =
     let definition = c.in-Ok.definition in
     let happened = c.run_task.new.happened in
     let had = subst (λ ps. HadWhole Opened ps c.run_task.result (g.O.Open.state c.args.opener.now)
-    (g.O.Open.state c.run_task.new.opener) (λ files. Keeps happened
+    (g.O.Open.state c.run_task.new.opener) (λ files. AreNoted happened
     (task_dues definition request.task ps files).dues (content_of_files definition files)))
     c.as_slice.ensures c.run_task.ensures.happened whole in (
       had.0,

@@ -10,7 +10,7 @@ use Rattle.cdf_form.specs.Reading.{max_file}
 use Rattle.cdf_definition.specs.Acceptance.{Sound, Valid, frame_in, value_in}
 use Rattle.cdf_definition.proofs.Lemmas.{frame_put}
 use Rattle.cdf_definition.proofs.Laws.{sound_file, valid_file}
-use Rattle.cdf_check.specs.Rows as file
+use Rattle.cdf_check.specs.FileExamples as file
 use Rattle.cdf_check.proofs.Lemmas.{ascii_unsound, ascii_refusal}
 use Rattle.cvr_facts.specs.Choosing.{data_of}
 use Rattle.cvr_facts.proofs.Lemmas.{at_head, at_tail}
@@ -18,7 +18,7 @@ use Rattle.cvr_report.specs.Head.{is_device_of}
 use Rattle.cvr_report.specs.Page.{volumes}
 use Rattle.cvr_report.specs.Volume.{volume}
 use Rattle.cvr_report.proofs.Lemmas.{volume-given, volumes-given}
-use Rattle.cvr_run.specs.Rows.{spelled_anew}
+use Rattle.cvr_run.specs.RunExamples.{spelled_anew}
 use Rattle.cvr_run.proofs.Lemmas.{currents-given, facts-given, of_one_file, same_values}
 use Rattle.cvr_run.proofs.Lemmas.{starts-given, three_devices, value-ascii}
 use Rattle.cvr_whole.specs.Examples.{OneIsClean, TwoAreNot, SameInput, TextOfOne, OneVolume}

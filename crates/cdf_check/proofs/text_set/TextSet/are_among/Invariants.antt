@@ -1,5 +1,5 @@
 use Rattle.std.proofs.Common.{◌≡◌}
-use Rattle.cdf_parts.specs.Kept.{bytes_of}
+use Rattle.cdf_parts.specs.Ids.{bytes_of}
 use Rattle.cdf_check.specs.Within.{lists}
 use Rattle.cdf_check.proofs.text_set.TextSet.are_among.Given as goal
 

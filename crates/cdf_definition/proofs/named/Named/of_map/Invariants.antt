@@ -1,6 +1,6 @@
 use Rattle.std.proofs.Common.{◌≡◌, ◌++◌, length}
 use Rattle.std.specs.List.{zip}
-use Rattle.cdf_parts.specs.Kept.{bytes_of}
+use Rattle.cdf_parts.specs.Ids.{bytes_of}
 use Rattle.cdf_definition.specs.Named.{map_entries}
 use Rattle.cdf_definition.proofs.named.Named.of_map.Given as goal
 

@@ -1,7 +1,7 @@
 use Rattle.std.proofs.Common.{◌≡◌, ◌<◌, ◌+◌, ◌++◌, ◌∷◌, [], get_or, length, take, sym, ap, ◌∙◌}
 use Rattle.std.proofs.Common.{string_bytes, rules, arith}
 use Rattle.std.proofs.lemmas.List.{take_more, length-take-le}
-use Rattle.cdf_parts.specs.Kept.{bytes_of}
+use Rattle.cdf_parts.specs.Ids.{bytes_of}
 use Rattle.cdf_parts.specs.Places.{place_in}
 use Rattle.cdf_parts.proofs.Places.{places_more, bytes_more, length-bytes_of}
 use Rattle.cdf_parts.proofs.ids.Ids.of.Goals as goal

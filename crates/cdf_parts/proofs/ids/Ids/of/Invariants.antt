@@ -1,5 +1,5 @@
 use Rattle.std.proofs.Common.{take}
-use Rattle.cdf_parts.specs.Kept.{bytes_of, HasPlaces}
+use Rattle.cdf_parts.specs.Ids.{bytes_of, HasPlaces}
 use Rattle.cdf_parts.proofs.ids.Ids.of.Given as goal
 
 abbrev pub invariant-loop-place : goal.invariant-loop-place

@@ -34,7 +34,7 @@ loop-sums-preserved c =
     record {
       key = inv.key;
       here = here_more cs at m n o step inv.here;
-      kept = kept_more cs at m n o step inv.kept;
+      stay = kept_more cs at m n o step inv.stay;
       cells = cells_more cs at m n o step inv.cells;
       others = others_more cs at m n o step inv.others;
       closed = closed_more cs at m n o step inv.closed;

@@ -14,7 +14,7 @@ invariant-loop-sums l = record {
   key : IsKeyOf l.fn.self l.key;
   here : (q : RowKey) → list_any (λ p. is_key q p.0) (take l.sums-index (pairs_of l.fn.self)) ≡ true
       → has_row l.totals.rows q ≡ true;
-  kept : (q : RowKey) → has_row l.fn.totals.rows q ≡ true → has_row l.totals.rows q ≡ true;
+  stay : (q : RowKey) → has_row l.fn.totals.rows q ≡ true → has_row l.totals.rows q ≡ true;
   cells : (q : RowKey) (j : Column) → cell l.totals.rows q j ≡ cell l.fn.totals.rows q j;
   others : (q : RowKey) → list_any (λ p. is_key q p.0) (pairs_of l.fn.self) ≡ false
       → get l.totals.rows q ≡ get l.fn.totals.rows q;

@@ -6,7 +6,7 @@ use Rattle.cvr_office.specs.declared.event.Cause.TheVariants.{Read}
 use Rattle.cvr_run.specs.Outcome.{check_lines}
 use Rattle.cvr_run.specs.Refusals.{IsDue, file_due}
 use Rattle.cvr_run.proofs.Collected.{line_of_accepted, lines_more, lines_refused, taken_more}
-use Rattle.cvr_run.proofs.Telling.{read_due}
+use Rattle.cvr_run.proofs.Logging.{read_due}
 use Rattle.cvr_run.proofs.collecting.CountedTake.take.Goals as goal
 
 pub returns-in_ok-push_count-in-Ok : goal.returns-in_ok-push_count-in-Ok

@@ -1,5 +1,0 @@
-use Rattle.cdf_definition.proofs.Kept.{is_kept}
-use Rattle.cdf_definition.proofs.law.headers_keep.Goals as goal
-
-pub returns : goal.returns
-returns c = is_kept
