@@ -1,3 +1,5 @@
+-- The answer for a file without records, with a `fault` of numbers or form, or accepted with the
+-- `_names` and `records` seen. Any other is refused without such a fault, so by `reference_fault`.
 use Rattle.std.proofs.Common.{true≢false, sym, ◌∙◌, arith}
 use Rattle.cdf_node.specs.View.{view}
 use Rattle.cdf_form.proofs.Laws.{whole_document}

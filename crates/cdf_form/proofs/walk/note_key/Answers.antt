@@ -1,3 +1,5 @@
+-- Where no earlier item had the `text` of the key, the key is free, and the text counts as seen
+-- from then on. The other two cases need no written proof.
 use Rattle.std.proofs.Common.{◌≡◌, ℕ, List, ◌∷◌, Bool, true, false, not, ◌||◌, cond, Some, bytes_eq}
 use Rattle.std.proofs.Common.{nat_cmp, refl, sym, ◌∙◌, rules}
 use Rattle.std.specs.List.{list_any}

@@ -1,3 +1,5 @@
+-- Passing a member (`place`) loses neither the value sought nor one at a name behind it; where
+-- members `rise`, one that stands behind the name shows that there is none.
 use Rattle.std.proofs.Common.{◌≡◌, get_or, true, false, bytes_eq, is_lt, Some, Greater, nat_cmp}
 use Rattle.std.proofs.Common.{Less, subst}
 use Rattle.std.specs.Bool.{OnTrue}

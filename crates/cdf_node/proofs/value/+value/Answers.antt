@@ -1,3 +1,5 @@
+-- What was read of an array (`items`) grows by an `item`, of an object (`found`) by a `member`
+-- under its `name`; where one of these can't be read, the whole is no value either.
 use Rattle.std.proofs.Common.{arith, map}
 use Rattle.cdf_node.specs.Order.{in_order}
 use Rattle.cdf_node.specs.View.{view}

@@ -1,3 +1,5 @@
+-- The tokens of a scalar (`truth`, `text`) are a tree of its value; behind what the loops `items`
+-- and `members` have written, trees of the rest complete one of the whole.
 use Rattle.std.proofs.Common.{◌++◌, ◌∷◌, [], refl, ap, ◌∙◌, arith, append_assoc}
 use Rattle.std.proofs.lemmas.Result.{on_ok_weaker}
 use Rattle.json.specs.Token.{begin_array, begin_object}

@@ -1,3 +1,5 @@
+-- Each kind of number gets a text that reads back as itself: the digits of a `whole` one, after a
+-- sign where it is below zero, and the float text of a `fraction`.
 use Rattle.std.proofs.Common.{◌≡◌, ◌∷◌, ◌++◌, [], None, SFits, w64, to_z-of_z, sym, ap, ◌∙◌, arith}
 use Rattle.std.proofs.Common.{rules}
 use Rattle.std.proofs.lemmas.Result.{on_ok_weaker}

@@ -1,3 +1,5 @@
+-- What is `kept` starts with no item and grows by each `item` as the array has them; in the loop
+-- `items`, one that can't be read shows that there is no array.
 use Rattle.std.proofs.Common.{[], ◌∷◌, ◌++◌, length-append, arith}
 use Rattle.std.proofs.lemmas.Option.{MatchOption-at_some}
 use Rattle.cdf_node.specs.View.{view}

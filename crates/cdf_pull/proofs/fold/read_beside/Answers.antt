@@ -1,3 +1,5 @@
+-- An array (`items`) and a scalar stay as they are, and nothing is kept of them; of an object,
+-- `found` has none of the items under the name, and what is kept is of these.
 use Rattle.std.proofs.Common.{ap, ◌∙◌, arith}
 use Rattle.std.proofs.lemmas.Option.{MatchOption-at_some}
 use Rattle.serde_json.specs.Data.{array, object}

@@ -1,3 +1,5 @@
+-- Of the members `found` so far, the one at the name is emptied, and `kept` is of its items, the
+-- last one's if a `key` comes twice; a key or `member` that can't be read leaves no object.
 use Rattle.std.proofs.Common.{◌≡◌, bytes_eq, ap, ap₂, ◌∙◌, arith}
 use Rattle.std.proofs.lemmas.List.Sums.{fold-append}
 use Rattle.serde_json.specs.Data.{no_members, put}

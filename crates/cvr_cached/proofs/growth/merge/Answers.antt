@@ -1,3 +1,5 @@
+-- Ahead of each `fact` of those `coming`, the `count` facts of `rest` that precede it are moved:
+-- list, `rest` and `coming` always make up the same merged list, for which there is room.
 use Rattle.std.proofs.Common.{◌≡◌, ◌∙◌, ◌++◌, ◌≤◌, ◌∷◌, length, take, refl, ap, sym, rules, arith}
 use Rattle.std.specs.Prelude.{List, []}
 use Rattle.std.proofs.lemmas.List.{take_all, length-drop, length-take-le, length-append}

@@ -1,3 +1,5 @@
+-- Where the `old` content, or `none` of a new record, lacks one of their facts, copies of theirs
+-- (`more`) rise and have it, so what is added is one step of the plan.
 use Rattle.std.proofs.Common.{◌≡◌, ◌∙◌, false, sym, subst}
 use Rattle.std.specs.Prelude.{OnOk}
 use Rattle.std.specs.BTreeMap.{get}

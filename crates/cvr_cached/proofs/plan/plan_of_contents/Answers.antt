@@ -1,3 +1,5 @@
+-- The `plan` has what all records before the next `name` of the other office change here, each
+-- `content` of which adds a step; once there is no next, it has what all of them change.
 use Rattle.std.proofs.Common.{◌≡◌, ◌∙◌, List, refl, ap, subst}
 use Rattle.std.proofs.lemmas.Map.Iter.{rest_more, rest_all}
 use Rattle.std.specs.BTreeMap.{get}

@@ -1,3 +1,5 @@
+-- What is `fresh` of the facts that come is apart from those held, so the `few` facts (`keyed`) and
+-- the `growth` planned for it put in all that come; `new_facts` rises by as many as are fresh.
 use Rattle.std.proofs.Common.{◌≡◌, ◌∙◌, ◌∷◌, [], ◌++◌, ap, subst, arith}
 use Rattle.std.proofs.lemmas.List.Kept.{IsStrictlySortedBy-filter}
 use Rattle.cvr_office.specs.Place.{any_cmp}

@@ -1,3 +1,5 @@
+-- Those of `more` that aren't held are apart from the `devices` that are, and the `growth` merges
+-- them in: the list then has all of theirs, and gets `longer` by as many as weren't held.
 use Rattle.std.proofs.Common.{◌≡◌, ◌∙◌, sym, subst, arith}
 use Rattle.std.specs.List.Sorted.{IsStrictlySortedBy}
 use Rattle.std.proofs.lemmas.List.Kept.{IsStrictlySortedBy-filter}

@@ -1,3 +1,5 @@
+-- The `pieces` split into `words` and `files` in one way only, and `status` is the answer to these;
+-- with an odd number of file pieces, or a word that is no text, they aren't words and files.
 use Rattle.std.proofs.Common.{◌∙◌, ap, map, string_bytes, sym}
 use Rattle.std.proofs.lemmas.Result.{err_from_is_err_and}
 use Rattle.cvr_call.specs.Given.{files_in}

@@ -1,3 +1,5 @@
+-- With each `piece` cut off, those so far and what is behind them (`more`) are the only way to cut
+-- the input: where an end doesn't fit, or bytes are left over, there is none.
 use Rattle.std.proofs.Common.{◌≡◌, ◌∙◌, ◌++◌, ◌+◌, ℕ, List, [], ◌∷◌, map, drop, get_or, length}
 use Rattle.std.proofs.Common.{ap, subst, sym, true≢false}
 use Rattle.std.proofs.lemmas.Bool.{eqb-true, eq-eqb}

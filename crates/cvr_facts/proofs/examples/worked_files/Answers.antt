@@ -1,3 +1,5 @@
+-- The files of the examples are literals in ASCII, so facts, sums, headers and current snapshots
+-- can be computed. The body is empty: no local is named.
 use Rattle.std.proofs.Common.{map, refl, sym, ◌∙◌}
 use Rattle.std.specs.List.{flat_map}
 use Rattle.std.specs.Fmt.{digits}

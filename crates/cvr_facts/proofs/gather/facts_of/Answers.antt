@@ -1,3 +1,5 @@
+-- Put in order, `devices`, `headers` and `snapshots` keep all that the report states and no more:
+-- the facts of each accepted file with this report, whose fields are what their own texts spell.
 use Rattle.std.proofs.Common.{map, ap, ◌∙◌}
 use Rattle.std.specs.List.{flat_map}
 use Rattle.cvr_fact_types.specs.Orders.{device_cmp, header_cmp, snapshot_cmp}

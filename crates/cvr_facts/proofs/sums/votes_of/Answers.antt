@@ -1,3 +1,5 @@
+-- Up to each `position`, `counted` and `pending` have the votes of those positions that count, or
+-- that are pending; neither passes the votes of all positions, which are below the limit.
 use Rattle.std.proofs.Common.{◌≡◌, map, cond, ap, ◌∙◌, arith}
 use Rattle.cvr_facts.specs.Sums.{counts, is_pending}
 use Rattle.cvr_facts.proofs.Counting.{told_less, told_is, among_next-lt, among_more}

@@ -1,3 +1,5 @@
+-- With each `fact` in its place, putting in the `rest` still makes the list that putting in all of
+-- them makes; the room reserved at first is enough up to the last one.
 use Rattle.std.proofs.Common.{◌≡◌, List, [], ◌∷◌, length, refl, sym, ap, subst, arith}
 use Rattle.cvr_office.specs.Plain.{IsPut}
 use Rattle.cvr_lists.proofs.Insertions.{put_then, put_nothing}

@@ -1,3 +1,5 @@
+-- Split between the two offices, the slice has each in one half (`front`, `back`), whichever stands
+-- first: the one at `to` then holds what the exchange gives it, and no other changes.
 use Rattle.std.proofs.Common.{◌<◌, ◌∙◌, ap, length, map, arith}
 use Rattle.cvr_office.proofs.Slots.{set-left, set-right, get_or-left, get_or-right, map-set_joined}
 use Rattle.cvr_office.proofs.Slots.{map-set_alike}

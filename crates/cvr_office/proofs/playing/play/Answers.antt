@@ -1,3 +1,5 @@
+-- After each `event` the offices hold what the history with these `outcomes` leaves, and the
+-- `outcome` fits what they held; new offices of one definition that got the same files are alike.
 use Rattle.std.proofs.Common.{◌≡◌, ◌<◌, ◌∙◌, ◌+◌, ◌∷◌, ℕ, List, [], ap, sym, subst, refl, length}
 use Rattle.std.proofs.Common.{map, get_or, take, arith}
 use Rattle.std.proofs.lemmas.List.{length-map, length-append, take_all}

@@ -1,3 +1,5 @@
+-- A record with a `header` and a current `snapshot` changes the rows as its sums under that unit
+-- and batch do; without one of the two there are no such sums, and no row changes.
 use Rattle.std.proofs.Common.{◌∙◌, refl, sym, ap, subst}
 use Rattle.std.specs.FinMap.{get}
 use Rattle.std.proofs.lemmas.Result.{on_ok_weaker}

@@ -1,3 +1,5 @@
+-- Each of the `sums` is small and has the place and length of a contest, no two one place: so its
+-- row can be opened under its `key`, and has room; after the last one, rows have what all add.
 use Rattle.std.proofs.Common.{◌∙◌, refl, arith}
 use Rattle.cvr_plain.proofs.AddedSums.{none_added, all_added, step_place, step_long, step_open}
 use Rattle.cvr_plain.proofs.AddedSums.{step_room, step_added}

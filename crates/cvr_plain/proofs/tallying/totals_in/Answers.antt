@@ -1,3 +1,5 @@
+-- From record to record (`name`, `next`), `totals` has the rows of those passed. A list has too few
+-- records for a row to run out of room; where none is next, the rows are the tally's.
 use Rattle.std.proofs.Common.{◌∙◌, sym, ap, subst, arith, option_map}
 use Rattle.std.specs.FinMap.{get}
 use Rattle.cvr_office.specs.Plain.{set_of, IsSpelled}

@@ -1,3 +1,5 @@
+-- The `text` of the header is cut where CVRSnapshot and CurrentSnapshotId belong, and with these
+-- between its three parts it is the compact text of the whole record.
 use Rattle.std.proofs.Common.{◌≡◌, ◌++◌, [], ◌∷◌, codes, false, true, sym, ap, ◌∙◌}
 use Rattle.json.specs.Print.{quoted}
 use Rattle.serde_json.specs.Written.{members_text}

@@ -1,3 +1,5 @@
+-- The `header` is one that the office keeps, so its text can be cut; it, the snapshots of `ids` and
+-- the id of the current one are what volume `i` is defined to show of the record.
 use Rattle.std.proofs.Common.{Bor, ◌≡◌, ◌++◌, List, map, Result, Ok, Err, OnOk, Contains, sym, ap}
 use Rattle.std.proofs.Common.{◌∙◌, subst}
 use Rattle.serde_json.specs.Written.{compact_text}

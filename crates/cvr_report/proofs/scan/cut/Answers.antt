@@ -1,3 +1,5 @@
+-- At each place (`at`) that the loop `members` comes to, the cut is still to be found from there
+-- on: at the closing brace, or where a name (`start`) doesn't stand before the one sought.
 use Rattle.std.proofs.Common.{rules, ◌≡◌, drop, false, true, sym, ap, ◌∙◌, arith}
 use Rattle.cvr_report.specs.Scan.{InString, is_before, left_after}
 use Rattle.cvr_report.proofs.Cutting.{goes_on, cut_at_end, cut_past, cut_at_name, no_text}

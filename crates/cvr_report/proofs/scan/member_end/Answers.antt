@@ -1,3 +1,5 @@
+-- From each place (`at`), with `depth` brackets open, the member ends where it did from the first;
+-- a `byte` that is a quote leads past a whole string, which leaves the depth as it is.
 use Rattle.std.proofs.Common.{◌+◌, drop, sym, ap, ◌∙◌, arith}
 use Rattle.cvr_report.specs.Scan.{Between, left_after}
 use Rattle.cvr_report.proofs.Steps.{first_quote, outer_byte, stop_byte, no_byte}

@@ -1,3 +1,5 @@
+-- What is added, from Election to ReportingDevice, is the middle text of a volume, part by part.
+-- There is no `let` to stand on, only the parameters `buffer` and `definition`.
 use Rattle.std.proofs.Common.{◌≡◌, ◌++◌, ℕ, List, codes, false, sym, ap, ◌∙◌, append_assoc}
 use Rattle.std.proofs.Common.{append-nil}
 use Rattle.json.specs.Print.{quoted}

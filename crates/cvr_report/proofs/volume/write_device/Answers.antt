@@ -1,3 +1,5 @@
+-- The comma (`lead`), if one is due, and the `body` that volume `i` shows are written in this
+-- order; where the comma can't be written, what `out` took of it begins that text.
 use Rattle.std.proofs.Common.{◌≡◌, ◌++◌, Bor, List, ℕ, option_map, sym, ap, ◌∙◌, subst}
 use Rattle.serde_json.specs.Written.{comma_if}
 use Rattle.cvr_office.specs.declared.conflict.ConflictName.TheVariants as name

@@ -1,3 +1,5 @@
+-- What was written and what is due from the `next` device on make up the list, in which `later` is
+-- set after the first `id`; a write that fails leaves a beginning of it.
 use Rattle.std.proofs.Common.{◌++◌, Some, None, option_map, true, false, refl, ap}
 use Rattle.serde_json.specs.Written.{comma_if}
 use Rattle.cvr_fact_types.specs.Facts.{text_cmp}

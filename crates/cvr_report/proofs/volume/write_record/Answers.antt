@@ -1,3 +1,5 @@
+-- A record that doesn't stand in the volume adds no text. Of another the buffer has `lead` and the
+-- text of what was `found`, which is the piece due; a failed write leaves a beginning of it.
 use Rattle.std.proofs.Common.{◌≡◌, ◌++◌, Bool, Bor, List, [], ℕ, Some, is_some, true, false, codes}
 use Rattle.std.proofs.Common.{refl, sym, ap, ◌∙◌, subst, append-nil}
 use Rattle.serde_json.specs.Written.{compact_text}

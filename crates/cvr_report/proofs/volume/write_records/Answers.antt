@@ -1,3 +1,5 @@
+-- What was written and what is due from the `next` record on make up the member. Each one that
+-- `stands` in the volume sets `later`, by which `end` closes the list or is empty.
 use Rattle.std.proofs.Common.{◌≡◌, ◌||◌, Bor, List, ℕ, Some, None, option_map, is_some, false, refl}
 use Rattle.std.proofs.Common.{sym, ap, ◌∙◌, subst}
 use Rattle.cvr_fact_types.specs.Facts.{name_cmp}

@@ -1,3 +1,5 @@
+-- Words ask for one `request` at most, so its run (`status`) is the answer to whatever job they
+-- give; words with a `fault` are answered by that alone, and give no job, if memory lasted.
 use Rattle.std.proofs.Common.{inl, inr, map, string_bytes, refl}
 use Rattle.cvr_words.specs.Line.{with_program}
 use Rattle.cvr_words.proofs.Laws.{one_request}

@@ -1,3 +1,5 @@
+-- Up to each `place`, the `file` at each `path` was taken, with its outcome in `outcomes`; the log
+-- stays as it was until a file isn't read or memory runs out.
 use Rattle.std.proofs.Common.{◌≡◌, ◌+◌, ◌<◌, ◌∙◌, ◌++◌, ◌∷◌, [], length, take, refl, sym, ap}
 use Rattle.std.proofs.Common.{subst, arith}
 use Rattle.std.proofs.lemmas.List.{get_or_default, take_all, take_more}

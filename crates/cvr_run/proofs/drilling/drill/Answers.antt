@@ -1,3 +1,5 @@
+-- The `offices` are new and of one definition, and `events` are those of the steps: so the log
+-- follows from `outcomes`; contents and `refusals` too, if none was refused since memory ran out.
 use Rattle.std.proofs.Common.{◌≡◌, ◌++◌, ◌∙◌, false, take, drop, length, map, sym, ap, subst, arith}
 use Rattle.std.proofs.Common.{rules}
 use Rattle.std.specs.Prelude.{replicate}

@@ -1,3 +1,5 @@
+-- What was `printed` of the offices and the `refusals` of their steps settle status and log; where
+-- memory ran out before printing (`status`), no text is printed, and the run isn't whole.
 use Rattle.std.proofs.Common.{inr, None, length, sym, rules}
 use Rattle.std.proofs.lemmas.List.{length-map}
 use Rattle.cvr_run.specs.Drill.{step_due, drill_text, drill_refused}

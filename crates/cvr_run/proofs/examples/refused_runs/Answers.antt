@@ -1,3 +1,5 @@
+-- Definition and files of the examples are literals in ASCII, so refusals, log lines and the text
+-- of a drill can be computed. The body is empty: no local is named.
 use Rattle.std.proofs.Common.{refl, ◌∙◌}
 use Rattle.std.specs.Prelude.{codes, Some, None}
 use Rattle.std.specs.Fmt.{digits}

@@ -1,3 +1,5 @@
+-- Each `part` before a space that is no `code` can be passed: the first code in `rest` is the first
+-- of the word. Once there is no space, the rest is the last part, or it is empty and no code.
 use Rattle.std.proofs.Common.{rules, ◌≡◌, ◌∙◌, ◌==◌, ◌∷◌, ap, arith, sym}
 use Rattle.std.specs.List.{before_first}
 use Rattle.cvr_run.specs.Explained.{first_code}

@@ -1,3 +1,5 @@
+-- For each way to have no paths, the log has its line: the list at `path` wasn't read, its paths
+-- found no room, or it is no list. The opener opened the list alone.
 use Rattle.std.proofs.Common.{◌≡◌, ◌∷◌, [], inl, inr, refl, subst}
 use Rattle.cvr_run.specs.Listed.{HasNoList, IsList, bad_list_line}
 use Rattle.cvr_run.specs.Log.{Logs, memory_line}

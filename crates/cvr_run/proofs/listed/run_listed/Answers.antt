@@ -1,3 +1,5 @@
+-- With the `paths` of the list the request is complete, and its run (`status`) is the answer; what
+-- the opener says of each path stays once the list is read. Without a list, no run is whole.
 use Rattle.std.proofs.Common.{◌≡◌, [], ◌∷◌, ℕ, List, inl, refl, subst, sym}
 use Rattle.cvr_words.specs.declared.request.Request.{Request}
 use Rattle.cvr_run.specs.Answered.{Does}

@@ -1,3 +1,5 @@
+-- The `paths` so far and the parts of `rest` at each `end` byte are the parts of the whole text; a
+-- last part without such a byte is a path unless it is empty.
 use Rattle.std.proofs.Common.{rules, ◌≡◌, ◌∙◌, ◌++◌, ◌==◌, ℕ, [], ◌∷◌, ap, sym, append-nil}
 use Rattle.std.proofs.Common.{append_assoc}
 use Rattle.std.specs.List.{before_first}

@@ -1,3 +1,5 @@
+-- Words that are a request by themselves ask for none with a list. Of others, those before the list
+-- have one `request` at most, and it counts if it takes files and names none.
 use Rattle.std.proofs.Common.{true≢false, ap, map, string_bytes, sym, ◌∙◌}
 use Rattle.std.proofs.lemmas.Option.{IfSome_then}
 use Rattle.cvr_words.specs.Line.{with_program}

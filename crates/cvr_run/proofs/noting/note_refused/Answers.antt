@@ -1,3 +1,5 @@
+-- Up to each `place`, `refusals` and the log are those of the outcomes passed: each `cause` adds a
+-- line, `memory` where its path found no room; an accepted outcome adds none.
 use Rattle.std.proofs.Common.{◌≡◌, ◌+◌, ◌<◌, ◌∙◌, length, map, Some, None}
 use Rattle.std.proofs.Common.{option_map, sym, ap, subst, arith, rules, []}
 use Rattle.std.proofs.lemmas.List.{length-map, get_or-map}

@@ -1,3 +1,5 @@
+-- No office passed before `other` holds the same as the one at `place`, so the first that does has
+-- the least place; as all are of one definition, any two can be compared.
 use Rattle.std.proofs.Common.{◌≡◌, ◌<◌, ◌∙◌, true, false, length, get_or, map, drop, sym, ap, arith}
 use Rattle.std.specs.FinSet.{empty}
 use Rattle.std.specs.List.{position_or_len}

@@ -1,3 +1,5 @@
+-- Words ask for at most one of the version, what a code means (`asked`) and a job; where they have
+-- no list, what `work` ensures of those left is all that is due.
 use Rattle.std.proofs.Common.{map, string_bytes, refl}
 use Rattle.cvr_run.proofs.CodeWords.{code_asks_none, not_both, one_asked}
 use Rattle.cvr_run.proofs.ListWords.{code_alone, code_gives_none, few_alone, few_give_none}

@@ -1,3 +1,5 @@
+-- With `refusals` in the log, the lines printed are those of the files not refused, and status and
+-- log end as both require; where a file was refused since memory ran out, no line is printed.
 use Rattle.std.proofs.Common.{length, None, subst}
 use Rattle.std.specs.List.{list_any}
 use Rattle.cvr_run.specs.Accepted.{is_refused}

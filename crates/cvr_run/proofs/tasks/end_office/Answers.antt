@@ -1,3 +1,5 @@
+-- What is `printed` is what the task makes of the content of all files; with the `refusals` it
+-- settles status and log. Where a file was refused since memory ran out, no text is printed.
 use Rattle.std.proofs.Common.{length, subst}
 use Rattle.std.specs.List.{list_any}
 use Rattle.cvr_run.specs.Accepted.{is_refused}

@@ -1,3 +1,5 @@
+-- Unless a file was refused since memory ran out, `refusals` and log are those that the definition
+-- gives these files, but for paths that can't be spelled; if one was, the log is one cut short.
 use Rattle.std.proofs.Common.{◌∙◌, ℕ, List, false, length, map, sym, subst}
 use Rattle.std.proofs.lemmas.List.{map-id}
 use Rattle.cdf_definition.specs.Frame.{Frame}

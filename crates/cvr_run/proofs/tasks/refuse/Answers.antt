@@ -1,3 +1,5 @@
+-- Nothing is in `refusals` before the definition, and nothing after it: status, log and what is
+-- noted of the run follow from that one refusal, whatever files the request has.
 use Rattle.std.proofs.Common.{◌∙◌, [], sym}
 use Rattle.cvr_run.specs.Outcome.{run_fault}
 use Rattle.cvr_run.specs.Logged.{last_lines}

@@ -1,3 +1,5 @@
+-- With a `definition` that is accepted, the task had all files as they were lent, or memory ran out
+-- before it printed; with one that isn't, refusing it is the whole run over these files.
 use Rattle.std.proofs.Common.{◌∙◌, inl, inr, length, ap, subst}
 use Rattle.cvr_run.specs.Devices.{Outputs}
 use Rattle.cvr_run.specs.Ends.{Ran, RanBeside}

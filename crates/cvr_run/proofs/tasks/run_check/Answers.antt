@@ -1,3 +1,5 @@
+-- `outcomes` are due to all files, and `lines` are those of the accepted ones, unless a file was
+-- refused since memory ran out: so `status` ends their check. If one isn't read, the run stops.
 use Rattle.std.proofs.Common.{◌≡◌, ◌∙◌, [], inl, inr, length, refl, rules, string_bytes, sym, ap, subst}
 use Rattle.std.specs.List.{list_any}
 use Rattle.cvr_run.specs.Ends.{RanBeside}

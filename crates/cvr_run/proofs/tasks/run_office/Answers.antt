@@ -1,3 +1,5 @@
+-- The one `office` holds the content of all files, unless one was refused since memory ran out; by
+-- the outcomes `rs`, `status` ends the task over them. `several` is only noted, beside these.
 use Rattle.std.proofs.Common.{◌≡◌, ◌∙◌, inl, inr, length, get_or, refl, sym, ap, subst, arith, rules}
 use Rattle.std.proofs.Common.{IfSome}
 use Rattle.std.specs.List.{list_any}

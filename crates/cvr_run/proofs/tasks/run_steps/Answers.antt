@@ -1,3 +1,5 @@
+-- All files are read and kept before the first step, so the drill is one over exactly these; a file
+-- that isn't read stops the run (`status`) before any step, and such a run isn't whole.
 use Rattle.std.proofs.Common.{◌∙◌, ◌≡◌, None, inl, inr, refl, ap, subst}
 use Rattle.cvr_office.specs.Outcomes.{no_frame}
 use Rattle.cvr_run.specs.Devices.{Outputs}

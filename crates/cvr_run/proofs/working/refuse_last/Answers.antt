@@ -1,3 +1,5 @@
+-- Once all `paths` are read, with no line in the log, refusing the definition is the run over these
+-- files; a path that isn't read comes before that, and its `status` is the answer.
 use Rattle.std.proofs.Common.{inl, inr, subst}
 use Rattle.cvr_office.specs.Outcomes.{no_frame}
 use Rattle.cvr_run.specs.Ends.{Ran}

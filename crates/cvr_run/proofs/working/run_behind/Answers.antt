@@ -1,3 +1,5 @@
+-- The task over an accepted `definition` and the refusal of another are both the run of the request
+-- over the files read; where either stops at a file, the request stops there.
 use Rattle.std.proofs.Common.{◌≡◌, inl, inr, refl, subst}
 use Rattle.cvr_run.specs.Devices.{Devices, outputs}
 use Rattle.cvr_run.specs.Ends.{RanBeside}

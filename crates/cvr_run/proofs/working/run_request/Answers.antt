@@ -1,3 +1,5 @@
+-- The definition (`def`) is what was read at its path, and files are opened after it, so a run or a
+-- stop behind it is the request's own; where it isn't read, its `fault` makes the status.
 use Rattle.std.proofs.Common.{◌≡◌, ◌∷◌, [], inl, inr, refl, sym, subst}
 use Rattle.cvr_run.specs.Answered.{Does}
 use Rattle.cvr_run.specs.Devices.{Devices}

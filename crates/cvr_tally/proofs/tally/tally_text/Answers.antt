@@ -1,3 +1,5 @@
+-- From `key` to key, `text` and the lines of the rows to come are the whole text; the contest of
+-- each row is one of `contests`, as `push_row` needs.
 use Rattle.std.proofs.Common.{◌≡◌, ◌<◌, ◌++◌, length, sym, ◌∙◌, ap, subst, append-nil, string_bytes}
 use Rattle.std.proofs.lemmas.List.{length-map}
 use Rattle.std.proofs.lemmas.Map.Iter.{rest_more, rest_all}

@@ -1,3 +1,5 @@
+-- As `command` is the line of cvr, its `matches` hold the subcommand that the words name (`name`,
+-- `found`), whose request is theirs; an `error` is a fault of the words, or memory was refused.
 use Rattle.std.proofs.Common.{rules, ◌≡◌, ◌∙◌, sym, subst, Bor, map, true, Some}
 use Rattle.std.proofs.lemmas.Result.{IfErr-weaker, IfOk-weaker}
 use Rattle.clap.specs.Words.{App, FailsBy, HasMatchesOf, Text, fault_of, found_of}

@@ -1,3 +1,5 @@
+-- One `item` more: a number that isn't whole (`path`) goes before a fault of form (`found`), and
+-- only after both are names and what is kept under the definition's `contests` looked at.
 use Rattle.std.proofs.Common.{option_map, refl, sym, ap, ◌∙◌, arith}
 use Rattle.cdf_node.specs.View.{view}
 use Rattle.cdf_form.specs.Found.{fault_of}

@@ -1,3 +1,5 @@
+-- The `place` of a contest among the ids is one among the lists of selections too, as both lists
+-- are of one length; a contest that isn't among the ids has no selections.
 use Rattle.std.proofs.Common.{◌≡◌, ◌<◌, ℕ, List, length, get_or, Some, None, sym, ap, ◌∙◌, arith}
 use Rattle.std.proofs.Common.{rules}
 use Rattle.cdf_parts.specs.Places.{place_in, selections_of}

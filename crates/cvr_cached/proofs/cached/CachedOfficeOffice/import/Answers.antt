@@ -1,3 +1,5 @@
+-- The facts of an accepted `file` may be taken in; the office then holds them joined to its own,
+-- `new_facts` is by how many it grew, and the moves are those of the records changed.
 use Rattle.std.proofs.Common.{ap, ◌∙◌, subst, List, length, ◌≡◌, ◌≤◌, ◌+◌, ◌*◌}
 use Rattle.std.specs.FinSet.{union}
 use Rattle.cdf_parts.specs.Places.{Contest}

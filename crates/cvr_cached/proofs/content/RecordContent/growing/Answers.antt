@@ -1,3 +1,5 @@
+-- An empty content becomes one of what is `fresh`; another gets this by a `growth`, whose `key` has
+-- unit and batch of the old header, while `few` facts show what it does then.
 use Rattle.std.proofs.Common.{◌≡◌, ◌∙◌, List, [], ◌∷◌, length, refl, ap, sym, subst, arith}
 use Rattle.std.specs.List.Sorted.{IsStrictlySortedBy}
 use Rattle.std.proofs.lemmas.Bool.{eqb-true}

@@ -1,3 +1,5 @@
+-- Each of the content's `sums` finds its row open under the `key`, for as many selections as it has
+-- and with room for it; the cells gain just what it adds, and moves count one more.
 use Rattle.std.proofs.Common.{◌∙◌, ap, sym, arith}
 use Rattle.cvr_office.specs.Adding.{key_for}
 use Rattle.cvr_cached.specs.Contents.{current_sums}

@@ -1,3 +1,5 @@
+-- Unless memory runs out, each row that the content's `sums` have under its `key` is there
+-- afterwards. Rows that were there stay, no cell changes, and no other row is touched.
 use Rattle.std.proofs.Common.{◌∙◌, ◌<◌, length, Contains, ap, sym, subst}
 use Rattle.std.proofs.lemmas.List.Elements.{Contains-get_or}
 use Rattle.cvr_fact_types.specs.declared.sums.VoteSums.{VoteSums}

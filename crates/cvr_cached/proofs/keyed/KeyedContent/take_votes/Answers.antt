@@ -1,3 +1,5 @@
+-- The rows have at least what is left to take out, so each of the content's `sums` finds its row
+-- under the `key`, and leaves it; the row itself stays.
 use Rattle.std.proofs.Common.{◌∙◌, ap, sym, arith}
 use Rattle.cvr_office.specs.Adding.{key_for}
 use Rattle.cvr_cached.specs.Contents.{current_sums}

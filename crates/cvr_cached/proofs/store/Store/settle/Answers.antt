@@ -1,3 +1,5 @@
+-- Where the plan isn't carried out (`put`), the store is what it was; else it has taken all in:
+-- devices by `growth`, records by the plan, and `count` rose by `new_facts`.
 use Rattle.std.proofs.Common.{◌≡◌, length, ap, subst, sym, ◌∙◌, arith, rules}
 use Rattle.std.proofs.lemmas.Map.Lookups.{btree_map_from_get}
 use Rattle.cvr_office.specs.Plain.{IsPut}

@@ -1,3 +1,5 @@
+-- What is appended (`more`) are the bodies of the other set that this one lacks; so this one, put
+-- in order, is the union of both, and has that many bodies more than before.
 use Rattle.std.proofs.Common.{◌≡◌, ap, ◌∙◌, length, arith}
 use Rattle.std.specs.List.{filter}
 use Rattle.std.specs.FinSet as set

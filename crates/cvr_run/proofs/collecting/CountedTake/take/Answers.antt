@@ -1,3 +1,5 @@
+-- An accepted file adds a line with the number of its `records`; a refused one adds none, and its
+-- `fault` is the file's first: so, if memory lasted, the text is what cvr check prints of files.
 use Rattle.std.proofs.Common.{◌≡◌, ◌∙◌, ◌++◌, subst, sym, ap, string_bytes, option_map, None, Some}
 use Rattle.cdf_parts.specs.Parts.{record_count}
 use Rattle.cdf_definition.specs.Acceptance.{first_refusal, value_in}
