@@ -41,7 +41,7 @@ pub fn take_out()
 {}
 
 /// Putting a member into an object changes that one alone.
-pub fn put_in()
+pub fn member_put_in()
     ensures found { FoundLaw }
     ensures others { OthersStandLaw }
 {}

@@ -1,7 +1,7 @@
 -- From the clauses of `respond` over two sinks in memory to an answer.
 use Rattle.std.proofs.Common.{◌≡◌, ◌∙◌, ℕ, List, [], Some, false, ap, inl, inr, subst}
 use Rattle.cdf_types.specs.MemorySink.{SinkState}
-use Rattle.cvr_words.specs.declared.fault.LineFault.{LineFault}
+use Rattle.cvr_words.specs.declared.fault.LoggedFault.{LoggedFault}
 use Rattle.cvr_words.specs.declared.request.Request.{Request}
 use Rattle.cvr_run.specs.declared.status.Status.{Status}
 use Rattle.cvr_run.specs.Answered.{Answers, Does, LogsWords}
@@ -15,7 +15,7 @@ use Rattle.cvr_call.specs.Responds.{IsAnswer, devices_with}
 
 -- ---- what follows from an unchanged output
 
-tells : {U V : Type 0} (fault : LineFault) (status : Status) (old new : Outputs) → (U → V)
+tells : {U V : Type 0} (fault : LoggedFault) (status : Status) (old new : Outputs) → (U → V)
     → LogsWords fault status old new U → LogsWords fault status old new V
 tells fault status old new more handed_over = record {
   status = handed_over.status;

@@ -3,9 +3,9 @@ use Rattle.std.proofs.Common.{◌≡◌, ◌≢◌, ◌∙◌, ℕ, List, [], Bo
 use Rattle.std.proofs.Common.{IfErr, inr, refl, sym, ap, subst, arith}
 use Rattle.std.specs.Prelude.{if◌then◌else◌}
 use Rattle.cdf_types.specs.Device.{Taken, taken_with}
-use Rattle.cvr_words.specs.Fault.{IsLineFault}
+use Rattle.cvr_words.specs.Fault.{IsLoggedFault}
 use Rattle.cvr_words.specs.Request.{IsRequest}
-use Rattle.cvr_words.specs.declared.fault.LineFault.{LineFault}
+use Rattle.cvr_words.specs.declared.fault.LoggedFault.{LoggedFault}
 use Rattle.cvr_words.specs.declared.request.Request.{Request}
 use Rattle.cvr_words.proofs.Laws.{no_line_fault_but_memory}
 use Rattle.cvr_run.specs.Answered.{LogsWords, help_text, is_help, words_line, words_status}
@@ -26,12 +26,12 @@ use Rattle.cvr_run.proofs.Printed.{whole_front}
 use Rattle.cvr_run.proofs.Logging.{appended_none}
 
 -- a fault that leaves the output as it was
-pub quiet_told : (unchanged : Type 0) (f k : LineFault) (answer : Status) (c b a : Taken) → f ≡ k
+pub quiet_told : (unchanged : Type 0) (f k : LoggedFault) (answer : Status) (c b a : Taken) → f ≡ k
     → answer ≡ words_status k c.failed → unchanged → help_text k ≡ []
     → Logs b a (words_line k c.failed)
     → LogsWords f answer (record { out = c; log = b }) (record { out = c; log = a }) unchanged
 quiet_told unchanged f k answer c b a is status quiet none log =
-    subst (λ (j : LineFault). LogsWords j answer (record { out = c; log = b })
+    subst (λ (j : LoggedFault). LogsWords j answer (record { out = c; log = b })
     (record { out = c; log = a }) unchanged) (sym is)
     (record {
       status = status;
@@ -46,11 +46,11 @@ none_refused : (r : Refusals) → r.any_refusal ≡ false → r.file_lacking ≡
     → r.path_unspelled ≡ false → status_of r ≡ status.Done
 none_refused r any lacking unspelled = rw (any, lacking, unspelled) refl
 
-help_status : (f : LineFault) (g : Bool) → is_help f ≡ true
+help_status : (f : LoggedFault) (g : Bool) → is_help f ≡ true
     → words_status f g ≡ (if g then status.Device else status.Done)
 help_status f g is = grind arith
 
-help_line : (f : LineFault) (g : Bool) → is_help f ≡ true → words_line f g ≡ out_line g
+help_line : (f : LoggedFault) (g : Bool) → is_help f ≡ true → words_line f g ≡ out_line g
 help_line f g is = grind arith
 
 -- a text of the program's own that was printed, or not whole
@@ -81,7 +81,7 @@ own_told text (Err x) r answer c d b a p e any lacking unspelled is log =
     }
 
 -- help that was printed, or not whole
-pub help_told : {T : Type 0} (unchanged : Type 0) (k : LineFault) (printed : Result T PrintFault)
+pub help_told : {T : Type 0} (unchanged : Type 0) (k : LoggedFault) (printed : Result T PrintFault)
     (r : Refusals) (answer : Status) (c d b a : Taken)
     → is_help k ≡ true → Prints c d printed None (help_text k)
     → IfErr printed (λ e. e ≡ fault.Device) → r.any_refusal ≡ false → r.file_lacking ≡ false
@@ -115,14 +115,14 @@ help_told unchanged k (Err x) r answer c d b a help p e any lacking unspelled is
     }
 
 -- words that ask for a request are reported only where memory ran out
-pub told_memory : (words : List (List ℕ)) (request : Request) (f : LineFault) (answer : Status)
-    (g : Bool) → IsRequest words request → IsLineFault words f → answer ≡ words_status f g
+pub told_memory : (words : List (List ℕ)) (request : Request) (f : LoggedFault) (answer : Status)
+    (g : Bool) → IsRequest words request → IsLoggedFault words f → answer ≡ words_status f g
     → answer ≡ status.Memory
 told_memory words request f answer g asked is is_logged =
     is_logged ∙ ap (λ k. words_status k g) (no_line_fault_but_memory words request f asked is)
 
-pub not_asked : (words : List (List ℕ)) (request : Request) (f : LineFault) (answer : Status)
-    (g : Bool) → IsRequest words request → IsLineFault words f → answer ≡ words_status f g
+pub not_asked : (words : List (List ℕ)) (request : Request) (f : LoggedFault) (answer : Status)
+    (g : Bool) → IsRequest words request → IsLoggedFault words f → answer ≡ words_status f g
     → IsWhole answer → ⊥
 not_asked words request f answer g asked is is_logged =
     not_whole answer (inr (told_memory words request f answer g asked is is_logged))

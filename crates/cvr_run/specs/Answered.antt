@@ -3,11 +3,11 @@
 use Rattle.std.specs.Prelude.{◌≡◌, ◌⊎◌, ℕ, List, [], ◌∷◌, ◌++◌, codes, string_bytes, Bool, true}
 use Rattle.std.specs.Prelude.{false, if◌then◌else◌}
 use Rattle.cdf_types.specs.Device.{Appends, AppendsPrefix}
-use Rattle.cvr_words.specs.Fault.{IsLineFault}
+use Rattle.cvr_words.specs.Fault.{IsLoggedFault}
 use Rattle.cvr_words.specs.Line.{with_program}
 use Rattle.cvr_words.specs.Request.{IsRequest}
-use Rattle.cvr_words.specs.declared.fault.LineFault.{LineFault}
-use Rattle.cvr_words.specs.declared.fault.LineFault.TheVariants.{Refused, Help, BadStep, Memory}
+use Rattle.cvr_words.specs.declared.fault.LoggedFault.{LoggedFault}
+use Rattle.cvr_words.specs.declared.fault.LoggedFault.TheVariants.{Refused, Help, BadStep, Memory}
 use Rattle.cvr_words.specs.declared.request.Request.{Request}
 use Rattle.cvr_run.specs.declared.status.Status.{Status}
 use Rattle.cvr_run.specs.declared.status.Status.TheVariants as status
@@ -21,12 +21,12 @@ use Rattle.cvr_run.specs.Worked.{Stops, Runs}
 -- ---- words that ask for no request
 
 -- whether clap answered help
-abbrev pub is_help : LineFault → Bool
+abbrev pub is_help : LoggedFault → Bool
 is_help (Help text) = true
 is_help fault = false
 
 -- what is printed: help alone
-abbrev pub help_text : LineFault → List ℕ
+abbrev pub help_text : LoggedFault → List ℕ
 help_text (Help text) = string_bytes text
 help_text fault = []
 
@@ -36,21 +36,21 @@ bad_step_line step = step ++ codes ": L3\n"
 
 -- what is logged: what is wrong with the words, or the step that has no form; of help nothing,
 -- unless the output has failed
-abbrev pub words_line : LineFault → Bool → List ℕ
+abbrev pub words_line : LoggedFault → Bool → List ℕ
 words_line (Refused text) out_failed = string_bytes text
 words_line (Help text) out_failed = out_line out_failed
 words_line (BadStep place step) out_failed = bad_step_line step
 words_line Memory out_failed = memory_line
 
 -- the status for words that ask for no request
-abbrev pub words_status : LineFault → Bool → Status
+abbrev pub words_status : LoggedFault → Bool → Status
 words_status (Refused text) out_failed = status.CommandLine
 words_status (Help text) out_failed = if out_failed then status.Device else status.Done
 words_status (BadStep place step) out_failed = status.CommandLine
 words_status Memory out_failed = status.Memory
 
 -- the fault is answered, and printed or logged; but for help the output stays unchanged
-pub record LogsWords (fault : LineFault) (answer : Status) (old new : Outputs)
+pub record LogsWords (fault : LoggedFault) (answer : Status) (old new : Outputs)
     (unchanged : Type 0) : Type 0 where
   pub status : answer ≡ words_status fault new.out.failed
   pub quiet : is_help fault ≡ false → unchanged
@@ -76,8 +76,8 @@ abbrev pub Answers : List (List ℕ) → Status → Devices → Devices → Type
 Answers words answer old new unchanged =
     ((request : Request) × IsRequest (with_program words) request
     × Does request answer old new unchanged)
-    ⊎ ((fault : LineFault) × IsLineFault (with_program words) fault × Opens old.opener new.opener []
-    × LogsWords fault answer (outputs old) (outputs new) unchanged)
+    ⊎ ((fault : LoggedFault) × IsLoggedFault (with_program words) fault
+    × Opens old.opener new.opener [] × LogsWords fault answer (outputs old) (outputs new) unchanged)
 
 -- the words ask for the request of a job, and its files stand at the paths
 pub record IsGiven (at : List ℕ → At) (words : List (List ℕ)) (job : Job) : Type 0 where

@@ -5,7 +5,7 @@ use Rattle.std.specs.Prelude.{false, if◌then◌else◌, IsUtf8}
 use Rattle.std.specs.Str.{bytes_eq}
 use Rattle.cvr_words.specs.Line.{with_program}
 use Rattle.cvr_words.specs.Request.{IsRequest, takes_files}
-use Rattle.cvr_words.specs.declared.fault.LineFault.TheVariants as fault
+use Rattle.cvr_words.specs.declared.fault.LoggedFault.TheVariants as fault
 use Rattle.cvr_words.specs.declared.request.Request.{Request}
 use Rattle.cvr_words.specs.declared.request.Task.TheVariants.{Tally}
 use Rattle.cvr_run.specs.declared.status.Status.{Status}

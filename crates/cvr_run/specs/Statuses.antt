@@ -2,7 +2,7 @@
 use Rattle.std.specs.Prelude.{◌≡◌, ℕ, List, [], ◌∷◌, codes, true, false, Result, Ok, Err}
 use Rattle.std.specs.Prelude.{String, string_bytes}
 use Rattle.std.specs.Global.{Global}
-use Rattle.cvr_words.specs.declared.fault.LineFault.TheVariants as fault
+use Rattle.cvr_words.specs.declared.fault.LoggedFault.TheVariants as fault
 use Rattle.cvr_run.specs.declared.file.FileFault.TheVariants as file
 use Rattle.cvr_run.specs.declared.merge.MergeFault.TheVariants.{NoDevice}
 use Rattle.cvr_run.specs.declared.printing.PrintFault.{PrintFault}

@@ -13,7 +13,7 @@ use crate::status::Status;
 use crate::working::run_request;
 use cdf_types::Sink;
 use cvr_office::Office;
-use cvr_words::{LineFault, read_line};
+use cvr_words::{LoggedFault, read_line};
 use std::alloc::Global;
 
 /// Reports what is wrong with words. Takes no memory.
@@ -32,7 +32,7 @@ fn log_bad_step<L: Sink>(log: &mut L, step: &str)
 }
 
 // Says why words ask for no request: help is printed, all else goes to the log. Takes no memory.
-fn log_fault<W: Sink, L: Sink>(fault: &LineFault, out: &mut W, log: &mut L) -> Status
+fn answer_fault<W: Sink, L: Sink>(fault: &LoggedFault, out: &mut W, log: &mut L) -> Status
     requires { (W.taken out.old).failed ≡ false }
     ensures { LogsWords fault.now result
         (record { out = W.taken out.old; log = L.taken log.old })
@@ -40,19 +40,19 @@ fn log_fault<W: Sink, L: Sink>(fault: &LineFault, out: &mut W, log: &mut L) -> S
         (out.new ≡ out.old) }
 {
     match fault {
-        LineFault::Refused { text } => {
+        LoggedFault::Refused { text } => {
             log_refused(log, text.as_str());
             Status::CommandLine
         }
-        LineFault::Help { text } => {
+        LoggedFault::Help { text } => {
             let printed = print_text(text.as_str(), out);
             end_with(printed, Refusals::none(), log)
         }
-        LineFault::BadStep { step, .. } => {
+        LoggedFault::BadStep { step, .. } => {
             log_bad_step(log, step.as_str());
             Status::CommandLine
         }
-        LineFault::Memory => end_in_memory(log),
+        LoggedFault::Memory => end_in_memory(log),
     }
 }
 
@@ -80,6 +80,6 @@ pub fn work<C: Office + Drop, O: Open, W: Sink, L: Sink>(
             happened.request = Some(request);
             status
         }
-        Err(fault) => log_fault(&fault, out, log),
+        Err(fault) => answer_fault(&fault, out, log),
     }
 }

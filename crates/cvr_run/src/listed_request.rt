@@ -1,13 +1,13 @@
 ghost use Rattle.std.specs.Prelude.{◌≡◌, ◌≢◌, [], map, true, false, string_bytes, IfOk, IfSome};
 ghost use Rattle.std.specs.Prelude.{IfNone, IfErr, IsTrue, ◌↔◌};
-ghost use Rattle.cvr_words.specs.declared.fault.LineFault.TheVariants.{Memory as NoMemory};
+ghost use Rattle.cvr_words.specs.declared.fault.LoggedFault.TheVariants.{Memory as NoMemory};
 ghost use Rattle.cvr_words.specs.declared.request.Request.{Request};
 ghost use Rattle.cvr_words.specs.Line.{with_program};
 ghost use Rattle.cvr_words.specs.Request.{IsRequest, takes_files};
 ghost use Rattle.cvr_run.specs.Listed.{AsksListed, IsBefore, ListedRequest, list_words};
 
 use crate::listing::Listing;
-use cvr_words::{LineFault, Request, Task, read_line};
+use cvr_words::{LoggedFault, Request, Task, read_line};
 use std::alloc::Global;
 
 // Whether the files of a request can stand in a list.
@@ -23,18 +23,18 @@ fn takes_list(request: &Request) -> bool
 }
 
 // Whether memory was refused for words.
-fn is_memory(fault: &LineFault) -> bool
+fn is_memory(fault: &LoggedFault) -> bool
     ensures yes { result ≡ true → fault.now ≡ NoMemory }
     ensures no { result ≡ false → fault.now ≢ NoMemory }
 {
     match fault {
-        LineFault::Memory => true,
+        LoggedFault::Memory => true,
         _ => false,
     }
 }
 
 // The request that words ask for, if they ask for one. No fault but `Memory`.
-fn request_of(alloc: Global, words: &[String]) -> Result<Option<Request>, LineFault>
+fn request_of(alloc: Global, words: &[String]) -> Result<Option<Request>, LoggedFault>
     ensures some { IfOk result (λ found. IfSome found
         (λ request. IsRequest (with_program (map string_bytes words.now)) request)) }
     ensures none { IfOk result (λ found. IfNone found
@@ -54,7 +54,7 @@ fn request_of(alloc: Global, words: &[String]) -> Result<Option<Request>, LineFa
 }
 
 // Whether words ask for a request. No fault but `Memory`.
-fn is_request(alloc: Global, words: &[String]) -> Result<bool, LineFault>
+fn is_request(alloc: Global, words: &[String]) -> Result<bool, LoggedFault>
     ensures is { IfOk result (λ is. IsTrue is ↔ ((request : Request)
         × IsRequest (with_program (map string_bytes words.now)) request)) }
     ensures memory { IfErr result (λ fault. fault ≡ NoMemory) }
@@ -84,7 +84,7 @@ pub fn listed_request(
     alloc: Global,
     words: &[String],
     listing: &Listing<'_>,
-) -> Result<Option<Request>, LineFault>
+) -> Result<Option<Request>, LoggedFault>
     requires short { IsBefore (map string_bytes listing.now.before.now) }
     requires words { map string_bytes words.now
         ≡ list_words (map string_bytes listing.now.before.now) listing.now.list.now

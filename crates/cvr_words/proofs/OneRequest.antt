@@ -8,13 +8,13 @@ use Rattle.std.proofs.lemmas.Option.{same_Some}
 use Rattle.clap.specs.Words.{IsAmong, Row, Text, fault_of, subcommand_of}
 use Rattle.clap.specs.Kinds.{Kinds}
 use Rattle.clap.specs.declared.error.ErrorKind.{ErrorKind}
-use Rattle.cvr_words.specs.Fault.{IsFault, IsLineFault}
+use Rattle.cvr_words.specs.Fault.{IsFault, IsLoggedFault}
 use Rattle.cvr_words.specs.Line.{cvr_line}
 use Rattle.cvr_words.specs.Request.{Asks, IsRequest, IsTask, paths_in}
 use Rattle.cvr_words.specs.Rows.{IsNumber, IsWord, words_in}
 use Rattle.cvr_words.specs.Steps.{bad_place}
-use Rattle.cvr_words.specs.declared.fault.LineFault.{LineFault}
-use Rattle.cvr_words.specs.declared.fault.LineFault.TheVariants as line
+use Rattle.cvr_words.specs.declared.fault.LoggedFault.{LoggedFault}
+use Rattle.cvr_words.specs.declared.fault.LoggedFault.TheVariants as line
 use Rattle.cvr_words.specs.declared.fault.WordFault.{WordFault}
 use Rattle.cvr_words.specs.declared.fault.WordFault.TheVariants as fault
 use Rattle.cvr_words.specs.declared.request.Request.{Request}
@@ -96,8 +96,8 @@ no_fault_but_memory words r (fault.Help t) a h = absurd (no_kind (fault_of cvr_l
 no_fault_but_memory words r (fault.BadStep n) a h = absurd (no_bad_step words r h.1 n a h.2 h.3)
 no_fault_but_memory words r fault.Memory a h = refl
 
-pub no_line_fault_but_memory : (words : List Text) (r : Request) (f : LineFault) → IsRequest words r
-    → IsLineFault words f → f ≡ line.Memory
+pub no_line_fault_but_memory : (words : List Text) (r : Request) (f : LoggedFault) → IsRequest words r
+    → IsLoggedFault words f → f ≡ line.Memory
 no_line_fault_but_memory words r (line.Refused t) a h =
     absurd (no_kind (fault_of cvr_line words) h.0 a.0 h.1)
 no_line_fault_but_memory words r (line.Help t) a h =

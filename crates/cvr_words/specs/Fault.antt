@@ -6,27 +6,27 @@ use Rattle.clap.specs.declared.error.ErrorKind.TheVariants.{DisplayHelp, OutOfMe
 use Rattle.cvr_words.specs.Line.{cvr_line}
 use Rattle.cvr_words.specs.Rows.{words_in}
 use Rattle.cvr_words.specs.Steps.{IsBadStep, bad_place}
-use Rattle.cvr_words.specs.declared.fault.LineFault.{LineFault}
-use Rattle.cvr_words.specs.declared.fault.LineFault.TheVariants as line
+use Rattle.cvr_words.specs.declared.fault.LoggedFault.{LoggedFault}
+use Rattle.cvr_words.specs.declared.fault.LoggedFault.TheVariants as line
 use Rattle.cvr_words.specs.declared.fault.WordFault.{WordFault}
 use Rattle.cvr_words.specs.declared.fault.WordFault.TheVariants as fault
 
 -- the fault without the text of a step
-abbrev pub word_fault : LineFault → WordFault
+abbrev pub word_fault : LoggedFault → WordFault
 word_fault (line.Refused text) = fault.Refused text
 word_fault (line.Help text) = fault.Help text
 word_fault (line.BadStep place step) = fault.BadStep place
 word_fault line.Memory = fault.Memory
 
 -- the fault of an error of clap, by the error's kind
-abbrev pub IsOfKind : ErrorKind → LineFault → Type 0
+abbrev pub IsOfKind : ErrorKind → LoggedFault → Type 0
 IsOfKind kind (line.Refused text) = (kind ≢ DisplayHelp) × (kind ≢ OutOfMemory)
 IsOfKind kind (line.Help text) = kind ≡ DisplayHelp
 IsOfKind kind (line.BadStep place step) = ⊥
 IsOfKind kind line.Memory = ⊤
 
 -- the first bad step of a drill, or memory was refused
-abbrev pub IsDrillFault : Text → List Row → LineFault → Type 0
+abbrev pub IsDrillFault : Text → List Row → LoggedFault → Type 0
 IsDrillFault name rows (line.BadStep place step) = (name ≡ codes "drill")
     × IsBadStep (words_in (codes "STEP") rows) (line.BadStep place step)
 IsDrillFault name rows line.Memory = ⊤
@@ -45,11 +45,11 @@ IsFault words (fault.BadStep place) =
 IsFault words fault.Memory = ⊤
 
 -- the same; the step that is reported is the bad one
-abbrev pub IsLineFault : List Text → LineFault → Type 0
-IsLineFault words (line.Refused text) = IsFault words (fault.Refused text)
-IsLineFault words (line.Help text) = IsFault words (fault.Help text)
-IsLineFault words (line.BadStep place step) =
+abbrev pub IsLoggedFault : List Text → LoggedFault → Type 0
+IsLoggedFault words (line.Refused text) = IsFault words (fault.Refused text)
+IsLoggedFault words (line.Help text) = IsFault words (fault.Help text)
+IsLoggedFault words (line.BadStep place step) =
     (fault_of cvr_line words ≡ []) × (rows : List Row)
     × (subcommand_of cvr_line words ≡ Some (codes "drill", rows))
     × IsBadStep (words_in (codes "STEP") rows) (line.BadStep place step)
-IsLineFault words line.Memory = ⊤
+IsLoggedFault words line.Memory = ⊤

@@ -1,10 +1,10 @@
 -- What words can ask for. (This project's own.)
 use Rattle.std.specs.Prelude.{◌≡◌, List}
 use Rattle.clap.specs.Words.{Text}
-use Rattle.cvr_words.specs.Fault.{IsFault, IsLineFault}
+use Rattle.cvr_words.specs.Fault.{IsFault, IsLoggedFault}
 use Rattle.cvr_words.specs.Request.{IsRequest}
-use Rattle.cvr_words.specs.declared.fault.LineFault.{LineFault}
-use Rattle.cvr_words.specs.declared.fault.LineFault.TheVariants as line
+use Rattle.cvr_words.specs.declared.fault.LoggedFault.{LoggedFault}
+use Rattle.cvr_words.specs.declared.fault.LoggedFault.TheVariants as line
 use Rattle.cvr_words.specs.declared.fault.WordFault.{WordFault}
 use Rattle.cvr_words.specs.declared.fault.WordFault.TheVariants.{Memory}
 use Rattle.cvr_words.specs.declared.request.Request.{Request}
@@ -20,6 +20,6 @@ NoFaultLaw = (words : List Text) (request : Request) (fault : WordFault) → IsR
     → IsFault words fault → fault ≡ Memory
 
 -- nor one that reports the step
-abbrev pub NoLineFaultLaw : Type 0
-NoLineFaultLaw = (words : List Text) (request : Request) (fault : LineFault)
-    → IsRequest words request → IsLineFault words fault → fault ≡ line.Memory
+abbrev pub NoLoggedFaultLaw : Type 0
+NoLoggedFaultLaw = (words : List Text) (request : Request) (fault : LoggedFault)
+    → IsRequest words request → IsLoggedFault words fault → fault ≡ line.Memory

@@ -2,8 +2,8 @@
 use Rattle.std.specs.Prelude.{◌≡◌, ℕ, ⊤, List, [], ◌∷◌, ◌++◌, ◌+◌, Option, Some, None, length}
 use Rattle.std.specs.Prelude.{slice_index_or, suc, option_map}
 use Rattle.cvr_words.specs.Step.{StepForm, Text, import_form, exchange_form, path_in, step_form}
-use Rattle.cvr_words.specs.declared.fault.LineFault.{LineFault}
-use Rattle.cvr_words.specs.declared.fault.LineFault.TheVariants as fault
+use Rattle.cvr_words.specs.declared.fault.LoggedFault.{LoggedFault}
+use Rattle.cvr_words.specs.declared.fault.LoggedFault.TheVariants as fault
 use Rattle.cvr_words.specs.declared.request.Act.{Act}
 use Rattle.cvr_words.specs.declared.request.Act.TheVariants.{Import, Exchange}
 use Rattle.cvr_words.specs.declared.request.Step.{Step}
@@ -55,7 +55,7 @@ steps_of place (text ∷ texts) =
     ++ steps_of (place + length (import_path (step_form text))) texts
 
 -- the fault names the first text with no form, or memory was refused
-abbrev pub IsBadStep : List Text → LineFault → Type 0
+abbrev pub IsBadStep : List Text → LoggedFault → Type 0
 IsBadStep texts (fault.BadStep place step) = (bad_place texts ≡ Some place)
     × (step ≡ slice_index_or texts place [])
 IsBadStep texts fault.Memory = ⊤

@@ -1,6 +1,6 @@
 ghost use Rattle.std.specs.Prelude.{◌≡◌};
 ghost use Rattle.cvr_words.specs.Fault.{word_fault};
-ghost use Rattle.cvr_words.specs.declared.fault.LineFault.TheVariants.{Memory as NoMemory};
+ghost use Rattle.cvr_words.specs.declared.fault.LoggedFault.TheVariants.{Memory as NoMemory};
 
 use cdf_types::{Body, Memory};
 use std::alloc::AllocError;
@@ -23,9 +23,9 @@ pub enum WordFault {
     Memory,
 }
 
-/// The same, with all that is reported of it.
+/// The same, with all that is logged of it.
 #[derive(Debug, Drop, Error)]
-pub enum LineFault {
+pub enum LoggedFault {
     /// No command takes the words. The text says what is wrong with them.
     #[error("{text}")]
     Refused { text: String },
@@ -40,32 +40,32 @@ pub enum LineFault {
     Memory,
 }
 
-impl LineFault {
+impl LoggedFault {
     /// The fault without the text of a step. Takes no memory.
     pub fn into_word_fault(self) -> WordFault
         ensures { result ≡ word_fault self }
     {
         match self {
-            LineFault::Refused { text } => WordFault::Refused { text },
-            LineFault::Help { text } => WordFault::Help { text },
-            LineFault::BadStep { place, .. } => WordFault::BadStep { place },
-            LineFault::Memory => WordFault::Memory,
+            LoggedFault::Refused { text } => WordFault::Refused { text },
+            LoggedFault::Help { text } => WordFault::Help { text },
+            LoggedFault::BadStep { place, .. } => WordFault::BadStep { place },
+            LoggedFault::Memory => WordFault::Memory,
         }
     }
 }
 
-impl From<AllocError> for LineFault {
+impl From<AllocError> for LoggedFault {
     ghost from_gives = { λ _ f. f ≡ NoMemory };
 
-    fn from(_refused: AllocError) -> LineFault {
-        LineFault::Memory
+    fn from(_refused: AllocError) -> LoggedFault {
+        LoggedFault::Memory
     }
 }
 
-impl From<Memory> for LineFault {
+impl From<Memory> for LoggedFault {
     ghost from_gives = { λ _ f. f ≡ NoMemory };
 
-    fn from(_refused: Memory) -> LineFault {
-        LineFault::Memory
+    fn from(_refused: Memory) -> LoggedFault {
+        LoggedFault::Memory
     }
 }

@@ -1,11 +1,11 @@
-ghost use Rattle.cvr_words.specs.Laws.{NoFaultLaw, NoLineFaultLaw, OneRequestLaw};
+ghost use Rattle.cvr_words.specs.Laws.{NoFaultLaw, NoLoggedFaultLaw, OneRequestLaw};
 ghost use Rattle.cvr_words.specs.StepLaws.{OneFormLaw, StepFormsLaw, StepPlacesLaw, StepTextsLaw};
 
 /// Words ask for one request at most, and those that ask for one have no fault but `Memory`.
 pub fn words_ask_for_one_request()
     ensures one { OneRequestLaw }
     ensures no_fault { NoFaultLaw }
-    ensures no_line_fault { NoLineFaultLaw }
+    ensures no_logged_fault { NoLoggedFaultLaw }
 {}
 
 /// Where each text has a form, the steps have these texts, and do what they say: an import takes in

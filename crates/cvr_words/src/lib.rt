@@ -13,6 +13,6 @@ mod step;
 mod steps;
 mod text;
 
-pub use fault::{LineFault, WordFault};
+pub use fault::{LoggedFault, WordFault};
 pub use read::{read_line, read_words};
 pub use request::{Act, Request, Step, Task};

@@ -10,7 +10,7 @@ ghost use Rattle.cvr_words.specs.Steps.{IsBadStep, bad_place, paths_of, steps_of
 ghost use Rattle.cvr_words.specs.Rows.{HasNumber, HasWord, IsMergeWhole, IsNumber, AreRowsOf};
 ghost use Rattle.cvr_words.specs.Rows.{IsWord, words_in};
 
-use crate::fault::LineFault;
+use crate::fault::LoggedFault;
 use crate::request::{Request, Task};
 use crate::steps::{Steps, read_steps};
 use crate::text::body;
@@ -55,7 +55,7 @@ fn words_at(alloc: Global, matches: &ArgMatches<'_>, id: &str) -> Result<Seq<Bod
 }
 
 // The steps of a drill.
-fn steps_at(alloc: Global, matches: &ArgMatches<'_>) -> Result<Steps, LineFault>
+fn steps_at(alloc: Global, matches: &ArgMatches<'_>) -> Result<Steps, LoggedFault>
     ensures formed { IfOk result
         (λ r. bad_place (words_in (codes "STEP") (rows_of (found_of matches.now))) ≡ None) }
     ensures steps { IfOk result
@@ -125,7 +125,7 @@ fn merge_task(alloc: Global, matches: &ArgMatches<'_>) -> Result<Task, Memory>
     })
 }
 
-fn drill_request(alloc: Global, matches: &ArgMatches<'_>) -> Result<Request, LineFault>
+fn drill_request(alloc: Global, matches: &ArgMatches<'_>) -> Result<Request, LoggedFault>
     requires def { HasWord (codes "DEF") (rows_of (found_of matches.now)) }
     requires offices { HasNumber (codes "OFFICES") 1 64 (rows_of (found_of matches.now)) }
     ensures ok { IfOk result (λ r. Asks (codes "drill") (rows_of (found_of matches.now)) r) }
@@ -148,7 +148,7 @@ pub(crate) fn request_of(
     alloc: Global,
     name: &str,
     matches: &ArgMatches<'_>,
-) -> Result<Request, LineFault>
+) -> Result<Request, LoggedFault>
     requires named { list_any (bytes_eq name.now) command_names ≡ true }
     requires whole { AreRowsOf name.now (rows_of (found_of matches.now)) }
     ensures ok { IfOk result (λ r. Asks name.now (rows_of (found_of matches.now)) r) }

@@ -1,10 +1,10 @@
 ghost use Rattle.std.specs.Prelude.{◌≡◌, IfErr, IfOk, map, string_bytes};
 ghost use Rattle.clap.specs.Words.{kind_of};
-ghost use Rattle.cvr_words.specs.Fault.{IsFault, IsLineFault, IsOfKind};
+ghost use Rattle.cvr_words.specs.Fault.{IsFault, IsLoggedFault, IsOfKind};
 ghost use Rattle.cvr_words.specs.Line.{with_program};
 ghost use Rattle.cvr_words.specs.Request.{IsRequest};
 
-use crate::fault::{LineFault, WordFault};
+use crate::fault::{LoggedFault, WordFault};
 use crate::line::cvr_command;
 use crate::matches::request_of;
 use crate::request::Request;
@@ -12,22 +12,22 @@ use clap::error::ErrorKind;
 use std::alloc::{AllocError, Global};
 
 // Why clap gave no matches.
-fn refusal(alloc: Global, error: &clap::Error) -> LineFault
+fn refusal(alloc: Global, error: &clap::Error) -> LoggedFault
     ensures { IsOfKind (kind_of error.now) result }
 {
     let kind = error.kind();
     if kind == ErrorKind::OutOfMemory {
-        return LineFault::Memory;
+        return LoggedFault::Memory;
     }
     match error.to_string(alloc) {
         Ok(text) => {
             if kind == ErrorKind::DisplayHelp {
-                LineFault::Help { text }
+                LoggedFault::Help { text }
             } else {
-                LineFault::Refused { text }
+                LoggedFault::Refused { text }
             }
         }
-        Err(_) => LineFault::Memory,
+        Err(_) => LoggedFault::Memory,
     }
 }
 
@@ -45,9 +45,9 @@ fn named_words<'a>(alloc: Global, words: &'a [String]) -> Result<Vec<&'a str>, A
 }
 
 // The request of the words as clap takes them.
-fn read_named(alloc: Global, words: &[&str]) -> Result<Request, LineFault>
+fn read_named(alloc: Global, words: &[&str]) -> Result<Request, LoggedFault>
     ensures request { IfOk result (λ r. IsRequest (map (λ t. t.now) words.now) r) }
-    ensures fault { IfErr result (λ f. IsLineFault (map (λ t. t.now) words.now) f) }
+    ensures fault { IfErr result (λ f. IsLoggedFault (map (λ t. t.now) words.now) f) }
 {
     let command = cvr_command(alloc)?;
     match command.try_get_matches_from(words) {
@@ -63,9 +63,10 @@ fn read_named(alloc: Global, words: &[&str]) -> Result<Request, LineFault>
 ///
 /// # Errors
 /// As `read_words`, with the step that has no form.
-pub fn read_line(alloc: Global, words: &[String]) -> Result<Request, LineFault>
+pub fn read_line(alloc: Global, words: &[String]) -> Result<Request, LoggedFault>
     ensures request { IfOk result (λ r. IsRequest (with_program (map string_bytes words.now)) r) }
-    ensures fault { IfErr result (λ f. IsLineFault (with_program (map string_bytes words.now)) f) }
+    ensures fault { IfErr result
+        (λ f. IsLoggedFault (with_program (map string_bytes words.now)) f) }
 {
     let all = named_words(alloc, words)?;
     read_named(alloc, all.as_slice())

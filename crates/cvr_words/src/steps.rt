@@ -2,9 +2,9 @@ ghost use Rattle.std.specs.Prelude.{◌≡◌, ◌∷◌, ◌++◌, [], IfErr, I
 ghost use Rattle.cvr_words.specs.Step.{path_in};
 ghost use Rattle.cvr_words.specs.Steps.{act_at, bad_place, form_of, paths_of, step_at, steps_of};
 ghost use Rattle.cvr_words.specs.Steps.{IsBadStep};
-ghost use Rattle.cvr_words.specs.declared.fault.LineFault.TheVariants.{BadStep};
+ghost use Rattle.cvr_words.specs.declared.fault.LoggedFault.TheVariants.{BadStep};
 
-use crate::fault::LineFault;
+use crate::fault::LoggedFault;
 use crate::request::{Act, Step};
 use crate::step::{Form, read_step};
 use crate::text::body;
@@ -52,18 +52,18 @@ fn add_step(
 }
 
 // The fault of a step that has no form.
-fn bad_step(alloc: Global, place: usize, text: &str) -> Result<LineFault, Memory>
+fn bad_step(alloc: Global, place: usize, text: &str) -> Result<LoggedFault, Memory>
     ensures { IfOk result (λ f. f ≡ BadStep place text.now) }
 {
     let step = body(alloc, text)?;
-    Ok(LineFault::BadStep { place, step })
+    Ok(LoggedFault::BadStep { place, step })
 }
 
 /// The steps of the texts, with the paths that they name: each import has its own.
 ///
 /// # Errors
 /// `BadStep` with the place of the first text that has no form, and that text; `Memory`.
-pub(crate) fn read_steps(alloc: Global, texts: &[&str]) -> Result<Steps, LineFault>
+pub(crate) fn read_steps(alloc: Global, texts: &[&str]) -> Result<Steps, LoggedFault>
     ensures formed { IfOk result (λ r. bad_place (map (λ t. t.now) texts.now) ≡ None) }
     ensures steps { IfOk result (λ r. r.steps ≡ steps_of 0 (map (λ t. t.now) texts.now)) }
     ensures paths { IfOk result (λ r. r.paths ≡ paths_of (map (λ t. t.now) texts.now)) }

@@ -33,9 +33,9 @@ returns-in-Err g c =
     let words = with_program (map string_bytes c.args.words.now) in
     let fault = c.in-Err.fault in
     let is = c.in-Err.ensures.fault in
-    let is_logged = c.log_fault.ensures in
-    let answer = c.log_fault.result in
-    let failed = (g.W.Sink.taken c.log_fault.new.out).failed in
+    let is_logged = c.answer_fault.ensures in
+    let answer = c.answer_fault.result in
+    let failed = (g.W.Sink.taken c.answer_fault.new.out).failed in
     record {
       works = record {
         answers = inr (fault, is, opens_none (g.O.Open.state c.args.opener.now), is_logged);

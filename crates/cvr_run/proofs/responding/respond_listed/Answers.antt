@@ -1,7 +1,7 @@
 -- The `request` that words ask for with a list is the only one, and they ask for no other job, so
 -- `run_listed` answers them; if there is none, `work` does. In the third case, memory ran out.
 use Rattle.std.proofs.Common.{◌≡◌, inl, inr, map, string_bytes, refl, subst}
-use Rattle.cvr_words.specs.declared.fault.LineFault.TheVariants.{Memory}
+use Rattle.cvr_words.specs.declared.fault.LoggedFault.TheVariants.{Memory}
 use Rattle.cvr_run.specs.Devices.{Devices}
 use Rattle.cvr_run.specs.Listed.{AnswersListed, ListedRequest}
 use Rattle.cvr_run.proofs.CodeWords.{neither}

@@ -5,5 +5,5 @@ pub returns : goal.returns
 returns c = record {
   one = one_request;
   no_fault = no_fault_but_memory;
-  no_line_fault = no_line_fault_but_memory;
+  no_logged_fault = no_line_fault_but_memory;
 }

@@ -1,6 +1,6 @@
 use Rattle.std.proofs.Common.{refl, rules}
 use Rattle.cvr_run.proofs.Unasked.{help_told, quiet_told}
-use Rattle.cvr_run.proofs.answering.log_fault.Goals as goal
+use Rattle.cvr_run.proofs.answering.answer_fault.Goals as goal
 
 pub returns-in-Refused : goal.returns-in-Refused
 returns-in-Refused g c =

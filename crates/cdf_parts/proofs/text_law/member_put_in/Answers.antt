@@ -1,5 +1,5 @@
 use Rattle.serde_json.proofs.Views.{get_member-put, get_member-put_other}
-use Rattle.cdf_parts.proofs.text_law.put_in.Goals as goal
+use Rattle.cdf_parts.proofs.text_law.member_put_in.Goals as goal
 
 pub returns-clause-found : goal.returns-clause-found
 returns-clause-found c = get_member-put
