@@ -39,7 +39,7 @@ pub items_len-items_of : (ds : List Data) → items_len (items_of ds) ≡ length
 items_len-items_of [] = refl
 items_len-items_of (d ∷ ds) = ap suc (items_len-items_of ds)
 
-listed_item : (ds : List Data) (i : ℕ) (e : Data) → get_item i (items_of ds) ≡ Some e
+pub listed_item : (ds : List Data) (i : ℕ) (e : Data) → get_item i (items_of ds) ≡ Some e
     → Contains ds e
 listed_item [] i e h = absurd (cc)
 listed_item (d ∷ ds) zero e h =
@@ -54,14 +54,14 @@ whole_items (d ∷ ds) each = or_from (has_float d) (items_have_float (items_of 
 
 -- ---- the arrays of a report
 
-abbrev listed : Option Data → List Data
+abbrev pub listed : Option Data → List Data
 listed o = unwrap_or (option_map list_of (option_and_then as_array o)) []
 
 pub array_stays : (ds : Items) (ms : Members) (q : List ℕ) → bytes_eq q records ≡ false
     → array_at q (object (with_items_at records ds ms)) ≡ array_at q (object ms)
 array_stays ds ms q other = ap listed (found_other records ds q ms other)
 
-some_array : (ds : Items) (o : Option Data) → IsSome o
+pub some_array : (ds : Items) (o : Option Data) → IsSome o
     → option_map (λ _. array ds) o ≡ Some (array ds)
 some_array ds None h = absurd (cc)
 some_array ds (Some d) h = refl

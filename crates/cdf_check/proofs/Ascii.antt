@@ -1,35 +1,15 @@
 -- What is answered for files whose bytes are all ASCII.
-use Rattle.std.proofs.Common.{◌≡◌, ◌≢◌, ℕ, List, [], ◌∷◌, ◌<◌, ◌&&◌, length, Bool, true, false}
-use Rattle.std.proofs.Common.{true≢false, Option, nat_lt, bytes_eq, sym, ap, subst, ◌∙◌, arith}
+use Rattle.std.proofs.Common.{◌≡◌, ◌≢◌, ℕ, List, [], ◌∷◌, length, true, false}
+use Rattle.std.proofs.Common.{true≢false, Option, bytes_eq, sym, ap, subst, ◌∙◌}
 use Rattle.std.specs.Prelude.{nat_le, unwrap_or}
-use Rattle.std.specs.Str.{IsAscii}
-use Rattle.std.proofs.lemmas.Bool.Decides.{nat_tests}
-use Rattle.std.proofs.lemmas.Str.{IsUtf8-from_ascii, is_utf8-from_IsUtf8}
-use Rattle.std.proofs.lemmas.Str.Ascii.{IsAscii-nil, IsAscii-cons}
 use Rattle.serde_json.specs.Data.{null}
 use Rattle.serde_json.specs.Read.{read}
 use Rattle.cdf_types.specs.declared.fault.ReadFault.{ReadFault}
-use Rattle.cdf_form.specs.Reading.{max_file, value_of, of_value}
-use Rattle.cdf_form.proofs.Lemmas.{and-left, and-right}
+use Rattle.cdf_form.specs.Reading.{max_file, of_value}
 use Rattle.cdf_definition.specs.Frame.{Frame, frame_of, IsSame}
-use Rattle.cdf_definition.proofs.Lemmas.{frame_of-put, frame_put}
+use Rattle.cdf_definition.proofs.Lemmas.{frame_of-put, frame_put, ascii_value, all_ascii}
 use Rattle.cdf_definition.specs.Acceptance.{own_refusal, value_refusal, first_unsound}
 use Rattle.cdf_definition.specs.Acceptance.{first_refusal, frame_in}
-
-abbrev pub all_ascii : List ℕ → Bool
-all_ascii [] = true
-all_ascii (b ∷ bs) = nat_lt b 128 && all_ascii bs
-
-ascii : (bs : List ℕ) → all_ascii bs ≡ true → IsAscii bs
-ascii [] h = IsAscii-nil
-ascii (b ∷ bs) h = IsAscii-cons b bs (nat_lt-from b (and-left (nat_lt b 128) (all_ascii bs) h))
-    (ascii bs (and-right (nat_lt b 128) (all_ascii bs) h))
-  where
-    nat_lt-from : (b : ℕ) → nat_lt b 128 ≡ true → b < 128
-    nat_lt-from b e = grind (arith, nat_tests)
-
-ascii_value : (bytes : List ℕ) → all_ascii bytes ≡ true → value_of bytes ≡ read bytes
-ascii_value bytes a = rw (is_utf8-from_IsUtf8 bytes (IsUtf8-from_ascii bytes (ascii bytes a)))
 
 pub ascii_frame : (bytes : List ℕ) → all_ascii bytes ≡ true
     → frame_in bytes ≡ frame_put (unwrap_or (read bytes) null)

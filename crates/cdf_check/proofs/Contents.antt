@@ -7,6 +7,7 @@ use Rattle.std.proofs.Math.Utf8.{scalar, low_scalar}
 use Rattle.std.proofs.lemmas.Bool.Decides.{nat_tests}
 use Rattle.std.proofs.lemmas.Str.{IsUtf8-append, IsUtf8-encode, IsUtf8-take, IsUtf8-drop}
 use Rattle.std.proofs.lemmas.Str.{IsUtf8-past_char, IsCharBoundary-before_ascii, encode_ascii}
+use Rattle.std.proofs.lemmas.Option.{same_Some, cond_some}
 use Rattle.std.specs.Prelude.{option_and_then}
 use Rattle.std.specs.Char.{digit_value, is_digit, encode_utf8}
 use Rattle.json.specs.Text.{Within, plain, after_backslash, after_u, after_high, content, prepend}
@@ -46,10 +47,6 @@ pub record IsUnit (a b c d u : ℕ) : Type 0 where
   pub fourth : d < 128
   pub small : u < 65536
 
-unit_at : (t : Bool) (n u : ℕ) → cond t (Some n) None ≡ Some u → (t ≡ true) × (n ≡ u)
-unit_at true n u e = (refl, cc)
-unit_at false n u e = absurd (cc)
-
 all_four : (p q r s : Bool) → (p && q && r && s) ≡ true
     → (p ≡ true) × (q ≡ true) × (r ≡ true) × (s ≡ true)
 all_four p q r s e = grind arith
@@ -57,7 +54,7 @@ all_four p q r s e = grind arith
 code_unit_is : (a b c d u : ℕ) → code_unit a b c d ≡ Some u → IsUnit a b c d u
 unfolding code_unit
 code_unit_is a b c d u e =
-    let p = unit_at (is_digit a 16 && is_digit b 16 && is_digit c 16 && is_digit d 16) _ u e in
+    let p = cond_some (is_digit a 16 && is_digit b 16 && is_digit c 16 && is_digit d 16) _ u e in
     let q = all_four (is_digit a 16) (is_digit b 16) (is_digit c 16) (is_digit d 16) p.0 in
     let ha = hex_ascii a q.0 in
     let hb = hex_ascii b q.1 in
@@ -108,9 +105,6 @@ prepended : (bytes s : List ℕ) (o : Option (List ℕ)) → prepend bytes o ≡
 prepended bytes s None e = absurd (cc)
 prepended bytes s (Some t) e = (t, refl, cc)
 
-inside : {A : Type 0} (a b : A) → Some a ≡ Some b → a ≡ b
-inside a b e = cc
-
 -- bytes of their own, and then plain ones
 spelled : (bytes p s xs : List ℕ) → IsUtf8 p → IsUtf8 bytes → IsUtf8 xs → Gives plain xs
     → prepend bytes (content plain xs) ≡ Some s → IsUtf8 (p ++ s)
@@ -127,7 +121,7 @@ plain_step : (x : ℕ) (xs : List ℕ) → Gives after_backslash xs → Gives pl
     → IsUtf8 (p ++ s)
 plain_step x xs back next true b c hq hb p s u e =
     let small : x < 128 = grind (arith, nat_tests, hq) in
-    subst (λ t. IsUtf8 (p ++ t)) (inside [] s e)
+    subst (λ t. IsUtf8 (p ++ t)) (same_Some [] s e)
     (subst IsUtf8 (sym (append-nil p)) (cut p xs x small u).0)
 plain_step x xs back next false true c hq hb p s u e =
     let small : x < 128 = grind (arith, nat_tests, hb) in

@@ -35,19 +35,11 @@ use Rattle.cdf_definition.specs.Frame.{Frame}
 use Rattle.cdf_check.specs.Apart.{with_records}
 use Rattle.cdf_check.specs.Seen.{in_file, file_fraction, first_of_file, form_refusal, IsSeen}
 use Rattle.cdf_check.specs.Seen.{fraction_seen, fault_seen}
-use Rattle.cdf_check.proofs.Apart.{items_len-items_of, records_there}
+use Rattle.cdf_check.proofs.Apart.{items_len-items_of, records_there, some_array, records}
 use Rattle.cdf_check.proofs.Numbers.{path_of, append_first, first_rule, all_of, first_filled}
 use Rattle.cdf_definition.proofs.Lemmas.{none_right, unmapped}
 
-abbrev records : List ℕ
-records = codes "CVR"
-
 -- ---- lists of faults, and the class of a report
-
-pub array_there : (ds : Items) (o : Option Data) → IsSome o
-    → option_map (λ _. array ds) o ≡ Some (array ds)
-array_there ds None h = cc
-array_there ds (Some d) h = refl
 
 abbrev pub report : Leaf
 report = leaf.Object group.Reports
@@ -89,7 +81,7 @@ module _ (ds : List Data) (ms : Members) (whole : items_have_float (items_of ds)
     (few : length ds ≤ any) where
   here : get_member records (with_items_at records (items_of ds) ms) ≡ Some (array (items_of ds))
   here = found_here records (items_of ds) ms
-      ∙ array_there (items_of ds) (get_member records ms) some
+      ∙ some_array (items_of ds) (get_member records ms) some
 
   short : items_len (items_of ds) ≤ any
   short = subst (λ n. n ≤ any) (sym (items_len-items_of ds)) few
@@ -106,7 +98,7 @@ module _ (ds : List Data) (ms : Members) (whole : items_have_float (items_of ds)
   faults_stay right =
       let empty : get_member records ms
       ≡ Some (array no_items) = ap (get_member records) (sym emptied)
-      ∙ found_here records no_items ms ∙ array_there no_items (get_member records ms) some in
+      ∙ found_here records no_items ms ∙ some_array no_items (get_member records ms) some in
       rw (
         numbers_stay,
         records_apart (with_items_at records (items_of ds) ms) ms (items_of ds)

@@ -23,6 +23,7 @@ use Rattle.cdf_form.specs.Form.{Fault, at_member, deeper_fault, first}
 use Rattle.cdf_form.specs.Found.{path_of}
 use Rattle.cdf_node.specs.Items.{list_of}
 use Rattle.cdf_parts.specs.Parts.{array_at}
+use Rattle.cdf_parts.proofs.Laws.{list_of-items_of}
 use Rattle.cdf_form.specs.Path.{path_text}
 use Rattle.cdf_form.specs.Reading.{document_faults, refusal_of, IsMemory}
 use Rattle.cdf_form.proofs.Laws.{whole_document}
@@ -120,10 +121,6 @@ records_first (x ∷ xs) ys others = refl
 
 -- ---- the second reading
 
-list_again : (ds : List Data) → list_of (items_of ds) ≡ ds
-list_again [] = refl
-list_again (d ∷ ds) = ap (λ es. d ∷ es) (list_again ds)
-
 absent_none : (scope : Scope) (ds : List Data) (i : ℕ)
     → ((d : Data) → Contains ds d → in_cvr scope d ≡ [])
     → first (below_each (in_cvr scope) ds i) ≡ None
@@ -164,7 +161,7 @@ module _ (frame : Frame) (text : List ℕ) (left : Data) (h : HasForms text left
   refused_by found is n =
       let listed : items_under records n.0
       ≡ ds = rw (← the_value n.0 n.1)
-      (ap items_found (found_records (items_of ds) ms h.some) ∙ list_again ds) in
+      (ap items_found (found_records (items_of ds) ms h.some) ∙ list_of-items_of ds) in
       let told : option_map path_of found ≡ first (below_each (in_cvr (scope_of left)) ds 0) =
       n.3 ∙ cc in
       refusal_own ∙ ap (λ d. refusal_with frame (first (below_each (in_cvr (scope_of d)) ds 0)) d)

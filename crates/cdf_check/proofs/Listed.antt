@@ -2,15 +2,15 @@
 -- agrees, and lists what its records name.
 use Rattle.std.proofs.Common.{◌≡◌, ◌↔◌, inl, inr, ℕ, List, [], ◌∷◌, map, Bool, true, false, subst}
 use Rattle.std.proofs.Common.{◌||◌, Contains, Result, Ok, Err, bytes_eq, codes, refl, sym, ap, ◌∙◌}
-use Rattle.std.specs.Prelude.{option_and_then, option_map, unwrap_or, IfOk, IsTrue}
+use Rattle.std.specs.Prelude.{IfOk, IsTrue}
 use Rattle.std.specs.List.{list_any}
 use Rattle.std.proofs.Math.Logic.{∥∥₁_elim}
 use Rattle.std.proofs.lemmas.Cmp.{nat_list_eq_equiv}
 use Rattle.std.proofs.lemmas.Map.Views.{lookup-from_Contains}
+use Rattle.std.proofs.lemmas.Bool.{or_right}
 use Rattle.serde_json.specs.Data.{Data}
-use Rattle.serde_json.specs.Find.{get, as_array}
+use Rattle.serde_json.specs.Find.{get}
 use Rattle.serde_json.specs.Written.{compact_text}
-use Rattle.cdf_node.specs.Items.{list_of}
 use Rattle.cdf_parts.specs.Parts.{array_at, ids_at, id_of}
 use Rattle.cdf_parts.specs.Places.{Texts}
 use Rattle.cdf_definition.specs.Named.{IdText, id_and_text, ids_of}
@@ -20,6 +20,7 @@ use Rattle.cdf_definition.specs.Acceptance.{IsReport}
 use Rattle.cdf_definition.specs.Sound.{IsSound}
 use Rattle.cdf_definition.specs.Lists.{SameLists, HasLists, HasRest}
 use Rattle.cdf_definition.proofs.Laws.{agreement, rest_law, rest_of_report, sound}
+use Rattle.cdf_definition.proofs.Lemmas.{array_same}
 use Rattle.cdf_check.specs.declared.record_names.RecordNames.{RecordNames}
 use Rattle.cdf_check.specs.Laws.{IsListOf}
 use Rattle.cdf_check.specs.Within.{lists, RestSettles}
@@ -28,10 +29,6 @@ use Rattle.cdf_check.proofs.Entries.{IsAmong, among_from, from_among, alone_by_i
 use Rattle.cdf_check.proofs.Listing.{lists as lists_law}
 
 -- ---- ids
-
-or_right : (a b : Bool) → b ≡ true → (a || b) ≡ true
-or_right true b e = refl
-or_right false b e = e
 
 either_way : (a b : Bool) → (a ≡ true → b ≡ true) → (b ≡ true → a ≡ true) → a ≡ b
 either_way true b f g = sym (f refl)
@@ -98,16 +95,13 @@ lists_same xs ys same (t ∷ ts) = rw (same t, lists_same xs ys same ts) refl
 
 -- ---- agreement
 
-listed_itself : (name : List ℕ) (c : Data) → IsListOf (entries_at name c) name c
+pub listed_itself : (name : List ℕ) (c : Data) → IsListOf (entries_at name c) name c
     → AreListed (entries_at name c) name c
 listed_itself name c l e at =
     lookup-from_Contains nat_list_eq_equiv (id_of e) (compact_text e) (entries_at name c)
     (alone_by_id (map id_and_text (array_at name c)))
     ((l.members (id_and_text e)).1
     (from_among _ _ (among_texts (array_at name c) e (among_from _ e at))))
-
-array_same : (c d : Data) (n : List ℕ) → get n c ≡ get n d → array_at n c ≡ array_at n d
-array_same c d n e = ap (λ o. unwrap_or (option_map list_of (option_and_then as_array o)) []) e
 
 listed_there : (name : List ℕ) (c d : Data) → IsListOf (entries_at name c) name c
     → get name c ≡ get name d → AreListed (entries_at name c) name d

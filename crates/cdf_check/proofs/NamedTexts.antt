@@ -16,13 +16,13 @@ use Rattle.std.proofs.lemmas.List.Elements.{Contains-get_or}
 use Rattle.std.proofs.lemmas.List.Folds.{list_all-append, list_any-append}
 use Rattle.std.proofs.lemmas.Map.Text.{btree_set_updates_text, is_eq-slice_cmp}
 use Rattle.std.proofs.lemmas.Slice.Eq.{bytes_eq-Decides}
+use Rattle.std.proofs.lemmas.Bool.{and_parts, or_right}
 use Rattle.serde_json.specs.Data.{Data}
 use Rattle.serde_json.specs.Find.{as_str}
 use Rattle.cdf_form.specs.Form.{Step, at_member, at_item}
 use Rattle.cdf_parts.specs.Ids.{bytes_of}
 use Rattle.cdf_parts.specs.Parts.{array_at, text_in}
 use Rattle.cdf_parts.specs.Places.{Texts}
-use Rattle.cdf_form.proofs.Lemmas.{and-left, and-right}
 use Rattle.cdf_definition.specs.Paths.{Path, below, itself_unless, below_each}
 use Rattle.cdf_definition.specs.References.{unknown, one, many}
 use Rattle.cdf_check.specs.Within.{lists, named_parties, SameTexts}
@@ -110,13 +110,14 @@ listed_in : (ids xs : Texts) (s : List ℕ) → lists ids xs ≡ true → list_a
     → list_any (bytes_eq s) ids ≡ true
 listed_in ids [] s all found = cc
 listed_in ids (x ∷ xs) s all found =
-    at (bytes_eq s x) refl found (listed_in ids xs s (and-right (list_any (bytes_eq x) ids) _ all))
+    at (bytes_eq s x) refl found
+    (listed_in ids xs s (and_parts (list_any (bytes_eq x) ids) _ all).1)
   where
     at : (b : Bool) → bytes_eq s x ≡ b → (b || list_any (bytes_eq s) xs) ≡ true
         → (list_any (bytes_eq s) xs ≡ true → list_any (bytes_eq s) ids ≡ true)
         → list_any (bytes_eq s) ids ≡ true
     at true is there rest = subst (λ t. list_any (bytes_eq t) ids ≡ true)
-        (sym ((bytes_eq-Decides s x).0 is)) (and-left _ _ all)
+        (sym ((bytes_eq-Decides s x).0 is)) (and_parts _ _ all).0
     at false is there rest = rest there
 
 all_in : (ids ys : Texts) → ((s : List ℕ) → list_any (bytes_eq s) ys ≡ true
@@ -124,11 +125,7 @@ all_in : (ids ys : Texts) → ((s : List ℕ) → list_any (bytes_eq s) ys ≡ t
 all_in ids [] h = refl
 all_in ids (y ∷ ys) h =
     both_true (h y (ap (λ b. b || list_any (bytes_eq y) ys) ((bytes_eq-Decides y y).1 refl)))
-    (all_in ids ys (λ s is. h s (later (bytes_eq s y) _ is)))
-  where
-    later : (a b : Bool) → b ≡ true → (a || b) ≡ true
-    later true b e = refl
-    later false b e = e
+    (all_in ids ys (λ s is. h s (or_right (bytes_eq s y) _ is)))
 
 same_listed : (ids xs ys : Texts) → SameTexts xs ys → lists ids xs ≡ true → lists ids ys ≡ true
 same_listed ids xs ys same all = all_in ids ys (λ s is. listed_in ids xs s all (same s ∙ is))
@@ -176,8 +173,8 @@ module _ (f : Data → Texts) (ids : Texts) where
   each_listed (d ∷ ds) =
       let apart = list_all-append (λ s. list_any (bytes_eq s) ids) (f d) (flat_map f ds) in
       let rest = each_listed ds in (
-        (λ e. let h = sym apart ∙ e in All-cons IsListed d ds (and-left _ _ h)
-            (rest.0 (and-right (lists ids (f d)) _ h))),
+        (λ e. let h = sym apart ∙ e in All-cons IsListed d ds (and_parts _ _ h).0
+            (rest.0 (and_parts (lists ids (f d)) _ h).1)),
         λ all. apart ∙ both_true (All-head IsListed d ds all) (rest.1 (All-tail IsListed d ds all)),
       )
 

@@ -28,6 +28,7 @@ use Rattle.serde_json.specs.Data.{member, put}
 use Rattle.serde_json.specs.Read.{number_of, of_json, of_items, of_members, read, max_depth}
 use Rattle.cdf_check.specs.Utf8.{HasUtf8, ItemsHaveUtf8, MembersHaveUtf8, ReadUtf8Law}
 use Rattle.cdf_check.proofs.Contents.{cut, string_utf8}
+use Rattle.cdf_parts.proofs.Lemmas.{Within-map, Within-and_then, Within}
 
 -- ---- lexemes
 
@@ -334,21 +335,6 @@ value_parse (suc d) =
 
 -- ---- data
 
-abbrev Within : {A : Type 0} → (A → Type 0) → Option A → Type 0
-Within P None = ⊤
-Within P (Some a) = P a
-
-Within-map : {A B : Type 0} (P : A → Type 0) (Q : B → Type 0) (h : A → B)
-    → ((a : A) → P a → Q (h a)) → (o : Option A) → Within P o → Within Q (option_map h o)
-Within-map P Q h k None x = tt
-Within-map P Q h k (Some a) x = k a x
-
-Within-and_then : {A B : Type 0} (P : A → Type 0) (Q : B → Type 0) (h : A → Option B)
-    → ((a : A) → P a → Within Q (h a)) → (o : Option A) → Within P o
-    → Within Q (option_and_then h o)
-Within-and_then P Q h k None x = tt
-Within-and_then P Q h k (Some a) x = k a x
-
 put_at : (o : Ordering) (k l : List ℕ) (d e : Data) (ms rest : Members) → IsUtf8 k → HasUtf8 d
     → IsUtf8 l → HasUtf8 e
     → MembersHaveUtf8 ms → MembersHaveUtf8 rest
@@ -358,7 +344,7 @@ put_at Less k l d e ms rest hk hd hl he hm hr = (hk, hd, (hl, he, hm))
 put_at Equal k l d e ms rest hk hd hl he hm hr = (hl, hd, hm)
 put_at Greater k l d e ms rest hk hd hl he hm hr = (hl, he, hr)
 
-put_utf8 : (k : List ℕ) (d : Data) (ms : Members) → IsUtf8 k → HasUtf8 d → MembersHaveUtf8 ms
+pub put_utf8 : (k : List ℕ) (d : Data) (ms : Members) → IsUtf8 k → HasUtf8 d → MembersHaveUtf8 ms
     → MembersHaveUtf8 (put k d ms)
 put_utf8 k d no_members hk hd hm = (hk, hd, tt)
 put_utf8 k d (member l e ms) hk hd hm =

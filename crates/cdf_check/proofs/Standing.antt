@@ -1,7 +1,7 @@
 -- The bodies of an accepted file stand.
 use Rattle.std.proofs.Common.{◌≡◌, ℕ, List, [], map, Contains, Some, IsSome, ◌≤◌}
-use Rattle.std.proofs.Common.{option_and_then, unwrap_or, codes, refl, sym, ap, ◌∙◌, subst, arith}
-use Rattle.serde_json.specs.Data.{Data, null, string, object, Members}
+use Rattle.std.proofs.Common.{option_and_then, codes, refl, sym, ap, ◌∙◌, subst, arith}
+use Rattle.serde_json.specs.Data.{Data, string, object, Members}
 use Rattle.serde_json.specs.Find.{get, as_str}
 use Rattle.serde_json.specs.Read.{read, max_depth}
 use Rattle.serde_json.specs.Written.{compact_text}
@@ -29,7 +29,7 @@ use Rattle.cdf_definition.specs.References.{Scope, scope_of, in_cvr, in_snapshot
 use Rattle.cdf_definition.specs.Paths.{each}
 use Rattle.cdf_definition.specs.Frame.{Frame, scope_in}
 use Rattle.cdf_definition.specs.Sound.{IsFrame}
-use Rattle.cdf_definition.specs.Acceptance.{IsReport, Valid, value_in}
+use Rattle.cdf_definition.specs.Acceptance.{IsReport, Valid}
 use Rattle.cdf_definition.specs.Bodies.{HasHeaderForm, DeviceStands, HeaderStands, SnapshotStands}
 use Rattle.cdf_definition.specs.Laws.{ReferencesLaw}
 use Rattle.cdf_check.specs.Laws.{SameElectionLaw, DevicesStandLaw, HeadersStandLaw}
@@ -38,6 +38,7 @@ use Rattle.cdf_definition.proofs.Lemmas.{left_nil}
 use Rattle.cdf_check.specs.Wider.{Includes, Wider}
 use Rattle.cdf_check.proofs.Wider.{IsHeaderOf, cvr_parts, each_at, snapshot_wider, header_wider}
 use Rattle.cdf_check.proofs.Wider.{agreed_wider}
+use Rattle.cdf_check.proofs.SameElection.{value_is}
 use Rattle.cdf_definition.proofs.Lemmas.{differ}
 use Rattle.cdf_definition.proofs.Laws.{is_kept}
 use Rattle.cdf_definition.proofs.Laws.{report_proper, listed_proper}
@@ -220,9 +221,6 @@ module _ (bytes : List ℕ) (d : Data) (is : value_of bytes ≡ Some d) (r : IsR
       )
 
 -- ---- accepted files
-
-value_is : (bytes : List ℕ) (d : Data) → value_of bytes ≡ Some d → value_in bytes ≡ d
-value_is bytes d is = ap (λ o. unwrap_or o null) is
 
 pub devices_stand : DevicesStandLaw
 devices_stand frame bytes e v =

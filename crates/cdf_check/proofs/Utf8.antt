@@ -6,6 +6,7 @@ use Rattle.std.proofs.Common.{Ordering, Less, Equal, Greater, nat_cmp, refl, ap,
 use Rattle.std.proofs.lemmas.Bool.{or_parts}
 use Rattle.std.proofs.lemmas.Fmt.{IsAscii-decimal, IsAscii-signed}
 use Rattle.std.proofs.lemmas.Str.{IsUtf8-append, IsUtf8-nil, IsUtf8-from_ascii}
+use Rattle.std.proofs.lemmas.Option.{same_Some}
 use Rattle.std.specs.Cmp.Lexicographic.{slice_cmp}
 use Rattle.std.specs.Ordering.{match_ordering}
 use Rattle.json.specs.Print.{quoted}
@@ -21,7 +22,7 @@ use Rattle.cdf_parts.specs.PartOf.{IsPart, itself, of_member, of_item}
 use Rattle.cdf_parts.specs.Proper.{NumFits, IsWell, ItemsAreWell, MembersAreWell, IsProper}
 use Rattle.cdf_form.specs.Reading.{value_of}
 use Rattle.cdf_parts.specs.Removing.{without}
-use Rattle.cdf_parts.proofs.Lemmas.{found_at, inside}
+use Rattle.cdf_parts.proofs.Lemmas.{found_at}
 use Rattle.cdf_parts.proofs.Laws.{part_proper, part_of_part, listed_part, without_proper}
 use Rattle.cdf_parts.proofs.Laws.{proper_read}
 use Rattle.cdf_typed.specs.Typed.{header_of}
@@ -42,7 +43,7 @@ member_utf8 k (member l d ms) e h is =
 
 item_utf8 : (i : ℕ) (ds : Items) (e : Data) → ItemsHaveUtf8 ds → get_item i ds ≡ Some e → HasUtf8 e
 item_utf8 i no_items e h is = absurd (cc)
-item_utf8 zero (item d ds) e h is = subst HasUtf8 (inside d e is) h.0
+item_utf8 zero (item d ds) e h is = subst HasUtf8 (same_Some d e is) h.0
 item_utf8 (suc i) (item d ds) e h is = item_utf8 i ds e h.1 is
 
 get_utf8 : (k : List ℕ) (d e : Data) → HasUtf8 d → get k d ≡ Some e → HasUtf8 e

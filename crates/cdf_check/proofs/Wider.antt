@@ -4,12 +4,11 @@ use Rattle.std.proofs.Common.{Bool, true, false, cond, ◌||◌, bytes_eq, Optio
 use Rattle.std.proofs.Common.{refl, sym, ap, ◌∙◌, subst}
 use Rattle.std.proofs.lemmas.Slice.Eq.{bytes_eq-Decides}
 use Rattle.std.specs.List.{list_any}
-use Rattle.std.specs.Prelude.{option_and_then, unwrap_or, option_map}
+use Rattle.std.specs.Prelude.{option_and_then}
 use Rattle.serde_json.specs.Data.{Data}
-use Rattle.serde_json.specs.Find.{get, as_str, as_array}
+use Rattle.serde_json.specs.Find.{get, as_str}
 use Rattle.serde_json.specs.Written.{compact_text}
 use Rattle.cdf_form.specs.Form.{at_member}
-use Rattle.cdf_node.specs.Items.{list_of}
 use Rattle.cdf_parts.specs.Parts.{array_at, ids_at, id_of, text_at, text_in}
 use Rattle.cdf_parts.specs.Places.{Texts, Contest, contest_ids, selections_of}
 use Rattle.cdf_definition.specs.Paths.{Path, below, itself_unless, below_each, each}
@@ -20,14 +19,12 @@ use Rattle.cdf_definition.specs.Frame.{Frame, scope_in}
 use Rattle.cdf_definition.specs.Agreement.{Agrees}
 use Rattle.cdf_definition.specs.Bodies.{IsInHeader}
 use Rattle.cdf_check.specs.Wider.{Includes, Wider, IsResolved}
-use Rattle.cdf_definition.proofs.Lemmas.{left_nil, right_nil, two, inner, unless_nil, all_items}
-use Rattle.cdf_definition.proofs.Lemmas.{at_head, at_tail}
+use Rattle.cdf_check.proofs.Apart.{listed}
+use Rattle.cdf_definition.proofs.Lemmas.{left_nil, right_nil, inner, unless_nil, all_items}
+use Rattle.cdf_definition.proofs.Lemmas.{at_head, at_tail, both_nil}
 use Rattle.cdf_definition.proofs.Laws.{is_kept}
 
 -- ---- lists of paths
-
-both_nil : (xs ys : List Path) → xs ≡ [] → ys ≡ [] → xs ++ ys ≡ []
-both_nil xs ys p q = (two xs ys ((λ e. e), (λ e. e)) ((λ e. e), (λ e. e))).1 (p, q)
 
 -- where none is found, none is in an item
 pub each_at : (f : Data → List Path) (name : List ℕ) (d e : Data)
@@ -124,9 +121,6 @@ pub record IsHeaderOf (d h : Data) : Type 0 where
   pub no_snapshots : get (codes "CVRSnapshot") h ≡ None
   pub no_current : get (codes "CurrentSnapshotId") h ≡ None
 
-abbrev array_in : Option Data → List Data
-array_in o = unwrap_or (option_map list_of (option_and_then as_array o)) []
-
 kept_one : (ids : Texts) (name : List ℕ) (d h : Data) → get name h ≡ get name d
     → one ids name d ≡ [] → one ids name h ≡ []
 kept_one ids name d h same e =
@@ -135,12 +129,12 @@ kept_one ids name d h same e =
 kept_many : (ids : Texts) (name : List ℕ) (d h : Data) → get name h ≡ get name d
     → many ids name d ≡ [] → many ids name h ≡ []
 kept_many ids name d h same e =
-    ap (λ o. below (at_member name) (below_each (λ x. unknown ids (as_str x)) (array_in o) 0)) same
+    ap (λ o. below (at_member name) (below_each (λ x. unknown ids (as_str x)) (listed o) 0)) same
     ∙ e
 
 none_each : (f : Data → List Path) (name : List ℕ) (h : Data) → get name h ≡ None
     → each f name h ≡ []
-none_each f name h none = ap (λ o. below (at_member name) (below_each f (array_in o) 0)) none
+none_each f name h none = ap (λ o. below (at_member name) (below_each f (listed o) 0)) none
 
 none_one : (ids : Texts) (name : List ℕ) (h : Data) → get name h ≡ None → one ids name h ≡ []
 none_one ids name h none =

@@ -4,6 +4,7 @@ use Rattle.std.proofs.Common.{option_map, nat_le, refl, ◌∙◌, arith}
 use Rattle.std.specs.Prelude.{if◌then◌else◌}
 use Rattle.std.specs.Option.{option_or}
 use Rattle.std.proofs.lemmas.Bool.Decides.{nat_tests}
+use Rattle.std.proofs.lemmas.Bool.{le-leb}
 use Rattle.serde_json.specs.Data.{Data}
 use Rattle.cdf_types.specs.declared.fault.ReadFault.{ReadFault}
 use Rattle.cdf_types.specs.declared.fault.ReadFault.TheVariants.{TooLong, Reference, Disagrees}
@@ -80,12 +81,9 @@ file_none : (f : Data → Option ReadFault) (bytes : List ℕ) → of_file f byt
     → (d : Data) × Holds bytes d × (f d ≡ None)
 file_none f bytes e = file_at _ (length bytes) max_file f (value_of bytes) refl e
 
-is_short : (n m : ℕ) → n ≤ m → nat_le n m ≡ true
-is_short n m h = grind (arith, nat_tests)
-
 pub file_holds : (f : Data → Option ReadFault) (bytes : List ℕ) (d : Data) → Holds bytes d
     → of_file f bytes ≡ f d
-file_holds f bytes d h = rw (is_short (length bytes) max_file h.0, h.1) refl
+file_holds f bytes d h = rw (le-leb (length bytes) max_file h.0, h.1) refl
 
 pub sound_file : SoundFileLaw
 sound_file bytes = (

@@ -1,7 +1,7 @@
 -- Entries by their ids: they rise, beside each id stands the text of the last entry that has it,
 -- and how they are computed.
 use Rattle.std.proofs.Common.{◌≡◌, ℕ, ◌&&◌, T, Bool, true, false, cond, List, [], ◌∷◌, ◌++◌, map}
-use Rattle.std.proofs.Common.{reverse, length, codes, Some, Ordering, Less, nat_cmp}
+use Rattle.std.proofs.Common.{reverse, codes, Some, Ordering, Less, nat_cmp}
 use Rattle.std.proofs.Common.{refl, sym, ap, ◌∙◌, arith}
 use mathlib.Core.List.{reverse_aux}
 use Rattle.std.specs.List.{AllByRecursion}
@@ -13,7 +13,7 @@ use Rattle.std.specs.FinMap.{get-entries, get-from_entries, len-empty, len-entri
 use Rattle.std.specs.FinMap.{is_sorted}
 use Rattle.std.specs.FinMap.Entries.{below_all}
 use Rattle.std.proofs.lemmas.Cmp.{nat_list_cmp_total}
-use Rattle.std.proofs.lemmas.List.{reverse-append}
+use Rattle.std.proofs.lemmas.List.{reverse-append, nil_from_length}
 use Rattle.std.proofs.lemmas.Map.Text.{is_eq-slice_cmp}
 use Rattle.serde_json.specs.Data.{Data}
 use Rattle.cdf_parts.specs.Parts.{array_at}
@@ -83,10 +83,6 @@ abbrev pub put_all : List IdText → List IdText → List IdText
 put_all done [] = done
 put_all done (e ∷ es) = put_all (put order e.0 e.1 done) es
 
-no_entries : (es : List IdText) → length es ≡ 0 → es ≡ []
-no_entries [] none = refl
-no_entries (e ∷ es) none = absurd (omega arith)
-
 put_behind : (es done : List IdText) → entries (from_entries {R = order} (reverse_aux es done))
     ≡ put_all (entries (from_entries {R = order} done)) es
 put_behind [] done = refl
@@ -97,7 +93,7 @@ put_behind (e ∷ es) done =
 pub by_id-put : (es : List IdText) → by_id es ≡ put_all [] es
 by_id-put es =
     put_behind es [] ∙ ap (λ l. put_all l es)
-    (no_entries (entries empty) (sym (len-entries empty) ∙ len-empty order (List ℕ)))
+    (nil_from_length (entries empty) (sym (len-entries empty) ∙ len-empty order (List ℕ)))
 
 abbrev put_at : List ℕ → Data → List IdText
 put_at name d = put_all [] (map id_and_text (array_at name d))

@@ -1,18 +1,18 @@
 -- How deep the parts of a file's value nest.
-use Rattle.std.proofs.Common.{◌≡◌, ◌<◌, ℕ, zero, suc, List, [], length, slice_index_or, Contains}
+use Rattle.std.proofs.Common.{◌≡◌, ℕ, suc, List, [], Contains}
 use Rattle.std.proofs.Common.{Bool, true, false, cond}
-use Rattle.std.proofs.Common.{Option, Some, None, option_map, option_and_then, unwrap_or, refl, ap}
+use Rattle.std.proofs.Common.{Option, Some, None, option_map, option_and_then, unwrap_or, refl}
 use Rattle.std.proofs.Common.{arith}
 use Rattle.std.specs.Str.{is_utf8}
-use Rattle.serde_json.specs.Data.{Data, null, boolean, number, string, array, object, Items}
-use Rattle.serde_json.specs.Data.{no_items, item}
-use Rattle.serde_json.specs.Find.{get, get_item, as_array}
+use Rattle.serde_json.specs.Data.{Data, null, boolean, number, string, array, object}
+use Rattle.serde_json.specs.Find.{get, as_array}
 use Rattle.serde_json.specs.Read.{read}
 use Rattle.cdf_node.specs.Items.{list_of}
 use Rattle.cdf_parts.specs.Parts.{array_at}
 use Rattle.cdf_parts.specs.Proper.{IsProper}
 use Rattle.cdf_form.specs.Reading.{value_of}
 use Rattle.cdf_parts.proofs.Laws.{member_proper, item_proper, proper_read}
+use Rattle.cdf_parts.proofs.Lemmas.{item_in_list}
 use Rattle.cdf_definition.specs.Acceptance.{IsReport}
 
 -- ---- files
@@ -32,12 +32,6 @@ report_proper bytes d e r = proper_read bytes d (was_read bytes d e) r.whole
 
 -- ---- items
 
-item_in : (ds : Items) (i : ℕ) (e : Data) → i < length (list_of ds)
-    → slice_index_or (list_of ds) i e ≡ e → get_item i ds ≡ Some e
-item_in no_items i e h is = absurd (omega arith)
-item_in (item d ds) zero e h is = ap Some is
-item_in (item d ds) (suc i) e h is = item_in ds i e (omega arith) is
-
 proper_in : (n : ℕ) (o : Option Data) (e : Data) → ((f : Data) → o ≡ Some f → IsProper (suc n) f)
     → Contains (unwrap_or (option_map list_of (option_and_then as_array o)) []) e → IsProper n e
 proper_in n None e h a = absurd (omega (arith, a.1))
@@ -47,7 +41,7 @@ proper_in n (Some (number x)) e h a = absurd (omega (arith, a.1))
 proper_in n (Some (string s)) e h a = absurd (omega (arith, a.1))
 proper_in n (Some (object ms)) e h a = absurd (omega (arith, a.1))
 proper_in n (Some (array ds)) e h a =
-    item_proper n a.0 (array ds) e (item_in ds a.0 e a.1 a.2) (h (array ds) refl)
+    item_proper n a.0 (array ds) e (item_in_list ds a.0 e a.1 a.2) (h (array ds) refl)
 
 -- an item of the array under a name nests two less deep
 pub listed_proper : (n : ℕ) (name : List ℕ) (d e : Data) → Contains (array_at name d) e

@@ -17,7 +17,7 @@ pub right_nil : (xs ys : List Path) → xs ++ ys ≡ [] → ys ≡ []
 right_nil [] ys e = e
 right_nil (x ∷ xs) ys e = cc
 
-both_nil : (xs ys : List Path) → xs ≡ [] → ys ≡ [] → xs ++ ys ≡ []
+pub both_nil : (xs ys : List Path) → xs ≡ [] → ys ≡ [] → xs ++ ys ≡ []
 both_nil xs ys a b = rw (a, b)
 
 -- two lists are empty where both are

@@ -2,6 +2,7 @@
 use Rattle.std.proofs.Common.{◌≡◌, ◌↔◌, ℕ, zero, suc, ◌<◌, List, [], ◌∷◌, length, get_or, Bool}
 use Rattle.std.proofs.Common.{true, false, not, Option, Some, None, option_map, refl, ap, subst}
 use Rattle.std.proofs.Common.{arith}
+use Rattle.std.proofs.lemmas.Bool.{and_parts}
 use Rattle.std.specs.Prelude.{IsTrue, is_some}
 use Rattle.serde_json.specs.Data.{Data}
 use Rattle.serde_json.specs.Find.{get}
@@ -14,7 +15,6 @@ use Rattle.cdf_form.specs.HasForm.{HasForm}
 use Rattle.cdf_form.specs.ByEntry.{HasEntry}
 use Rattle.cdf_form.specs.Laws.{is_keyed, are_keyed}
 use Rattle.cdf_form.proofs.Laws.{no_faults}
-use Rattle.cdf_form.proofs.Lemmas.{and-left, and-right}
 use Rattle.cdf_parts.specs.Places.{Texts}
 use Rattle.cdf_definition.specs.Paths.{Path}
 use Rattle.cdf_definition.specs.References.{many}
@@ -39,9 +39,9 @@ entry_wrong b n k d e f found wrong h = let none = no_faults (h.part e found) in
 pub keyed_at : (rs : List Member) (i : ℕ) (r : Member) → i < length rs
     → are_keyed (entries_of rs) ≡ true → is_keyed (get_or rs i r).kind ≡ true
 keyed_at [] i r lt e = absurd (omega arith)
-keyed_at (x ∷ rs) zero r lt e = and-left (is_keyed x.kind) _ e
+keyed_at (x ∷ rs) zero r lt e = (and_parts (is_keyed x.kind) _ e).0
 keyed_at (x ∷ rs) (suc i) r lt e =
-    keyed_at rs i r (omega arith) (and-right (is_keyed x.kind) _ e)
+    keyed_at rs i r (omega arith) (and_parts (is_keyed x.kind) _ e).1
 
 -- ---- the devices of a report
 

@@ -85,7 +85,7 @@ form c d s f rest =
 
 -- ---- references
 
-array_same : (c d : Data) (n : List ℕ) → get n c ≡ get n d → array_at n c ≡ array_at n d
+pub array_same : (c d : Data) (n : List ℕ) → get n c ≡ get n d → array_at n c ≡ array_at n d
 array_same c d n e = ap (λ o. unwrap_or (option_map list_of (option_and_then as_array o)) []) e
 
 module _ (a b : Scope) (parties : a.parties ≡ b.parties) (units : a.units ≡ b.units) where

@@ -1,8 +1,9 @@
 -- Texts that stand at one place each, item by item.
-use Rattle.std.proofs.Common.{◌≡◌, ℕ, zero, suc, List, [], Bool, true, false, ◌||◌, Option, Some}
+use Rattle.std.proofs.Common.{◌≡◌, ℕ, zero, suc, List, [], true, false, ◌||◌, Option, Some}
 use Rattle.std.proofs.Common.{None, bytes_eq, true≢false, refl, sym, ap, ◌∙◌, subst, arith}
 use Rattle.std.specs.List.{list_any}
 use Rattle.std.proofs.lemmas.Slice.Eq.{bytes_eq-Decides}
+use Rattle.std.proofs.lemmas.Bool.{or_parts, or_from, false_from_ne_true}
 use Rattle.serde_json.specs.Data.{Data, Items, no_items, item}
 use Rattle.serde_json.specs.Find.{get_item}
 use Rattle.cdf_form.specs.declared.table.Key.{Key}
@@ -20,24 +21,8 @@ abbrev pub AreNew : Key → List (List ℕ) → Items → Type 0
 AreNew k seen ds = (i : ℕ) (d : Data) (s : List ℕ) → get_item i ds ≡ Some d → key_text k d ≡ Some s
     → list_any (λ t. bytes_eq t s) seen ≡ false
 
-or_left : (a b : Bool) → (a || b) ≡ false → a ≡ false
-or_left true b e = e
-or_left false b e = refl
-
-or_right : (a b : Bool) → (a || b) ≡ false → b ≡ false
-or_right true b e = cc
-or_right false b e = e
-
-or_both : (a b : Bool) → a ≡ false → b ≡ false → (a || b) ≡ false
-or_both true b p q = p
-or_both false b p q = q
-
 same_text : (s : List ℕ) → bytes_eq s s ≡ true
 same_text s = (bytes_eq-Decides s s).1 refl
-
-differs : (b : Bool) → (b ≡ true → ⊥) → b ≡ false
-differs true h = absurd (h refl)
-differs false h = refl
 
 among_new : (o : Option (List ℕ)) (seen : List (List ℕ)) (s : List ℕ) → o ≡ Some s
     → is_among o seen ≡ false → list_any (λ t. bytes_eq t s) seen ≡ false
@@ -47,7 +32,7 @@ less_seen : (o : Option (List ℕ)) (seen : List (List ℕ)) (s : List ℕ)
     → list_any (λ t. bytes_eq t s) (add_text o seen) ≡ false
     → list_any (λ t. bytes_eq t s) seen ≡ false
 less_seen None seen s h = h
-less_seen (Some t) seen s h = or_right (bytes_eq t s) (list_any (λ t. bytes_eq t s) seen) h
+less_seen (Some t) seen s h = (or_parts (bytes_eq t s) (list_any (λ t. bytes_eq t s) seen) h).1
 
 new_from : (k : Key) (seen : List (List ℕ)) (ds : Items) → ApartFrom k seen ds → AreNew k seen ds
 new_from k seen no_items h i d s is text = cc
@@ -64,7 +49,8 @@ not_later k seen x ds i d s h first is text =
     let new = new_from k (add_text (key_text k x) seen) ds h i d s is text in
     let old : (bytes_eq s s || list_any (λ t. bytes_eq t s) seen) ≡ false =
     subst (λ o. list_any (λ t. bytes_eq t s) (add_text o seen) ≡ false) first new in
-    true≢false (sym (same_text s) ∙ or_left (bytes_eq s s) (list_any (λ t. bytes_eq t s) seen) old)
+    true≢false
+    (sym (same_text s) ∙ (or_parts (bytes_eq s s) (list_any (λ t. bytes_eq t s) seen) old).0)
 
 pub apart_places : (k : Key) (seen : List (List ℕ)) (ds : Items) → ApartFrom k seen ds
     → AreApart k ds
@@ -90,7 +76,8 @@ more_at : (k : Key) (seen : List (List ℕ)) (x : Data) (ds : Items) (o : Option
     → AreNew k (add_text o seen) ds
 more_at k seen x ds None is apart new i d s at text = new (suc i) d s at text
 more_at k seen x ds (Some t) is apart new i d s at text =
-    or_both (bytes_eq t s) (list_any (λ u. bytes_eq u s) seen) (differs (bytes_eq t s) (λ e.
+    or_from (bytes_eq t s) (list_any (λ u. bytes_eq u s) seen)
+    (false_from_ne_true (bytes_eq t s) (λ e.
     zero_later i (apart zero (suc i) x d s refl at (is ∙ ap Some ((bytes_eq-Decides t s).0 e))
     text))) (new (suc i) d s at text)
 

@@ -1,13 +1,13 @@
 -- A value has no fault exactly where it fits.
 use Rattle.std.proofs.Common.{◌≡◌, ℕ, zero, suc, ◌+◌, ◌≤◌, inl, inr, List, [], ◌∷◌, ◌++◌, Bool}
-use Rattle.std.proofs.Common.{true, false, not, ◌&&◌, ◌||◌, cond, if◌then◌else◌, Option, Some, None}
+use Rattle.std.proofs.Common.{true, false, not, ◌||◌, cond, if◌then◌else◌, Option, Some, None}
 use Rattle.std.proofs.Common.{IsSome, option_map, Ordering, Less, Equal, Greater, bytes_eq, codes}
 use Rattle.std.proofs.Common.{true≢false, refl, sym, ap, ◌∙◌, subst, arith, rules}
-use Rattle.std.specs.Prelude.{option_and_then, nat_le}
+use Rattle.std.specs.Prelude.{option_and_then}
 use Rattle.std.specs.Ordering.{nat_cmp, match_ordering}
 use Rattle.std.specs.Cmp.Lexicographic.{slice_cmp}
-use Rattle.std.proofs.lemmas.Bool.Decides.{nat_tests}
 use Rattle.std.proofs.lemmas.Slice.Eq.{bytes_eq-Decides}
+use Rattle.std.proofs.lemmas.Bool.{not-true, leb-true, le-leb, and_parts}
 use Rattle.serde_json.specs.Data.{Data, null, boolean, number, string, array, object, Items}
 use Rattle.serde_json.specs.Data.{no_items, item, Members, no_members, member}
 use Rattle.serde_json.specs.Find.{get, get_member, get_item, as_str, as_array}
@@ -57,10 +57,6 @@ wanted_nil : {A : Type 0} (r : Rule) (f : A → List Fault) (o : Option A) → d
 wanted_nil r f None e = cc
 wanted_nil r f (Some a) e = (a, (refl, e))
 
-pub not_false : (b : Bool) → not b ≡ true → b ≡ false
-not_false true e = sym e
-not_false false e = refl
-
 -- ---- classes
 
 class_nil : (o : Option Class) → class_faults o ≡ [] → (c : Class) × (o ≡ Some c)
@@ -84,22 +80,14 @@ object_nil g d e = grind (arith, type_nil)
 
 -- ---- tables
 
-both_left : (a b : Bool) → (a && b) ≡ true → a ≡ true
-both_left true b e = refl
-both_left false b e = e
-
-both_right : (a b : Bool) → (a && b) ≡ true → b ≡ true
-both_right true b e = e
-both_right false b e = cc
-
 table_keyed : (c : Class) → are_keyed (table c) ≡ true
 table_keyed c = grind arith
 
 entry_keyed : (rs : List Entry) (r : Entry) → are_keyed rs ≡ true → IsEntry rs r
     → is_keyed r.kind ≡ true
 entry_keyed [] r e h = absurd h
-entry_keyed (x ∷ xs) r e (inl same) = subst (λ y. is_keyed y.kind ≡ true) same (both_left _ _ e)
-entry_keyed (x ∷ xs) r e (inr later) = entry_keyed xs r (both_right _ _ e) later
+entry_keyed (x ∷ xs) r e (inl same) = subst (λ y. is_keyed y.kind ≡ true) same (and_parts _ _ e).0
+entry_keyed (x ∷ xs) r e (inr later) = entry_keyed xs r (and_parts _ _ e).1 later
 
 -- ---- entries
 
@@ -113,7 +101,7 @@ entries_nil look m (x ∷ xs) r e (inr later) = entries_nil look m xs r (right_n
 needed_at : (m : Key) (r : Entry) (o : Option Data)
     → entry_faults m r (option_map (λ e. faults e r.kind key.Free) o) ≡ [] → r.required ≡ true
     → IsSome o
-needed_at m r None e q = let n = not_false r.required (unless_nil _ _ e) in cc
+needed_at m r None e q = let n = not-true r.required (unless_nil _ _ e) in cc
 needed_at m r (Some d) e q = search rules
 
 part_at : (m : Key) (r : Entry) (o : Option Data) (e : Data)
@@ -131,7 +119,7 @@ fits_one : (d : Data) (l : Leaf) (m : Key)
     → table_faults (member_look d) m (class_entries (class_below l d)) ≡ [] → HasForm (One l) d
 fits_one d leaf.Text m part e h = let w = wanted_nil _ _ _ e in text w.1.0
 fits_one d leaf.Name m part e h =
-    let w = wanted_nil _ _ _ e in name w.1.0 (not_false _ (unless_nil _ _ w.1.1))
+    let w = wanted_nil _ _ _ e in name w.1.0 (not-true _ (unless_nil _ _ w.1.1))
 fits_one d leaf.Count m part e h = let w = wanted_nil _ _ _ e in count w.1.0 (unless_nil _ _ w.1.1)
 fits_one d leaf.Whole m part e h = let w = wanted_nil _ _ _ e in whole w.1.0
 fits_one d leaf.Truth m part e h = let w = wanted_nil _ _ _ e in truth w.1.0
@@ -159,9 +147,6 @@ one_nil d l m part e =
 no_array : (d : Data) (l : Leaf) (least most : ℕ) (k m : Key) → as_array d ≡ None
     → faults d (Array l least most k) m ≡ [] → HasForm (Array l least most k) d
 no_array d l least most k m none e = let h = sym (faults-no_array d l least most k m none) ∙ e in cc
-
-le_from : (a b : ℕ) → nat_le a b ≡ true → a ≤ b
-le_from a b e = grind (arith, nat_tests)
 
 -- ---- no key twice
 
@@ -193,7 +178,7 @@ find_has_entry : (n : List ℕ) (s : List ℕ) (cs : List Class) (c : Class) →
     → find_class cs s ≡ Some c → has_entry n (table c) ≡ true
 find_has_entry n s [] c q is = cc
 find_has_entry n s (x ∷ cs) c q is = find_at n (bytes_eq s (type_text x)) x (find_class cs s) c
-    (both_left _ _ q) (find_has_entry n s cs c (both_right _ _ q)) is
+    (and_parts _ _ q).0 (find_has_entry n s cs c (and_parts _ _ q).1) is
 
 and_then_some : {A B : Type 0} (f : A → Option B) (o : Option A) (b : B)
     → option_and_then f o ≡ Some b → (a : A) × ((o ≡ Some a) × (f a ≡ Some b))
@@ -270,8 +255,8 @@ fits_array : (d : Data) (ds : Items) (l : Leaf) (least most : ℕ) (k : Key) →
     → ((i : ℕ) (e : Data) → get_item i ds ≡ Some e → HasForm (One l) e) → ApartFrom k [] ds
     → length_faults least most (items_len ds) ≡ [] → HasForm (Array l least most k) d
 fits_array d ds l least most k is each apart e =
-    items is (le_from _ _ (unless_nil _ _ (left_nil _ _ e)))
-    (le_from _ _ (unless_nil _ _ (right_nil _ _ e))) each (apart_places k [] ds apart)
+    items is (leb-true _ _ (unless_nil _ _ (left_nil _ _ e)))
+    (leb-true _ _ (unless_nil _ _ (right_nil _ _ e))) each (apart_places k [] ds apart)
 
 member_at : (o : Ordering) (d e : Data) (rest : Option Data) (k : Kind)
     → ((rest ≡ Some e) → HasForm k e) → (faults d k key.Free ≡ [] → HasForm k d)
@@ -362,11 +347,8 @@ entries_ok : (d : Data) (rs : List Entry) →
 entries_ok d [] each = refl
 entries_ok d (r ∷ rs) each = rw (each r (inl refl), entries_ok d rs (λ x h. each x (inr h)))
 
-nat_le_from : (a b : ℕ) → a ≤ b → nat_le a b ≡ true
-nat_le_from a b h = grind (arith, nat_tests)
-
 pub length_ok : (least most n : ℕ) → least ≤ n → n ≤ most → length_faults least most n ≡ []
-length_ok least most n lo hi = rw (nat_le_from least n lo, nat_le_from n most hi)
+length_ok least most n lo hi = rw (le-leb least n lo, le-leb n most hi)
 
 items_ok : (ds : Items) (l : Leaf) (k : Key) (i : ℕ) (seen : List (List ℕ))
     → ((j : ℕ) (e : Data) → get_item j ds ≡ Some e → faults e (One l) key.Free ≡ [])

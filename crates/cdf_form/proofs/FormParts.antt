@@ -6,6 +6,7 @@ use Rattle.std.proofs.Common.{refl, sym, ap, ◌∙◌, subst, arith, inl, inr}
 use Rattle.std.specs.Prelude.{option_and_then, unwrap_or}
 use Rattle.std.specs.List.{list_any}
 use Rattle.std.proofs.lemmas.Bool.Decides.{nat_tests}
+use Rattle.std.proofs.lemmas.Option.{same_Some}
 use Rattle.serde_json.specs.Data.{Num, unsigned}
 use Rattle.serde_json.specs.Data.{Data, null, boolean, number, string, array, object}
 use Rattle.serde_json.specs.Data.{Items, no_items, item, Members}
@@ -26,9 +27,6 @@ use Rattle.cdf_parts.specs.Parts.{array_at, text_in, text_at}
 use Rattle.cdf_form.specs.ByEntry.{AllClasses, find_entry, HasEntry, HasClass, IsTextual, ListApart}
 
 -- ---- values by their kinds
-
-inside : {A : Type 0} (a b : A) → Some a ≡ Some b → a ≡ b
-inside a b is = cc
 
 pub some_of : {A : Type 0} (o : Option A) → IsSome o → (a : A) × (o ≡ Some a)
 some_of None h = absurd (cc)
@@ -56,7 +54,7 @@ is_text_in n s d is = go (get n d) is
 entry_at : (b : Bool) (n : List ℕ) (x r : Entry) (rs : List Entry)
     → (find_entry n rs ≡ Some r → IsEntry rs r) → cond b (Some x) (find_entry n rs) ≡ Some r
     → IsEntry (x ∷ rs) r
-entry_at true n x r rs later is = inl (inside x r is)
+entry_at true n x r rs later is = inl (same_Some x r is)
 entry_at false n x r rs later is = inr (later is)
 
 pub entry_in : (n : List ℕ) (rs : List Entry) (r : Entry) → find_entry n rs ≡ Some r → IsEntry rs r
@@ -65,7 +63,7 @@ entry_in n (x ∷ rs) r is = entry_at (bytes_eq n x.name) n x r rs (entry_in n r
 
 class_at : (b : Bool) (P : Class → Type 0) (x c : Class) (rest : Option Class)
     → P x → (rest ≡ Some c → P c) → cond b (Some x) rest ≡ Some c → P c
-class_at true P x c rest here later is = subst P (inside x c is) here
+class_at true P x c rest here later is = subst P (same_Some x c is) here
 class_at false P x c rest here later is = later is
 
 found_class : (P : Class → Type 0) (cs : List Class) (s : List ℕ) (c : Class) → AllClasses P cs
@@ -151,7 +149,8 @@ pub moment_is_read : (s : List ℕ) → HasForm (One leaf.Moment) (string s) →
 moment_is_read s f = go f refl
   where
     go : {e : Data} → HasForm (One leaf.Moment) e → as_str e ≡ Some s → is_moment s ≡ true
-    go (moment {s = t} is h) same = subst (λ x. is_moment x ≡ true) (inside t s (sym is ∙ same)) h
+    go (moment {s = t} is h) same =
+        subst (λ x. is_moment x ≡ true) (same_Some t s (sym is ∙ same)) h
 
 pub listed_is_among : (l : Listing) (s : List ℕ) → HasForm (One (leaf.Listed l)) (string s)
     → list_any (bytes_eq s) (listed_in l) ≡ true
@@ -160,7 +159,7 @@ listed_is_among l s f = go f refl
     go : {e : Data} → HasForm (One (leaf.Listed l)) e → as_str e ≡ Some s
         → list_any (bytes_eq s) (listed_in l) ≡ true
     go (listed {s = t} is h) same =
-        subst (λ x. list_any (bytes_eq x) (listed_in l) ≡ true) (inside t s (sym is ∙ same)) h
+        subst (λ x. list_any (bytes_eq x) (listed_in l) ≡ true) (same_Some t s (sym is ∙ same)) h
 
 module _ {b : Bool} {n : List ℕ} {l : Leaf} {d : Data} (entry : HasEntry b n (One l) d) where
   -- the text under the name has the form

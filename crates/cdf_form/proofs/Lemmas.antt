@@ -3,4 +3,3 @@
 pub use Rattle.cdf_form.proofs.FormLaw.{left_nil, right_nil}
 pub use Rattle.cdf_form.proofs.FormParts.{class_of_group, some_of}
 pub use Rattle.cdf_form.proofs.Parts.{first-under}
-pub use Rattle.cdf_form.proofs.Records.{and-left, and-right}

@@ -3,7 +3,7 @@ use Rattle.std.proofs.Common.{◌≡◌, ℕ, ◌≤◌, List, [], ◌∷◌, �
 use Rattle.std.proofs.Common.{bytes_eq, Option, None, Some, option_map, option_and_then, codes}
 use Rattle.std.proofs.Common.{refl, sym, ap, ◌∙◌, arith}
 use Rattle.std.specs.Prelude.{if◌then◌else◌}
-use Rattle.std.proofs.lemmas.Bool.{not-true}
+use Rattle.std.proofs.lemmas.Bool.{not-true, and_parts}
 use Rattle.serde_json.specs.Data.{Data, array, object, Items, no_items, Members}
 use Rattle.serde_json.specs.Find.{get_member, as_str}
 use Rattle.serde_json.specs.Events.{items_len}
@@ -20,14 +20,6 @@ use Rattle.cdf_form.specs.Form.{faults, member_look}
 use Rattle.cdf_form.specs.Records.{cvrs_faults, RecordsFirstLaw, RecordsApartLaw}
 use Rattle.cdf_form.proofs.Parts.{first-append_some, first-under, faults-one, faults-array}
 use Rattle.cdf_form.proofs.FormLaw.{object_ok, length_ok}
-
-pub and-left : (a b : Bool) → (a && b) ≡ true → a ≡ true
-and-left true b e = refl
-and-left false b e = e
-
-pub and-right : (a b : Bool) → (a && b) ≡ true → b ≡ true
-and-right true b e = e
-and-right false b e = cc
 
 abbrev records : List ℕ
 records = codes "CVR"
@@ -101,13 +93,13 @@ module _ (ms left : Members) (ds : Items)
   entries_same (r ∷ rs) e =
       let looked : member_look (object ms) r.name r.kind
       ≡ member_look (object left) r.name r.kind = ap
-      (option_map (λ d. faults d r.kind key.Free)) (same r.name (not-true _ (and-left _ _ e)))
+      (option_map (λ d. faults d r.kind key.Free)) (same r.name (not-true _ (and_parts _ _ e).0))
       in
       ap (λ o. under (at_member r.name) (entry_faults key.Free r o)
       ++ table_faults (member_look (object ms)) key.Free rs) looked
       ∙ ap (λ fs. under (at_member r.name)
       (entry_faults key.Free r (member_look (object left) r.name r.kind)) ++ fs)
-      (entries_same rs (and-right _ _ e))
+      (entries_same rs (and_parts _ _ e).1)
 
   array_right : faults (array ds) records_kind key.Free ≡ []
   array_right = rw (

@@ -1,11 +1,12 @@
 -- What the walk's steps say of the whole.
 use Rattle.std.proofs.Common.{◌≡◌, ℕ, ◌+◌, ◌<◌, List, [], ◌∷◌, ◌++◌, length, get_or, drop, Option}
-use Rattle.std.proofs.Common.{None, option_map, unwrap_or, Ordering, Less, Equal, Greater}
+use Rattle.std.proofs.Common.{None, option_map, unwrap_or, Ordering, Less, arith}
 use Rattle.std.proofs.Common.{true, false, nat_cmp, refl, sym, ap, ◌∙◌, subst}
 use Rattle.std.specs.Prelude.{⊤}
 use Rattle.std.specs.Ordering.{is_lt}
 use Rattle.std.specs.Cmp.Lexicographic.{slice_cmp}
 use Rattle.std.proofs.lemmas.List.{drop_more}
+use Rattle.std.proofs.lemmas.Bool.{and_parts}
 use Rattle.serde_json.specs.Data.{Data, null, boolean, number, string, array, object, Members}
 use Rattle.serde_json.specs.Data.{no_members}
 use Rattle.serde_json.specs.Find.{get, get_member, as_object}
@@ -20,7 +21,6 @@ use Rattle.cdf_form.specs.Form.{Fault, at_member, deeper_fault, first, entry_fau
 use Rattle.cdf_form.specs.Found.{StopsAt}
 use Rattle.cdf_form.specs.Laws.{is_below_all, is_in_order}
 use Rattle.cdf_form.proofs.Parts.{first-append_none, first-append_some, first-under}
-use Rattle.cdf_form.proofs.Records.{and-left, and-right}
 
 pub tells_as : (s : Stop) (a b : Option Fault) → a ≡ b → StopsAt s a → StopsAt s b
 tells_as s a b e h = subst (StopsAt s) e h
@@ -86,9 +86,7 @@ all_members d ms rs e =
     all_found d ms rs (λ q. ap (λ (m : Members). get_member q m) e ∙ get_members d q)
 
 pub less : (o : Ordering) → is_lt o ≡ true → o ≡ Less
-less Less e = refl
-less Equal e = cc
-less Greater e = cc
+less o e = grind arith
 
 found_behind : (d : Data) (ms left : Members) (k : List ℕ) (rs : List Entry)
     → is_below_all k rs ≡ true
@@ -96,8 +94,8 @@ found_behind : (d : Data) (ms left : Members) (k : List ℕ) (rs : List Entry)
     → AllFound d ms rs → AllFound d left rs
 found_behind d ms left k [] below same h = tt
 found_behind d ms left k (r ∷ rs) below same h =
-    let first = and-left (is_lt (slice_cmp nat_cmp k r.name)) (is_below_all k rs) below in
-    let more = and-right (is_lt (slice_cmp nat_cmp k r.name)) (is_below_all k rs) below in (
+    let first = (and_parts (is_lt (slice_cmp nat_cmp k r.name)) (is_below_all k rs) below).0 in
+    let more = (and_parts (is_lt (slice_cmp nat_cmp k r.name)) (is_below_all k rs) below).1 in (
       same r.name (less (slice_cmp nat_cmp k r.name) first) ∙ h.0,
       found_behind d ms left k rs more same h.1,
     )
@@ -115,8 +113,8 @@ pub rise_on : (rs : List Member) (i : ℕ) (r : Member) → i < length rs
     → is_in_order (entries_of (drop i rs)) ≡ true → is_in_order (entries_of (drop (i + 1) rs)) ≡ true
 rise_on rs i r lt h =
     let here = ap (λ (xs : List Member). is_in_order (entries_of xs)) (drop_more rs i r lt) in
-    and-right (is_below_all (get_or rs i r).name.now (entries_of (drop (i + 1) rs)))
-    (is_in_order (entries_of (drop (i + 1) rs))) (sym here ∙ h)
+    (and_parts (is_below_all (get_or rs i r).name.now (entries_of (drop (i + 1) rs)))
+    (is_in_order (entries_of (drop (i + 1) rs))) (sym here ∙ h)).1
 
 pub found_on : (d : Data) (ms left : Members) (rs : List Member) (i : ℕ) (r : Member)
     → i < length rs → is_in_order (entries_of (drop i rs)) ≡ true
@@ -127,6 +125,6 @@ found_on d ms left rs i r lt rise h same =
     let entries = ap (λ (xs : List Member). entries_of xs) (drop_more rs i r lt) in
     let here = ap (λ (xs : List Member). is_in_order (entries_of xs)) (drop_more rs i r lt) in
     found_behind d ms left (get_or rs i r).name.now (entries_of (drop (i + 1) rs))
-    (and-left (is_below_all (get_or rs i r).name.now (entries_of (drop (i + 1) rs)))
-    (is_in_order (entries_of (drop (i + 1) rs))) (sym here ∙ rise))
+    (and_parts (is_below_all (get_or rs i r).name.now (entries_of (drop (i + 1) rs)))
+    (is_in_order (entries_of (drop (i + 1) rs))) (sym here ∙ rise)).0
     same (subst (AllFound d ms) entries h).1

@@ -85,7 +85,7 @@ after q k l is b =
 
 -- ---- where members rise, none is of a name that stands before the first
 
-below_none : (q : List ℕ) (ms : Members) → Below q ms → get_member q ms ≡ None
+pub below_none : (q : List ℕ) (ms : Members) → Below q ms → get_member q ms ≡ None
 below_none q no_members h = refl
 below_none q (member l d ms) h =
     ap (λ o. match_ordering o (get_member q ms) (Some d) (get_member q ms)) h.0
@@ -108,6 +108,4 @@ absent q es i e h here less =
     (less, Below-trans q (get_or es i e).0.now (members_view (drop (i + 1) es)) less rest.0))
 
 pub less : (o : Ordering) → is_lt o ≡ true → o ≡ Less
-less Less is = refl
-less Equal is = cc
-less Greater is = cc
+less o is = grind arith

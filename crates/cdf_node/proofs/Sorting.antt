@@ -55,7 +55,7 @@ Below-put_at Less q k l d e ms p h later = (p, h)
 Below-put_at Equal q k l d e ms p h later = h
 Below-put_at Greater q k l d e ms p h later = (h.0, later)
 
-Below-put : (q k : List ℕ) (d : Data) (ms : Members) → Before q k → Below q ms
+pub Below-put : (q k : List ℕ) (d : Data) (ms : Members) → Before q k → Below q ms
     → Below q (put k d ms)
 Below-put q k d no_members p h = (p, tt)
 Below-put q k d (member l e ms) p h = Below-put_at _ q k l d e ms p h (Below-put q k d ms p h.1)

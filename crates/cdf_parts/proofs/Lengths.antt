@@ -2,6 +2,7 @@
 use Rattle.std.proofs.Common.{◌≡◌, ◌≤◌, ◌<◌, ◌+◌, ◌++◌, ℕ, zero, suc, List, ◌∷◌, length, Bool, true}
 use Rattle.std.proofs.Common.{Some, nat_cmp}
 use Rattle.std.proofs.Common.{subst, arith, length-append}
+use Rattle.std.proofs.lemmas.Option.{same_Some}
 use Rattle.std.specs.Cmp.Lexicographic.{slice_cmp}
 use Rattle.json.specs.Print.{quoted}
 use Rattle.serde_json.specs.Data.{Data, array}
@@ -11,7 +12,6 @@ use Rattle.serde_json.specs.Written.{compact_text, items_text, members_text, com
 use Rattle.serde_json.specs.Events.{items_len}
 use Rattle.cdf_parts.specs.PartOf.{IsPart, itself, of_member, of_item}
 use Rattle.cdf_parts.proofs.PartLaws.{found_at}
-use Rattle.cdf_parts.proofs.ReadsBack.{inside}
 
 later_short : (ds : Items) → items_len ds < length (items_text true ds)
 later_short no_items = omega arith
@@ -39,7 +39,7 @@ pub item_short : (b : Bool) (i : ℕ) (ds : Items) (e : Data)
     → get_item i ds ≡ Some e → length (compact_text e) ≤ length (items_text b ds)
 item_short b i no_items e is = absurd (cc)
 item_short b zero (item d ds) e is =
-    subst (λ x. length (compact_text x) ≤ length (items_text b (item d ds))) (inside d e is)
+    subst (λ x. length (compact_text x) ≤ length (items_text b (item d ds))) (same_Some d e is)
     (omega (arith, item_parts b d ds))
 item_short b (suc i) (item d ds) e is =
     let p : length (compact_text e) ≤ length (items_text true ds) = item_short true i ds e is in

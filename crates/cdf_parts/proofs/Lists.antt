@@ -1,7 +1,7 @@
 -- Arrays and lists.
 use Rattle.std.proofs.Common.{◌≡◌, ◌≤◌, ℕ, suc, List, [], ◌∷◌, All, false}
 use Rattle.std.proofs.Common.{refl, ap, arith}
-use Rattle.serde_json.specs.Data.{Data, array, Items, no_items, item, depth, items_depth}
+use Rattle.serde_json.specs.Data.{Data, array, depth, items_depth}
 use Rattle.serde_json.specs.View.{items_of}
 use Rattle.serde_json.specs.Written.{items_have_float}
 use Rattle.cdf_parts.specs.Proper.{ItemsAreWell, IsProper}
@@ -10,10 +10,6 @@ use Rattle.cdf_node.specs.Items.{list_of}
 pub list_of-items_of : (xs : List Data) → list_of (items_of xs) ≡ xs
 list_of-items_of [] = refl
 list_of-items_of (x ∷ xs) = ap (λ ys. x ∷ ys) (list_of-items_of xs)
-
-pub items_of-list_of : (ds : Items) → items_of (list_of ds) ≡ ds
-items_of-list_of no_items = refl
-items_of-list_of (item d ds) = ap (item d) (items_of-list_of ds)
 
 first : (n : ℕ) (x : Data) (xs : List Data) → All (IsProper n) (x ∷ xs) → IsProper n x
 first n x xs h = h 0 x (omega arith)

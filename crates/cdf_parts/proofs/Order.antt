@@ -8,6 +8,7 @@ use Rattle.std.specs.Cmp.Lexicographic.{slice_cmp}
 use Rattle.std.specs.Ordering.{match_ordering, ordering_reverse}
 use Rattle.serde_json.specs.Data.{Data, Members, no_members, member, put}
 use Rattle.cdf_parts.specs.Proper.{Before, Below, IsWell, MembersAreWell}
+use Rattle.cdf_node.proofs.Lemmas.{Below-trans, Below-put}
 
 pub Before-trans : (a b c : List ℕ) → Before a b → Before b c → Before a c
 Before-trans a b c p q = nat_list_cmp_total.trans a b c p q
@@ -23,24 +24,6 @@ equal_is a b e = (bytes_eq-Decides a b).0 (sym (is_eq-slice_cmp a b) ∙ ap is_e
 
 pub same_name : (k : List ℕ) → slice_cmp nat_cmp k k ≡ Equal
 same_name k = tied_itself nat_list_cmp_total k
-
-pub Below-trans : (a b : List ℕ) (ms : Members) → Before a b → Below b ms → Below a ms
-Below-trans a b no_members p h = tt
-Below-trans a b (member l e ms) p h = (Before-trans a b l p h.0, Below-trans a b ms p h.1)
-
-Below-put_at : (o : Ordering) (q k l : List ℕ) (d e : Data) (ms : Members)
-    → Before q k → Before q l → Below q ms → Below q (put k d ms)
-    → Below q (match_ordering o (member k d (member l e ms)) (member l d ms)
-    (member l e (put k d ms)))
-Below-put_at Less q k l d e ms p r h later = (p, (r, h))
-Below-put_at Equal q k l d e ms p r h later = (r, h)
-Below-put_at Greater q k l d e ms p r h later = (r, later)
-
-pub Below-put : (q k : List ℕ) (d : Data) (ms : Members) → Before q k → Below q ms
-    → Below q (put k d ms)
-Below-put q k d no_members p h = (p, tt)
-Below-put q k d (member l e ms) p h =
-    Below-put_at (slice_cmp nat_cmp k l) q k l d e ms p h.0 h.1 (Below-put q k d ms p h.1)
 
 put_well_at : (o : Ordering) (k l : List ℕ) (d e : Data) (ms : Members) → slice_cmp nat_cmp k l ≡ o
     → IsWell d → IsWell e → Below l ms → MembersAreWell ms → MembersAreWell (put k d ms)

@@ -3,7 +3,7 @@ use Rattle.std.proofs.Common.{◌≡◌, ◌≤◌, ◌<◌, ℕ, zero, suc, Lis
 use Rattle.std.proofs.Common.{Contains}
 use Rattle.std.proofs.Common.{false, Option, Some, None, option_map, option_and_then, unwrap_or}
 use Rattle.std.proofs.Common.{Ordering, Less, Equal, Greater, nat_cmp, refl, subst, arith}
-use Rattle.std.proofs.lemmas.Bool.{or_parts}
+use Rattle.std.proofs.lemmas.Option.{same_Some}
 use Rattle.std.specs.Cmp.Lexicographic.{slice_cmp}
 use Rattle.std.specs.Ordering.{match_ordering}
 use Rattle.serde_json.specs.Data.{Data, null, boolean, number, string, array, object}
@@ -11,14 +11,15 @@ use Rattle.serde_json.specs.Data.{Items, no_items, item, Members, no_members, me
 use Rattle.serde_json.specs.Data.{depth, items_depth, members_depth}
 use Rattle.serde_json.specs.Find.{get, at, get_member, get_item, as_array}
 use Rattle.serde_json.specs.Read.{read, max_depth}
-use Rattle.serde_json.specs.Written.{has_float, items_have_float, members_have_float}
+use Rattle.serde_json.specs.Written.{has_float}
 use Rattle.serde_json.specs.Written.{compact_text}
 use Rattle.cdf_parts.specs.Proper.{IsWell, ItemsAreWell, MembersAreWell, IsProper}
 use Rattle.cdf_node.specs.Items.{list_of}
 use Rattle.cdf_parts.specs.Parts.{array_at}
 use Rattle.cdf_parts.specs.PartOf.{IsPart, itself, of_member, of_item}
-use Rattle.cdf_parts.proofs.ReadsBack.{inside, read-proper}
+use Rattle.cdf_parts.proofs.ReadsBack.{read-proper}
 use Rattle.cdf_parts.proofs.WasRead.{proper_read}
+use Rattle.cdf_parts.proofs.Whole.{whole_member, whole_item}
 
 -- ---- members
 
@@ -26,7 +27,7 @@ use Rattle.cdf_parts.proofs.WasRead.{proper_read}
 pub found_at : (P : Data → Type 0) (o : Ordering) (d e : Data) (rest : Option Data)
     → P d → (rest ≡ Some e → P e) → match_ordering o rest (Some d) rest ≡ Some e → P e
 found_at P Less d e rest here later is = later is
-found_at P Equal d e rest here later is = subst P (inside d e is) here
+found_at P Equal d e rest here later is = subst P (same_Some d e is) here
 found_at P Greater d e rest here later is = later is
 
 pub well_member : (k : List ℕ) (ms : Members) (e : Data) → MembersAreWell ms
@@ -34,14 +35,6 @@ pub well_member : (k : List ℕ) (ms : Members) (e : Data) → MembersAreWell ms
 well_member k no_members e h is = absurd (cc)
 well_member k (member l d ms) e h is =
     found_at IsWell (slice_cmp nat_cmp k l) d e (get_member k ms) h.0 (well_member k ms e h.2) is
-
-pub whole_member : (k : List ℕ) (ms : Members) (e : Data)
-    → members_have_float ms ≡ false → get_member k ms ≡ Some e → has_float e ≡ false
-whole_member k no_members e h is = absurd (cc)
-whole_member k (member l d ms) e h is =
-    let p = or_parts (has_float d) _ h in
-    found_at (λ x. has_float x ≡ false) (slice_cmp nat_cmp k l) d e (get_member k ms) p.0
-    (whole_member k ms e p.1) is
 
 pub depth_member : (k : List ℕ) (ms : Members) (e : Data) (n : ℕ)
     → members_depth ms ≤ n → get_member k ms ≡ Some e → depth e ≤ n
@@ -61,7 +54,7 @@ member_proper n k (string s) e is h = absurd (cc)
 member_proper n k (array ds) e is h = absurd (cc)
 member_proper n k (object ms) e is h = record {
   well = well_member k ms e h.well is;
-  whole = whole_member k ms e h.whole is;
+  whole = whole_member ms k e h.whole is;
   shallow =
       let above : suc (members_depth ms) ≤ suc n = h.shallow in
       depth_member k ms e n (omega (arith, above)) is;
@@ -72,20 +65,13 @@ member_proper n k (object ms) e is h = record {
 pub well_item : (i : ℕ) (ds : Items) (e : Data) → ItemsAreWell ds → get_item i ds ≡ Some e
     → IsWell e
 well_item i no_items e h is = absurd (cc)
-well_item zero (item d ds) e h is = subst IsWell (inside d e is) h.0
+well_item zero (item d ds) e h is = subst IsWell (same_Some d e is) h.0
 well_item (suc i) (item d ds) e h is = well_item i ds e h.1 is
-
-pub whole_item : (i : ℕ) (ds : Items) (e : Data)
-    → items_have_float ds ≡ false → get_item i ds ≡ Some e → has_float e ≡ false
-whole_item i no_items e h is = absurd (cc)
-whole_item zero (item d ds) e h is =
-    subst (λ x. has_float x ≡ false) (inside d e is) (or_parts (has_float d) _ h).0
-whole_item (suc i) (item d ds) e h is = whole_item i ds e (or_parts (has_float d) _ h).1 is
 
 pub depth_item : (i : ℕ) (ds : Items) (e : Data) (n : ℕ) → items_depth ds ≤ n
     → get_item i ds ≡ Some e → depth e ≤ n
 depth_item i no_items e n h is = absurd (cc)
-depth_item zero (item d ds) e n h is = subst (λ x. depth x ≤ n) (inside d e is) (omega arith)
+depth_item zero (item d ds) e n h is = subst (λ x. depth x ≤ n) (same_Some d e is) (omega arith)
 depth_item (suc i) (item d ds) e n h is = depth_item i ds e n (omega arith) is
 
 pub item_proper : (n i : ℕ) (d e : Data) → at i d ≡ Some e → IsProper (suc n) d → IsProper n e
@@ -96,7 +82,7 @@ item_proper n i (string s) e is h = absurd (cc)
 item_proper n i (object ms) e is h = absurd (cc)
 item_proper n i (array ds) e is h = record {
   well = well_item i ds e h.well is;
-  whole = whole_item i ds e h.whole is;
+  whole = whole_item ds i e h.whole is;
   shallow =
       let above : suc (items_depth ds) ≤ suc n = h.shallow in
       depth_item i ds e n (omega (arith, above)) is;
@@ -132,7 +118,7 @@ part_reads_back text d e is whole p =
 
 -- ---- lists under a name
 
-item_in_list : (ds : Items) (i : ℕ) (e : Data)
+pub item_in_list : (ds : Items) (i : ℕ) (e : Data)
     → i < length (list_of ds) → slice_index_or (list_of ds) i e ≡ e → get_item i ds ≡ Some e
 item_in_list no_items i e h is = absurd (omega arith)
 item_in_list (item d ds) zero e h is = (λ j. Some (is j))

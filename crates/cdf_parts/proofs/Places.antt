@@ -13,6 +13,7 @@ use Rattle.std.proofs.lemmas.Cmp.{nat_list_eq_equiv}
 use Rattle.std.proofs.lemmas.Slice.Eq.{bytes_eq-Decides}
 use Rattle.std.proofs.lemmas.List.{map-append, take_more}
 use Rattle.std.proofs.lemmas.Map.Text.{btree_map_updates_text}
+use Rattle.std.proofs.option.Match.{None-if_not_some}
 use Rattle.cdf_node.specs.View.{view}
 use Rattle.cdf_node.specs.declared.node.Node.{Node}
 use Rattle.cdf_parts.specs.Parts.{id_of}
@@ -49,17 +50,13 @@ noted_at : (t : Bool) (o : Option ℕ) (i : ℕ) → (t ≡ true → o ≡ None)
     → cond t (Some i) o ≡ option_or o (cond t (Some i) None)
 noted_at t o i h = grind (arith, none-some)
 
-none_of : (o : Option ℕ) → is_some o ≡ false → o ≡ None
-none_of None h = refl
-none_of (Some p) h = cc
-
 -- what a map has after a place was put at an id that it lacked
 noted : (m n : BTreeMap (String Global) ℕ) (id : String Global) (i : ℕ)
     → is_some (get_by_text m (string_bytes id)) ≡ false → Updates string_cmp m n id (Some i)
     → (q : List ℕ) → get_by_text n q ≡ option_or (get_by_text m q)
     (cond (bytes_eq q (string_bytes id)) (Some i) None)
 noted m n id i lacks u q =
-    let none : get_by_text m (string_bytes id) ≡ None = none_of _ lacks in
+    let none : get_by_text m (string_bytes id) ≡ None = None-if_not_some _ lacks in
     let same : bytes_eq (string_bytes id) q ≡ bytes_eq q (string_bytes id) =
     nat_list_eq_equiv.symm (string_bytes id) q in
     btree_map_updates_text (string_bytes id) m n (Some i) u q

@@ -3,6 +3,7 @@ use Rattle.std.proofs.Common.{◌≡◌, ◌≤◌, suc, pos, negsuc, List, [], 
 use Rattle.std.proofs.Common.{option_map, option_and_then, max, refl, sym, ap, ap₂, ◌∙◌, arith}
 use Rattle.std.proofs.Common.{append-nil}
 use Rattle.std.proofs.lemmas.Bool.{or_parts}
+use Rattle.std.proofs.lemmas.Option.{same_Some}
 use Rattle.json.specs.Json as json
 use Rattle.json.specs.Tree as tree
 use Rattle.json.specs.Tree.{HasNumbers, ItemsHaveNumbers, MembersHaveNumbers, json_tokens}
@@ -133,11 +134,8 @@ read-compact_text d h f shallow =
 pub read-proper : (d : Data) → IsProper max_depth d → read (compact_text d) ≡ Some d
 read-proper d h = read-compact_text d h.well h.whole h.shallow
 
-pub inside : {A : Type 0} (a b : A) → Some a ≡ Some b → a ≡ b
-inside a b i = cc
-
 -- one text, one value
 pub same_text : (d e : Data) → IsWell d → has_float d ≡ false → depth d ≤ max_depth
     → IsWell e → has_float e ≡ false → depth e ≤ max_depth → compact_text d ≡ compact_text e → d ≡ e
 same_text d e p q r s t u same =
-    inside d e (sym (read-compact_text d p q r) ∙ ap read same ∙ read-compact_text e s t u)
+    same_Some d e (sym (read-compact_text d p q r) ∙ ap read same ∙ read-compact_text e s t u)

@@ -3,6 +3,7 @@ use Rattle.std.proofs.Common.{◌≡◌, ◌≤◌, ℕ, suc, List, false, Some,
 use Rattle.std.proofs.Common.{Ordering, Less, Equal, Greater, nat_cmp}
 use Rattle.std.proofs.Common.{refl, sym, ap, ◌∙◌, subst, arith}
 use Rattle.std.proofs.lemmas.Bool.{or_parts}
+use Rattle.std.proofs.lemmas.Option.{same_Some}
 use Rattle.std.specs.Cmp.Lexicographic.{slice_cmp}
 use Rattle.std.specs.Ordering.{match_ordering}
 use Rattle.serde_json.specs.Data.{Data, object, Members, no_members, member, put, depth}
@@ -11,16 +12,10 @@ use Rattle.serde_json.specs.Find.{get_member}
 use Rattle.serde_json.specs.Written.{has_float, members_have_float}
 use Rattle.cdf_parts.specs.Proper.{Below, MembersAreWell, IsProper}
 use Rattle.cdf_parts.specs.Removing.{without}
-use Rattle.cdf_parts.proofs.Order.{Below-trans, equal_is, same_name, put_well}
-use Rattle.cdf_parts.proofs.ReadsBack.{inside}
+use Rattle.cdf_parts.proofs.Order.{equal_is, same_name, put_well}
+use Rattle.cdf_node.proofs.Lemmas.{Below-trans, below_none, members_float}
 
 -- ---- taken out
-
-absent_below : (l : List ℕ) (ms : Members) → Below l ms → get_member l ms ≡ None
-absent_below l no_members h = refl
-absent_below l (member k d ms) h =
-    ap (λ o. match_ordering o (get_member l ms) (Some d) (get_member l ms)) h.0
-    ∙ absent_below l ms h.1
 
 gone_at : (o : Ordering) (k l : List ℕ) (e : Data) (ms : Members)
     → slice_cmp nat_cmp k l ≡ o → Below l ms → get_member k (without k ms) ≡ None
@@ -30,7 +25,7 @@ gone_at Less k l e ms is h ih =
     ap (λ o. match_ordering o (get_member k (without k ms)) (Some e) (get_member k (without k ms)))
     is ∙ ih
 gone_at Equal k l e ms is h ih =
-    absent_below k ms (subst (λ n. Below n ms) (sym (equal_is k l is)) h)
+    below_none k ms (subst (λ n. Below n ms) (sym (equal_is k l is)) h)
 gone_at Greater k l e ms is h ih =
     ap (λ o. match_ordering o (get_member k (without k ms)) (Some e) (get_member k (without k ms)))
     is ∙ ih
@@ -120,13 +115,13 @@ back_at : (o : Ordering) (k l : List ℕ) (d e : Data) (ms : Members)
     → put k d (match_ordering o (member l e (without k ms)) ms (member l e (without k ms)))
     ≡ member l e ms
 back_at Less k l d e ms is h found ih =
-    let none = absent_below k ms (Below-trans k l ms is h) in
+    let none = below_none k ms (Below-trans k l ms is h) in
     absurd (cc)
 back_at Equal k l d e ms is h found ih =
     let same = equal_is k l is in
     put_below k d ms (subst (λ n. Below n ms) (sym same) h)
     ∙ ap (λ n. member n d ms) same
-    ∙ ap (λ x. member l x ms) (sym (inside e d found))
+    ∙ ap (λ x. member l x ms) (sym (same_Some e d found))
 back_at Greater k l d e ms is h found ih =
     let rest = without k ms in
     ap (λ o. match_ordering o (member k d (member l e rest)) (member l d rest)
@@ -179,22 +174,6 @@ whole-without k (member l e ms) h =
     let p = or_parts (has_float e) _ h in
     whole_at (slice_cmp nat_cmp k l) l e ms (without k ms) p.0 p.1 (whole-without k ms p.1)
 
-whole-put_at : (o : Ordering) (k l : List ℕ) (d e : Data) (ms rest : Members)
-    → has_float d ≡ false → has_float e ≡ false → members_have_float ms ≡ false
-    → members_have_float rest ≡ false
-    → members_have_float (match_ordering o (member k d (member l e ms)) (member l d ms)
-    (member l e rest)) ≡ false
-whole-put_at Less k l d e ms rest p q r s = rw (p, q, r)
-whole-put_at Equal k l d e ms rest p q r s = rw (p, r)
-whole-put_at Greater k l d e ms rest p q r s = rw (q, s)
-
-pub whole-put : (k : List ℕ) (d : Data) (ms : Members)
-    → has_float d ≡ false → members_have_float ms ≡ false → members_have_float (put k d ms) ≡ false
-whole-put k d no_members p h = rw p
-whole-put k d (member l e ms) p h =
-    let q = or_parts (has_float e) _ h in
-    whole-put_at (slice_cmp nat_cmp k l) k l d e ms (put k d ms) p q.0 q.1 (whole-put k d ms p q.1)
-
 -- ---- depth stays
 
 pub without_depth : (k : List ℕ) (ms : Members) (n : ℕ) → members_depth ms ≤ n
@@ -243,7 +222,7 @@ pub put_proper : (n : ℕ) (k : List ℕ) (d : Data) (ms : Members)
     → IsProper n d → IsProper (suc n) (object ms) → IsProper (suc n) (object (put k d ms))
 put_proper n k d ms p h = record {
   well = put_well k d ms p.well h.well;
-  whole = whole-put k d ms p.whole h.whole;
+  whole = members_float k d ms h.whole p.whole;
   shallow =
       let above : suc (members_depth ms) ≤ suc n = h.shallow in
       let q : members_depth (put k d ms) ≤ n =

@@ -20,16 +20,16 @@ use Rattle.cdf_parts.proofs.Order.{put_well}
 use Rattle.cdf_parts.proofs.ReadsBack.{read-proper}
 
 -- P holds of what is there
-abbrev Within : {A : Type 0} → (A → Type 0) → Option A → Type 0
+abbrev pub Within : {A : Type 0} → (A → Type 0) → Option A → Type 0
 Within P None = ⊤
 Within P (Some a) = P a
 
-Within-map : {A B : Type 0} (P : A → Type 0) (Q : B → Type 0) (h : A → B)
+pub Within-map : {A B : Type 0} (P : A → Type 0) (Q : B → Type 0) (h : A → B)
     → ((a : A) → P a → Q (h a)) → (o : Option A) → Within P o → Within Q (option_map h o)
 Within-map P Q h k None x = tt
 Within-map P Q h k (Some a) x = k a x
 
-Within-and_then : {A B : Type 0} (P : A → Type 0) (Q : B → Type 0) (h : A → Option B)
+pub Within-and_then : {A B : Type 0} (P : A → Type 0) (Q : B → Type 0) (h : A → Option B)
     → ((a : A) → P a → Within Q (h a)) → (o : Option A) → Within P o
     → Within Q (option_and_then h o)
 Within-and_then P Q h k None x = tt

@@ -1,7 +1,7 @@
 -- A record without its snapshots and the name of the current one.
 use Rattle.std.proofs.Common.{◌≡◌, ℕ, suc, ◌+◌, ◌≤◌, List, [], ◌∷◌, ◌++◌, length, Bool, true, false}
 use Rattle.std.proofs.Common.{not, cond, Some, None, option_map, bytes_eq, codes, nat_cmp, Ordering}
-use Rattle.std.proofs.Common.{is_eq, Bor, refl, sym, ap, ap₂, ◌∙◌, rules}
+use Rattle.std.proofs.Common.{is_eq, Bor, refl, sym, ap, ap₂, ◌∙◌, rules, append-nil}
 use Rattle.std.proofs.Common.{arith}
 use Rattle.std.specs.Prelude.{unwrap_or}
 use Rattle.std.specs.List.{prefix_len, position, remove}
@@ -51,11 +51,7 @@ removed name (e ∷ es) =
 
 remove_past : (es : List Entry) (k : ℕ) → length es ≤ k → remove es k ≡ es
 remove_past es k h =
-    ap₂ (λ xs ys. xs ++ ys) (take_all k es h) (drop_all (suc k) es (omega arith)) ∙ append_nil es
-  where
-    append_nil : (xs : List Entry) → xs ++ [] ≡ xs
-    append_nil [] = refl
-    append_nil (x ∷ xs) = ap (λ ys. x ∷ ys) (append_nil xs)
+    ap₂ (λ xs ys. xs ++ ys) (take_all k es h) (drop_all (suc k) es (omega arith)) ∙ append-nil es
 
 found_at : (b : Bool) (k i : ℕ) → cond b (Some k) None ≡ Some i → i ≡ k
 found_at true k i e = cc

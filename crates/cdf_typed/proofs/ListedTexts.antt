@@ -1,8 +1,9 @@
 -- The value that a listed text names.
-use Rattle.std.proofs.Common.{◌≡◌, ℕ, List, [], ◌∷◌, Bool, true, false, ◌↔◌, Option, Some, None}
+use Rattle.std.proofs.Common.{◌≡◌, ℕ, List, [], ◌∷◌, false, ◌↔◌, Option, Some, None}
 use Rattle.std.proofs.Common.{bytes_eq, refl, sym, ap, ◌∙◌, arith}
 use Rattle.std.specs.Prelude.{find}
 use Rattle.std.proofs.lemmas.Slice.Eq.{bytes_eq-Decides}
+use Rattle.std.proofs.lemmas.Bool.{false_from_ne_true}
 use Rattle.cdf_types.specs.declared.snapshot_kind.SnapshotKind.{SnapshotKind}
 use Rattle.cdf_types.specs.declared.snapshot_kind.SnapshotKind.TheVariants as kind
 use Rattle.cdf_types.specs.declared.mark.Indication.{Indication}
@@ -12,10 +13,6 @@ use Rattle.cdf_types.specs.declared.mark.Allocation.TheVariants as allocation
 use Rattle.cdf_types.specs.SnapshotKind.{snapshot_kind_text}
 use Rattle.cdf_types.specs.Mark.{indication_text, allocation_text}
 use Rattle.cdf_typed.specs.Typed.{kind_named, indication_named, allocation_named}
-
-not_named : (b : Bool) → (b ≡ true → ⊥) → b ≡ false
-not_named true h = absurd (h refl)
-not_named false h = refl
 
 none_named : {K : Type 0} (text : List ℕ) (text_of : K → List ℕ) (ks : List K)
     → ((k : K) → bytes_eq text (text_of k) ≡ false)
@@ -29,7 +26,7 @@ is_named : {K : Type 0} (text : List ℕ) (text_of : K → List ℕ) (ks : List 
 is_named text text_of ks (Some k) own h =
     sym (ap (λ t. find (λ x. bytes_eq t (text_of x)) ks) ((h k).0 refl) ∙ own k)
 is_named text text_of ks None own h = sym
-    (none_named text text_of ks (λ k. not_named (bytes_eq text (text_of k))
+    (none_named text text_of ks (λ k. false_from_ne_true (bytes_eq text (text_of k))
     (λ e. let same : None ≡ Some k = (h k).1 ((bytes_eq-Decides text (text_of k)).0 e) in cc)))
 
 own_kind : (k : SnapshotKind) → kind_named (snapshot_kind_text k) ≡ Some k

@@ -1,6 +1,6 @@
 -- The latest of several instants.
 use Rattle.std.proofs.Common.{◌≡◌, ℕ, ◌+◌, ◌<◌, ℤ, List, ◌∷◌, length, get_or, drop, map, Bool, true}
-use Rattle.std.proofs.Common.{false, cond, Option, Some, None, Ordering, Less, Equal, Greater, refl}
+use Rattle.std.proofs.Common.{false, cond, Option, Some, None, Ordering, Less, Greater, refl}
 use Rattle.std.proofs.Common.{sym, ap, ◌∙◌, arith}
 use Rattle.std.specs.Ordering.{int_cmp, is_gt, ordering_reverse}
 use Rattle.std.specs.Option.{option_map_or}
@@ -15,9 +15,7 @@ use Rattle.cdf_typed.specs.Instants.{later}
 use Rattle.cdf_typed.specs.Typed.{instant_in}
 
 is_above : (o : Ordering) → is_gt o ≡ true → o ≡ Greater
-is_above Less e = Prim.cc e
-is_above Equal e = Prim.cc e
-is_above Greater e = refl
+is_above o e = grind arith
 
 above_below : (a b : ℤ) → is_gt (int_cmp a b) ≡ true → int_cmp b a ≡ Less
 above_below a b e = int_cmp_total.antisymm b a ∙ ap ordering_reverse (is_above (int_cmp a b) e)

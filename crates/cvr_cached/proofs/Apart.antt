@@ -22,12 +22,13 @@ use Rattle.cvr_lists.specs.AnyNames.{any_name, has_name}
 use Rattle.cvr_office.specs.Place.{fact_of, any_cmp}
 use Rattle.cvr_office.specs.Plain.{set_of}
 use Rattle.cvr_office.proofs.Laws.{name_total}
+use Rattle.cvr_office.proofs.Lemmas.{each_of}
 use Rattle.cvr_lists.proofs.Laws.{name_is}
 use Rattle.cvr_lists.proofs.Laws.{conflicts-is, greatest_count-is}
 use Rattle.cvr_lists.proofs.Lemmas.{most-cons}
 use Rattle.cvr_cached.specs.Contents.{Entries, fact_list}
 use Rattle.cvr_cached.specs.Held.{AreOwn}
-use Rattle.cvr_cached.proofs.Listed.{each_of, own_each, found_own, listed_rises}
+use Rattle.cvr_cached.proofs.Listed.{own_each, found_own, listed_rises, AreOwnEach}
 use Rattle.cvr_lists.specs.NameRuns.{runs_from, counted_runs, of_several, most_of}
 
 -- ---- a name is of one record
@@ -77,12 +78,8 @@ counted_runs-append (x ∷ xs) ys apart = runs_from-append (any_name x) 1 xs ys
 
 -- ---- contents share none
 
-abbrev AreOfTheirs : Entries → Type 0
-AreOfTheirs es = (e : RecordName × List AnyFact) → Contains es e → (f : AnyFact) → Contains e.1 f
-    → record_of (fact_of f) ≡ Some e.0
-
 first_apart : (e : RecordName × List AnyFact) (es : Entries)
-    → IsStrictlySortedBy name_cmp (keys_of (e ∷ es)) → AreOfTheirs (e ∷ es)
+    → IsStrictlySortedBy name_cmp (keys_of (e ∷ es)) → AreOwnEach (e ∷ es)
     → Apart e.1 (flat_map (λ (e : RecordName × List AnyFact). e.1) es)
 first_apart e es rises own x y a b = false_from_ne_true (has_name (any_name x) y) (λ named.
     let from = from_flat (λ (p : RecordName × List AnyFact). p.1) y es b in
@@ -96,7 +93,7 @@ first_apart e es rises own x y a b = false_from_ne_true (has_name (any_name x) y
     sym less ∙ (ap (λ k. name_cmp e.0 k) (sym same) ∙ tied_itself name_total e.0) in
     Prim.cc clash)
 
-flat_runs : (es : Entries) → IsStrictlySortedBy name_cmp (keys_of es) → AreOfTheirs es
+flat_runs : (es : Entries) → IsStrictlySortedBy name_cmp (keys_of es) → AreOwnEach es
     → counted_runs (flat_map (λ (e : RecordName × List AnyFact). e.1) es)
     ≡ flat_map (λ (e : RecordName × List AnyFact). counted_runs e.1) es
 flat_runs [] rises own = refl

@@ -1,10 +1,10 @@
 -- A part of facts in order has the header of all, if that is in it, and the current snapshot.
-use Rattle.std.proofs.Common.{◌≡◌, false, List, [], ◌∷◌, Contains, inl, inr, Less, Equal}
+use Rattle.std.proofs.Common.{◌≡◌, List, [], ◌∷◌, Contains, inl, inr, Less, Equal}
 use Rattle.std.proofs.Common.{arith, cond, Ordering, Option, Some, None, refl, sym, ap, ◌∙◌, subst}
 use Rattle.std.specs.List.{filter_map, last_or}
 use Rattle.std.specs.List.Sorted.{IsStrictlySortedBy}
 use Rattle.std.specs.Option.{option_map_or}
-use Rattle.std.specs.Ordering.{is_gt, ordering_reverse, ordering_then, then_cmp, on}
+use Rattle.std.specs.Ordering.{is_gt, ordering_then, then_cmp, on}
 use Rattle.std.specs.Cmp.{IsTotalOrder}
 use Rattle.std.proofs.lemmas.Cmp.{on_total, then_total}
 use Rattle.std.proofs.lemmas.List.Elements.{All-contains, All-from_recursion}
@@ -14,17 +14,16 @@ use Rattle.cvr_fact_types.specs.declared.snapshot.SnapshotFact.{SnapshotFact}
 use Rattle.cvr_facts.specs.Choosing.{fact_choice, IsGreatest}
 use Rattle.cvr_facts.proofs.Laws.{fact_total}
 use Rattle.cvr_facts.proofs.Lemmas.{none_listed, greatest_is, Contains-filter_map, from-filter_map}
+use Rattle.cvr_facts.proofs.Lemmas.{tied}
 use Rattle.cvr_office.specs.declared.any_fact.AnyFact.{AnyFact}
 use Rattle.cvr_office.specs.declared.any_fact.AnyFact.TheVariants as any
 use Rattle.cvr_office.specs.Place.{fact_of, place_exact, any_cmp, any_total}
 use Rattle.cvr_office.specs.Plain.{IsPut}
 use Rattle.cvr_office.specs.Runs.{as_header, as_snapshot, headers, snapshots}
+use Rattle.cvr_office.proofs.Lemmas.{of_snapshot, of_header}
 use Rattle.cvr_cached.specs.Fresh.{AreApart}
 use Rattle.cvr_cached.proofs.FreshFacts.{Once, once_rising, old_in}
-use Rattle.cvr_lists.proofs.Lemmas.{rises-filter_map, last_greatest, none_last}
-
-tied : (r s : Ordering) → r ≡ ordering_reverse s → is_gt r ≡ false → is_gt s ≡ false → r ≡ Equal
-tied r s turned p q = grind arith
+use Rattle.cvr_lists.proofs.Lemmas.{rises-filter_map, last_greatest, none_last, equal_both}
 
 -- ---- the greatest of a kind of facts
 
@@ -44,7 +43,7 @@ module _ {Y : Type 0} (h : AnyFact → Option Y) (f : Y → AnyFact) (R : Y → 
       let there = subst (Contains xs) is (part x.0 x.1) in
       let first = all.top b (Contains-filter_map h xs (f b) b there (own b)) in
       let second = some.top a (Contains-filter_map h ys (f a) a at (own a)) in
-      let tie = tied (R b a) (R a b) (t.antisymm b a) first second in
+      let tie = equal_both (R b a) (R a b) (t.antisymm b a) first second in
       let same : f b ≡ f a = once (f b) (f a) there (part (f a) at) (alike b a tie) in
       let both : Some b ≡ Some a = sym (own b) ∙ (ap h same ∙ own a) in
       Prim.cc both
@@ -106,11 +105,6 @@ module _ {Y : Type 0} (h : AnyFact → Option Y) (f : Y → AnyFact) (R : Y → 
 
 -- ---- headers
 
-pub back_header : (x : AnyFact) (h : HeaderFact) → as_header x ≡ Some h → x ≡ any.Header h
-back_header (any.Device d) h e = Prim.cc e
-back_header (any.Header g) h e = let is : g ≡ h = Prim.cc e in ap any.Header is
-back_header (any.Snapshot s) h e = Prim.cc e
-
 abbrev header_cmp : HeaderFact → HeaderFact → Ordering
 header_cmp = on any.Header any_cmp
 
@@ -120,8 +114,8 @@ header_total = on_total any.Header any_total
 headers_rise : (xs : List AnyFact) → IsStrictlySortedBy any_cmp xs
     → IsStrictlySortedBy header_cmp (headers xs)
 headers_rise = rises-filter_map any_cmp header_cmp as_header (λ x y a b p q less.
-    subst (λ z. any_cmp z (any.Header b) ≡ Less) (back_header x a p)
-    (subst (λ z. any_cmp x z ≡ Less) (back_header y b q) less))
+    subst (λ z. any_cmp z (any.Header b) ≡ Less) (of_header x a p)
+    (subst (λ z. any_cmp x z ≡ Less) (of_header y b q) less))
 
 pub shown_header : (old fresh some few new : List AnyFact) → IsStrictlySortedBy any_cmp old
     → IsStrictlySortedBy any_cmp fresh → AreApart old fresh
@@ -132,7 +126,7 @@ pub shown_header : (old fresh some few new : List AnyFact) → IsStrictlySortedB
     → ((x : AnyFact) → Contains few x → Contains new x)
     → IsPut fresh some few → IsPut old fresh new
     → last_or None (headers few) ≡ last_or None (headers new)
-shown_header = shown_chooses as_header any.Header header_cmp header_total (λ h. refl) back_header
+shown_header = shown_chooses as_header any.Header header_cmp header_total (λ h. refl) of_header
     (λ a b e. place_exact (fact_of (any.Header a)) (fact_of (any.Header b)) e)
     (λ xs. last_or None (headers xs))
     (λ xs y rises is. last_greatest header_total (headers xs) y (headers_rise xs rises) is)
@@ -140,19 +134,14 @@ shown_header = shown_chooses as_header any.Header header_cmp header_total (λ h.
 
 -- ---- snapshots
 
-pub back_snapshot : (x : AnyFact) (s : SnapshotFact) → as_snapshot x ≡ Some s → x ≡ any.Snapshot s
-back_snapshot (any.Device d) s e = Prim.cc e
-back_snapshot (any.Header h) s e = Prim.cc e
-back_snapshot (any.Snapshot r) s e = let is : r ≡ s = Prim.cc e in ap any.Snapshot is
-
 abbrev snapshot_cmp : SnapshotFact → SnapshotFact → Ordering
 snapshot_cmp = on any.Snapshot any_cmp
 
 snapshots_rise : (xs : List AnyFact) → IsStrictlySortedBy any_cmp xs
     → IsStrictlySortedBy snapshot_cmp (snapshots xs)
 snapshots_rise = rises-filter_map any_cmp snapshot_cmp as_snapshot (λ x y a b p q less.
-    subst (λ z. any_cmp z (any.Snapshot b) ≡ Less) (back_snapshot x a p)
-    (subst (λ z. any_cmp x z ≡ Less) (back_snapshot y b q) less))
+    subst (λ z. any_cmp z (any.Snapshot b) ≡ Less) (of_snapshot x a p)
+    (subst (λ z. any_cmp x z ≡ Less) (of_snapshot y b q) less))
 
 no_more : (r s : Ordering) → s ≡ Less → is_gt (ordering_then r s) ≡ is_gt r
 no_more r s e = grind arith
@@ -176,9 +165,6 @@ none_max : (ss : List SnapshotFact) → max_by fact_choice ss ≡ None → ss �
 none_max [] is = refl
 none_max (s ∷ ss) is = Prim.cc is
 
-second_tied : (r s : Ordering) → ordering_then r s ≡ Equal → s ≡ Equal
-second_tied r s e = grind arith
-
 pub shown_current : (old fresh some few new : List AnyFact) → IsStrictlySortedBy any_cmp old
     → IsStrictlySortedBy any_cmp fresh → AreApart old fresh
     → ((x : AnyFact) → Contains some x → Contains old x)
@@ -193,9 +179,9 @@ shown_current =
     let total : IsTotalOrder (then_cmp fact_choice snapshot_cmp) =
     then_total fact_total (on_total any.Snapshot any_total) in
     shown_chooses as_snapshot any.Snapshot (then_cmp fact_choice snapshot_cmp) total (λ s. refl)
-    back_snapshot
+    of_snapshot
     (λ a b e. place_exact (fact_of (any.Snapshot a)) (fact_of (any.Snapshot b))
-    (second_tied (fact_choice a b) (snapshot_cmp a b) e))
+    (tied (fact_choice a b) (snapshot_cmp a b) e).1)
     (λ xs. max_by fact_choice (snapshots xs))
     (λ xs y rises is. greatest_is total (snapshots xs) y
     (sym (max_then fact_choice snapshot_cmp fact_total (snapshots xs) (snapshots_rise xs rises))

@@ -1,11 +1,11 @@
 -- Facts that aren't among others, put in beside them.
 use Rattle.std.proofs.Common.{◌≡◌, true, false, List, [], ◌∷◌, map, Contains, inl, inr, Less, Equal}
-use Rattle.std.proofs.Common.{◌⊎◌, refl, sym, ap, ◌∙◌, subst, Bool}
+use Rattle.std.proofs.Common.{◌⊎◌, refl, sym, ap, ◌∙◌, subst}
 use Rattle.std.specs.Prelude.{not}
 use Rattle.std.specs.List.Sorted.{IsStrictlySortedBy}
 use Rattle.std.specs.FinSet.{contains, union, same_set}
 use Rattle.std.specs.Cmp.{tied_itself, both_ways}
-use Rattle.std.proofs.lemmas.Bool.{false≢true}
+use Rattle.std.proofs.lemmas.Bool.{false≢true, not-true}
 use Rattle.std.proofs.lemmas.List.Elements.{All-contains, All-from_recursion}
 use Rattle.cvr_fact_types.specs.Facts.{Fact, fact_total, fact_exact}
 use Rattle.cvr_facts.proofs.Lemmas.{head_or_tail, none_listed, in_map, from_map, in_set, from_set}
@@ -98,16 +98,8 @@ put_alone old more none rises = record {
 
 -- ---- of what comes only what is fresh has to be put in
 
-pub not_not : (b : Bool) → not (not b) ≡ b
-not_not true = refl
-not_not false = refl
-
-not_true : (b : Bool) → not b ≡ true → b ≡ false
-not_true true h = absurd (false≢true h)
-not_true false h = refl
-
 pub fresh_apart : (old more : List AnyFact) → AreApart old (fresh old more)
-fresh_apart old more x at = not_true (contains (set_of old) (fact_of x))
+fresh_apart old more x at = not-true (contains (set_of old) (fact_of x))
     (from_filter (is_fresh old) more x at).1
 
 fresh_set : (old more : List AnyFact)

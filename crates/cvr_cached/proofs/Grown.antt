@@ -28,7 +28,7 @@ use Rattle.cvr_cached.proofs.Listed.{sorted_nil}
 use Rattle.cvr_cached.proofs.MergedFacts.{merged_put, length-merged}
 use Rattle.cvr_cached.proofs.Pairs.{pairs_are}
 
-abbrev Names : Type 0
+abbrev pub Names : Type 0
 Names = RecordName → Option (List AnyFact)
 
 abbrev Named : Type 0

@@ -18,7 +18,6 @@ pub mod Begins
 pub mod CellSums
 pub mod RowLink
 pub mod Closing
-pub mod KeyTests
 pub mod Putting
 pub mod Rooms
 pub mod Taken

@@ -24,12 +24,12 @@ use Rattle.cvr_facts.proofs.Lemmas.{at_head, at_tail, head_or_tail}
 use Rattle.cvr_office.specs.declared.any_fact.AnyFact.{AnyFact}
 use Rattle.cvr_office.specs.Place.{fact_of, any_cmp, any_total, place_exact}
 use Rattle.cvr_office.specs.Plain.{set_of, IsPut}
-use Rattle.cvr_office.proofs.Lemmas.{from_filter}
-use Rattle.cvr_lists.proofs.Lemmas.{set_both}
+use Rattle.cvr_office.proofs.Lemmas.{from_filter, each_of}
+use Rattle.cvr_lists.proofs.Lemmas.{set_both, all_of}
 use Rattle.cvr_cached.specs.Fresh.{AreApart}
 use Rattle.cvr_cached.specs.Merged.{is_before, merged}
 use Rattle.cvr_cached.proofs.FreshFacts.{alike_in, alike_from}
-use Rattle.cvr_cached.proofs.Listed.{sorted_append, sorted_cons, each_of, all_of_each}
+use Rattle.cvr_cached.proofs.Listed.{sorted_append, sorted_cons}
 
 -- ---- the same facts
 
@@ -99,7 +99,7 @@ rising (x ∷ xs) facts a b apart =
     sorted_append any_cmp low (x ∷ merged high xs)
     (IsStrictlySortedBy-filter any_cmp (is_before x) facts a)
     (sorted_cons any_cmp x (merged high xs)
-    (all_of_each (λ y. any_cmp x y ≡ Less) (merged high xs) past)
+    (all_of (λ y. any_cmp x y ≡ Less) (merged high xs) past)
     (rising xs high (IsStrictlySortedBy-filter any_cmp up facts a)
     (sorted_tail any_cmp x xs b)
     (λ y z p q. apart y z (from_filter up facts y p).0 (at_tail x z xs q))))

@@ -7,7 +7,7 @@ use Rattle.std.specs.List.{sum_by, filter_map}
 use Rattle.std.specs.List.Sorted.{IsStrictlySortedBy}
 use Rattle.std.specs.FinSet.{contains, difference, items, len, contains-difference}
 use Rattle.std.specs.Option.{option_map_or}
-use Rattle.std.proofs.lemmas.Bool.{false≢true}
+use Rattle.std.proofs.lemmas.Bool.{false≢true, false_from_ne_true}
 use Rattle.std.proofs.lemmas.List.{length-map}
 use Rattle.std.proofs.lemmas.List.Sums.{sum_by-cons}
 use Rattle.std.proofs.lemmas.Map.Keys.{sorted_head, sorted_tail}
@@ -20,7 +20,7 @@ use Rattle.cvr_fact_types.specs.declared.sums.VoteSums.{VoteSums}
 use Rattle.cvr_fact_types.specs.Facts.{Fact, Facts, name_cmp, fact_total, fact_exact}
 use Rattle.cvr_facts.proofs.Laws.{contains_iff}
 use Rattle.cvr_facts.proofs.Lemmas.{none_listed, at_head, at_tail, head_or_tail, in_map, from_map}
-use Rattle.cvr_facts.proofs.Lemmas.{in_set, from_set, Contains-filter_map, from-filter_map}
+use Rattle.cvr_facts.proofs.Lemmas.{Contains-filter_map, from-filter_map}
 use Rattle.cvr_tally.specs.declared.key.RowKey.{RowKey}
 use Rattle.cvr_office.specs.declared.any_fact.AnyFact.{AnyFact}
 use Rattle.cvr_office.specs.Adding.{key_for}
@@ -30,32 +30,24 @@ use Rattle.cvr_office.specs.Plain.{set_of, IsPlain, IsPut}
 use Rattle.cvr_office.specs.Readers.{IsHeader, IsCurrent}
 use Rattle.cvr_office.specs.Tallied.{sums_of_body}
 use Rattle.cvr_office.proofs.Laws.{name_total, name_exact}
-use Rattle.cvr_office.proofs.Lemmas.{keys_in_order-members, in_union, from_union}
+use Rattle.cvr_office.proofs.Lemmas.{keys_in_order-members, in_union, from_union, same_name}
+use Rattle.cvr_office.proofs.Lemmas.{own_name, each_of}
 use Rattle.cvr_cached.specs.declared.plan.Plan.{Plan}
 use Rattle.cvr_cached.specs.Contents.{Entries, content_at, facts_at, fact_list, header_in}
 use Rattle.cvr_cached.specs.Contents.{current_in, pairs_of}
 use Rattle.cvr_cached.specs.Held.{Stored, facts_of, AreOwn, IsHeld, CanTake}
 use Rattle.cvr_cached.specs.Moves.{contests_at, move_count}
 use Rattle.cvr_cached.specs.Plans.{planned, has_content, is_name_of, content_with, all_moves, IsPlan}
-use Rattle.cvr_cached.proofs.KeyTests.{own_name, same_name}
-use Rattle.cvr_cached.proofs.Listed.{at_name, each_of, len-set_of, less_other}
+use Rattle.cvr_cached.proofs.Listed.{at_name, len-set_of, less_other}
 use Rattle.cvr_cached.proofs.Moving.{headed}
 use Rattle.cvr_cached.proofs.Pairs.{pairs_are}
 use Rattle.cvr_cached.proofs.Passing.{laid_none}
 use Rattle.cvr_cached.proofs.Reading.{header_read, current_read}
 use Rattle.cvr_lists.proofs.Lemmas.{AreThere, put_none}
 use Rattle.cvr_cached.proofs.Taken.{own_runs, plain_after, rise_before}
+use Rattle.cvr_cached.proofs.FreshFacts.{alike_in, alike_from}
 
 -- ---- lists and their sets
-
-in_set_of : (xs : List AnyFact) (x : AnyFact) → Contains xs x
-    → contains (set_of xs) (fact_of x) ≡ true
-in_set_of xs x at =
-    in_set fact_total fact_exact (map fact_of xs) (fact_of x) (in_map fact_of x xs at)
-
-from_set_of : (xs : List AnyFact) (f : Fact) → contains (set_of xs) f ≡ true
-    → (x : AnyFact) × Contains xs x × (fact_of x ≡ f)
-from_set_of xs f is = from_map fact_of f xs (from_set fact_total fact_exact (map fact_of xs) f is)
 
 -- of a group either one is new, or all are there
 find_new : (old group : List AnyFact) →
@@ -87,10 +79,6 @@ brings_new old group new rises put less = elim (find_new old group) [
       let same : set_of old ≡ set_of new = (put_none old group rises all).set ∙ sym put.set in
       absurd (omega (arith, less, len-set_of old rises, len-set_of new put.rises, ap len same))
 ]
-
-not_held : (b : Bool) → (b ≡ true → ⊥) → b ≡ false
-not_held true never = absurd (never refl)
-not_held false never = refl
 
 new_alone : (a b : Bool) → (a && not b) ≡ true → (a ≡ true) × (b ≡ false)
 new_alone true true e = absurd (false≢true e)
@@ -209,17 +197,17 @@ module _ (s : Stored) (count : ℕ) (more : List AnyFact) (held : IsHeld s count
   in_content : (k : RecordName) (f : Fact) → record_of f ≡ Some k → contains before f ≡ true
       → contains (set_of (facts_at (at_name k es))) f ≡ true
   in_content k f of is =
-      let x = from_set_of (fact_list d es) f is in
+      let x = alike_from (fact_list d es) f is in
       subst (λ q. contains (set_of (facts_at (at_name k es))) q ≡ true) x.2
-      (in_set_of (facts_at (at_name k es)) x.0
+      (alike_in (facts_at (at_name k es)) x.0
       ((own_runs d es held.own k x.0).1 (x.1, ap record_of x.2 ∙ of)))
 
   from_content : (k : RecordName) (f : Fact) → contains (set_of (facts_at (at_name k es))) f ≡ true
       → contains before f ≡ true
   from_content k f is =
-      let x = from_set_of (facts_at (at_name k es)) f is in
+      let x = alike_from (facts_at (at_name k es)) f is in
       subst (λ q. contains before q ≡ true) x.2
-      (in_set_of (fact_list d es) x.0 ((own_runs d es held.own k x.0).0 x.1).0)
+      (alike_in (fact_list d es) x.0 ((own_runs d es held.own k x.0).0 x.1).0)
 
   -- what is planned gains a fact
   planned_gains : (c : RecordName × List AnyFact) → Contains cs c
@@ -232,9 +220,9 @@ module _ (s : Stored) (count : ℕ) (more : List AnyFact) (held : IsHeld s count
       let now : contains after (fact_of x.0)
       ≡ true = subst (λ u. contains u (fact_of x.0) ≡ true) (sym put.set)
       (in_union fact_total fact_exact before (set_of more) (fact_of x.0)
-      (inr (in_set_of more x.0 came.0))) in
+      (inr (alike_in more x.0 came.0))) in
       let then : contains before (fact_of x.0)
-      ≡ false = not_held (contains before (fact_of x.0))
+      ≡ false = false_from_ne_true (contains before (fact_of x.0))
       (λ e. false≢true (sym x.2 ∙ in_content c.0 (fact_of x.0) came.1 e)) in
       let new : contains (difference after before) (fact_of x.0)
       ≡ true = contains-difference fact_total after before (fact_of x.0)
@@ -256,10 +244,10 @@ module _ (s : Stored) (count : ℕ) (more : List AnyFact) (held : IsHeld s count
         | inl was ↦ absurd (false≢true (sym new.1 ∙ was))
         | inr is ↦ is
       ] in
-      let x = from_set_of more f.0 came in
+      let x = alike_from more f.0 came in
       let grouped : contains (set_of (g k)) f.0
       ≡ true = subst (λ q. contains (set_of (g k)) q ≡ true) x.2
-      (in_set_of (g k) x.0 ((group_is k x.0).1 (x.1, ap record_of x.2 ∙ f.2))) in
+      (alike_in (g k) x.0 ((group_is k x.0).1 (x.1, ap record_of x.2 ∙ f.2))) in
       let there = subst (λ u. contains u f.0 ≡ true) (sym (plan.put k).set)
       (in_union fact_total fact_exact (set_of (facts_at (at_name k es))) (set_of (g k)) f.0
       (inr grouped)) in

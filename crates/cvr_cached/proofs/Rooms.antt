@@ -31,7 +31,7 @@ use Rattle.cvr_office.specs.CanHold.{CanHold}
 use Rattle.cvr_office.specs.Place.{fact_of}
 use Rattle.cvr_office.specs.Plain.{IsSpelled}
 use Rattle.cvr_office.specs.Runs.{as_snapshot, snapshots}
-use Rattle.cvr_office.proofs.Lemmas.{found}
+use Rattle.cvr_office.proofs.Lemmas.{found, of_snapshot}
 use Rattle.cvr_lists.proofs.Laws.{facts_are_sums}
 use Rattle.cvr_cached.specs.declared.plan.Plan.{Plan}
 use Rattle.cvr_cached.specs.Contents.{Entries, content_at, facts_at, header_in, current_in}
@@ -64,11 +64,6 @@ most_votes column sums below = let lt = below column in omega (arith, lt)
 pub most_ballots : IsMost Ballots 1
 most_ballots sums below = omega arith
 
-is_snapshot : (x : AnyFact) (n : SnapshotFact) → as_snapshot x ≡ Some n → x ≡ any.Snapshot n
-is_snapshot (any.Device d) n e = Prim.cc e
-is_snapshot (any.Header h) n e = Prim.cc e
-is_snapshot (any.Snapshot s) n e = let same : s ≡ n = Prim.cc e in ap any.Snapshot same
-
 any_below : (n : ℕ) (votes : List VoteSums) → ((v : VoteSums) → Contains votes v → v.contest < n)
     → (q : ℕ) → list_any (λ c. q == c) (map (λ (v : VoteSums). v.contest) votes) ≡ true → q < n
 any_below n [] below q e = Prim.cc e
@@ -94,7 +89,7 @@ module _ (contests : List Contest) (xs : List AnyFact)
   now_summed n is =
       let at =
       from-filter_map as_snapshot xs n (greatest_is fact_total (snapshots xs) n is).listed in
-      subst (IsSummed contests) (is_snapshot at.0 n at.2) (told at.0 at.1)
+      subst (IsSummed contests) (of_snapshot at.0 n at.2) (told at.0 at.1)
 
   fit_from : (h : Option HeaderFact) (n : Option SnapshotFact) → header_in xs ≡ h
       → current_in xs ≡ n → AreFit contests (pairs_of xs)

@@ -11,6 +11,7 @@ use Rattle.std.specs.FinSet.{from_list}
 use Rattle.std.proofs.lemmas.Slice.Eq.{bytes_eq-Decides}
 use Rattle.std.proofs.lemmas.List.{map-append}
 use Rattle.std.proofs.lemmas.List.Elements.{filter-append}
+use Rattle.std.proofs.lemmas.Bool.{and_parts, and_from}
 use Rattle.cvr_fact_types.specs.declared.name.RecordName.{RecordName}
 use Rattle.cvr_fact_types.specs.Facts.{Fact, fact_cmp, name_cmp}
 use Rattle.cvr_facts.proofs.Lemmas.{tie_decides, at_head, at_tail, from_flat}
@@ -48,16 +49,9 @@ equal_facts xs ys e = pointwise-on fact_of (eq_by_cmp place_cmp) xs ys
     ∙ (pointwise_decides (tie_decides place_total place_exact) (map fact_of xs) (map fact_of ys)).1
     e
 
-both_true : (a b : Bool) → (a && b) ≡ true → (a ≡ true) × (b ≡ true)
-both_true true b e = (refl, e)
-both_true false b e = Prim.cc e
-
-and_true : (a b : Bool) → a ≡ true → b ≡ true → (a && b) ≡ true
-and_true a b p q = ap (λ a. a && b) p ∙ q
-
 own_name : (a b : RecordName) → a ≡ b → is_same_name a b ≡ true
 own_name a b is = subst (λ k. is_same_name a k ≡ true) is
-    (and_true _ _ ((bytes_eq-Decides a.device a.device).1 refl)
+    (and_from _ _ ((bytes_eq-Decides a.device a.device).1 refl)
     ((bytes_eq-Decides a.unique a.unique).1 refl))
 
 -- what the facts alone decide
@@ -84,8 +78,8 @@ flat_same [] [] e = refl
 flat_same [] (g ∷ fs) e = Prim.cc e
 flat_same (c ∷ es) [] e = Prim.cc e
 flat_same (c ∷ es) (g ∷ fs) e =
-    let both = both_true _ _ e in
-    let here = both_true _ _ both.0 in
+    let both = and_parts _ _ e in
+    let here = and_parts _ _ both.0 in
     map-append fact_of c.1 (flat_map (λ (e : RecordName × List AnyFact). e.1) es)
     ∙ ((λ i. facts_equal c.1 g.1 here.1 i ++ flat_same es fs both.1 i)
     ∙ sym (map-append fact_of g.1 (flat_map (λ (e : RecordName × List AnyFact). e.1) fs)))
@@ -99,8 +93,8 @@ contents_same (c ∷ es) [] keys each = Prim.cc keys
 contents_same (c ∷ es) (g ∷ fs) keys each =
     let first : c.0 ≡ g.0 = Prim.cc keys in
     let rest : keys_of es ≡ keys_of fs = Prim.cc keys in
-    and_true _ _
-    (and_true _ _ (own_name c.0 g.0 first)
+    and_from _ _
+    (and_from _ _ (own_name c.0 g.0 first)
     (equal_facts c.1 g.1 (each c g (at_head c es) (at_head g fs) first)))
     (contents_same es fs rest (λ d h a b. each d h (at_tail c d es a) (at_tail g h fs b)))
 

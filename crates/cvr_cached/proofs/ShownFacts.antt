@@ -19,10 +19,11 @@ use Rattle.cvr_office.specs.declared.any_fact.AnyFact.TheVariants as any
 use Rattle.cvr_office.specs.Place.{fact_of, place_exact, any_cmp}
 use Rattle.cvr_office.specs.Plain.{set_of, IsPut}
 use Rattle.cvr_office.specs.Runs.{as_header, as_snapshot}
+use Rattle.cvr_office.proofs.Lemmas.{of_snapshot, of_header}
 use Rattle.cvr_cached.specs.Fresh.{AreApart}
 use Rattle.cvr_lists.proofs.Lemmas.{search_is}
 use Rattle.cvr_cached.specs.Contents.{header_at, current_at, header_in, current_in, IsRemembered}
-use Rattle.cvr_cached.proofs.Chosen.{back_header, back_snapshot, shown_header, shown_current}
+use Rattle.cvr_cached.proofs.Chosen.{shown_header, shown_current}
 use Rattle.cvr_cached.proofs.FreshFacts.{Once, once_rising, alike_in, alike_from, more_in, old_in}
 use Rattle.cvr_cached.specs.Shown.{fact_at, HasChosen, IsShown}
 
@@ -55,12 +56,12 @@ current_at-fact_at facts (Some i) = refl
 header_there : (o : Option AnyFact) (h : HeaderFact) → option_map_or as_header o None ≡ Some h
     → o ≡ Some (any.Header h)
 header_there None h is = Prim.cc is
-header_there (Some x) h is = ap Some (back_header x h is)
+header_there (Some x) h is = ap Some (of_header x h is)
 
 current_there : (o : Option AnyFact) (s : SnapshotFact) → option_map_or as_snapshot o None ≡ Some s
     → o ≡ Some (any.Snapshot s)
 current_there None s is = Prim.cc is
-current_there (Some x) s is = ap Some (back_snapshot x s is)
+current_there (Some x) s is = ap Some (of_snapshot x s is)
 
 -- ---- the header and the current snapshot of a content
 

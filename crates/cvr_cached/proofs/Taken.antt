@@ -30,9 +30,10 @@ use Rattle.cvr_office.specs.Plain.{set_of, IsPlain, IsPut}
 use Rattle.cvr_office.specs.Readers.{growth}
 use Rattle.cvr_office.specs.Runs.{is_of, run}
 use Rattle.cvr_office.specs.Tallied.{rows}
-use Rattle.cvr_office.proofs.Lemmas.{from_filter, in_filter, in_union}
+use Rattle.cvr_office.proofs.Lemmas.{from_filter, in_filter, in_union, same_name, own_name}
 use Rattle.cvr_office.proofs.Laws.{rows_law, ballots_law}
 use Rattle.cvr_lists.proofs.Laws.{currents_are_sums, spelled_put}
+use Rattle.cvr_lists.proofs.Lemmas.{own_record}
 use Rattle.cvr_cached.specs.declared.plan.Plan.{Plan}
 use Rattle.cvr_cached.specs.Contents.{Entries, content_at, facts_at, some_unless_empty, fact_list}
 use Rattle.cvr_cached.specs.Cells.{total, IsTableOf}
@@ -41,10 +42,8 @@ use Rattle.cvr_cached.specs.Plans.{planned, IsPlan, all_moves, AreTallied, IsRoo
 use Rattle.cvr_cached.specs.Taking.{AreSplit, IsPlanOf}
 use Rattle.cvr_cached.proofs.Listed.{len-set_of, at_name, found_own, sorted_nil, own_each}
 use Rattle.cvr_cached.proofs.Listed.{run_listed}
-use Rattle.cvr_cached.proofs.Passing.{of_name}
 use Rattle.cvr_cached.proofs.RowLink.{rows_agree, agrees_rows}
 use Rattle.cvr_cached.proofs.Rooms.{summed, roomy, moves_few}
-use Rattle.cvr_cached.proofs.KeyTests.{same_name, own_name}
 
 -- ---- as many facts as contents have
 
@@ -308,7 +307,7 @@ module _ (theirs : List AnyFact) (ts : Entries) (own : AreOwn theirs ts) where
     λ at.
         let from = from_filter (is_of k) (fact_list theirs ts) f
         (subst (λ xs. Contains xs f) (sym (run_listed theirs ts own k)) at) in
-        (from.0, of_name k f from.1),
+        (from.0, own_record k f from.1),
     λ both. subst (λ xs. Contains xs f) (run_listed theirs ts own k)
         (in_filter (is_of k) (fact_list theirs ts) f both.0
         (ap (λ o. is_eq (Rattle.std.specs.Option.option_cmp name_cmp o (Some k))) both.1

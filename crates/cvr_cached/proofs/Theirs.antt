@@ -15,13 +15,13 @@ use Rattle.cvr_office.specs.declared.any_fact.AnyFact.{AnyFact}
 use Rattle.cvr_office.specs.Place.{any_cmp}
 use Rattle.cvr_office.specs.Plain.{IsPut}
 use Rattle.cvr_office.proofs.Laws.{name_exact, name_total}
+use Rattle.cvr_office.proofs.Lemmas.{own_name, each_of}
 use Rattle.cvr_cached.specs.declared.plan.Plan.{Plan}
 use Rattle.cvr_cached.specs.Contents.{Entries, facts_at}
 use Rattle.cvr_cached.specs.Plans.{IsPassed, IsMade, IsStep}
-use Rattle.cvr_cached.proofs.Listed.{at_name, each_of, all_of_each, less_other, turned}
+use Rattle.cvr_cached.proofs.Listed.{at_name, less_other, turned}
 use Rattle.cvr_cached.proofs.Passing.{made_none, planned_step}
-use Rattle.cvr_lists.proofs.Lemmas.{put_nothing}
-use Rattle.cvr_cached.proofs.KeyTests.{own_name}
+use Rattle.cvr_lists.proofs.Lemmas.{put_nothing, all_of}
 
 -- the name of the first
 abbrev pub first_name : Entries → Option RecordName
@@ -49,7 +49,7 @@ none_before : (es : Entries) (q : RecordName) → IsStrictlySortedBy name_cmp (k
 none_before [] q rises passed = refl
 none_before (e ∷ es) q rises less =
     lookup_tail (is_at (name_cmp q)) e es (less_other (name_cmp q e.0) less)
-    ∙ none_above es q (all_of_each (λ k. name_cmp q k ≡ Less) (keys_of es)
+    ∙ none_above es q (all_of (λ k. name_cmp q k ≡ Less) (keys_of es)
     (λ k at. name_total.trans q e.0 k less
     (each_of (λ y. name_cmp e.0 y ≡ Less) (keys_of es) k
     (sorted_head name_cmp e.0 (keys_of es) rises) at)))

@@ -1,5 +1,5 @@
 -- All volumes together have exactly the facts of their giver.
-use Rattle.std.proofs.Common.{◌≡◌, ◌<◌, ◌≤◌, ℕ, zero, suc, ◌+◌, List, [], ◌∷◌, Contains, Bool, true}
+use Rattle.std.proofs.Common.{◌≡◌, ◌<◌, ◌≤◌, ℕ, zero, suc, ◌+◌, Contains, true}
 use Rattle.std.proofs.Common.{◌⊎◌, inl, inr, refl, ap, ◌∙◌, subst, arith}
 use Rattle.std.specs.List.{list_any, range_with_len}
 use Rattle.std.specs.Cmp.{both_ways}
@@ -8,9 +8,10 @@ use Rattle.cdf_definition.specs.Frame.{Frame}
 use Rattle.cvr_fact_types.specs.Facts.{Fact, Device, Header, Snapshot, Facts, fact_total}
 use Rattle.cvr_fact_types.specs.Facts.{fact_exact}
 use Rattle.cvr_facts.specs.Reports.{facts}
-use Rattle.cvr_facts.proofs.Lemmas.{none_listed, head_or_tail, at_head, at_tail}
+use Rattle.cvr_facts.proofs.Lemmas.{none_listed, head_or_tail, at_head, at_tail, one_that_passes}
+use Rattle.cvr_facts.proofs.Lemmas.{passes_by}
 use Rattle.cvr_office.specs.CanHold.{CanHold}
-use Rattle.cvr_office.proofs.Lemmas.{or_cases, or_left, or_right, contains-union_over}
+use Rattle.cvr_office.proofs.Lemmas.{contains-union_over}
 use Rattle.cvr_report.specs.Head.{Head}
 use Rattle.cvr_report.specs.Page.{volumes}
 use Rattle.cvr_report.specs.Volume.{volume}
@@ -21,26 +22,6 @@ use Rattle.cvr_exchange.proofs.Definitions.{of_definition}
 use Rattle.cvr_exchange.proofs.Numbers.{device_number, header_number, header_record}
 use Rattle.cvr_exchange.proofs.Numbers.{snapshot_number, snapshot_record}
 use Rattle.cvr_exchange.proofs.Shown.{of_device_id, of_id}
-
--- ---- a test over a list
-
-pub one_that_has : {X : Type 0} (p : X → Bool) (xs : List X) → list_any p xs ≡ true
-    → (x : X) × Contains xs x × (p x ≡ true)
-one_that_has p [] h = absurd (Prim.cc h)
-one_that_has p (x ∷ xs) h =
-    elim (or_cases (p x) (list_any p xs) h) [
-      | inl here ↦ (x, at_head x xs, here)
-      | inr more ↦ let r = one_that_has p xs more in (r.0, at_tail x r.0 xs r.1, r.2)
-    ]
-
-pub has_one : {X : Type 0} (p : X → Bool) (xs : List X) (x : X) → Contains xs x → p x ≡ true
-    → list_any p xs ≡ true
-has_one p [] x a h = absurd (none_listed x a)
-has_one p (y ∷ xs) x a h =
-    elim (head_or_tail y x xs a) [
-      | inl is ↦ or_left (p y) (list_any p xs) (ap p is ∙ h)
-      | inr more ↦ or_right (p y) (list_any p xs) (has_one p xs x more h)
-    ]
 
 -- ---- nothing is added, and nothing lost
 
@@ -92,11 +73,11 @@ any_order frame head s numbers can_hold can all =
     contains-union_over (λ i. facts (volume frame head s i)) numbers f
     ∙ both_ways (list_any (λ i. contains (facts (volume frame head s i)) f) numbers) (contains s f)
     (λ h.
-    let i = one_that_has (λ i. contains (facts (volume frame head s i)) f) numbers h in
+    let i = one_that_passes (λ i. contains (facts (volume frame head s i)) f) numbers h in
     none_added frame head s i.0 f can_hold can ((all i.0).0 i.1).0 i.2)
     (λ h.
     let i = in_some frame head s can_hold can f h in
-    has_one (λ i. contains (facts (volume frame head s i)) f) numbers i.0 ((all i.0).1 (i.1, i.2))
+    passes_by (λ i. contains (facts (volume frame head s i)) f) numbers i.0 ((all i.0).1 (i.1, i.2))
     i.3))
 
 -- ---- one after the other

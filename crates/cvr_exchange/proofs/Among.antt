@@ -4,7 +4,7 @@ use Rattle.std.proofs.Common.{◌∙◌, subst}
 use Rattle.std.specs.FinSet.{contains, union, contains-union}
 use Rattle.cvr_fact_types.specs.Facts.{Fact, Facts, fact_total}
 use Rattle.cvr_facts.specs.Reports.{facts}
-use Rattle.cvr_facts.proofs.Lemmas.{head_or_tail, none_listed}
+use Rattle.cvr_facts.proofs.Lemmas.{head_or_tail, none_listed, one_that_passes}
 use Rattle.cvr_office.specs.declared.event.Event.{Event}
 use Rattle.cvr_office.specs.declared.event.Event.TheVariants.{Import}
 use Rattle.cvr_office.specs.declared.event.Outcome.{Outcome}
@@ -15,7 +15,7 @@ use Rattle.cvr_office.proofs.Lemmas.{or_cases, contains-union_over}
 use Rattle.cvr_report.specs.Volume.{volume}
 use Rattle.cvr_exchange.specs.Laws.{AmongLaw, AllAmongLaw}
 use Rattle.cvr_exchange.specs.Passing.{facts_of_volumes}
-use Rattle.cvr_exchange.proofs.AllVolumes.{any_order, one_that_has}
+use Rattle.cvr_exchange.proofs.AllVolumes.{any_order}
 
 -- the facts of a file that one of these events imported
 still_held : (starts : List Facts) (files : List (List ℕ)) (past : History) (o f n : ℕ) (q : Fact)
@@ -41,7 +41,7 @@ among frame head s starts files later past o numbers q imported h =
     (sym (contains-union fact_total (content starts files past o) brought q) ∙ h)) [
       | inl had ↦ held_lasts starts files later past o q had
       | inr some ↦
-          let i = one_that_has has numbers
+          let i = one_that_passes has numbers
           (sym (contains-union_over (λ i. facts (volume frame head s i)) numbers q) ∙ some) in
           let e = imported i.0 i.1 in
           still_held starts files past o e.2.file e.2.count q later e.0 e.1 e.2.event

@@ -1,6 +1,7 @@
 -- Arrays of objects whose ids rise have the form of arrays of their kind.
 use Rattle.std.proofs.Common.{◌≡◌, ◌≤◌, ℕ, zero, suc, List, [], ◌∷◌, map, Contains, Some, Less}
-use Rattle.std.proofs.Common.{Equal, refl, sym, ap, ◌∙◌, subst, codes, inl, inr}
+use Rattle.std.proofs.Common.{Equal, refl, sym, ap, ◌∙◌, subst, codes}
+use Rattle.std.proofs.lemmas.Option.{same_Some}
 use Rattle.std.specs.Prelude.{slice_get}
 use Rattle.std.specs.List.{AllByRecursion}
 use Rattle.std.specs.List.Sorted.{IsStrictlySortedBy}
@@ -19,12 +20,12 @@ use Rattle.cdf_form.specs.Form.{key_text}
 use Rattle.cdf_form.specs.HasForm.{HasForm, items}
 use Rattle.cdf_parts.specs.Parts.{id_of}
 use Rattle.cdf_form.specs.ByEntry.{AllClasses, find_entry}
-use Rattle.cdf_parts.proofs.Lemmas.{inside}
 use Rattle.cdf_definition.specs.Depths.{id_entry}
 use Rattle.cdf_definition.proofs.Laws.{has_id}
 use Rattle.cvr_fact_types.specs.Facts.{text_cmp}
 use Rattle.cvr_facts.proofs.Laws.{text_total}
-use Rattle.cvr_facts.proofs.Lemmas.{at_head, at_tail, head_or_tail, none_listed}
+use Rattle.cvr_facts.proofs.Lemmas.{at_head, at_tail}
+use Rattle.cdf_check.proofs.Lemmas.{listed_item}
 
 abbrev pub IsRising : List (List ℕ) → Type 0
 IsRising ids = IsStrictlySortedBy text_cmp ids
@@ -34,7 +35,7 @@ IsRising ids = IsStrictlySortedBy text_cmp ids
 below_at : (x : List ℕ) (xs : List (List ℕ)) (j : ℕ) (s : List ℕ)
     → AllByRecursion (λ y. text_cmp x y ≡ Less) xs → slice_get xs j ≡ Some s → text_cmp x s ≡ Less
 below_at x [] j s h is = absurd (Prim.cc is)
-below_at x (y ∷ xs) zero s h is = subst (λ z. text_cmp x z ≡ Less) (inside y s is) h.0
+below_at x (y ∷ xs) zero s h is = subst (λ z. text_cmp x z ≡ Less) (same_Some y s is) h.0
 below_at x (y ∷ xs) (suc j) s h is = below_at x xs j s h.1 is
 
 never_below : (x s : List ℕ) → x ≡ s → text_cmp x s ≡ Less → ⊥
@@ -47,18 +48,12 @@ unfolding IsStrictlySortedBy
 same_place [] h i j s p q = absurd (Prim.cc p)
 same_place (x ∷ xs) h zero zero s p q = refl
 same_place (x ∷ xs) h zero (suc j) s p q =
-    absurd (never_below x s (inside x s p) (below_at x xs j s h.0 q))
+    absurd (never_below x s (same_Some x s p) (below_at x xs j s h.0 q))
 same_place (x ∷ xs) h (suc i) zero s p q =
-    absurd (never_below x s (inside x s q) (below_at x xs i s h.0 p))
+    absurd (never_below x s (same_Some x s q) (below_at x xs i s h.0 p))
 same_place (x ∷ xs) h (suc i) (suc j) s p q = ap suc (same_place xs h.1 i j s p q)
 
 -- ---- items and lists
-
-pub item_listed : (ds : List Data) (i : ℕ) (e : Data) → get_item i (items_of ds) ≡ Some e
-    → Contains ds e
-item_listed [] i e at = absurd (Prim.cc at)
-item_listed (d ∷ ds) zero e at = subst (Contains (d ∷ ds)) (inside d e at) (at_head d ds)
-item_listed (d ∷ ds) (suc i) e at = at_tail d e ds (item_listed ds i e at)
 
 -- the id of an item stands at its place
 id_place : (ds : List Data) (i : ℕ) (d : Data) (s : List ℕ)
@@ -67,7 +62,7 @@ id_place : (ds : List Data) (i : ℕ) (d : Data) (s : List ℕ)
     → slice_get (map id_of ds) i ≡ Some s
 id_place [] i d s h at text = absurd (Prim.cc at)
 id_place (x ∷ ds) zero d s h at text =
-    sym (h x (at_head x ds)) ∙ (ap (key_text key.Id) (inside x d at) ∙ text)
+    sym (h x (at_head x ds)) ∙ (ap (key_text key.Id) (same_Some x d at) ∙ text)
 id_place (x ∷ ds) (suc i) d s h at text = id_place ds i d s (λ e a. h e (at_tail x e ds a)) at text
 
 -- objects whose ids rise
@@ -79,7 +74,7 @@ pub objects_form : (g : Group) (least : ℕ) (ds : List Data)
 objects_form g least ds keyed each rises some few =
     let have_ids : (e : Data) → Contains ds e → key_text key.Id e ≡ Some (id_of e) =
     λ e a. has_id g e keyed (each e a) in
-    items {ds = items_of ds} refl some few (λ i e at. each e (item_listed ds i e at))
+    items {ds = items_of ds} refl some few (λ i e at. each e (listed_item ds i e at))
     (λ i j d e s a b p q. same_place (map id_of ds) rises i j s (id_place ds i d s have_ids a p)
     (id_place ds j e s have_ids b q))
 
@@ -89,10 +84,5 @@ pub values_form : (l : Leaf) (least most : ℕ) (ds : List Data)
     → items_len (items_of ds) ≤ most
     → HasForm (Array l least most key.Free) (array (items_of ds))
 values_form l least most ds each some few =
-    items {ds = items_of ds} refl some few (λ i e at. each e (item_listed ds i e at))
+    items {ds = items_of ds} refl some few (λ i e at. each e (listed_item ds i e at))
     (λ i j d e s a b p q. absurd (Prim.cc p))
-
--- the member of a list of one
-pub only_one : {X : Type 0} (x y : X) → Contains (x ∷ []) y → x ≡ y
-only_one x y a =
-    elim (head_or_tail x y [] a) [ inl is ↦ is | inr none ↦ absurd (none_listed y none) ]

@@ -2,10 +2,8 @@
 use Rattle.std.proofs.Common.{◌≡◌, ◌<◌, ◌==◌, ℕ, List, [], ◌∷◌, ◌++◌, length, map, get_or, true}
 use Rattle.std.proofs.Common.{false, cond, Some, inl, inr, refl, sym, ap, ◌∙◌, subst, arith}
 use Rattle.std.specs.List.{slice_get}
-use Rattle.std.specs.FinSet.{contains, union, empty, insert, contains-insert, contains-union}
-use Rattle.std.specs.FinSet.{contains-empty}
-use Rattle.std.specs.Ordering.{eq_by_cmp}
-use Rattle.std.proofs.lemmas.Bool.{cases_lt, false≢true}
+use Rattle.std.specs.FinSet.{contains, union, empty, insert, contains-union}
+use Rattle.std.proofs.lemmas.Bool.{cases_lt}
 use Rattle.std.proofs.lemmas.List.{length-map, get_or-map}
 use Rattle.std.proofs.lemmas.Option.{get_or_from_slice_get, slice_get_within}
 use Rattle.cdf_definition.specs.Frame.{Frame, IsSame}
@@ -19,9 +17,10 @@ use Rattle.cvr_office.specs.declared.event.Outcome.TheVariants.{Accepted, Refuse
 use Rattle.cvr_office.specs.Alike.{AreNewOfOne, ArePlayed, HaveSameFiles, BeganAlike}
 use Rattle.cvr_office.specs.CanHold.{CanHold, starting_content}
 use Rattle.cvr_office.specs.Outcomes.{no_frame, AreOutcomes}
-use Rattle.cvr_office.specs.Reach.{History, Start, File, origin_cmp, origins_at, content}
+use Rattle.cvr_office.specs.Reach.{History, Start, File, origins_at, content}
 use Rattle.cvr_office.proofs.Laws.{answer_alike, same_definition, same_files, start_keeps}
-use Rattle.cvr_office.proofs.Lemmas.{origin_total, origin_exact, or_cases, tie_is}
+use Rattle.cvr_office.proofs.Lemmas.{origin_total, or_cases, start_itself}
+use Rattle.cvr_office.proofs.Lemmas.{start_before_file}
 use Rattle.cvr_report.proofs.Laws.{same_volumes}
 use Rattle.cvr_exchange.specs.Laws.{CouldBegin, ByFilesLaw, SamePassingLaw}
 use Rattle.cvr_exchange.specs.Passing.{IsByFiles, begun, event, volumes_of}
@@ -75,27 +74,6 @@ module _ (frames : List Frame) (starts : List Facts) (files : List (List ℕ)) (
   abbrev HasStart : History → ℕ → Type 0
   HasStart past o = contains (origins_at past o) (Start k) ≡ true
 
-  itself : (o : ℕ) → HasStart [] o → k ≡ o
-  itself o h =
-      elim (or_cases (eq_by_cmp origin_cmp (Start k) (Start o))
-      (contains (empty {R = origin_cmp}) (Start k))
-      (sym (contains-insert origin_total empty (Start o) (Start k)) ∙ h)) [
-        | inl same ↦ let is : Start k ≡ Start o =
-            tie_is origin_total origin_exact (Start k) (Start o) same in Prim.cc is
-        | inr none ↦ absurd (false≢true (sym (contains-empty origin_cmp (Start k)) ∙ none))
-      ]
-
-  before_file : (past : History) (o f : ℕ)
-      → contains (insert (origins_at past o) (File f)) (Start k) ≡ true → HasStart past o
-  before_file past o f h =
-      elim (or_cases (eq_by_cmp origin_cmp (Start k) (File f))
-      (contains (origins_at past o) (Start k))
-      (sym (contains-insert origin_total (origins_at past o) (File f) (Start k)) ∙ h)) [
-        | inl same ↦ let is : Start k ≡ File f =
-            tie_is origin_total origin_exact (Start k) (File f) same in Prim.cc is
-        | inr had ↦ had
-      ]
-
   -- it began at one of the offices
   abbrev IsThere : History → Type 0
   IsThere past = (o : ℕ) → o < length frames → HasStart past o → k < length frames
@@ -105,7 +83,7 @@ module _ (frames : List Frame) (starts : List Facts) (files : List (List ℕ)) (
   import_there j f n past there o lt h =
       elim (o == j) as (λ b. contains (cond b (insert (origins_at past o) (File f))
       (origins_at past o)) (Start k) ≡ true → k < length frames) [
-        | true ↦ λ has. there o lt (before_file past o f has)
+        | true ↦ λ has. there o lt (start_before_file starts frames files k past o f has)
         | false ↦ λ had. there o lt had
       ] h
 
@@ -138,7 +116,8 @@ module _ (frames : List Frame) (starts : List Facts) (files : List (List ℕ)) (
 
   is_there : (by past : History) → AreOutcomes starts frames files by
       → IsByFiles frames starts files by past → IsThere past
-  is_there _ _ outs begun = λ o lt h. subst (λ z. z < length frames) (sym (itself o h)) lt
+  is_there _ _ outs begun = λ o lt h. subst (λ z. z < length frames)
+      (sym (start_itself starts frames files k o h)) lt
   is_there _ _ outs (event e by past h) = event_there e by past outs (is_there by past outs.1 h)
   is_there _ _ outs (volumes_of head p q n imports by past lp can every h) =
       exchange_there p q n past lp (is_there by past

@@ -1,22 +1,21 @@
 -- Values that are read back from their texts, in UTF-8.
 use Rattle.std.proofs.Common.{◌≡◌, ◌≤◌, ℕ, suc, List, [], ◌∷◌, Contains, All, get_or, Bool, true}
-use Rattle.std.proofs.Common.{false, Option, Some, None, IsUtf8, Ordering, Less, Equal, Greater}
-use Rattle.std.proofs.Common.{nat_cmp, refl, arith, true≢false, sym}
+use Rattle.std.proofs.Common.{false, Option, Some, None, IsUtf8}
+use Rattle.std.proofs.Common.{refl, arith, true≢false, sym}
 use Rattle.std.specs.Prelude.{if◌then◌else◌}
-use Rattle.std.specs.Ordering.{match_ordering}
-use Rattle.std.specs.Cmp.Lexicographic.{slice_cmp}
 use Rattle.std.specs.Str.{is_utf8}
 use Rattle.std.proofs.lemmas.List.Elements.{All-contains_itself}
 use Rattle.std.proofs.lemmas.Str.{is_utf8-from_IsUtf8}
-use Rattle.serde_json.specs.Data.{Data, string, array, object, Members, no_members, member, put}
+use Rattle.serde_json.specs.Data.{Data, string, array, object, Members, no_members, put}
 use Rattle.serde_json.specs.Read.{read, max_depth}
 use Rattle.serde_json.specs.View.{items_of}
 use Rattle.serde_json.specs.Written.{compact_text}
 use Rattle.cdf_parts.specs.Proper.{IsProper}
 use Rattle.cdf_form.specs.Reading.{value_of}
 use Rattle.cdf_parts.proofs.Laws.{array_proper, proper_deeper, read-proper, put_proper}
-use Rattle.cdf_check.specs.Utf8.{HasUtf8, ItemsHaveUtf8, MembersHaveUtf8}
+use Rattle.cdf_check.specs.Utf8.{HasUtf8, ItemsHaveUtf8}
 use Rattle.cdf_check.proofs.Laws.{file_utf8, proper_utf8}
+use Rattle.cdf_check.proofs.Lemmas.{put_utf8}
 use Rattle.cvr_facts.proofs.Lemmas.{at_head, at_tail}
 
 -- at most n deep, with no float, and each text in it is UTF-8
@@ -49,26 +48,11 @@ clean_array n xs h = record {
 
 -- ---- objects
 
-put_at : (o : Ordering) (k l : List ℕ) (d e : Data) (ms rest : Members) → IsUtf8 k → HasUtf8 d
-    → IsUtf8 l → HasUtf8 e → MembersHaveUtf8 ms → MembersHaveUtf8 rest
-    → MembersHaveUtf8 (match_ordering o (member k d (member l e ms)) (member l d ms)
-    (member l e rest))
-put_at Less k l d e ms rest hk hd hl he hm hr = (hk, hd, (hl, he, hm))
-put_at Equal k l d e ms rest hk hd hl he hm hr = (hl, hd, hm)
-put_at Greater k l d e ms rest hk hd hl he hm hr = (hl, he, hr)
-
-utf8_put : (k : List ℕ) (d : Data) (ms : Members) → IsUtf8 k → HasUtf8 d → MembersHaveUtf8 ms
-    → MembersHaveUtf8 (put k d ms)
-utf8_put k d no_members hk hd h = (hk, hd, tt)
-utf8_put k d (member l e ms) hk hd h =
-    put_at (slice_cmp nat_cmp k l) k l d e ms (put k d ms) hk hd h.0 h.1 h.2
-    (utf8_put k d ms hk hd h.2)
-
 pub clean_put : (n : ℕ) (k : List ℕ) (d : Data) (ms : Members) → IsUtf8 k → IsClean n d
     → IsClean (suc n) (object ms) → IsClean (suc n) (object (put k d ms))
 clean_put n k d ms hk hd h = record {
   proper = put_proper n k d ms hd.proper h.proper;
-  utf8 = utf8_put k d ms hk hd.utf8 h.utf8;
+  utf8 = put_utf8 k d ms hk hd.utf8 h.utf8;
 }
 
 pub clean_none : (n : ℕ) → IsClean (suc n) (object no_members)

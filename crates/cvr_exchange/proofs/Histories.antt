@@ -10,7 +10,7 @@ use Rattle.cdf_definition.proofs.Laws.{valid_file}
 use Rattle.cvr_fact_types.specs.Facts.{Facts, fact_total, fact_exact}
 use Rattle.cvr_facts.specs.Reports.{facts}
 use Rattle.cvr_facts.specs.Unions.{union_laws}
-use Rattle.cvr_facts.proofs.Lemmas.{at_head, at_tail}
+use Rattle.cvr_facts.proofs.Lemmas.{at_head, at_tail, one_that_passes, passes_by}
 use Rattle.cvr_office.specs.declared.event.Event.{Event}
 use Rattle.cvr_office.specs.declared.event.Event.TheVariants.{Import, Exchange}
 use Rattle.cvr_office.specs.declared.event.Outcome.{Outcome}
@@ -26,7 +26,7 @@ use Rattle.cvr_report.specs.Head.{Head}
 use Rattle.cvr_report.specs.Volume.{volume}
 use Rattle.cvr_exchange.specs.Laws.{ImportsLaw, AcceptedLaw}
 use Rattle.cvr_exchange.specs.Passing.{CanHead, IsImportOf, AreImportsOfAll}
-use Rattle.cvr_exchange.proofs.AllVolumes.{one_that_has, has_one, none_added, in_some}
+use Rattle.cvr_exchange.proofs.AllVolumes.{none_added, in_some}
 use Rattle.cvr_exchange.proofs.Valid.{valid_for_same}
 
 -- ---- one event
@@ -73,10 +73,6 @@ IsTakenBy o e = (f : ℕ) × (n : ℕ) × (e ≡ (Import o f, Accepted n))
 
 or_turn : (a b c : Bool) → ((a || c) || b) ≡ (a || (b || c))
 or_turn a b c = grind arith
-
-or_none : (a : Bool) → (a || false) ≡ a
-or_none true = refl
-or_none false = refl
 
 union_turn : (s t u : Facts) → union (union s u) t ≡ union s (union t u)
 union_turn s t u = same_set fact_total fact_exact _ _ (λ q.
@@ -138,14 +134,14 @@ module _ (frame : Frame) (head : Head) (s : Facts) (files : List (List ℕ)) (o 
       contains-union_over (brings files) imports f
       ∙ both_ways (list_any (λ e. contains (brings files e) f) imports) (contains s f)
       (λ h.
-      let e = one_that_has (λ e. contains (brings files e) f) imports h in
+      let e = one_that_passes (λ e. contains (brings files e) f) imports h in
       let v = every.only e.0 e.1 in
       none_added frame head s v.0 f can_hold can v.1
       (subst (λ t. contains t f ≡ true) (brought_by e.0 (volume frame head s v.0) v.3) e.2))
       (λ h.
       let i = in_some frame head s can_hold can f h in
       let e = every.all i.0 i.1 i.2 in
-      has_one (λ e. contains (brings files e) f) imports e.0 e.1
+      passes_by (λ e. contains (brings files e) f) imports e.0 e.1
       (subst (λ t. contains t f ≡ true) (sym (brought_by e.0 (volume frame head s i.0) e.2))
       i.3)))
 

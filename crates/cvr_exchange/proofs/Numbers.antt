@@ -6,6 +6,7 @@ use Rattle.std.specs.Prelude.{if◌then◌else◌}
 use Rattle.std.specs.List.{filter}
 use Rattle.std.specs.FinSet.{contains, items, len}
 use Rattle.std.proofs.lemmas.List.{length-reverse}
+use Rattle.std.proofs.lemmas.Bool.{le-leb}
 use Rattle.cvr_fact_types.specs.declared.name.RecordName.{RecordName}
 use Rattle.cvr_facts.specs.Choosing.{choice_cmp}
 use Rattle.cvr_fact_types.specs.Facts.{Fact, Device, Header, Snapshot, Facts, text_cmp}
@@ -38,9 +39,6 @@ most_above (m ∷ ns) n a =
       | inl is ↦ subst (λ x. x ≤ most (m ∷ ns)) is p.0
       | inr more ↦ let q = most_above ns n more in let r = p.1 in omega (arith, q, r)
     ]
-
-le_true : (n m : ℕ) → n ≤ m → nat_le n m ≡ true
-le_true n m le = grind (arith, le)
 
 -- ---- the number of a body
 
@@ -144,7 +142,7 @@ module _ (s : Facts) where
         p.0,
         p.1,
         omega (arith, n, q, r),
-        le_true p.0 (most (body_counts s key))
+        le-leb p.0 (most (body_counts s key))
             (omega (arith, m, r)),
         p.3,
       )
@@ -166,7 +164,7 @@ module _ (s : Facts) where
         p.0,
         p.1,
         omega (arith, n, q, r),
-        le_true p.0 (most (body_counts s key))
+        le-leb p.0 (most (body_counts s key))
             (omega (arith, m, r)),
         p.3,
       )

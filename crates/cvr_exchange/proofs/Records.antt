@@ -2,6 +2,7 @@
 use Rattle.std.proofs.Common.{◌≡◌, ◌≤◌, ℕ, List, [], ◌∷◌, map, Contains, Option, Some, None, IsSome}
 use Rattle.std.proofs.Common.{IsUtf8, inl, inr, ◌⊎◌, codes, refl, sym, ap, ◌∙◌, subst, Bool}
 use Rattle.std.proofs.Common.{true, false, bytes_eq, arith}
+use Rattle.std.proofs.lemmas.Option.{same_Some}
 use Rattle.std.specs.Prelude.{⊤, unwrap_or, option_map, option_and_then}
 use Rattle.json.proofs.Printed.Utf8.{are_ascii, IsUtf8-are_ascii}
 use Rattle.serde_json.specs.Data.{Data, string, array, object, Members, put}
@@ -22,7 +23,6 @@ use Rattle.cdf_parts.specs.Parts.{array_at, ids_at, id_of, text_at}
 use Rattle.cdf_parts.specs.Places.{Texts}
 use Rattle.cdf_parts.specs.Removing.{without}
 use Rattle.cdf_parts.proofs.Laws.{list_of-items_of, without-put}
-use Rattle.cdf_parts.proofs.Lemmas.{inside}
 use Rattle.cdf_typed.specs.Typed.{header_of}
 use Rattle.cdf_definition.specs.Bodies.{IsInHeader, HeaderStands, SnapshotStands}
 use Rattle.cdf_definition.specs.References.{Scope, one, many}
@@ -85,7 +85,7 @@ cvr_case r i = go (bytes_eq r.name snapshots_name) (bytes_eq r.name current_name
 pub name_utf8 : (name : List ℕ) → are_ascii name ≡ true → IsUtf8 name
 name_utf8 name h = IsUtf8-are_ascii name h
 
-abbrev list_in : Option Data → List Data
+abbrev pub list_in : Option Data → List Data
 list_in o = unwrap_or (option_map list_of (option_and_then as_array o)) []
 
 -- ---- its members
@@ -163,13 +163,13 @@ module _ (ms : Members) (ds : List Data) (current : List ℕ) where
       part_at r i (inl kept) e at = head.form.member r e i kept (sym (at_other r.name kept) ∙ at)
       part_at r i (inr (inl is)) e at =
           let same : array (items_of ds)
-          ≡ e = inside _ _ (sym (ap (λ n. get_member n made) (ap (λ x. x.name) is)
+          ≡ e = same_Some _ _ (sym (ap (λ n. get_member n made) (ap (λ x. x.name) is)
           ∙ at_snapshots) ∙ at) in
           subst (λ k. HasForm k e) (sym (ap (λ x. x.kind) is))
           (subst (HasForm (Array (leaf.Object group.Snapshots) 1 any key.Id)) same
           (objects_form group.Snapshots 1 ds (refl, tt) (λ d a. (each d a).form) rises some few))
       part_at r i (inr (inr is)) e at =
-          let same : string current ≡ e = inside _ _
+          let same : string current ≡ e = same_Some _ _
           (sym (ap (λ n. get_member n made) (ap (λ x. x.name) is) ∙ at_current) ∙ at) in
           subst (λ k. HasForm k e) (sym (ap (λ x. x.kind) is))
           (subst (HasForm (One leaf.Text)) same (text {s = current} refl))
@@ -203,7 +203,7 @@ module _ (ms : Members) (ds : List Data) (current : List ℕ) where
               (is_kept (codes "CreatingDeviceId") refl refl) p.device;
           current = λ s is.
               let same : current ≡ s =
-              inside current s (sym (ap (option_and_then as_str) at_current) ∙ is) in
+              same_Some current s (sym (ap (option_and_then as_str) at_current) ∙ is) in
               subst (Contains (ids_at snapshots_name (object made))) same
               (subst (λ xs. Contains (map id_of xs) current) (sym snapshots_are) listed);
           election = kept_names scope.elections (codes "ElectionId")

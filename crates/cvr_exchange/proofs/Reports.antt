@@ -1,15 +1,16 @@
 -- A volume is a report that its definition accepts.
 use Rattle.std.proofs.Common.{◌≡◌, ◌<◌, ◌≤◌, ℕ, List, [], ◌∷◌, map, length, Contains, true, false}
-use Rattle.std.proofs.Common.{Option, Some, None, IsSome, codes, unwrap_or, refl, sym, ap, ◌∙◌}
+use Rattle.std.proofs.Common.{Some, None, IsSome, codes, unwrap_or, refl, sym, ap, ◌∙◌}
 use Rattle.std.proofs.Common.{subst, arith, true≢false}
-use Rattle.std.specs.Prelude.{option_map, option_and_then}
+use Rattle.std.specs.Prelude.{option_and_then}
 use Rattle.std.specs.List.{filter}
 use Rattle.std.specs.FinSet.{contains}
 use Rattle.std.proofs.lemmas.Map.Views.{Contains-from_any}
 use Rattle.std.proofs.lemmas.Slice.Eq.{bytes_eq-Decides}
+use Rattle.std.proofs.lemmas.Option.{same_Some}
 use Rattle.serde_json.specs.Data.{Data, null, string, array, Items, no_items, item}
 use Rattle.serde_json.specs.Events.{items_len}
-use Rattle.serde_json.specs.Find.{get, as_str, as_array}
+use Rattle.serde_json.specs.Find.{get, as_str}
 use Rattle.serde_json.specs.View.{items_of}
 use Rattle.cdf_form.specs.declared.table.Class.TheVariants as class_of
 use Rattle.cdf_form.specs.declared.table.Group.TheVariants as group
@@ -30,7 +31,6 @@ use Rattle.cdf_form.specs.Reading.{value_of, max_file}
 use Rattle.cdf_form.proofs.Laws.{items_have_form}
 use Rattle.cdf_parts.proofs.Laws.{items_short, part_short, list_of-items_of, listed_part}
 use Rattle.cdf_parts.proofs.Laws.{part_of_part}
-use Rattle.cdf_parts.proofs.Lemmas.{inside}
 use Rattle.cdf_definition.specs.Acceptance.{Valid, value_in}
 use Rattle.cdf_definition.specs.Agreement.{Agrees}
 use Rattle.cdf_definition.specs.Frame.{Frame}
@@ -41,7 +41,7 @@ use Rattle.cdf_definition.specs.Depths.{election_entry}
 use Rattle.cdf_definition.proofs.Laws.{report_entry, one_election}
 use Rattle.cvr_fact_types.specs.declared.name.RecordName.{RecordName}
 use Rattle.cvr_fact_types.specs.Facts.{Device, Facts, fact_total, fact_exact}
-use Rattle.cvr_facts.proofs.Lemmas.{in_map, from_map, in_set}
+use Rattle.cvr_facts.proofs.Lemmas.{in_map, from_map, in_set, only_one}
 use Rattle.cvr_office.specs.CanHold.{CanHold}
 use Rattle.cvr_office.specs.Names.{records, devices}
 use Rattle.cvr_office.specs.Readers.{header_list}
@@ -52,22 +52,20 @@ use Rattle.cvr_report.specs.Page.{shown_record}
 use Rattle.cvr_report.specs.Record.{snapshots_name}
 use Rattle.cvr_report.specs.Volume.{members_in, record_data, volume_data, volume}
 use Rattle.cvr_exchange.specs.Passing.{CanHead}
-use Rattle.cvr_exchange.proofs.Arrays.{IsRising, objects_form, values_form, only_one}
+use Rattle.cvr_exchange.proofs.Arrays.{IsRising, objects_form, values_form}
 use Rattle.cvr_exchange.proofs.Clean.{IsClean, clean_array, clean_value}
 use Rattle.cvr_exchange.proofs.Definitions.{values, AreValuesOf, IsDefined}
 use Rattle.cvr_exchange.proofs.Naming.{AreAmong, election_more}
-use Rattle.cvr_exchange.proofs.Records.{AllEntries, all_entries, ◌▸◌, at_snapshots}
+use Rattle.cvr_exchange.proofs.Records.{AllEntries, all_entries, ◌▸◌, at_snapshots, list_in}
 use Rattle.cvr_exchange.proofs.Shown.{of_device_id}
 use Rattle.cvr_exchange.proofs.Standing.{here, device_values, device_ids_are, devices_rise}
 use Rattle.cvr_exchange.proofs.Standing.{device_form, devices_clean, snapshot_values, record_value}
-use Rattle.cvr_exchange.proofs.Standing.{record_refers, record_is_clean, len_items}
+use Rattle.cvr_exchange.proofs.Standing.{record_refers, record_is_clean}
 use Rattle.cvr_exchange.proofs.VolumeMembers.{unless_none, made_clean, at_class, at_cvrs}
 use Rattle.cvr_exchange.proofs.VolumeMembers.{at_elections, at_date, at_units, at_notes}
 use Rattle.cvr_exchange.proofs.VolumeMembers.{at_other_type, at_parties, at_generating}
 use Rattle.cvr_exchange.proofs.VolumeMembers.{at_report_type, at_devices, at_version}
-
-abbrev list_in : Option Data → List Data
-list_in o = unwrap_or (option_map list_of (option_and_then as_array o)) []
+use Rattle.cdf_check.proofs.Lemmas.{items_len-items_of}
 
 list_unless : (xs : Items) → list_in (unless_none xs) ≡ list_of xs
 list_unless no_items = refl
@@ -215,7 +213,7 @@ module _ (frame : Frame) (head : Head) (s : Facts) (i : ℕ) (can_hold : CanHold
     devices = λ e n a is.
         let same : string head.device ≡ e =
         only_one (string head.device) e (subst (λ xs. Contains xs e) generating_list a) in
-        let name : head.device ≡ n = inside head.device n (ap as_str same ∙ is) in
+        let name : head.device ≡ n = same_Some head.device n (ap as_str same ∙ is) in
         subst (λ sc. Contains sc.devices n) (sym scope_is)
         (subst (Contains (devices s)) name device_listed);
   }
@@ -269,7 +267,7 @@ module _ (frame : Frame) (head : Head) (s : Facts) (i : ℕ) (can_hold : CanHold
     has r x is f = (
       (λ q. subst IsSome (sym is) refl),
       λ e at.
-          subst (HasForm r.kind) (inside x e (sym is ∙ at)) f,
+          subst (HasForm r.kind) (same_Some x e (sym is ∙ at)) f,
     )
 
     absent : (r : Entry) → r.required ≡ false → get r.name V ≡ None → Fits r
@@ -313,7 +311,7 @@ module _ (frame : Frame) (head : Head) (s : Facts) (i : ℕ) (can_hold : CanHold
     one_there =
         let one = one_election d known.report in
         let n : items_len E ≡ 1 =
-        len_items (values frame.elections) ∙ ap length (known.election ∙ one.1) in
+        items_len-items_of (values frame.elections) ∙ ap length (known.election ∙ one.1) in
         (omega (arith, n), omega (arith, n))
 
     fitting : AllEntries Fits (table class_of.CastVoteRecordReport)

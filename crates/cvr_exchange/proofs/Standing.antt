@@ -1,5 +1,5 @@
 -- What a volume shows stands: devices and records as values.
-use Rattle.std.proofs.Common.{◌≡◌, ◌<◌, ◌≤◌, ℕ, suc, List, [], ◌∷◌, map, length, Contains, true}
+use Rattle.std.proofs.Common.{◌≡◌, ◌<◌, ◌≤◌, ℕ, List, [], ◌∷◌, map, length, Contains, true}
 use Rattle.std.proofs.Common.{Some, IsUtf8, codes, unwrap_or, refl, sym, ap, ◌∙◌, subst, arith}
 use Rattle.std.specs.Prelude.{option_and_then}
 use Rattle.std.specs.FinSet.{contains, items}
@@ -22,6 +22,7 @@ use Rattle.cdf_definition.specs.Frame.{Frame, scope_in}
 use Rattle.cdf_definition.specs.References.{Scope}
 use Rattle.cdf_definition.specs.Resolves.{CvrResolves}
 use Rattle.cdf_check.proofs.Laws.{more_devices, header_stays, snapshot_stays}
+use Rattle.cdf_check.proofs.Lemmas.{items_len-items_of}
 use Rattle.cdf_definition.proofs.Laws.{is_kept}
 use Rattle.cdf_check.specs.Wider.{Wider}
 use Rattle.cvr_fact_types.specs.declared.name.RecordName.{RecordName}
@@ -82,10 +83,6 @@ ids_shown : (f : List ℕ → List ℕ) (ids : List (List ℕ))
     → map (λ (q : Shown). q.id) (map (λ id. record { id = id; body = f id }) ids) ≡ ids
 ids_shown f [] = refl
 ids_shown f (id ∷ ids) = ap (λ js. id ∷ js) (ids_shown f ids)
-
-pub len_items : (xs : List Data) → items_len (items_of xs) ≡ length xs
-len_items [] = refl
-len_items (x ∷ xs) = ap suc (len_items xs)
 
 some_listed : {X : Type 0} (xs : List X) (x : X) → Contains xs x → 0 < length xs
 some_listed xs x a = let lt = a.1 in omega (arith, lt)
@@ -271,7 +268,7 @@ module _ (frame : Frame) (s : Facts) (can_hold : CanHold frame s) where
           let one = some_id frame s can_hold i pos key at in
           let lt = some_listed snapshot_values _
           (value_listed shown_snapshot (snapshot_ids s key) one.0 one.1) in
-          omega (arith, lt, len_items snapshot_values)
+          omega (arith, lt, items_len-items_of snapshot_values)
 
       current_in : Contains (snapshot_ids s key) current
       current_in =

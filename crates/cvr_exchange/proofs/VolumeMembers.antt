@@ -5,9 +5,9 @@ use Rattle.serde_json.specs.Data.{Data, string, array, object, Items, no_items, 
 use Rattle.serde_json.specs.Data.{no_members, put}
 use Rattle.serde_json.specs.Find.{get}
 use Rattle.cvr_report.specs.Volume.{volume_of}
-use Rattle.cvr_exchange.proofs.Arrays.{only_one}
 use Rattle.cvr_exchange.proofs.Clean.{IsClean, clean_string, clean_array, clean_put, clean_none}
 use Rattle.cvr_exchange.proofs.Records.{name_utf8}
+use Rattle.cvr_facts.proofs.Lemmas.{only_one}
 
 -- the report of these parts
 abbrev pub made_of : (es us : Items) (date device : List ℕ) (ds ps rs : Items) → Data

@@ -4,7 +4,7 @@ use Rattle.std.proofs.Common.{refl, sym, ap, ◌∙◌}
 use Rattle.std.proofs.lemmas.Cmp.{on_total, then_total, nat_cmp_total, int_cmp_total}
 use Rattle.std.proofs.lemmas.Cmp.{nat_list_cmp_total, tied_itself}
 use Rattle.std.specs.declared.cmp.Ordering.{Ordering}
-use Rattle.std.specs.declared.cmp.Ordering.TheVariants.{Less, Equal, Greater}
+use Rattle.std.specs.declared.cmp.Ordering.TheVariants.{Less, Equal}
 use Rattle.std.specs.Ordering.{nat_cmp, int_cmp, ordering_then}
 use Rattle.std.specs.Option.{option_cmp}
 use Rattle.std.specs.Cmp.{IsTotalOrder, nat_cmp_is, int_cmp_is}
@@ -21,18 +21,9 @@ use Rattle.cvr_facts.specs.Sums.{sums_in}
 use Rattle.cvr_facts.specs.Laws.{ChoosingLaw, EqualLaw, RankLaw, UndatedLaw, EarlierLaw, BytesLaw}
 use Rattle.cvr_facts.specs.Laws.{BodiesLaw, ExactLaw, CurrentLaw, OneCurrentLaw}
 use Rattle.cvr_facts.proofs.Greatest.{one_greatest, greatest_iff, has_greatest}
+use Rattle.cvr_facts.proofs.Gathering.{tied}
 
 -- ---- parts of an order
-
-then_first : (r s : Ordering) → ordering_then r s ≡ Equal → r ≡ Equal
-then_first Less s e = e
-then_first Equal s e = refl
-then_first Greater s e = e
-
-then_second : (r s : Ordering) → ordering_then r s ≡ Equal → s ≡ Equal
-then_second Less s e = Prim.cc e
-then_second Equal s e = e
-then_second Greater s e = Prim.cc e
 
 then_equal : (r s : Ordering) → r ≡ Equal → s ≡ Equal → ordering_then r s ≡ Equal
 then_equal r s p q = ap (λ x. ordering_then x s) p ∙ q
@@ -60,7 +51,7 @@ choice_total =
 
 -- its last part is the body itself
 pub choice_exact : IsAntisymmetric choice_cmp
-choice_exact a b e = text_exact a b (then_second _ _ e)
+choice_exact a b e = text_exact a b (tied _ _ e).1
 
 pub fact_total : ChoosingLaw
 fact_total =
@@ -71,13 +62,13 @@ fact_total =
 
 module _ (a b : SnapshotFact) where
   ranks_equal : fact_choice a b ≡ Equal → snapshot_kind_rank a.kind ≡ snapshot_kind_rank b.kind
-  ranks_equal e = nat_cmp-IsAntisymmetric _ _ (then_first _ _ (then_first _ _ e))
+  ranks_equal e = nat_cmp-IsAntisymmetric _ _ (tied _ _ (tied _ _ e).0).0
 
   moments_equal : fact_choice a b ≡ Equal → a.moment ≡ b.moment
-  moments_equal e = moment_exact _ _ (then_second _ _ (then_first _ _ e))
+  moments_equal e = moment_exact _ _ (tied _ _ (tied _ _ e).0).1
 
   bodies_equal : fact_choice a b ≡ Equal → a.body ≡ b.body
-  bodies_equal e = text_exact _ _ (then_second _ _ e)
+  bodies_equal e = text_exact _ _ (tied _ _ e).1
 
   all_tied : snapshot_kind_rank a.kind ≡ snapshot_kind_rank b.kind → a.moment ≡ b.moment
       → a.body ≡ b.body → fact_choice a b ≡ Equal

@@ -23,7 +23,7 @@ use Rattle.cvr_facts.proofs.Members.{from_map, in_map, same_from_list}
 
 -- ---- ties
 
-tied : (a b : Ordering) → ordering_then a b ≡ Equal → (a ≡ Equal) × (b ≡ Equal)
+pub tied : (a b : Ordering) → ordering_then a b ≡ Equal → (a ≡ Equal) × (b ≡ Equal)
 tied a b e = grind arith
 
 text_is : (a b : List ℕ) → text_cmp a b ≡ Equal → a ≡ b

@@ -1,7 +1,7 @@
 -- The greatest of a list is in it, and is the only one.
 use Rattle.std.specs.Prelude.{◌≡◌, ◌≢◌, ◌↔◌, true, false}
 use Rattle.std.specs.Prelude.{cond, List, [], ◌∷◌, Some, None}
-use Rattle.std.proofs.Common.{refl, sym, ap, ◌∙◌, subst, inl, inr}
+use Rattle.std.proofs.Common.{refl, ap, subst, inl, inr, arith}
 use Rattle.std.proofs.lemmas.Bool.{false≢true}
 use Rattle.std.specs.Option.{option_map_or}
 use Rattle.std.specs.List.{Contains}
@@ -16,16 +16,14 @@ use Rattle.cvr_facts.proofs.Members.{at_head, at_tail, head_or_tail, none_listed
 
 -- ---- orderings
 
-gt_back : (r s : Ordering) → r ≡ ordering_reverse s → is_gt s ≡ true → is_gt r ≡ false
+pub gt_back : (r s : Ordering) → r ≡ ordering_reverse s → is_gt s ≡ true → is_gt r ≡ false
 gt_back r Less e h = absurd (false≢true h)
 gt_back r Equal e h = absurd (false≢true h)
 gt_back r Greater e h = ap is_gt e
 
 no_gt_both : (r s : Ordering) → r ≡ ordering_reverse s → is_gt r ≡ false → is_gt s ≡ false
     → s ≡ Equal
-no_gt_both r Less e h k = absurd (false≢true (sym h ∙ ap is_gt e))
-no_gt_both r Equal e h k = refl
-no_gt_both r Greater e h k = absurd (false≢true (sym k))
+no_gt_both r s e h k = grind arith
 
 -- ---- the greatest
 

@@ -1,8 +1,8 @@
 -- Members of lists that are made of others.
 use Rattle.std.proofs.Common.{◌≡◌, zero, suc, ◌<◌, List, [], ◌∷◌, length, map, Contains, inl, inr}
 use Rattle.std.proofs.Common.{refl, sym, ap, ◌∙◌, subst, arith}
-use Rattle.std.specs.Prelude.{◌⊎◌, true}
-use Rattle.std.specs.List.{flat_map}
+use Rattle.std.specs.Prelude.{◌⊎◌, true, Bool}
+use Rattle.std.specs.List.{flat_map, list_any}
 use Rattle.std.specs.Cmp.{IsTotalOrder, both_ways}
 use Rattle.std.specs.declared.cmp.Ordering.{Ordering}
 use Rattle.std.specs.FinMap.{IsAntisymmetric}
@@ -11,6 +11,7 @@ use Rattle.std.proofs.lemmas.Cmp.{eq_by_cmp_equiv}
 use Rattle.std.proofs.lemmas.List.Elements.{Contains-append_left, Contains-append_right}
 use Rattle.std.proofs.lemmas.List.Elements.{Contains-append_cases}
 use Rattle.std.proofs.lemmas.Map.Views.{list_any-from_Contains, Contains-from_any, tells_apart}
+use Rattle.std.proofs.lemmas.List.Folds.{Any-from_list_any, list_any_at}
 
 -- ---- one list
 
@@ -29,6 +30,19 @@ head_or_tail x y xs (zero, within, is) = inl is
 head_or_tail x y xs (suc k, within, is) = inr (k, omega (arith, within), is)
 
 -- a list with an item has a member
+pub only_one : {X : Type 0} (x y : X) → Contains (x ∷ []) y → x ≡ y
+only_one x y at = elim (head_or_tail x y [] at)
+    [ inl is ↦ is | inr more ↦ absurd (none_listed y more) ]
+
+pub one_that_passes : {X : Type 0} (test : X → Bool) (xs : List X) → list_any test xs ≡ true
+    → (x : X) × Contains xs x × (test x ≡ true)
+one_that_passes test xs h =
+    let one = Any-from_list_any test xs h in (one.1, (one.0, one.2, one.3), one.4)
+
+pub passes_by : {X : Type 0} (test : X → Bool) (xs : List X) (x : X) → Contains xs x → test x ≡ true
+    → list_any test xs ≡ true
+passes_by test xs x at h = list_any_at test xs at.0 x at.1 (ap test at.2 ∙ h)
+
 pub one_listed : {X : Type 0} (xs : List X) → 0 < length xs → (x : X) × Contains xs x
 one_listed [] some = absurd (omega (arith, some))
 one_listed (x ∷ xs) some = (x, at_head x xs)

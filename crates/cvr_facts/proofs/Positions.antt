@@ -1,6 +1,7 @@
 -- Which positions count, and which are pending.
 use Rattle.std.proofs.Common.{◌≡◌, Bool, true, false, ◌&&◌, Option, refl, sym, ap, ◌∙◌}
 use Rattle.std.proofs.Common.{true≢false, arith}
+use Rattle.std.proofs.lemmas.Bool.{and_parts}
 use Rattle.std.specs.Option.{option_map_or}
 use Rattle.cdf_types.specs.declared.mark.Indication.{Indication}
 use Rattle.cdf_types.specs.declared.mark.Indication.TheVariants as indication
@@ -20,13 +21,9 @@ marked_is indication.No h = absurd (true≢false (sym h))
 marked_is indication.Unknown h = absurd (true≢false (sym h))
 marked_is indication.Yes h = refl
 
-second : (a b : Bool) → (a && b) ≡ true → b ≡ true
-second true b h = h
-second false b h = absurd (true≢false (sym h))
-
 pub marked : MarkedLaw
 marked p pending = marked_is p.indication
-    (second (option_map_or is_unsettled p.allocation false) (is_marked p.indication) pending)
+    (and_parts (option_map_or is_unsettled p.allocation false) (is_marked p.indication) pending).1
 
 pub absent : UnsetLaw
 absent p none = (

@@ -1,9 +1,11 @@
 -- The bodies of a record are those of its facts.
-use Rattle.std.specs.Prelude.{◌≡◌, ◌↔◌, ◌⊎◌, ℕ, Bool, true, false, ◌&&◌, if◌then◌else◌, bytes_eq}
+use Rattle.std.specs.Prelude.{◌≡◌, ◌↔◌, ◌⊎◌, ℕ, true, bytes_eq}
 use Rattle.std.specs.Prelude.{List, [], ◌∷◌, Option, Some, None}
 use Rattle.std.proofs.Common.{refl, sym, ap, ◌∙◌, subst, inl, inr}
 use Rattle.std.proofs.lemmas.Map.Views.{Contains-from_any, list_any-from_Contains}
 use Rattle.std.proofs.lemmas.Slice.Eq.{bytes_eq-Decides}
+use Rattle.std.proofs.lemmas.Bool.{and_parts}
+use Rattle.std.proofs.lemmas.Option.{cond_some}
 use Rattle.std.specs.List.{filter_map, cons_option, Contains}
 use Rattle.std.specs.Cmp.{Equal-is, eq_by_cmp_equiv}
 use Rattle.std.specs.FinSet.{contains, items, contains-items}
@@ -66,23 +68,14 @@ module _ (key : RecordName) where
     (bytes_eq-Decides key.unique key.unique).1 refl,
   ) refl
 
-  both : (s t : Bool) → (s && t) ≡ true → (s ≡ true) × (t ≡ true)
-  both true true e = (refl, refl)
-  both true false e = Prim.cc e
-  both false t e = Prim.cc e
-
-  of_name : (device unique : List ℕ) → is_name key device unique ≡ true
+  pub of_name : (device unique : List ℕ) → is_name key device unique ≡ true
       → (key.device ≡ device) × (key.unique ≡ unique)
   of_name device unique e =
-      let parts = both (bytes_eq key.device device) (bytes_eq key.unique unique) e in (
+      let parts = and_parts (bytes_eq key.device device) (bytes_eq key.unique unique) e in (
         (bytes_eq-Decides key.device device).0 parts.0,
         (bytes_eq-Decides key.unique unique).0
             parts.1,
       )
-
-  given : (t : Bool) (b c : List ℕ) → (if t then Some b else None) ≡ Some c → (t ≡ true) × (b ≡ c)
-  given true b c e = (refl, Prim.cc e)
-  given false b c e = Prim.cc e
 
   -- ---- facts of a record
 
@@ -97,7 +90,7 @@ module _ (key : RecordName) where
       → f ≡ Header key.device key.unique b
   header_body-is (Device i c) b e = Prim.cc e
   header_body-is (Header d u c) b e =
-      let had = given (is_name key d u) c b e in
+      let had = cond_some (is_name key d u) c b e in
       let names = of_name d u had.0 in
       λ i. Header (sym names.0 i) (sym names.1 i) (had.1 i)
   header_body-is (Snapshot d u i c) b e = Prim.cc e
@@ -107,7 +100,7 @@ module _ (key : RecordName) where
   snapshot_body-is (Device i c) b e = Prim.cc e
   snapshot_body-is (Header d u c) b e = Prim.cc e
   snapshot_body-is (Snapshot d u id c) b e =
-      let had = given (is_name key d u) c b e in
+      let had = cond_some (is_name key d u) c b e in
       let names = of_name d u had.0 in
       (id, λ i. Snapshot (sym names.0 i) (sym names.1 i) id (had.1 i))
 

@@ -1,21 +1,20 @@
 -- Sets of facts that are given by lists: how many they hold, and which header and snapshot stand.
-use Rattle.std.proofs.Common.{◌≡◌, ℕ, ◌+◌, ◌<◌, List, [], ◌∷◌, ◌++◌, ◌&&◌, cond, Bool, true, false}
-use Rattle.std.proofs.Common.{Option, Some, Ordering, nat_lt, arith, refl}
-use Rattle.std.proofs.Common.{sym, ◌∙◌, true≢false}
+use Rattle.std.proofs.Common.{◌≡◌, ℕ, ◌+◌, List, [], ◌∷◌, ◌++◌, cond, true}
+use Rattle.std.proofs.Common.{Option, Some, Ordering, refl}
+use Rattle.std.proofs.Common.{sym, ◌∙◌}
 use Rattle.std.proofs.lemmas.List.Folds.{list_any-append}
 use Rattle.std.specs.List.{list_any, list_all, filter_map, flat_map}
-use Rattle.std.specs.Str.{IsAscii}
 use Rattle.std.specs.Ordering.{eq_by_cmp}
 use Rattle.std.specs.Cmp.{IsTotalOrder}
-use Rattle.std.proofs.lemmas.Bool.Decides.{nat_tests}
 use Rattle.std.proofs.lemmas.Str.{IsUtf8-from_ascii, is_utf8-from_IsUtf8}
-use Rattle.std.proofs.lemmas.Str.Ascii.{IsAscii-nil, IsAscii-cons}
+use Rattle.std.proofs.lemmas.Bool.{and_parts}
 use Rattle.std.specs.FinMap.{IsAntisymmetric}
 use Rattle.std.specs.FinSet.{contains-union, contains-from_list, same_set}
 use Rattle.std.specs.FinSet.{from_list, union, len, len-empty, len-insert, items}
 use Rattle.serde_json.specs.Data.{Data}
 use Rattle.cdf_typed.specs.Greatest.{max_by}
 use Rattle.cdf_definition.specs.Acceptance.{value_in}
+use Rattle.cdf_definition.proofs.Lemmas.{ascii, all_ascii}
 use Rattle.cvr_fact_types.specs.declared.name.RecordName.{RecordName}
 use Rattle.cvr_fact_types.specs.Facts.{Fact, Facts, fact_cmp, fact_total, fact_exact, text_cmp}
 use Rattle.cvr_facts.specs.Reports.{facts, report_facts}
@@ -29,23 +28,7 @@ use Rattle.cvr_facts.proofs.Choosing.{text_total, text_exact, choice_total, choi
 
 -- ---- files whose bytes are all ASCII
 
-abbrev pub all_ascii : List ℕ → Bool
-all_ascii [] = true
-all_ascii (b ∷ bs) = nat_lt b 128 && all_ascii bs
-
-and-both : (a b : Bool) → (a && b) ≡ true → (a ≡ true) × (b ≡ true)
-and-both true b h = (refl, h)
-and-both false b h = absurd (true≢false (sym h))
-
-ascii : (bs : List ℕ) → all_ascii bs ≡ true → IsAscii bs
-ascii [] h = IsAscii-nil
-ascii (b ∷ bs) h = let both = and-both (nat_lt b 128) (all_ascii bs) h in
-    IsAscii-cons b bs (below b both.0) (ascii bs both.1)
-  where
-    below : (b : ℕ) → nat_lt b 128 ≡ true → b < 128
-    below b e = grind (arith, nat_tests)
-
-value_in-ascii : (bytes : List ℕ) → all_ascii bytes ≡ true → value_in bytes ≡ data_of bytes
+pub value_in-ascii : (bytes : List ℕ) → all_ascii bytes ≡ true → value_in bytes ≡ data_of bytes
 value_in-ascii bytes a =
     rw (is_utf8-from_IsUtf8 bytes (IsUtf8-from_ascii bytes (ascii bytes a))) refl
 
@@ -78,7 +61,7 @@ pub facts_of_files-ascii : (files : List (List ℕ)) → list_all all_ascii file
     → facts_of_files files ≡ from_list (flat_map spelled files)
 facts_of_files-ascii [] a = refl
 facts_of_files-ascii (one ∷ others) a =
-    let both = and-both (all_ascii one) (list_all all_ascii others) a in
+    let both = and_parts (all_ascii one) (list_all all_ascii others) a in
     rw (facts-ascii one both.0, facts_of_files-ascii others both.1)
     (union-from_list (spelled one) (flat_map spelled others))
 

@@ -8,6 +8,7 @@ use Rattle.std.specs.Ordering.{is_lt, is_eq, ordering_index}
 use Rattle.std.proofs.lemmas.List.{take_all, take-append-drop, length-take-le, length-drop}
 use Rattle.std.proofs.lemmas.List.{get_or-take, get_or-drop}
 use Rattle.std.proofs.lemmas.List.Elements.{All-head, All-tail, Contains-get_or, filter-append}
+use Rattle.cvr_lists.proofs.DeviceBodies.{lt_not_eq}
 
 -- ---- tests by their numbers
 
@@ -30,11 +31,6 @@ middle : (r : Ordering) → is_lt r ≡ false → ordering_index r ≤ 1 → is_
 middle Less h k = Prim.cc h
 middle Equal h k = refl
 middle Greater h k = absurd (omega (arith, k))
-
-less_not_equal : (r : Ordering) → is_lt r ≡ true → is_eq r ≡ false
-less_not_equal Less h = refl
-less_not_equal Equal h = Prim.cc h
-less_not_equal Greater h = Prim.cc h
 
 -- ---- what a filter leaves
 
@@ -120,7 +116,7 @@ module _ {X : Type 0} (o : X → Ordering) (xs : List X)
         → take n rest ≡ filter (λ y. is_eq (o y)) xs
     run_is n few found =
         sym (filter_back (λ y. is_eq (o y)) xs k le
-        (λ i d low lt. less_not_equal _ (point.0 i d low lt))
+        (λ i d low lt. lt_not_eq _ (point.0 i d low lt))
         ∙ (ap (filter (λ y. is_eq (o y))) (sym rest_is)
         ∙ filter_front (λ y. is_eq (o y)) rest n few found.0 found.1))
 

@@ -1,22 +1,16 @@
 -- The conflicts of the set that a list in strict order makes.
-use Rattle.std.proofs.Common.{◌≡◌, ℕ, List, [], ◌∷◌, length, map, Contains, inl, inr, refl, sym, ap}
-use Rattle.std.proofs.Common.{◌∙◌, subst, Less, Ordering}
-use Rattle.std.specs.Prelude.{Bool, true}
+use Rattle.std.proofs.Common.{◌≡◌, ℕ, List, [], ◌∷◌, length, map, Contains, refl, sym, ap}
+use Rattle.std.proofs.Common.{◌∙◌, subst, Less}
 use Rattle.std.specs.List.{AllByRecursion, filter}
 use Rattle.std.specs.List.Sorted.{IsStrictlySortedBy}
-use Rattle.std.specs.Cmp.{IsTotalOrder, both_ways}
 use Rattle.std.specs.Cmp.Lexicographic.{nat_list_cmp_total}
-use Rattle.std.specs.FinMap.{IsAntisymmetric, nat_cmp-IsAntisymmetric, slice_cmp-IsAntisymmetric}
 use Rattle.std.specs.FinSet.{items}
-use Rattle.std.proofs.lemmas.Bool.{cond_both}
-use Rattle.std.proofs.lemmas.Map.Made.{is_member-Decides}
 use Rattle.std.proofs.lemmas.List.{length-map}
 use Rattle.std.proofs.lemmas.List.Kept.{IsStrictlySortedBy-filter}
-use Rattle.cvr_fact_types.specs.Facts.{Fact, Facts, text_cmp, fact_total, fact_exact}
-use Rattle.cvr_facts.specs.Ordered.{keys_in_order}
-use Rattle.cvr_facts.proofs.Lemmas.{tie_decides, none_listed, at_head, at_tail, head_or_tail}
-use Rattle.cvr_facts.proofs.Lemmas.{in_map, from_map, in_set, from_set, keys_in_order-same}
-use Rattle.cvr_facts.proofs.Laws.{contains_iff}
+use Rattle.cvr_fact_types.specs.Facts.{Facts, text_cmp}
+use Rattle.cvr_facts.proofs.Lemmas.{at_head, at_tail}
+use Rattle.cvr_facts.proofs.Lemmas.{in_map, from_map}
+use Rattle.cvr_facts.proofs.Laws.{text_exact}
 use Rattle.cvr_office.specs.declared.any_fact.AnyFact.{AnyFact}
 use Rattle.cvr_office.specs.declared.conflict.Conflict.{Conflict}
 use Rattle.cvr_office.specs.declared.conflict.ConflictName.{ConflictName}
@@ -27,65 +21,16 @@ use Rattle.cvr_office.specs.Plain.{set_of}
 use Rattle.cvr_lists.specs.AnyNames.{any_name, has_name}
 use Rattle.cvr_lists.specs.NameRuns.{counted_runs, of_several, most_of}
 use Rattle.cvr_office.proofs.Laws.{conflict_total, conflict_exact}
-use Rattle.cvr_office.proofs.Lemmas.{name_is}
-use Rattle.cvr_office.proofs.Lemmas.{bodies_less}
+use Rattle.cvr_office.proofs.Lemmas.{name_is, in_items, from_items, from_filter, in_filter}
+use Rattle.cvr_office.proofs.Lemmas.{bodies_less, keys_in_order-members}
 use Rattle.cvr_lists.proofs.NameRuns.{count, run_names, runs_counted, run_names-rise, in_run_names}
 use Rattle.cvr_lists.proofs.NameRuns.{from_run_names}
-
--- ---- a list in order
-
-module _ {K : Type 0} {R : K → K → Ordering} (t : IsTotalOrder R) (e : IsAntisymmetric R) where
-  -- what rises and has the members is it
-  ordered_of_members : (ks xs : List K) → IsStrictlySortedBy R xs
-      → ((q : K) → Contains xs q → Contains ks q) → ((q : K) → Contains ks q → Contains xs q)
-      → keys_in_order R ks ≡ xs
-  ordered_of_members ks xs h there back = keys_in_order-same t e ks xs h (λ q. both_ways _ _
-      (λ a. (is_member-Decides (tie_decides t e) ks q).1
-      (there q ((is_member-Decides (tie_decides t e) xs q).0 a)))
-      (λ a. (is_member-Decides (tie_decides t e) xs q).1
-      (back q ((is_member-Decides (tie_decides t e) ks q).0 a))))
-
-module _ {X : Type 0} (p : X → Bool) where
-  in_filter : (x : X) (xs : List X) → Contains xs x → p x ≡ true → Contains (filter p xs) x
-  in_filter x [] at h = absurd (none_listed x at)
-  in_filter x (z ∷ xs) at h =
-      cond_both (p z) (z ∷ filter p xs) (filter p xs) (λ ys. Contains ys x)
-      (λ _. elim (head_or_tail z x xs at) [
-        | inl is ↦ subst (Contains (z ∷ filter p xs)) is (at_head z (filter p xs))
-        | inr later ↦ at_tail z x (filter p xs) (in_filter x xs later h)
-      ])
-      (λ f. elim (head_or_tail z x xs at)
-      [ inl is ↦ Prim.cc (f, h, ap p is) | inr later ↦ in_filter x xs later h ])
-
-  from_filter : (x : X) (xs : List X) → Contains (filter p xs) x → Contains xs x × (p x ≡ true)
-  from_filter x [] at = absurd (none_listed x at)
-  from_filter x (z ∷ xs) at =
-      cond_both (p z) (z ∷ filter p xs) (filter p xs)
-      (λ ys. Contains ys x → Contains (z ∷ xs) x × (p x ≡ true))
-      (λ h here. elim (head_or_tail z x (filter p xs) here) [
-        | inl is ↦ (subst (Contains (z ∷ xs)) is (at_head z xs), ap p (sym is) ∙ h)
-        | inr later ↦ let had = from_filter x xs later in (at_tail z x xs had.0, had.1)
-      ])
-      (λ _ here. let had = from_filter x xs here in (at_tail z x xs had.0, had.1))
-      at
-
--- ---- the facts of the set
-
-in_items : (xs : List AnyFact) (x : AnyFact) → Contains xs x
-    → Contains (items (set_of xs)) (fact_of x)
-in_items xs x at = (contains_iff (set_of xs) (fact_of x)).0
-    (in_set fact_total fact_exact (map fact_of xs) (fact_of x) (in_map fact_of x xs at))
-
-from_items : (xs : List AnyFact) (f : Fact) → Contains (items (set_of xs)) f
-    → (x : AnyFact) × Contains xs x × (fact_of x ≡ f)
-from_items xs f at = from_map fact_of f xs
-    (from_set fact_total fact_exact (map fact_of xs) f ((contains_iff (set_of xs) f).1 at))
 
 -- ---- names
 
 pub names-is : (xs : List AnyFact) → IsStrictlySortedBy any_cmp xs
     → names (set_of xs) ≡ run_names (counted_runs xs)
-names-is xs rises = ordered_of_members conflict_total conflict_exact
+names-is xs rises = keys_in_order-members conflict_total conflict_exact
     (map name_of (items (set_of xs))) (run_names (counted_runs xs)) (run_names-rise xs rises)
     (λ n at. let found = from_map any_name n xs (from_run_names xs n at) in
     subst (Contains (map name_of (items (set_of xs)))) found.2
@@ -99,9 +44,6 @@ names-is xs rises = ordered_of_members conflict_total conflict_exact
 
 abbrev body : AnyFact → List ℕ
 body x = body_of (fact_of x)
-
-text_exact : IsAntisymmetric text_cmp
-text_exact = slice_cmp-IsAntisymmetric nat_cmp-IsAntisymmetric
 
 -- under one name bodies rise
 bodies_above : (n : ConflictName) (x : AnyFact) (xs : List AnyFact) → n ≡ any_name x
@@ -126,9 +68,9 @@ bodies_rise n (x ∷ xs) same rises = (
 
 bodies_under-is : (xs : List AnyFact) → IsStrictlySortedBy any_cmp xs → (n : ConflictName)
     → bodies_under (set_of xs) n ≡ map body (filter (has_name n) xs)
-bodies_under-is xs rises n = ordered_of_members nat_list_cmp_total text_exact told mine
+bodies_under-is xs rises n = keys_in_order-members nat_list_cmp_total text_exact told mine
     (bodies_rise n (filter (has_name n) xs)
-    (λ y at. name_is n (fact_of y) (from_filter (has_name n) y xs at).1)
+    (λ y at. name_is n (fact_of y) (from_filter (has_name n) xs y at).1)
     (IsStrictlySortedBy-filter any_cmp (has_name n) xs rises))
     there back
   where
@@ -141,20 +83,20 @@ bodies_under-is xs rises n = ordered_of_members nat_list_cmp_total text_exact to
     there : (b : List ℕ) → Contains mine b → Contains told b
     there b at =
         let found = from_map body b (filter (has_name n) xs) at in
-        let had = from_filter (has_name n) found.0 xs found.1 in
+        let had = from_filter (has_name n) xs found.0 found.1 in
         subst (Contains told) found.2 (in_map body_of (fact_of found.0)
         (filter (is_named n) (items (set_of xs)))
-        (in_filter (is_named n) (fact_of found.0) (items (set_of xs))
+        (in_filter (is_named n) (items (set_of xs)) (fact_of found.0)
         (in_items xs found.0 had.0) had.1))
 
     back : (b : List ℕ) → Contains told b → Contains mine b
     back b at =
         let found = from_map body_of b (filter (is_named n) (items (set_of xs))) at in
-        let had = from_filter (is_named n) found.0 (items (set_of xs)) found.1 in
+        let had = from_filter (is_named n) (items (set_of xs)) found.0 found.1 in
         let one = from_items xs found.0 had.0 in
         subst (Contains mine) (ap body_of one.2 ∙ found.2)
         (in_map body one.0 (filter (has_name n) xs)
-        (in_filter (has_name n) one.0 xs one.1 (ap (is_named n) one.2 ∙ had.1)))
+        (in_filter (has_name n) xs one.0 one.1 (ap (is_named n) one.2 ∙ had.1)))
 
 count_under-is : (xs : List AnyFact) → IsStrictlySortedBy any_cmp xs → (n : ConflictName)
     → count_under (set_of xs) n ≡ count n xs

@@ -21,9 +21,8 @@ use Rattle.cvr_office.specs.Place.{fact_of, any_cmp, place_cmp}
 use Rattle.cvr_office.specs.Plain.{set_of}
 use Rattle.cvr_lists.proofs.Orderings.{then-Equal}
 use Rattle.cvr_office.proofs.Lemmas.{keys_in_order-members, in_items, from_items, device_passes}
-use Rattle.cvr_office.proofs.Lemmas.{devices_parted, device_up, none_last}
-use Rattle.cvr_lists.proofs.Sides.{filter-between, map-rises, parted_behind, Contains-filter}
-use Rattle.cvr_lists.proofs.Sides.{from-filter}
+use Rattle.cvr_office.proofs.Lemmas.{devices_parted, device_up, none_last, in_filter, from_filter}
+use Rattle.cvr_lists.proofs.Sides.{filter-between, map-rises, parted_behind}
 
 module _ (id : List ℕ) where
   abbrev pub is_own : AnyFact → Bool
@@ -55,20 +54,20 @@ module _ (id : List ℕ) where
         → Contains (map text (filter is_own xs)) b
     there b at =
         let fact = from_map body_of b (filter (is_named (name.Device id)) (items (set_of xs))) at in
-        let held = from-filter (is_named (name.Device id)) (items (set_of xs)) fact.0 fact.1 in
+        let held = from_filter (is_named (name.Device id)) (items (set_of xs)) fact.0 fact.1 in
         let x = from_items xs fact.0 held.0 in
         subst (Contains (map text (filter is_own xs))) (ap body_of x.2 ∙ fact.2)
         (in_map text x.0 (filter is_own xs)
-        (Contains-filter is_own xs x.0 x.1 (ap (is_named (name.Device id)) x.2 ∙ held.1)))
+        (in_filter is_own xs x.0 x.1 (ap (is_named (name.Device id)) x.2 ∙ held.1)))
 
     back : (b : List ℕ) → Contains (map text (filter is_own xs)) b
         → Contains (map body_of (filter (is_named (name.Device id)) (items (set_of xs)))) b
     back b at =
         let x = from_map text b (filter is_own xs) at in
-        let own = from-filter is_own xs x.0 x.1 in
+        let own = from_filter is_own xs x.0 x.1 in
         subst (Contains (map body_of (filter (is_named (name.Device id)) (items (set_of xs))))) x.2
         (in_map body_of (fact_of x.0) (filter (is_named (name.Device id)) (items (set_of xs)))
-        (Contains-filter (is_named (name.Device id)) (items (set_of xs)) (fact_of x.0)
+        (in_filter (is_named (name.Device id)) (items (set_of xs)) (fact_of x.0)
         (in_items xs x.0 own.0) own.1))
 
     pub bodies_under-filter : bodies_under (set_of xs) (name.Device id)
@@ -88,7 +87,7 @@ named_tie id i = both_ways (bytes_eq id i) (is_eq (text_cmp i id))
     ∙ tied_itself text_total i))
     (λ e. (bytes_eq-Decides id i).1 (sym (text_exact i id ((Equal-is (text_cmp i id)).0 e))))
 
-lt_not_eq : (r : Ordering) → is_lt r ≡ true → is_eq r ≡ false
+pub lt_not_eq : (r : Ordering) → is_lt r ≡ true → is_eq r ≡ false
 lt_not_eq r e = grind arith
 
 gt_not_eq : (r : Ordering) → is_le r ≡ false → is_eq r ≡ false

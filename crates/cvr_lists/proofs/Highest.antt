@@ -1,7 +1,7 @@
 -- One more key beside others, of which the highest is known.
 use Rattle.std.proofs.Common.{◌≡◌, true, false, List, [], ◌∷◌, ◌++◌, Contains, Option, Some, None}
 use Rattle.std.proofs.Common.{Ordering, Less, Equal, Greater, inl, inr, refl, sym, ap, ◌∙◌, subst}
-use Rattle.std.proofs.Common.{true≢false}
+use Rattle.std.proofs.Common.{true≢false, arith}
 use Rattle.std.specs.List.{AllByRecursion}
 use Rattle.std.specs.List.Sorted.{IsStrictlySortedBy}
 use Rattle.std.specs.Option.{option_cmp}
@@ -42,11 +42,9 @@ less_back r Less e h = absurd (true≢false (sym h))
 less_back r Equal e h = absurd (true≢false (sym h))
 less_back r Greater e h = e
 
-equal_both : (r s : Ordering) → r ≡ ordering_reverse s → is_gt r ≡ false → is_gt s ≡ false
+pub equal_both : (r s : Ordering) → r ≡ ordering_reverse s → is_gt r ≡ false → is_gt s ≡ false
     → r ≡ Equal
-equal_both r Less e h k = absurd (true≢false (sym (ap is_gt e) ∙ h))
-equal_both r Equal e h k = e
-equal_both r Greater e h k = absurd (true≢false k)
+equal_both r s e h k = grind arith
 
 pub none_highest : {K : Type 0} (R : K → K → Ordering) → IsHighest R [] None
 none_highest R =

@@ -28,12 +28,9 @@ use Rattle.cvr_facts.proofs.Lemmas.{IsSorted-strict, none_listed, head_or_tail}
 use Rattle.cvr_office.specs.declared.any_fact.AnyFact.{AnyFact}
 use Rattle.cvr_office.specs.Place.{fact_of, place_cmp, place_total, place_exact, any_cmp, any_total}
 use Rattle.cvr_office.specs.Plain.{set_of, IsPut}
-use Rattle.cvr_office.proofs.Lemmas.{set_is, in_union, from_union}
+use Rattle.cvr_office.proofs.Lemmas.{set_is, in_union, from_union, less_alone}
 
 -- ---- a fact that is there
-
-less_equal : (r : Ordering) → r ≡ Less → r ≡ Equal → ⊥
-less_equal r a b = let both : Less ≡ Equal = sym a ∙ b in cc
 
 greater_equal : (r : Ordering) → r ≡ Greater → r ≡ Equal → ⊥
 greater_equal r a b = let both : Greater ≡ Equal = sym a ∙ b in cc
@@ -59,7 +56,7 @@ search_is xs x (Err i) rises bound found =
           ≡ Equal = ap (λ z. place_cmp (fact_of z) (fact_of x)) at
           ∙ (ap (λ f. place_cmp f (fact_of x)) y.2 ∙ tied_itself place_total (fact_of x)) in
           elim (cases_lt k i) [
-            | inl below ↦ absurd (less_equal _ (parts.0 k y.0 (omega arith) below) tie)
+            | inl below ↦ absurd (less_alone _ (parts.0 k y.0 (omega arith) below) tie)
             | inr above ↦ absurd (greater_equal _ (parts.1 k y.0 above y.1.1) tie)
           ]
       | false ↦ λ e. refl

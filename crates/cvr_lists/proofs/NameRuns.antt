@@ -222,7 +222,7 @@ runs_counted (x ∷ xs) rises c at =
 abbrev pub run_names : List Conflict → List ConflictName
 run_names cs = map (λ c. c.name) cs
 
-all_of : {X : Type 0} (T : X → Type 0) (xs : List X) → ((x : X) → Contains xs x → T x)
+pub all_of : {X : Type 0} (T : X → Type 0) (xs : List X) → ((x : X) → Contains xs x → T x)
     → AllByRecursion T xs
 all_of T [] h = tt
 all_of T (x ∷ xs) h = (h x (at_head x xs), all_of T xs (λ y at. h y (at_tail x y xs at)))

@@ -4,7 +4,7 @@ use Rattle.std.proofs.Common.{length, drop, cond, inl, inr, refl, sym, ap, ◌�
 use Rattle.std.specs.Prelude.{Bool, true, false, ◌==◌, max, Some, None}
 use Rattle.std.specs.List.{prefix_len, slice_get}
 use Rattle.std.specs.Ordering.{is_lt, nat_cmp, ord_max}
-use Rattle.std.proofs.lemmas.Bool.Decides.{leb_tells}
+use Rattle.std.proofs.lemmas.Bool.Decides.{leb_tells, nat_tests}
 use Rattle.cvr_office.specs.declared.any_fact.AnyFact.{AnyFact}
 use Rattle.cvr_office.specs.declared.conflict.Conflict.{Conflict}
 use Rattle.cvr_office.specs.Names.{most}
@@ -91,11 +91,7 @@ module _ (first : AnyFact) (bodies : ℕ) (rest more : List AnyFact)
 -- ---- the greatest number
 
 pub most-cons : (n : ℕ) (ns : List ℕ) → most (n ∷ ns) ≡ max n (most ns)
-most-cons n ns =
-    elim (leb_tells n (most ns)) [
-      | inl met ↦ ap (λ b. cond b (most ns) n) met.0 ∙ omega (arith, met.1)
-      | inr unmet ↦ ap (λ b. cond b (most ns) n) unmet.0 ∙ omega (arith, unmet.1)
-    ]
+most-cons n ns = grind (arith, nat_tests)
 
 ord_max-is : (a b : ℕ) → ord_max nat_cmp a b ≡ max a b
 ord_max-is a b =

@@ -3,10 +3,9 @@ use Rattle.std.proofs.Common.{◌≡◌, ℕ, List, [], ◌∷◌, map, Contains
 use Rattle.std.specs.FinSet.{from_list, union}
 use Rattle.std.specs.List.Sorted.{IsStrictlySortedBy}
 use Rattle.cdf_parts.specs.Places.{Contest}
-use Rattle.cdf_definition.specs.Named.{IdText}
 use Rattle.cdf_definition.specs.Frame.{Frame}
 use Rattle.cdf_definition.specs.Sound.{IsFrame}
-use Rattle.cvr_fact_types.specs.Facts.{Fact, Device, fact_cmp, fact_total, fact_exact}
+use Rattle.cvr_fact_types.specs.Facts.{Device, fact_cmp, fact_total, fact_exact}
 use Rattle.cvr_facts.specs.Unions.{empty_union}
 use Rattle.cvr_facts.proofs.Lemmas.{none_listed, in_map, from_map}
 use Rattle.cvr_office.specs.declared.any_fact.AnyFact.{AnyFact}
@@ -15,6 +14,7 @@ use Rattle.cvr_office.specs.CanHold.{CanHold, starting_content}
 use Rattle.cvr_office.specs.Place.{any_cmp, fact_of}
 use Rattle.cvr_office.specs.Plain.{set_of, IsSpelled, IsPlain, IsPut}
 use Rattle.cvr_office.proofs.Laws.{start_keeps}
+use Rattle.cvr_lists.proofs.Puts.{device_of}
 
 -- ---- what is put in
 
@@ -39,9 +39,6 @@ device_spelled : (contests : List Contest) (f : AnyFact) (id body : List ℕ)
 device_spelled contests (any.Device d) id body e = tt
 device_spelled contests (any.Header h) id body e = Prim.cc e
 device_spelled contests (any.Snapshot s) id body e = Prim.cc e
-
-abbrev device_of : IdText → Fact
-device_of e = Device e.0 e.1
 
 module _ (frame : Frame) (none more new : List AnyFact) (empty_is : none ≡ [])
     (are : map fact_of more ≡ map device_of frame.devices) (put : IsPut none more new) where

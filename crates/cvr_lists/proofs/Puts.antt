@@ -28,7 +28,7 @@ put_growth old more new h p =
     { rises = p.rises; from = p.from; set = p.set }
 
 -- a loop's step over the devices of a definition
-abbrev device_of : IdText → Fact
+abbrev pub device_of : IdText → Fact
 device_of e = Device e.0 e.1
 
 pub more_devices : (es : List IdText) (bodies : List (List ℕ)) (facts : List AnyFact) (i : ℕ)

@@ -29,7 +29,7 @@ use Rattle.cvr_office.specs.Place.{any_cmp}
 use Rattle.cvr_office.specs.Plain.{set_of}
 use Rattle.cvr_office.specs.Runs.{is_of, run, as_snapshot, snapshots}
 use Rattle.cvr_lists.specs.Groups.{snapshot_id, id_order, with_id, ids, RisesById}
-use Rattle.cvr_office.proofs.Lemmas.{keys_in_order-members}
+use Rattle.cvr_office.proofs.Lemmas.{keys_in_order-members, first_not_gt}
 use Rattle.cvr_lists.proofs.Lifting.{rises-filter_map, rises-map}
 use Rattle.cvr_lists.proofs.Orderings.{then-Equal}
 use Rattle.cvr_office.proofs.Lemmas.{past_key, same_name, of_snapshot, from_filter, in_filter}
@@ -40,9 +40,6 @@ use Rattle.cvr_office.proofs.Lemmas.{sorted-map}
 
 -- ---- ids along a run
 
-first_not_past : (r s : Ordering) → ordering_then r s ≡ Less → is_gt r ≡ false
-first_not_past r s e = grind arith
-
 abbrev pub snapshot_order : SnapshotFact → SnapshotFact → Ordering
 snapshot_order x y = any_cmp (any.Snapshot x) (any.Snapshot y)
 
@@ -50,7 +47,7 @@ snapshot_order x y = any_cmp (any.Snapshot x) (any.Snapshot y)
 ids_rise : (x y : SnapshotFact) → x.key ≡ y.key → snapshot_order x y ≡ Less
     → is_gt (text_cmp x.id y.id) ≡ false
 ids_rise x y same h =
-    first_not_past (text_cmp x.id y.id) (ordering_then (text_cmp x.body y.body) Equal)
+    first_not_gt (text_cmp x.id y.id) (ordering_then (text_cmp x.body y.body) Equal)
     (sym (past_key x.key y.key same (ordering_then (text_cmp x.id y.id)
     (ordering_then (text_cmp x.body y.body) Equal))) ∙ h)
 

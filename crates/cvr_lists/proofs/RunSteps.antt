@@ -1,10 +1,10 @@
 -- A loop over a run: what one more fact adds to its headers and snapshots.
 use Rattle.std.proofs.Common.{◌≡◌, ℕ, ◌+◌, ◌<◌, true, false, cond, List, [], ◌∷◌, ◌++◌, length}
-use Rattle.std.proofs.Common.{take, get_or, Contains, Ordering, Less, Equal, Greater, Some, None}
+use Rattle.std.proofs.Common.{take, get_or, Contains, Ordering, Some, None}
 use Rattle.std.proofs.Common.{inl, inr, refl, sym, ap, ◌∙◌, subst, append-nil, arith}
 use Rattle.std.specs.Prelude.{Option}
 use Rattle.std.specs.List.{filter_map, cons_option, last_or}
-use Rattle.std.specs.Ordering.{is_gt, ordering_reverse}
+use Rattle.std.specs.Ordering.{is_gt}
 use Rattle.std.specs.Cmp.{IsTotalOrder, upto, tied_itself}
 use Rattle.std.proofs.lemmas.List.{take_more}
 use Rattle.std.proofs.lemmas.List.Elements.{filter_map-append, Contains-append_left}
@@ -14,7 +14,7 @@ use Rattle.cvr_fact_types.specs.declared.header.HeaderFact.{HeaderFact}
 use Rattle.cvr_fact_types.specs.declared.snapshot.SnapshotFact.{SnapshotFact}
 use Rattle.cvr_facts.specs.Choosing.{fact_choice, IsGreatest}
 use Rattle.cvr_facts.proofs.Laws.{fact_total}
-use Rattle.cvr_facts.proofs.Lemmas.{at_head, head_or_tail, none_listed}
+use Rattle.cvr_facts.proofs.Lemmas.{at_head, head_or_tail, none_listed, gt_back}
 use Rattle.cvr_office.specs.declared.any_fact.AnyFact.{AnyFact}
 use Rattle.cvr_office.specs.declared.any_fact.AnyFact.TheVariants as any
 use Rattle.cvr_office.specs.Runs.{as_header, as_snapshot, headers, snapshots, chosen_snapshot}
@@ -72,11 +72,6 @@ module _ (xs : List AnyFact) (i : ℕ) (x : AnyFact) (lt : i < length xs)
       ∙ append-nil (snapshots (take i xs)))
 
 -- ---- the greatest
-
-gt_back : (r s : Ordering) → r ≡ ordering_reverse s → is_gt s ≡ true → is_gt r ≡ false
-gt_back r Less e h = Prim.cc h
-gt_back r Equal e h = Prim.cc h
-gt_back r Greater e h = ap is_gt e
 
 module _ {K : Type 0} {R : K → K → Ordering} (t : IsTotalOrder R) where
   not_past : (x y : K) → x ≡ y → is_gt (R y x) ≡ false

@@ -1,15 +1,14 @@
 -- What stands side by side in a list in order: behind those that one test passes, before those that
 -- another fails.
-use Rattle.std.proofs.Common.{◌≡◌, ℕ, ◌+◌, ◌<◌, ◌≤◌, Bool, true, false, cond, Contains, inl, inr}
+use Rattle.std.proofs.Common.{◌≡◌, ℕ, ◌+◌, ◌<◌, ◌≤◌, Bool, true, false}
 use Rattle.std.proofs.Common.{List, [], ◌∷◌, ◌++◌, length, map, take, drop, get_or, Ordering, Less}
 use Rattle.std.proofs.Common.{refl, sym, ap, ◌∙◌, subst, arith, get_or-take, get_or-drop}
 use Rattle.std.proofs.Common.{length-take, length-drop, append-nil}
 use Rattle.std.specs.List.{AllByRecursion, All, filter}
 use Rattle.std.specs.List.Sorted.{IsStrictlySortedBy, IsPartitionedBy, IsPartitionPoint}
 use Rattle.std.proofs.lemmas.List.{take-append-drop}
-use Rattle.std.proofs.lemmas.List.Elements.{All-head, All-tail, All-contains, All-filter}
-use Rattle.std.proofs.lemmas.List.Elements.{All-contains_itself, filter-append, filter_passes}
-use Rattle.cvr_facts.proofs.Lemmas.{none_listed, at_head, at_tail, head_or_tail}
+use Rattle.std.proofs.lemmas.List.Elements.{All-head, All-tail}
+use Rattle.std.proofs.lemmas.List.Elements.{filter-append, filter_passes}
 
 filter_all : {X : Type 0} (p : X → Bool) (xs : List X) → All (λ x. p x ≡ true) xs → filter p xs ≡ xs
 filter_all p [] h = refl
@@ -21,38 +20,6 @@ filter_none : {X : Type 0} (p : X → Bool) (xs : List X) → All (λ x. p x ≡
 filter_none p [] h = refl
 filter_none p (x ∷ xs) h =
     rw (All-head (λ y. p y ≡ false) x xs h) (filter_none p xs (All-tail (λ y. p y ≡ false) x xs h))
-
--- ---- what a filter keeps
-
-kept_in : {X : Type 0} (b : Bool) (x y : X) (xs : List X) → b ≡ true → x ≡ y
-    → Contains (cond b (x ∷ xs) xs) y
-kept_in b x y xs ok is = rw ok (subst (Contains (x ∷ xs)) is (at_head x xs))
-
-later_in : {X : Type 0} (b : Bool) (x y : X) (xs : List X) → Contains xs y
-    → Contains (cond b (x ∷ xs) xs) y
-later_in true x y xs at = at_tail x y xs at
-later_in false x y xs at = at
-
-module _ {X : Type 0} (p : X → Bool) where
-  pub Contains-filter : (xs : List X) (x : X) → Contains xs x → p x ≡ true
-      → Contains (filter p xs) x
-  Contains-filter [] x at ok = absurd (none_listed x at)
-  Contains-filter (y ∷ xs) x at ok =
-      elim (head_or_tail y x xs at) [
-        | inl is ↦ kept_in (p y) y x (filter p xs) (ap p is ∙ ok) is
-        | inr later ↦ later_in (p y) y x (filter p xs) (Contains-filter xs x later ok)
-      ]
-
-  from_kept : (xs : List X) (x : X) → Contains (filter p xs) x → Contains xs x
-  from_kept xs x at = All-contains (Contains xs) (filter p xs) x
-      (All-filter p (Contains xs) xs (All-contains_itself xs)) at
-
-  pub from-filter : (xs : List X) (x : X) → Contains (filter p xs) x → Contains xs x × (p x ≡ true)
-  from-filter xs x at = (
-    from_kept xs x at,
-    All-contains (λ y. p y ≡ true) (filter p xs) x
-        (filter_passes p xs) at,
-  )
 
 -- ---- by places
 

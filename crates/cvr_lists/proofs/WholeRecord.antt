@@ -56,7 +56,7 @@ untied x y apart =
 
 -- ---- of which record a fact is
 
-own_record : (key : RecordName) (x : AnyFact) → is_of key x ≡ true
+pub own_record : (key : RecordName) (x : AnyFact) → is_of key x ≡ true
     → record_of (fact_of x) ≡ Some key
 own_record key (any.Device d) e = Prim.cc e
 own_record key (any.Header h) e = ap Some (same_name h.key key e)

@@ -54,7 +54,7 @@ keys_given : {K : Type 0} (R : K → K → Ordering) (ks : List K)
 keys_given R [] = refl
 keys_given R (k ∷ ks) = ap (λ m. map_of.insert m k tt) (keys_given R ks)
 
-keys_in_order-is : {K : Type 0} {R : K → K → Ordering} → IsTotalOrder R → (ks : List K)
+pub keys_in_order-is : {K : Type 0} {R : K → K → Ordering} → IsTotalOrder R → (ks : List K)
     → keys_in_order R ks ≡ sorted R ks
 keys_in_order-is {R = R} t ks = ap map_of.keys (keys_given R ks)
     ∙ ap (map (λ e. e.0)) (entries-given t (map (λ k. (k, tt {0})) ks))

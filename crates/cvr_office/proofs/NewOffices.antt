@@ -27,11 +27,11 @@ use Rattle.cvr_office.proofs.AnsweredAlike.{answer_alike}
 
 module _ (starts : List Facts) (frames : List Frame) (files : List (List ℕ)) (k : ℕ) where
   -- the office k has reached o
-  abbrev HasStart : History → ℕ → Type 0
+  abbrev pub HasStart : History → ℕ → Type 0
   HasStart past o = contains (origins_at past o) (Start k) ≡ true
 
-  itself : (o : ℕ) → HasStart [] o → k ≡ o
-  itself o h =
+  pub start_itself : (o : ℕ) → HasStart [] o → k ≡ o
+  start_itself o h =
       elim (or_cases (eq_by_cmp origin_cmp (Start k) (Start o))
       (contains (empty {R = origin_cmp}) (Start k))
       (sym (contains-insert origin_total empty (Start o) (Start k)) ∙ h)) [
@@ -40,9 +40,9 @@ module _ (starts : List Facts) (frames : List Frame) (files : List (List ℕ)) (
         | inr none ↦ absurd (false≢true (sym (contains-empty origin_cmp (Start k)) ∙ none))
       ]
 
-  before_file : (past : History) (o f : ℕ)
+  pub start_before_file : (past : History) (o f : ℕ)
       → contains (insert (origins_at past o) (File f)) (Start k) ≡ true → HasStart past o
-  before_file past o f h =
+  start_before_file past o f h =
       elim (or_cases (eq_by_cmp origin_cmp (Start k) (File f))
       (contains (origins_at past o) (Start k))
       (sym (contains-insert origin_total (origins_at past o) (File f) (Start k)) ∙ h)) [
@@ -53,11 +53,11 @@ module _ (starts : List Facts) (frames : List Frame) (files : List (List ℕ)) (
 
   is_there : (past : History) → AreOutcomes starts frames files past → (o : ℕ) → o < length frames
       → HasStart past o → k < length frames
-  is_there [] outcomes o lt h = subst (λ z. z < length frames) (sym (itself o h)) lt
+  is_there [] outcomes o lt h = subst (λ z. z < length frames) (sym (start_itself o h)) lt
   is_there ((Import j f, Accepted n) ∷ past) outcomes o lt h =
       elim (o == j) as (λ b. contains (cond b (insert (origins_at past o) (File f))
       (origins_at past o)) (Start k) ≡ true → k < length frames) [
-        | true ↦ λ has. is_there past outcomes.1 o lt (before_file past o f has)
+        | true ↦ λ has. is_there past outcomes.1 o lt (start_before_file past o f has)
         | false ↦ λ had. is_there past outcomes.1 o lt had
       ] h
   is_there ((Import j f, Refused c) ∷ past) outcomes o lt h = is_there past outcomes.1 o lt h

@@ -1,6 +1,6 @@
 -- The next name is the least above the given one.
 use Rattle.std.proofs.Common.{◌≡◌, ◌≢◌, Bool, true, false, cond, List, [], ◌∷◌, Option, Some, None}
-use Rattle.std.proofs.Common.{Ordering, Less, Equal, Greater, is_lt, is_gt, inl, inr, refl, sym, ap}
+use Rattle.std.proofs.Common.{Ordering, Less, Greater, is_lt, is_gt, inl, inr, refl, sym, ap}
 use Rattle.std.proofs.Common.{◌∙◌, subst, true≢false, arith}
 use Rattle.std.specs.List.{find, filter_map}
 use Rattle.std.specs.List.Sorted.{IsStrictlySortedBy}
@@ -8,7 +8,6 @@ use Rattle.std.specs.Ordering.{ordering_reverse}
 use Rattle.std.specs.Cmp.{IsTotalOrder, tied_itself}
 use Rattle.std.specs.FinMap.{IsAntisymmetric}
 use Rattle.std.specs.FinSet.{items}
-use Rattle.std.proofs.lemmas.Bool.{false≢true}
 use Rattle.std.proofs.lemmas.Map.Keys.{sorted_tail}
 use Rattle.cvr_fact_types.specs.Facts.{Fact, Facts}
 use Rattle.cvr_facts.specs.Ordered.{keys_in_order}
@@ -61,14 +60,7 @@ module _ {K : Type 0} {R : K → K → Ordering} (t : IsTotalOrder R) (p : K →
 -- ---- above
 
 gt_is : (o : Ordering) → is_gt o ≡ true → o ≡ Greater
-gt_is Less h = absurd (false≢true h)
-gt_is Equal h = absurd (false≢true h)
-gt_is Greater h = refl
-
-lt_is : (o : Ordering) → is_lt o ≡ true → o ≡ Less
-lt_is Less h = refl
-lt_is Equal h = absurd (false≢true h)
-lt_is Greater h = absurd (false≢true h)
+gt_is o h = grind arith
 
 not_lt : (o : Ordering) → o ≢ Less → is_lt o ≡ false
 not_lt o other = grind arith

@@ -1,6 +1,6 @@
 -- The headers and snapshots in a record's run are those of the set of facts.
-use Rattle.std.proofs.Common.{◌≡◌, Bool, true, false, cond, List, [], ◌∷◌, Contains, Ordering, Less}
-use Rattle.std.proofs.Common.{Equal, Greater, Some, inl, inr, refl, sym, ap, ◌∙◌, subst}
+use Rattle.std.proofs.Common.{◌≡◌, Bool, true, false, cond, List, [], ◌∷◌, Contains, Ordering}
+use Rattle.std.proofs.Common.{Some, inl, inr, refl, sym, ap, ◌∙◌, subst}
 use Rattle.std.specs.Prelude.{ℕ, ◌⊎◌}
 use Rattle.std.specs.List.{filter}
 use Rattle.std.specs.FinMap.{IsAntisymmetric}
@@ -13,7 +13,7 @@ use Rattle.cvr_fact_types.specs.declared.snapshot.SnapshotFact.{SnapshotFact}
 use Rattle.cvr_fact_types.specs.Facts.{Header, Snapshot, text_cmp, name_cmp, fact_total, fact_exact}
 use Rattle.cvr_facts.proofs.Laws.{text_total, text_exact}
 use Rattle.cvr_facts.proofs.Lemmas.{at_head, at_tail, head_or_tail, none_listed, in_map, from_map}
-use Rattle.cvr_facts.proofs.Lemmas.{in_set, from_set, Contains-filter_map, from-filter_map}
+use Rattle.cvr_facts.proofs.Lemmas.{in_set, from_set, Contains-filter_map, from-filter_map, tied}
 use Rattle.cvr_office.specs.declared.any_fact.AnyFact.{AnyFact}
 use Rattle.cvr_office.specs.declared.any_fact.AnyFact.TheVariants as any
 use Rattle.cvr_office.specs.Place.{fact_of}
@@ -23,22 +23,12 @@ use Rattle.cvr_office.proofs.Runs.{name_total}
 
 -- ---- names
 
-then_first : (r s : Ordering) → ordering_then r s ≡ Equal → r ≡ Equal
-then_first Less s e = e
-then_first Equal s e = refl
-then_first Greater s e = e
-
-then_second : (r s : Ordering) → ordering_then r s ≡ Equal → s ≡ Equal
-then_second Less s e = Prim.cc e
-then_second Equal s e = e
-then_second Greater s e = Prim.cc e
-
 pub name_exact : IsAntisymmetric name_cmp
 name_exact a b e =
     let device = text_exact a.device b.device
-    (then_first (text_cmp a.device b.device) (text_cmp a.unique b.unique) e) in
+    (tied (text_cmp a.device b.device) (text_cmp a.unique b.unique) e).0 in
     let unique = text_exact a.unique b.unique
-    (then_second (text_cmp a.device b.device) (text_cmp a.unique b.unique) e) in
+    (tied (text_cmp a.device b.device) (text_cmp a.unique b.unique) e).1 in
     λ i. record { device = device i; unique = unique i }
 
 pub same_name : (a b : RecordName) → is_eq (name_cmp a b) ≡ true → a ≡ b
@@ -90,7 +80,7 @@ module _ {X : Type 0} (p : X → Bool) where
 
 -- ---- facts of each kind
 
-of_header : (x : AnyFact) (h : HeaderFact) → as_header x ≡ Some h → x ≡ any.Header h
+pub of_header : (x : AnyFact) (h : HeaderFact) → as_header x ≡ Some h → x ≡ any.Header h
 of_header (any.Device d) h e = Prim.cc e
 of_header (any.Header g) h e = let is : g ≡ h = Prim.cc e in ap any.Header is
 of_header (any.Snapshot s) h e = Prim.cc e

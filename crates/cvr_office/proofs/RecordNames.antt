@@ -1,15 +1,16 @@
 -- The facts under the names of a record.
-use Rattle.std.proofs.Common.{◌≡◌, ℕ, Bool, true, false, List, map, Contains, Some, None, refl, sym}
+use Rattle.std.proofs.Common.{◌≡◌, ℕ, true, List, map, Contains, Some, refl, sym}
 use Rattle.std.proofs.Common.{ap, ◌∙◌, subst}
-use Rattle.std.specs.Prelude.{◌↔◌, bytes_eq, if◌then◌else◌}
+use Rattle.std.specs.Prelude.{◌↔◌, bytes_eq}
 use Rattle.std.specs.List.{filter, filter_map}
 use Rattle.std.specs.FinSet.{contains, items}
 use Rattle.std.proofs.lemmas.Slice.Eq.{bytes_eq-Decides}
 use Rattle.std.proofs.lemmas.Bool.{and_parts}
+use Rattle.std.proofs.lemmas.Option.{cond_some}
 use Rattle.cvr_fact_types.specs.declared.name.RecordName.{RecordName}
 use Rattle.cvr_fact_types.specs.Facts.{Fact, Device, Header, Snapshot, Facts}
 use Rattle.cvr_facts.specs.Choosing.{is_name}
-use Rattle.cvr_facts.proofs.Lemmas.{in_map, from_map, Contains-filter_map, from-filter_map}
+use Rattle.cvr_facts.proofs.Lemmas.{in_map, from_map, Contains-filter_map, from-filter_map, of_name}
 use Rattle.cvr_facts.proofs.Laws.{contains_iff}
 use Rattle.cvr_office.specs.declared.conflict.ConflictName.TheVariants as name
 use Rattle.cvr_office.specs.Names.{is_named, body_of, id_in}
@@ -22,12 +23,6 @@ pub own_text : (a : List ℕ) → bytes_eq a a ≡ true
 own_text a = (bytes_eq-Decides a a).1 refl
 
 module _ (key : RecordName) where
-  of_name : (device unique : List ℕ) → is_name key device unique ≡ true
-      → (key.device ≡ device) × (key.unique ≡ unique)
-  of_name device unique e =
-      let parts = and_parts (bytes_eq key.device device) (bytes_eq key.unique unique) e in
-      (same_text key.device device parts.0, same_text key.unique unique parts.1)
-
   header_named : (b : List ℕ) → is_named (name.Header key) (Header key.device key.unique b) ≡ true
   header_named b = rw (own_text key.device, own_text key.unique) refl
 
@@ -35,7 +30,7 @@ module _ (key : RecordName) where
       → f ≡ Header key.device key.unique (body_of f)
   named_header (Device i b) e = Prim.cc e
   named_header (Header d u b) e =
-      let names = of_name d u e in λ i. Header (sym names.0 i) (sym names.1 i) b
+      let names = of_name key d u e in λ i. Header (sym names.0 i) (sym names.1 i) b
   named_header (Snapshot d u i b) e = Prim.cc e
 
   snapshot_named : (id b : List ℕ) → is_named (name.Snapshot key id)
@@ -48,13 +43,9 @@ module _ (key : RecordName) where
   named_snapshot id (Header d u b) e = Prim.cc e
   named_snapshot id (Snapshot d u j b) e =
       let parts = and_parts (is_name key d u) (bytes_eq id j) e in
-      let names = of_name d u parts.0 in
+      let names = of_name key d u parts.0 in
       let ids = same_text id j parts.1 in
       λ i. Snapshot (sym names.0 i) (sym names.1 i) (sym ids i) b
-
-  given : (t : Bool) (b c : List ℕ) → (if t then Some b else None) ≡ Some c → (t ≡ true) × (b ≡ c)
-  given true b c e = (refl, Prim.cc e)
-  given false b c e = Prim.cc e
 
   own_id : (id b : List ℕ) → id_in key (Snapshot key.device key.unique id b) ≡ Some id
   own_id id b = rw (own_text key.device, own_text key.unique) refl
@@ -64,8 +55,8 @@ module _ (key : RecordName) where
   id_is id (Device i b) e = Prim.cc e
   id_is id (Header d u b) e = Prim.cc e
   id_is id (Snapshot d u j b) e =
-      let had = given (is_name key d u) j id e in
-      let names = of_name d u had.0 in
+      let had = cond_some (is_name key d u) j id e in
+      let names = of_name key d u had.0 in
       λ i. Snapshot (sym names.0 i) (sym names.1 i) (had.1 i) b
 
   module _ (s : Facts) where

@@ -18,6 +18,7 @@ use Rattle.std.proofs.lemmas.List.Elements.{Contains-append_right, Contains-appe
 use Rattle.std.proofs.lemmas.List.Kept.{Any-dedup, Contains-from_dedup, IsStrictlySortedBy-dedup}
 use Rattle.std.proofs.lemmas.List.Sorted.{Contains-permutation, IsPermutation-sym}
 use Rattle.std.proofs.lemmas.Bool.{or_cases}
+use Rattle.std.proofs.Math.Bool.{or-false}
 use Rattle.cvr_facts.proofs.Lemmas.{in_map, from_map, in_set, from_set}
 
 -- ---- tests joined by `||`
@@ -62,13 +63,9 @@ module _ {K : Type 0} {S : K → K → Ordering} (st : IsTotalOrder S) (se : IsA
   or_move : (a b c : Bool) → (a || (b || c)) ≡ (b || (a || c))
   or_move a b c = grind arith
 
-  or_none : (a : Bool) → (a || false) ≡ a
-  or_none true = refl
-  or_none false = refl
-
   contains-with_all : (s : FinSet S) (ks : List K) (q : K)
       → contains (with_all s ks) q ≡ (contains s q || list_any (eq_by_cmp S q) ks)
-  contains-with_all s [] q = sym (or_none (contains s q))
+  contains-with_all s [] q = sym (or-false (contains s q))
   contains-with_all s (k ∷ ks) q =
       contains-insert st (with_all s ks) k q
       ∙ (ap (λ b. eq_by_cmp S q k || b) (contains-with_all s ks q)
@@ -86,7 +83,7 @@ module _ {K : Type 0} {S : K → K → Ordering} (st : IsTotalOrder S) (se : IsA
 
 -- ---- lists in strict order of their keys
 
-less_alone : (r : Ordering) → r ≡ Less → r ≡ Equal → ⊥
+pub less_alone : (r : Ordering) → r ≡ Less → r ≡ Equal → ⊥
 less_alone r a b = let both : Less ≡ Equal = sym a ∙ b in cc
 
 pub each_of : {X : Type 0} (T : X → Type 0) (xs : List X) (x : X) → AllByRecursion T xs → Contains xs x

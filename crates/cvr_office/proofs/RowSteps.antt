@@ -63,7 +63,7 @@ both_is : (b : Bool) (o : Option VoteSums) → (b && is_some o) ≡ is_some (con
 both_is true o = refl
 both_is false o = refl
 
-passed : {X : Type 0} (b : Bool) (o : Option X) (x : X) → cond b o None ≡ Some x → o ≡ Some x
+pub passed : {X : Type 0} (b : Bool) (o : Option X) (x : X) → cond b o None ≡ Some x → o ≡ Some x
 passed true o x e = e
 passed false o x e = Prim.cc e
 

@@ -19,7 +19,8 @@ use Rattle.cvr_fact_types.specs.Facts.{Facts}
 use Rattle.cvr_facts.specs.Choosing.{header, current}
 use Rattle.cvr_facts.proofs.Lemmas.{in_map, in_flat, one_listed}
 use Rattle.cvr_tally.specs.declared.key.RowKey.{RowKey}
-use Rattle.cvr_tally.specs.Keys.{key_cmp, part_cmp, is_key, keys_total, keys_exact}
+use Rattle.cvr_tally.specs.Keys.{part_cmp, is_key, keys_total, keys_exact}
+use Rattle.cvr_tally.proofs.Lemmas.{is_key-same}
 use Rattle.cvr_office.specs.Names.{records}
 use Rattle.cvr_office.specs.Tallied.{unit_of, batch_of, is_headed, sums_of_body, sums_at, stands_in}
 use Rattle.cvr_office.specs.Tallied.{row, keys_at}
@@ -27,11 +28,6 @@ use Rattle.cvr_office.specs.Adding.{added_sums, key_for, sums_for}
 use Rattle.cvr_office.specs.Laws.{RowsLaw, BallotsLaw}
 use Rattle.cvr_office.proofs.RowSteps.{found, row_stands}
 use Rattle.cvr_office.proofs.RecordMembers.{from_filter}
-
--- ---- keys
-
-pub same_key : (q k : RowKey) → is_key q k ≡ true → q ≡ k
-same_key q k e = keys_exact q k ((Equal-is (key_cmp q k)).0 e)
 
 -- ---- a map of some keys
 
@@ -191,7 +187,7 @@ module _ (contests : List Contest) (s : Facts) where
       let at = found (λ v. is_key q (key_for unit batch v)) votes some.0 some.1 in
       let listed : Contains (map (key_for unit batch) votes) q = subst
       (Contains (map (key_for unit batch) votes))
-      (sym (same_key q (key_for unit batch some.0) at.1))
+      (sym (is_key-same q (key_for unit batch some.0) at.1))
       (in_map (key_for unit batch) some.0 votes at.0) in
       subst (λ o. Contains (option_map_or
       (λ head. map (key_for (unit_of head) (batch_of head))

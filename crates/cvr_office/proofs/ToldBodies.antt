@@ -5,6 +5,7 @@ use Rattle.std.specs.Prelude.{option_and_then, unwrap_or}
 use Rattle.std.proofs.Math.Logic.{∥∥₁_elim}
 use Rattle.std.proofs.Math.Nat.{ℕ_set}
 use Rattle.std.proofs.lemmas.Bool.{leb-true, le-leb}
+use Rattle.std.proofs.lemmas.Option.{same_Some}
 use mathlib.Core.Bool.{Bool-set}
 use mathlib.Core.List.{is_set}
 use Rattle.serde_json.specs.Data.{Data, string, depth}
@@ -22,7 +23,6 @@ use Rattle.cdf_parts.specs.Parts.{id_of}
 use Rattle.cdf_parts.specs.Proper.{IsProper}
 use Rattle.cdf_form.proofs.Laws.{fits_of, no_faults, must_be_text, entry_named}
 use Rattle.cdf_parts.proofs.Laws.{proper_read}
-use Rattle.cdf_parts.proofs.Lemmas.{inside}
 use Rattle.cdf_definition.specs.Bodies.{DeviceStands}
 use Rattle.cdf_definition.specs.Depths.{id_entry}
 use Rattle.cvr_facts.specs.Stands.{Spells}
@@ -46,7 +46,7 @@ none_is (f ∷ fs) e = absurd (cc)
 module _ (id body : List ℕ) (known : ∥ IsDeviceBody id body ∥₁) (d : Data)
     (is : read body ≡ Some d) where
   same : (q : IsDeviceBody id body) → q.0 ≡ d
-  same q = inside q.0 d (sym q.1.1 ∙ is)
+  same q = same_Some q.0 d (sym q.1.1 ∙ is)
 
   told_text : body ≡ compact_text d
   told_text = ∥∥₁_elim known (hlevel (ℕ_set, is_set)) (λ q. q.1.0 ∙ ap compact_text (same q))

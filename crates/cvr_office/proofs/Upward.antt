@@ -14,7 +14,7 @@ use Rattle.cvr_office.specs.Names.{record_of, device_in}
 use Rattle.cvr_office.specs.Place.{place_cmp}
 use Rattle.cvr_office.proofs.Runs.{not_past}
 
-first_not_gt : (p q : Ordering) → ordering_then p q ≡ Less → is_gt p ≡ false
+pub first_not_gt : (p q : Ordering) → ordering_then p q ≡ Less → is_gt p ≡ false
 first_not_gt p q e = grind arith
 
 -- ---- of two facts

@@ -19,9 +19,9 @@ use Rattle.cvr_tally.specs.declared.key.RowKey.{RowKey}
 use Rattle.cvr_tally.specs.declared.row.Row.{Row}
 use Rattle.cvr_tally.specs.Keys.{key_cmp, is_key, keys_total}
 use Rattle.cvr_tally.specs.Rows.{Rows, zero_row, row_plus, rows_opened, rows_plus, HasRoom}
-use Rattle.cvr_tally.proofs.Lemmas.{below_limits, number_in-zero_row}
+use Rattle.cvr_tally.proofs.Lemmas.{below_limits, number_in-zero_row, is_key-same}
 use Rattle.cvr_office.specs.Adding.{IsSums, AreSums, key_for, sums_for, row_with, CanGrow, HaveRoom}
-use Rattle.cvr_office.proofs.Lemmas.{found, same_key}
+use Rattle.cvr_office.proofs.Lemmas.{found}
 
 -- ---- keys
 
@@ -45,7 +45,7 @@ module _ (contests : List Contest) (m : Rows) (k : RowKey) where
   opened_by q (Some r) is =
       ap (λ o. get (option_map_or (λ _. m) o (insert m k zeros)) q) is
       ∙ elim (is_key q k) as (λ b. is_key q k ≡ b → get m q ≡ cond b (Some r) (get m q)) [
-        | true ↦ λ e. ap (get m) (same_key q k e) ∙ is
+        | true ↦ λ e. ap (get m) (is_key-same q k e) ∙ is
         | false ↦ λ e. refl
       ] refl
 
@@ -126,7 +126,7 @@ module _ (contests : List Contest) (unit batch : Option (List ℕ)) (votes : Lis
         ≡ v.contest = get_or-map (λ (u : VoteSums). u.contest) votes i v 0 lt
         ∙ ap (λ u. u.contest) (sym is) in
         let same : w.contest ≡ v.contest =
-        ap (λ k. k.contest) (sym (same_key q (key_of w) at.1) ∙ same_key q (key_of v) e) in
+        ap (λ k. k.contest) (sym (is_key-same q (key_of w) at.1) ∙ is_key-same q (key_of v) e) in
         eqb-false _ _ apart (left ∙ (same ∙ sym right))
 
     none_before : (q : RowKey) → is_key q (key_of v) ≡ true → (o : Option VoteSums)
@@ -155,7 +155,7 @@ module _ (contests : List Contest) (unit batch : Option (List ℕ)) (votes : Lis
                 let now : sums_for unit batch q (take (i + 1) votes) ≡ Some v =
                 more q true e ∙ ap (λ o. option_or o (Some v)) (none_before q e _ refl) in
                 ap (λ o. row_with contests k o (Some v)) untouched
-                ∙ (ap (λ k. row_with contests k (get before k) (Some v)) (sym (same_key q k e))
+                ∙ (ap (λ k. row_with contests k (get before k) (Some v)) (sym (is_key-same q k e))
                 ∙ ap (row_with contests q (get before q)) (sym now))
             | false ↦ λ e.
                 let now : sums_for unit batch q (take (i + 1) votes)

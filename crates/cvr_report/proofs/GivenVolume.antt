@@ -1,21 +1,20 @@
 -- The volumes of a set of facts that is given by a list.
-use Rattle.std.proofs.Common.{◌≡◌, ℕ, Bool, List, [], ◌∷◌, map, reverse, length, max, Contains}
-use Rattle.std.proofs.Common.{Option, Ordering, nat_le, refl, ap, ◌∙◌, subst}
+use Rattle.std.proofs.Common.{◌≡◌, ℕ, Bool, List, ◌∷◌, map, reverse, length, max, Contains}
+use Rattle.std.proofs.Common.{Option, Ordering, nat_le, ap, ◌∙◌, subst}
 use Rattle.std.specs.List.{filter, filter_map}
 use Rattle.std.specs.Cmp.{IsTotalOrder}
 use Rattle.std.specs.FinMap as map_of
-use Rattle.std.specs.FinMap.{IsAntisymmetric, from_entries}
+use Rattle.std.specs.FinMap.{IsAntisymmetric}
 use Rattle.std.specs.FinSet.{items, from_list}
 use Rattle.serde_json.specs.Written.{compact_text}
 use Rattle.cdf_definition.specs.Frame.{Frame}
 use Rattle.cvr_fact_types.specs.declared.name.RecordName.{RecordName}
 use Rattle.cvr_fact_types.specs.Facts.{Fact, Facts, fact_total, fact_exact, text_cmp, name_cmp}
-use Rattle.cvr_facts.specs.Ordered.{keys_of, keys_in_order}
+use Rattle.cvr_facts.specs.Ordered.{keys_in_order}
 use Rattle.cvr_facts.specs.Choosing.{choice_cmp}
 use Rattle.cvr_facts.proofs.Laws.{text_total, text_exact, choice_total, choice_exact, contains_iff}
 use Rattle.cvr_facts.proofs.Lemmas.{in_map, from_map, in_set, from_set, ordered_rises}
 use Rattle.cvr_facts.proofs.Lemmas.{Contains-filter_map, from-filter_map}
-use Rattle.cvr_tally.proofs.Lemmas.{entries-given}
 use Rattle.cvr_office.specs.declared.conflict.ConflictName.{ConflictName}
 use Rattle.cvr_office.specs.declared.conflict.ConflictName.TheVariants as name
 use Rattle.cvr_office.specs.Names.{name_of, body_of, is_named, conflict_cmp, device_in, id_in}
@@ -24,22 +23,13 @@ use Rattle.cvr_office.specs.Readers.{device_list, header_list, snapshot_list}
 use Rattle.cvr_office.proofs.Laws.{conflict_total, conflict_exact}
 use Rattle.cvr_office.proofs.Lemmas.{sorted, records-given, in_ordered, from_ordered}
 use Rattle.cvr_office.proofs.Lemmas.{keys_in_order-members, in_filter, from_filter}
+use Rattle.cvr_office.proofs.Lemmas.{keys_in_order-is}
 use Rattle.cvr_report.specs.Head.{Head}
 use Rattle.cvr_report.specs.Page.{Page, RecordPage, Shown, shown_body, current_id, shown_record}
 use Rattle.cvr_report.specs.Page.{page, volumes}
 use Rattle.cvr_report.specs.Volume.{volume_data, volume}
 
 -- ---- lists in order
-
-keys_given : {K : Type 0} (R : K → K → Ordering) (ks : List K)
-    → keys_of R ks ≡ from_entries (map (λ k. (k, tt {0})) ks)
-keys_given R [] = refl
-keys_given R (k ∷ ks) = ap (λ m. map_of.insert m k tt) (keys_given R ks)
-
-keys_in_order-is : {K : Type 0} {R : K → K → Ordering} → IsTotalOrder R → (ks : List K)
-    → keys_in_order R ks ≡ sorted R ks
-keys_in_order-is {R = R} t ks = ap map_of.keys (keys_given R ks)
-    ∙ ap (map (λ e. e.0)) (entries-given t (map (λ k. (k, tt {0})) ks))
 
 -- more facts make all that fewer make
 abbrev Grows : {K : Type 0} → (List Fact → List K) → Type 0

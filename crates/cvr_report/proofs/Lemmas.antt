@@ -2,4 +2,5 @@
 -- and ways of computing.
 pub use Rattle.cvr_report.proofs.GivenVolume.{volume-given, volumes-given}
 pub use Rattle.cvr_report.proofs.Kept.{unreversed}
+pub use Rattle.cvr_report.proofs.Pieces.{some_prefix, appended_none}
 pub use Rattle.cvr_report.proofs.Report.{volume_text}

@@ -5,6 +5,7 @@ use Rattle.std.proofs.Common.{refl, sym, ap, ◌∙◌, arith}
 use Rattle.std.specs.Prelude.{slice_get, if◌then◌else◌}
 use Rattle.std.proofs.lemmas.List.{get_or-map, length-map, length-reverse}
 use Rattle.std.proofs.lemmas.Option.{slice_get-get_or}
+use Rattle.std.proofs.lemmas.Bool.{le-leb, lt-leb}
 use Rattle.cvr_fact_types.specs.declared.snapshot.SnapshotFact.{SnapshotFact}
 use Rattle.cvr_office.specs.declared.record_facts.IdFacts.{IdFacts}
 use Rattle.cvr_office.specs.Names.{most}
@@ -54,18 +55,12 @@ pick_body i g p q =
 
 -- ---- the greatest number
 
-le_true : (n m : ℕ) → n ≤ m → nat_le n m ≡ true
-le_true n m le = grind (arith, le)
-
-le_false : (n m : ℕ) → m < n → nat_le n m ≡ false
-le_false n m lt = grind (arith, lt)
-
 pub reach_none : (i : ℕ) → 0 < i → nat_le i (most []) ≡ false
-reach_none i p = le_false i 0 p
+reach_none i p = lt-leb i 0 p
 
 here_at : (b : Bool) (i n m : ℕ) → nat_le n m ≡ b → i ≤ n → nat_le i (if b then m else n) ≡ true
-here_at true i n m is le = le_true i m (grind (arith, is, le))
-here_at false i n m is le = le_true i n le
+here_at true i n m is le = le-leb i m (grind (arith, is, le))
+here_at false i n m is le = le-leb i n le
 
 pub reach_here : (i n : ℕ) (ns : List ℕ) → i ≤ n → nat_le i (most (n ∷ ns)) ≡ true
 reach_here i n ns le = here_at (nat_le n (most ns)) i n (most ns) refl le
@@ -73,7 +68,7 @@ reach_here i n ns le = here_at (nat_le n (most ns)) i n (most ns) refl le
 skip_at : (b : Bool) (i n m : ℕ) → nat_le n m ≡ b → n < i
     → nat_le i (if b then m else n) ≡ nat_le i m
 skip_at true i n m is lt = refl
-skip_at false i n m is lt = le_false i n lt ∙ sym (le_false i m (grind (arith, is, lt)))
+skip_at false i n m is lt = lt-leb i n lt ∙ sym (lt-leb i m (grind (arith, is, lt)))
 
 pub reach_skip : (i n : ℕ) (ns : List ℕ) → n < i → nat_le i (most (n ∷ ns)) ≡ nat_le i (most ns)
 reach_skip i n ns lt = skip_at (nat_le n (most ns)) i n (most ns) refl lt

@@ -8,7 +8,7 @@ use Rattle.cvr_report.specs.Writes.{Writes, WritesOrLess, is_write_device}
 use Rattle.cvr_report.specs.declared.fault.WriteFault.{WriteFault}
 use Rattle.cvr_report.specs.declared.fault.WriteFault.TheVariants.{Memory}
 
-appended_none : (o : Option (List ℕ)) → o ≡ taken_with o []
+pub appended_none : (o : Option (List ℕ)) → o ≡ taken_with o []
 appended_none None = refl
 appended_none (Some t) = ap Some (sym (append-nil t))
 

@@ -19,7 +19,7 @@ use Rattle.cvr_report.specs.Page.{shown_body}
 use Rattle.cvr_report.specs.Pieces.{record_text, record_texts, device_texts}
 use Rattle.cvr_report.specs.Writes.{Writes, is_write_device, list_text, record_piece, list_end}
 use Rattle.cvr_report.specs.declared.fault.WriteFault.{WriteFault}
-use Rattle.cvr_report.proofs.Pieces.{cut_short, goes_on}
+use Rattle.cvr_report.proofs.Pieces.{cut_short, goes_on, appended_none}
 
 -- what was written of the whole, and what is left
 pub record Progress (before after : Taken) (whole rest : List ℕ) : Type 0 where
@@ -27,10 +27,6 @@ pub record Progress (before after : Taken) (whole rest : List ℕ) : Type 0 wher
   pub done : List ℕ
   pub taken : Appends before after done
   pub whole_is : whole ≡ done ++ rest
-
-pub appended_none : (o : Option (List ℕ)) → o ≡ taken_with o []
-appended_none None = refl
-appended_none (Some t) = ap Some (sym (append-nil t))
 
 pub starts : (before : Taken) (whole rest : List ℕ) → before.failed ≡ false → whole ≡ rest
     → Progress before before whole rest

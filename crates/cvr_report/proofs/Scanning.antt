@@ -2,7 +2,7 @@
 use Rattle.std.proofs.Common.{◌≡◌, ℕ, zero, suc, ◌<◌, ◌≤◌, ◌^◌, Bool, true, false, pos, negsuc}
 use Rattle.std.proofs.Common.{◌&&◌, List, [], ◌∷◌, ◌++◌, length, get_or, decimal, inl, inr, ◌⊎◌}
 use Rattle.std.proofs.Common.{refl, sym, ap, ◌∙◌, subst, arith, append_assoc}
-use Rattle.std.proofs.lemmas.Bool.{cases_eq, cases_lt, ne_eqb}
+use Rattle.std.proofs.lemmas.Bool.{cases_eq, cases_lt, ne_eqb, and_parts}
 use Rattle.std.proofs.lemmas.Fmt.{decimal_is_IsNumeral}
 use Rattle.std.proofs.lemmas.Str.Parse.{digit_at}
 use Rattle.json.specs.Print.{escape, escape_byte, quoted}
@@ -21,10 +21,6 @@ abbrev Passes : ℕ → Type 0
 Passes x = (n : ℕ) (r : List ℕ) → left_after InString n (escape_byte x ++ r)
     ≡ left_after InString n r
 
-both : (a b : Bool) → (a && b) ≡ true → (a ≡ true) × (b ≡ true)
-both true b h = (refl, h)
-both false b h = cc
-
 -- a test holds of each number below n
 abbrev pub all_below : (ℕ → Bool) → ℕ → Bool
 all_below test zero = true
@@ -33,10 +29,10 @@ all_below test (suc n) = test n && all_below test n
 pub below_all : (test : ℕ → Bool) (n : ℕ) → all_below test n ≡ true → (x : ℕ) → x < n
     → test x ≡ true
 below_all test zero h x lt = absurd (omega arith)
-below_all test (suc n) h x lt = go (below_all test n (both _ _ h).1 x) (cases_eq x n)
+below_all test (suc n) h x lt = go (below_all test n (and_parts _ _ h).1 x) (cases_eq x n)
   where
     go : (x < n → test x ≡ true) → (x ≡ n) ⊎ (x ≡ n → ⊥) → test x ≡ true
-    go below (inl e) = subst (λ y. test y ≡ true) (sym e) (both _ _ h).0
+    go below (inl e) = subst (λ y. test y ≡ true) (sym e) (and_parts _ _ h).0
     go below (inr ne) = below (omega arith)
 
 -- bytes that lead from within a string back into it

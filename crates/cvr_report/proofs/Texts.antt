@@ -12,11 +12,12 @@ use Rattle.serde_json.specs.Data.{no_members, member}
 use Rattle.serde_json.specs.Find.{get_member}
 use Rattle.serde_json.specs.Written.{compact_text, items_text, members_text, comma_if}
 use Rattle.cdf_parts.specs.Proper.{Before, Below, MembersAreWell}
-use Rattle.cdf_parts.proofs.Lemmas.{Before-trans, after_is, equal_is, greater_is, Below-trans}
+use Rattle.cdf_parts.proofs.Lemmas.{Before-trans, after_is, equal_is, greater_is}
 use Rattle.cdf_parts.proofs.Lemmas.{append}
 use Rattle.cvr_report.specs.Record.{snapshots_name, current_name, cvr_object, HasHeaderMembers}
 use Rattle.cvr_report.specs.Record.{front, back, some, inner, comma_list, item_texts, IsCut}
 use Rattle.cvr_report.proofs.Splitting.{put_twice, text-append}
+use Rattle.cdf_node.proofs.Lemmas.{Below-trans, below_none}
 
 pub front_of : (xs p r : List ℕ) (n : ℕ) → n ≤ length xs → xs ≡ p ++ r → drop n xs ≡ r
     → take n xs ≡ p
@@ -35,11 +36,6 @@ joined-end later (item d ds) =
 
 -- ---- a header has a member before the snapshots
 
-absent : (l : List ℕ) (ms : Members) → Below l ms → get_member l ms ≡ None
-absent l no_members h = refl
-absent l (member k d ms) h =
-    ap (λ o. match_ordering o (get_member l ms) (Some d) (get_member l ms)) h.0 ∙ absent l ms h.1
-
 found_front : (a m : List ℕ) (e : Data) (ms : Members) → Before m a
     → some (front a (member m e ms)) ≡ true
 found_front a m e ms h = ap (λ o. some (match_ordering o no_members no_members
@@ -54,7 +50,7 @@ some_front_at : (o : Ordering) (l a m : List ℕ) (e : Data) (ms : Members)
     → IsSome (match_ordering o (get_member l ms) (Some e) (get_member l ms))
     → some (front a (member m e ms)) ≡ true
 some_front_at Less l a m e ms is p h found =
-    absurd (never (get_member l ms) found (absent l ms (Below-trans l m ms is h)))
+    absurd (never (get_member l ms) found (below_none l ms (Below-trans l m ms is h)))
 some_front_at Equal l a m e ms is p h found =
     found_front a m e ms (subst (λ k. Before k a) (equal_is l m is) p)
 some_front_at Greater l a m e ms is p h found =

@@ -231,7 +231,7 @@ lines_more definition (p ∷ paths) (f ∷ files) path file same =
     (check_line definition path file))
 
 -- the line of a value that was read, or nothing
-abbrev line_by : List ℕ → Option Data → List ℕ
+abbrev pub line_by : List ℕ → Option Data → List ℕ
 line_by path value = option_map_or (λ report. count_line path (record_count report)) value []
 
 line_of_value : (definition : Frame) (path : List ℕ) (n : ℕ) (fits : Bool) (value : Option Data)
@@ -250,7 +250,7 @@ line_of_accepted definition path file n none is =
     ∙ line_of_value definition path n (nat_le (length file) max_file) (value_of file) none is
 
 -- and a refused one none
-no_line : (definition : Frame) (path file : List ℕ) (fault : ReadFault)
+pub no_line : (definition : Frame) (path file : List ℕ) (fault : ReadFault)
     → first_refusal definition file ≡ Some fault → check_line definition path file ≡ []
 no_line definition path file fault is =
     ap (λ first. line_by path (if is_some first then None else value_of file)) is

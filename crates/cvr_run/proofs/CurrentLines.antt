@@ -2,20 +2,15 @@
 use Rattle.std.proofs.Common.{◌≡◌, ℕ, ◌<◌, length, List, ◌∷◌, ◌++◌, Option, Some, None, IfSome}
 use Rattle.std.proofs.Common.{Contains, ap, sym, ◌∙◌, subst, append_assoc, arith}
 use Rattle.std.specs.List.{flat_map}
-use Rattle.std.specs.Cmp.{IsTotalOrder}
-use Rattle.std.proofs.lemmas.Cmp.{on_total, then_total}
 use Rattle.cvr_fact_types.specs.declared.name.RecordName.{RecordName}
 use Rattle.cvr_fact_types.specs.Facts.{Facts, name_cmp}
 use Rattle.cvr_facts.specs.Choosing.{current}
-use Rattle.cvr_facts.proofs.Laws.{text_total}
 use Rattle.cvr_facts.proofs.Lemmas.{ordered_rises}
 use Rattle.cvr_office.specs.Names.{records}
 use Rattle.cvr_office.specs.Readers.{next}
 use Rattle.cvr_run.specs.Currents.{line_of, currents}
 use Rattle.cvr_office.proofs.Lemmas.{from, next_listed, from-next_none, from-some}
-
-name_total : IsTotalOrder name_cmp
-name_total = then_total (on_total (λ n. n.device) text_total) (on_total (λ n. n.unique) text_total)
+use Rattle.cvr_office.proofs.Laws.{name_total}
 
 abbrev pub record_line : Facts → RecordName → List ℕ
 record_line facts key = line_of key (current facts key)

@@ -1,7 +1,7 @@
 -- What the offices of a drill hold after events: what each event brings to them, which files reach
 -- them, and where that is all that the other commands hold.
 use Rattle.std.proofs.Common.{◌≡◌, ◌≢◌, ℕ, zero, suc, ◌==◌, ◌<◌, List, [], ◌∷◌, length, get_or}
-use Rattle.std.proofs.Common.{Bool, true, false, cond, true≢false, ◌||◌, ◌⊎◌, inl, inr, Option}
+use Rattle.std.proofs.Common.{Bool, true, false, cond, ◌||◌, ◌⊎◌, inl, inr, Option}
 use Rattle.std.proofs.Common.{Some, None, Contains, refl, sym, ap, ◌∙◌, subst, arith}
 use Rattle.std.specs.Prelude.{nat_le, replicate, is_some, if◌then◌else◌}
 use Rattle.std.specs.List.{list_any}
@@ -9,7 +9,7 @@ use Rattle.std.specs.Ordering.{eq_by_cmp}
 use Rattle.std.specs.Cmp.{eq_by_cmp_equiv}
 use Rattle.std.specs.FinSet.{contains, union, insert, empty, items, contains-union, contains-empty}
 use Rattle.std.specs.FinSet.{contains-insert, contains-items}
-use Rattle.std.proofs.lemmas.Bool.{cases_lt, lt-leb, le-leb, or_from, false≢true}
+use Rattle.std.proofs.lemmas.Bool.{lt-leb, or_from, false≢true, leb-false}
 use Rattle.std.proofs.lemmas.List.{get_or-replicate}
 use Rattle.std.proofs.lemmas.Map.Views.{Contains-from_any, list_any-from_Contains}
 use Rattle.serde_json.specs.Data.{Data}
@@ -20,7 +20,8 @@ use Rattle.cdf_definition.proofs.Laws.{valid_file}
 use Rattle.cvr_fact_types.specs.Facts.{Fact, Facts, fact_cmp, fact_total, fact_exact}
 use Rattle.cvr_facts.specs.Reports.{facts}
 use Rattle.cvr_facts.specs.Unions.{union_empty}
-use Rattle.cvr_facts.proofs.Lemmas.{none_listed, head_or_tail, tie_itself}
+use Rattle.cvr_facts.proofs.Lemmas.{none_listed, head_or_tail, tie_itself, one_that_passes}
+use Rattle.cvr_facts.proofs.Lemmas.{passes_by}
 use Rattle.cvr_office.specs.Alike.{HasReached}
 use Rattle.cvr_office.specs.declared.event.Cause.{Cause}
 use Rattle.cvr_office.specs.declared.event.Cause.TheVariants.{NoOffice, NoFile}
@@ -38,8 +39,8 @@ use Rattle.cvr_run.specs.Drill.{new_offices, past_of}
 use Rattle.cvr_run.specs.Laws.{HasAccepted}
 use Rattle.cvr_run.specs.Outcome.{accepted_facts, content_of_files}
 use Rattle.cvr_run.specs.Refusals.{no_due, file_due}
-use Rattle.cvr_run.proofs.Members.{value_facts, AreFactsOf, same_by_values, one_that_passes}
-use Rattle.cvr_run.proofs.Members.{passes_by, placed, from_place, held_of}
+use Rattle.cvr_run.proofs.Members.{value_facts, AreFactsOf, same_by_values}
+use Rattle.cvr_run.proofs.Members.{placed, from_place, held_of}
 
 -- ---- one event
 
@@ -53,12 +54,6 @@ pub accepted_of : (a b : Bool) (first : Option ReadFault)
     → (if a then certain_due NoOffice else (if b then certain_due NoFile else file_due first)).cause
     ≡ None → first ≡ None
 accepted_of a b first is = grind arith
-
-below_of : (m f : ℕ) → nat_le m f ≡ false → f < m
-below_of m f is = elim (cases_lt f m) [
-  | inl below ↦ below
-  | inr above ↦ absurd (true≢false (sym (le-leb m f above) ∙ is))
-]
 
 not_eq : (k o : ℕ) → k ≢ o → (b : Bool) → (k == o) ≡ b → (k == o) ≡ false
 not_eq k o apart true is = absurd (apart (at_eq k o is))
@@ -307,7 +302,7 @@ module _ (definition : Frame) (n : ℕ) (files : List (List ℕ)) where
             (sym (contains-insert origin_total (before o) (File g) (File f)) ∙ now)) [
               | inl ties ↦ subst IsThere (sym
                   (one_file f g (tie_is origin_total origin_exact (File f) (File g) ties))) (
-                    below_of (length files) g (there_of (nat_le n p) (nat_le (length files) g)
+                    leb-false (length files) g (there_of (nat_le n p) (nat_le (length files) g)
                         (first_refusal definition (get_or files g [])) is),
                     accepted_of (nat_le n p) (nat_le (length files) g)
                         (first_refusal definition (get_or files g [])) is,

@@ -1,10 +1,10 @@
 -- The outcomes that are due to the events of a drill are such as may be answered for them.
 use Rattle.std.proofs.Common.{◌≡◌, ℕ, ◌==◌, ◌<◌, ◌||◌, inl, List, [], ◌∷◌, length, get_or, Bool}
-use Rattle.std.proofs.Common.{true, false, refl, sym, ap, ◌∙◌, subst, arith}
+use Rattle.std.proofs.Common.{true, false, refl, sym, ap, ◌∙◌, arith}
 use Rattle.std.specs.Prelude.{nat_le, replicate, if◌then◌else◌}
 use Rattle.std.proofs.lemmas.Bool.{lt-leb, le-leb, or_from, or_right}
-use Rattle.std.proofs.lemmas.List.{length-replicate, get_or-replicate}
-use Rattle.cdf_definition.specs.Frame.{Frame, IsSame}
+use Rattle.std.proofs.lemmas.List.{length-replicate}
+use Rattle.cdf_definition.specs.Frame.{Frame}
 use Rattle.cdf_definition.specs.Acceptance.{first_refusal}
 use Rattle.cvr_fact_types.specs.Facts.{Facts}
 use Rattle.cvr_office.specs.declared.event.Cause.TheVariants.{NoOffice, NoFile}
@@ -14,13 +14,14 @@ use Rattle.cvr_office.specs.declared.event.Outcome.{Outcome}
 use Rattle.cvr_office.specs.declared.event.Outcome.TheVariants.{Accepted}
 use Rattle.cvr_office.specs.Readers.{growth}
 use Rattle.cvr_office.specs.Reach.{content}
-use Rattle.cvr_office.specs.Outcomes.{no_frame, due_outcome, IsImportOutcome, IsExchangeOutcome}
+use Rattle.cvr_office.specs.Outcomes.{due_outcome, IsImportOutcome, IsExchangeOutcome}
 use Rattle.cvr_office.specs.Outcomes.{IsOutcome}
+use Rattle.cvr_office.proofs.Lemmas.{growth-itself}
 use Rattle.cvr_run.specs.Drill.{certain_due, exchange_due, event_due, brings, outcome_by}
 use Rattle.cvr_run.specs.Drill.{new_offices, past_of}
 use Rattle.cvr_run.specs.Laws.{DueLaw}
 use Rattle.cvr_run.specs.Refusals.{no_due, file_due}
-use Rattle.cvr_run.proofs.Steps.{due_by, growth_itself}
+use Rattle.cvr_run.proofs.Steps.{due_by, frame_at, alike}
 
 module _ (definition : Frame) (n : ℕ) (files : List (List ℕ)) where
   abbrev frames : List Frame
@@ -28,14 +29,6 @@ module _ (definition : Frame) (n : ℕ) (files : List (List ℕ)) where
 
   frames_count : length frames ≡ n
   frames_count = length-replicate n definition
-
-  frame_at : (o : ℕ) → o < n → get_or frames o no_frame ≡ definition
-  frame_at o lt = get_or-replicate n o definition no_frame lt
-
-  alike : (p o : ℕ) → p < n → o < n → IsSame (get_or frames o no_frame) (get_or frames p no_frame)
-  alike p o lp lo = subst (λ f. IsSame f (get_or frames p no_frame)) (sym (frame_at o lo))
-      (subst (IsSame definition) (sym (frame_at p lp))
-      (record { elections = refl; units = refl; parties = refl }))
 
   abbrev due_of : (ℕ → Facts) → Event → Outcome
   due_of held e = outcome_by (event_due definition n files e).cause (brings files held e)
@@ -74,7 +67,7 @@ module _ (definition : Frame) (n : ℕ) (files : List (List ℕ)) where
             inl ((λ i. outcome_by (if lo i then certain_due NoOffice
             else (if lf i then certain_due NoFile else file_due first)).cause k)
             ∙ (sym (due_by first k) ∙ ap (λ d. due_outcome (first_refusal d (get_or files f [])) k)
-            (sym (frame_at o below))));
+            (sym (frame_at definition n files o below))));
       }
 
   due_exchange : (held : ℕ → Facts) (p o : ℕ)
@@ -91,9 +84,9 @@ module _ (definition : Frame) (n : ℕ) (files : List (List ℕ)) where
         itself = λ there same.
             let lp : p < n = omega (arith, there, frames_count) in
             exchanged held p o lp (omega (arith, lp, same))
-            ∙ ap Accepted (ap (λ q. growth (held o) (held q)) same ∙ growth_itself (held o));
+            ∙ ap Accepted (ap (λ q. growth (held o) (held q)) same ∙ growth-itself (held o));
         other = λ from to apart not_same.
-            absurd (not_same (alike p o (omega (arith, from, frames_count))
+            absurd (not_same (alike definition n files p o (omega (arith, from, frames_count))
             (omega (arith, to, frames_count))));
         same = λ from to apart is_same.
             inl (exchanged held p o (omega (arith, from, frames_count))

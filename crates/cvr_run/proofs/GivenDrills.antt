@@ -1,25 +1,20 @@
 -- The text of a drill over files whose facts and first faults are given.
-use Rattle.std.proofs.Common.{◌≡◌, ℕ, zero, suc, ◌==◌, ◌<◌, ◌&&◌, List, [], ◌∷◌, ◌++◌, map, get_or}
-use Rattle.std.proofs.Common.{reverse, length, Bool, true, false, cond, Option, Some, None, nat_lt}
-use Rattle.std.proofs.Common.{refl, sym, ap, ◌∙◌, arith}
+use Rattle.std.proofs.Common.{◌≡◌, ℕ, zero, suc, ◌==◌, List, [], ◌∷◌, ◌++◌, map, get_or}
+use Rattle.std.proofs.Common.{reverse, length, Bool, true, false, cond, Option, Some, None}
+use Rattle.std.proofs.Common.{refl, sym, ap, ◌∙◌}
 use Rattle.std.specs.Prelude.{codes, replicate, is_some, if◌then◌else◌}
 use Rattle.std.specs.List.{flat_map, range_with_len}
 use Rattle.std.specs.FinSet.{empty, union, from_list}
-use Rattle.std.specs.Str.{IsAscii}
-use Rattle.std.proofs.lemmas.Bool.{and_parts}
-use Rattle.std.proofs.lemmas.Bool.Decides.{nat_tests}
-use Rattle.std.proofs.lemmas.Str.{IsUtf8-from_ascii, is_utf8-from_IsUtf8}
-use Rattle.std.proofs.lemmas.Str.Ascii.{IsAscii-nil, IsAscii-cons}
 use Rattle.cdf_definition.specs.Frame.{Frame, frame_of}
 use Rattle.cdf_definition.specs.Acceptance.{value_in, frame_in, first_unsound}
-use Rattle.cdf_definition.proofs.Lemmas.{frame_of-put, frame_put}
+use Rattle.cdf_definition.proofs.Lemmas.{frame_of-put, frame_put, all_ascii}
 use Rattle.cdf_check.specs.FileExamples as file
 use Rattle.cvr_fact_types.specs.Facts.{Fact, Device, Header, Snapshot, Facts, fact_cmp, fact_total}
 use Rattle.cvr_fact_types.specs.Facts.{fact_exact}
 use Rattle.cvr_facts.specs.Choosing.{data_of}
 use Rattle.cvr_facts.specs.Reports.{report_facts, facts}
 use Rattle.cvr_facts.specs.Examples.{device_body, header_text}
-use Rattle.cvr_facts.proofs.Lemmas.{from_list-append}
+use Rattle.cvr_facts.proofs.Lemmas.{from_list-append, value_in-ascii}
 use Rattle.cvr_office.specs.declared.event.Cause.{Cause}
 use Rattle.cvr_office.specs.declared.event.Event.{Event}
 use Rattle.cvr_office.specs.declared.event.Event.TheVariants.{Import, Exchange}
@@ -33,23 +28,6 @@ use Rattle.cvr_run.specs.Outcome.{run_text}
 use Rattle.cvr_run.specs.Refusals.{Due}
 use Rattle.cvr_run.proofs.Drilled.{held_at, gained, held_more}
 use Rattle.cvr_run.proofs.GivenOffices.{given_line, offices-given}
-
--- ---- files whose bytes are all ASCII
-
-abbrev pub all_ascii : List ℕ → Bool
-all_ascii [] = true
-all_ascii (b ∷ bs) = nat_lt b 128 && all_ascii bs
-
-pub ascii : (bs : List ℕ) → all_ascii bs ≡ true → IsAscii bs
-ascii [] h = IsAscii-nil
-ascii (b ∷ bs) h = let both = and_parts (nat_lt b 128) (all_ascii bs) h in
-    IsAscii-cons b bs (below b both.0) (ascii bs both.1)
-  where
-    below : (b : ℕ) → nat_lt b 128 ≡ true → b < 128
-    below b e = grind (arith, nat_tests)
-
-pub value-ascii : (bytes : List ℕ) → all_ascii bytes ≡ true → value_in bytes ≡ data_of bytes
-value-ascii bytes a = rw (is_utf8-from_IsUtf8 bytes (IsUtf8-from_ascii bytes (ascii bytes a))) refl
 
 -- ---- what offices hold
 
@@ -128,13 +106,13 @@ pub starts-given : (def : List ℕ) (fs : List Fact) → all_ascii def ≡ true
     → starting_content (frame_in def) ≡ from_list fs
 starts-given def fs a is =
     let starts = λ (f : Frame). from_list {R = fact_cmp} (map (λ e. Device e.0 e.1) f.devices) in
-    ap (λ d. starts (frame_of d)) (value-ascii def a) ∙ ap starts (frame_of-put (data_of def))
+    ap (λ d. starts (frame_of d)) (value_in-ascii def a) ∙ ap starts (frame_of-put (data_of def))
     ∙ ap from_list is
 
 pub facts-given : (bytes : List ℕ) (fs : List Fact) → all_ascii bytes ≡ true
     → report_facts (data_of bytes) ≡ fs → facts bytes ≡ from_list fs
 facts-given bytes fs a is =
-    ap (λ d. from_list (report_facts d)) (value-ascii bytes a) ∙ ap from_list is
+    ap (λ d. from_list (report_facts d)) (value_in-ascii bytes a) ∙ ap from_list is
 
 -- of three files where those of the second alone are given
 abbrev pub with_second : List ℕ → List Fact → List ℕ → ℕ → List Fact

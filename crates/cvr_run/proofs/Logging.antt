@@ -1,15 +1,16 @@
 -- A log that gets lines for files, one after the other.
 use Rattle.std.proofs.Common.{◌≡◌, ℕ, ◌+◌, ◌<◌, List, [], ◌∷◌, ◌++◌, length, get_or, Bool, true}
-use Rattle.std.proofs.Common.{false, ◌||◌, ◌&&◌, Option, Some, None, Result, Ok, Err, OnErr, ◌⊎◌}
+use Rattle.std.proofs.Common.{false, ◌||◌, Option, Some, None, Result, Ok, Err, OnErr, ◌⊎◌}
 use Rattle.std.proofs.Common.{inl, inr, refl, sym, ap, ◌∙◌, subst, append_assoc, append-nil, arith}
 use Rattle.std.proofs.Common.{true≢false}
 use Rattle.std.specs.Prelude.{is_some, option_map, if◌then◌else◌}
 use Rattle.std.specs.Option.{option_map_or}
 use Rattle.std.specs.Global.{Vec}
 use Rattle.std.specs.List.{list_any}
-use Rattle.std.proofs.lemmas.List.{length_push, length-map, get_or-map}
+use Rattle.std.proofs.lemmas.List.{length_push, length-map, get_or-map, nil_from_length}
 use Rattle.std.proofs.lemmas.List.Folds.{list_any-append}
 use Rattle.std.proofs.Math.Bool.{or-false}
+use Rattle.std.proofs.lemmas.Bool.{and_parts, and_from, false_from_ne_true}
 use Rattle.cdf_types.specs.Device.{Taken, Appends, taken_with, AppendsPrefix}
 use Rattle.cdf_types.specs.declared.fault.ReadFault.{ReadFault}
 use Rattle.cdf_types.specs.declared.fault.ReadFault.TheVariants.{TooLong, NotJson, Schema}
@@ -33,12 +34,9 @@ use Rattle.cvr_run.specs.Logged.{logged_line, logged_lines, can_be, can_all, is_
 use Rattle.cvr_run.specs.Logged.{is_short, file_dues, task_dues, run_lines, last_lines}
 use Rattle.cvr_run.specs.Logged.{Dues, LogsFirst, LogsRun, IsCutShort, IsRunCutShort}
 use Rattle.cvr_run.specs.Logged.{LogsSome}
+use Rattle.cvr_report.proofs.Lemmas.{appended_none}
 
 -- ---- logs, one after the other
-
-pub appended_none : (before : Option (List ℕ)) → before ≡ taken_with before []
-appended_none None = refl
-appended_none (Some t) = sym (ap Some (append-nil t))
 
 pub logs_none : (before : Taken) → Logs before before []
 logs_none before = record {
@@ -99,23 +97,15 @@ logged_lines-more (s ∷ ts) t (p ∷ ps) (f ∷ fs) lp lf =
     ∙ sym (append_assoc (logged_line s p f) (logged_lines ts ps fs)
     (logged_line t (get_or ps (length ts) []) (get_or fs (length ts) no_due)))
 
-and_parts : (a b : Bool) → (a && b) ≡ true → (a ≡ true) × (b ≡ true)
-and_parts true b h = (refl, h)
-and_parts false b h = absurd (true≢false (sym h))
-
-and_both : (a b : Bool) → a ≡ true → b ≡ true → (a && b) ≡ true
-and_both true b ha hb = hb
-and_both false b ha hb = ha
-
 can_all-more : (ts : List Logging) (t : Logging) (dues : List Due) → can_all ts dues ≡ true
     → length ts < length dues → can_be t (get_or dues (length ts) no_due) ≡ true
     → can_all (ts ++ t ∷ []) dues ≡ true
 can_all-more [] t [] all lt can = absurd (omega arith)
-can_all-more [] t (f ∷ fs) all lt can = and_both _ _ can refl
+can_all-more [] t (f ∷ fs) all lt can = and_from _ _ can refl
 can_all-more (s ∷ ts) t [] all lt can = absurd (omega arith)
 can_all-more (s ∷ ts) t (f ∷ fs) all lt can =
     let parts = and_parts (can_be s f) (can_all ts fs) all in
-    and_both _ _ parts.0 (can_all-more ts t fs parts.1 (omega arith) can)
+    and_from _ _ parts.0 (can_all-more ts t fs parts.1 (omega arith) can)
 
 any-push : (test : Logging → Bool) (ts : List Logging) (t : Logging)
     → list_any test (ts ++ t ∷ []) ≡ (list_any test ts || test t)
@@ -281,10 +271,6 @@ as_due (AsDue ∷ ts) (p ∷ ps) (f ∷ fs) lacking unspelled count =
 as_due (Lacking ∷ ts) (p ∷ ps) (f ∷ fs) lacking unspelled count = absurd (true≢false lacking)
 as_due (Unspelled ∷ ts) (p ∷ ps) (f ∷ fs) lacking unspelled count = absurd (true≢false unspelled)
 
-bool_false : (x : Bool) → (x ≡ true → ⊥) → x ≡ false
-bool_false true h = absurd (h refl)
-bool_false false h = refl
-
 module _ (of : Dues) (n : ℕ) (r : Refusals) (b m a : Taken) (so_far : LogsFirst of n r b m)
     (fault : Option MergeFault) (d : Taken) where
   -- with `memory` after these lines, none lacking
@@ -333,7 +319,7 @@ module _ (of : Dues) (n : ℕ) (r : Refusals) (b m a : Taken) (so_far : LogsFirs
       → LogsRun of fault s (record { out = c; log = b }) (record { out = d; log = a })
   told_whole s c all working is not logs = record {
     log = λ no.
-        let spelled = bool_false r.path_unspelled (λ e. no (not e)) in
+        let spelled = false_from_ne_true r.path_unspelled (λ e. no (not e)) in
         subst (λ l. Logs b a (l ++ last_lines fault d.failed))
         (as_due so_far.loggings of.texts of.dues (sym so_far.file_lacking ∙ working)
         (sym so_far.path_unspelled ∙ spelled) (so_far.count ∙ all))
@@ -387,10 +373,6 @@ wanted_unprinted of fault s c d b a want works some =
     wanted of fault s c d b a want (subst (λ x. LogsSome (IsCutShort of fault x) b a) (sym works)
     some)
 
-no_loggings : (ts : List Logging) → length ts ≡ 0 → ts ≡ []
-no_loggings [] none = refl
-no_loggings (t ∷ ts) none = absurd (omega (arith, none))
-
 -- `memory` alone, or each of them
 pub alone_or_each : AloneOrEachLaw
 alone_or_each texts dues fault failed text cut =
@@ -401,7 +383,7 @@ alone_or_each texts dues fault failed text cut =
         | inl e ↦ inr (ts, last_lines fault failed, e.0, cut.possible, e.3)
         | inr e ↦ elim e.0 [
           | inl none ↦ inl (e.3 ∙ ap (λ us. logged_lines us texts dues ++ memory_line)
-              (no_loggings ts none))
+              (nil_from_length ts none))
           | inr all ↦ inr (ts, memory_line, all, cut.possible, e.3)
         ]
       ]

@@ -1,9 +1,8 @@
 -- The facts that are held of files: those of the definition's devices, and those of the values of
 -- the accepted files.
-use Rattle.std.proofs.Common.{◌≡◌, ℕ, ◌<◌, List, [], ◌∷◌, length, get_or, true, ◌⊎◌, inl, inr}
+use Rattle.std.proofs.Common.{◌≡◌, ℕ, ◌<◌, List, [], length, get_or, true, ◌⊎◌, inl, inr}
 use Rattle.std.proofs.Common.{Option, Some, None, refl, sym, ap, ◌∙◌, subst}
 use Rattle.std.proofs.lemmas.Bool.{false≢true}
-use Rattle.std.proofs.lemmas.List.Folds.{list_any_at}
 use Rattle.std.proofs.lemmas.List.{get_or_default}
 use Rattle.std.specs.Prelude.{Bool, ◌||◌, ◌↔◌, is_some, if◌then◌else◌}
 use Rattle.std.specs.List.{Contains, list_any}
@@ -16,7 +15,7 @@ use Rattle.cdf_definition.specs.Acceptance.{Valid, first_refusal, value_in}
 use Rattle.cdf_definition.proofs.Laws.{valid_file}
 use Rattle.cvr_fact_types.specs.Facts.{Fact, Facts, fact_cmp, fact_total, fact_exact}
 use Rattle.cvr_facts.specs.Reports.{report_facts, facts}
-use Rattle.cvr_facts.proofs.Lemmas.{at_head, at_tail}
+use Rattle.cvr_facts.proofs.Lemmas.{one_that_passes, passes_by}
 use Rattle.cvr_office.specs.CanHold.{starting_content}
 use Rattle.cvr_office.specs.Reach.{union_over}
 use Rattle.cvr_office.proofs.Lemmas.{or_cases, or_left, or_right, contains-union_over}
@@ -55,20 +54,6 @@ module _ (definition : Frame) where
       (also_there Q P t s of_t of_s (λ v. (same v).1) q))
 
 -- ---- what is held
-
--- a member that passes a test
-pub one_that_passes : {X : Type 0} (test : X → Bool) (xs : List X) → list_any test xs ≡ true
-    → (x : X) × Contains xs x × (test x ≡ true)
-one_that_passes test [] h = absurd (false≢true h)
-one_that_passes test (x ∷ xs) h =
-    elim (or_cases (test x) (list_any test xs) h) [
-      | inl here ↦ (x, at_head x xs, here)
-      | inr rest ↦ let w = one_that_passes test xs rest in (w.0, at_tail x w.0 xs w.1, w.2)
-    ]
-
-pub passes_by : {X : Type 0} (test : X → Bool) (xs : List X) (x : X) → Contains xs x → test x ≡ true
-    → list_any test xs ≡ true
-passes_by test xs x at h = list_any_at test xs at.0 x at.1 (ap test at.2 ∙ h)
 
 -- a fact of the accepted file is one of the file, which is accepted
 of_accepted : (first : Option ReadFault) (some : Facts) (q : Fact)

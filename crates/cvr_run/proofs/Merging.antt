@@ -14,7 +14,7 @@ use Rattle.cvr_report.specs.declared.heading.HeadFault.TheVariants as head
 use Rattle.cvr_report.specs.Head.{Head, IsHead, IsHeadFault, is_device_of}
 use Rattle.cvr_report.specs.Page.{volumes, page}
 use Rattle.cvr_report.specs.Volume.{volume, volume_data, cover_of, records_data}
-use Rattle.cvr_report.proofs.Lemmas.{volume_text}
+use Rattle.cvr_report.proofs.Lemmas.{volume_text, appended_none}
 use Rattle.serde_json.specs.Written.{compact_text}
 use Rattle.cvr_run.specs.declared.merge.MergeFault.{MergeFault}
 use Rattle.cvr_run.specs.declared.merge.MergeFault.TheVariants.{NotMoment, NoDevice, NoVolume}
@@ -24,7 +24,6 @@ use Rattle.cvr_words.specs.declared.request.Task.{Task}
 use Rattle.cvr_run.specs.Merge.{merge_fault, merge_text}
 use Rattle.cvr_run.specs.Outcome.{facts_fault, facts_text}
 use Rattle.cvr_run.specs.Printing.{Prints, is_output, merge_part, of_head}
-use Rattle.cvr_run.proofs.Logging.{appended_none}
 
 -- ---- by the three tests
 

@@ -5,7 +5,7 @@ use Rattle.std.proofs.Common.{◌∙◌, append_assoc}
 use Rattle.std.specs.List.{flat_map}
 use Rattle.std.specs.Result.{is_err}
 use Rattle.std.proofs.lemmas.List.{at_drop_more}
-use Rattle.cdf_types.specs.Device.{Taken, Appends, taken_with, AppendsPrefix, AppendsProperPrefix}
+use Rattle.cdf_types.specs.Device.{Taken, Appends, taken_with, AppendsPrefix}
 use Rattle.cdf_types.proofs.Lemmas.{appended_twice}
 
 -- the bytes of pieces
@@ -18,11 +18,6 @@ pub next_piece : (pieces : List (Bor (List ℕ))) (i : ℕ) (d : Bor (List ℕ))
 next_piece pieces i d front within e =
     e ∙ ap (λ r. front ++ r) (at_drop_more bytes_of pieces i d within)
     ∙ sym (append_assoc front (slice_index_or pieces i d).now _)
-
--- a proper prefix is a prefix
-pub proper_prefix : (before after : Taken) (bytes : List ℕ) → AppendsProperPrefix before after bytes
-    → AppendsPrefix before after bytes
-proper_prefix before after bytes (front, rest, cut, more, is_logged) = (front, rest, cut, is_logged)
 
 pub front_of_piece : (before mid after : Taken) (front piece rest line : List ℕ)
     → line ≡ (front ++ piece) ++ rest → Appends before mid front → AppendsPrefix mid after piece

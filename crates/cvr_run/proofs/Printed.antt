@@ -23,7 +23,8 @@ use Rattle.cvr_run.specs.Refusals.{is_memory}
 use Rattle.cvr_run.specs.Printing.{Prints, is_output, merge_part, end_line, print_status}
 use Rattle.cvr_run.specs.Printing.{status_after}
 use Rattle.cvr_run.specs.Logged.{last_lines, Dues, LogsFirst, LogsRun}
-use Rattle.cvr_run.proofs.Logging.{appended_none, told_whole, wanted, cut_by_memory}
+use Rattle.cvr_run.proofs.Logging.{told_whole, wanted, cut_by_memory}
+use Rattle.cvr_report.proofs.Lemmas.{appended_none}
 
 -- out of memory before anything was printed
 pub not_printed : {T : Type 0} (before : Taken) (r : Result T PrintFault)

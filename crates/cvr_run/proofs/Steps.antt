@@ -10,14 +10,13 @@ use Rattle.std.proofs.lemmas.List.{get_or-map, get_or-reverse, ext_get_or}
 use Rattle.std.proofs.lemmas.List.Elements.{All-from_recursion, All-get_or}
 use Rattle.std.proofs.lemmas.List.FromFn.{length-map-range_with_len, get_or-map-range_with_len}
 use Rattle.std.proofs.lemmas.List.Sorted.{IsPermutation-reverse, list_any-IsPermutation}
-use Rattle.std.specs.FinSet.{empty, len}
+use Rattle.std.specs.FinSet.{empty}
 use Rattle.std.specs.Option.{option_map_or}
 use Rattle.cdf_types.specs.declared.fault.ReadFault.{ReadFault}
 use Rattle.cdf_types.specs.declared.fault.ReadFault.TheVariants as read
 use Rattle.cdf_definition.specs.Frame.{Frame, IsSame}
 use Rattle.cdf_definition.specs.Acceptance.{first_refusal}
-use Rattle.cvr_fact_types.specs.Facts.{Facts, fact_total, fact_exact}
-use Rattle.cvr_facts.specs.Unions.{union_same}
+use Rattle.cvr_fact_types.specs.Facts.{Facts}
 use Rattle.cvr_office.specs.declared.event.Event.{Event}
 use Rattle.cvr_office.specs.declared.event.Event.TheVariants.{Import, Exchange}
 use Rattle.cvr_office.specs.declared.event.Outcome.{Outcome}
@@ -29,7 +28,7 @@ use Rattle.cvr_office.specs.Readers.{growth}
 use Rattle.cvr_office.specs.Reach.{History, history, content}
 use Rattle.cvr_office.specs.Outcomes.{no_frame, due_outcome, IsImportOutcome, IsExchangeOutcome}
 use Rattle.cvr_office.specs.Outcomes.{IsOutcome, AreOutcomes}
-use Rattle.cvr_office.proofs.Lemmas.{at_eq, is_eq, map-reverse}
+use Rattle.cvr_office.proofs.Lemmas.{at_eq, is_eq, map-reverse, growth-itself}
 use Rattle.cvr_words.specs.declared.request.Step.{Step}
 use Rattle.cvr_run.specs.Drill.{events_of, certain_due, exchange_due, event_due, step_due}
 use Rattle.cvr_run.specs.Drill.{step_dues, drill_refused, brings, outcome_by, new_offices, past_of}
@@ -47,10 +46,6 @@ pub due_by : (first : Option ReadFault) (n : ℕ)
     → due_outcome first n ≡ outcome_by (file_due first).cause n
 due_by None n = refl
 due_by (Some fault) n = refl
-
--- a set brings nothing to itself
-pub growth_itself : (s : Facts) → growth s s ≡ 0
-growth_itself s = omega (arith, ap len (union_same fact_total fact_exact s))
 
 -- what is known of an outcome: it is due, and it is the one that is due unless memory ran out
 pub record IsTold (d : Due) (n : ℕ) (r : Outcome) : Type 0 where
@@ -83,7 +78,7 @@ told_none n r is =
     subst (IsTold no_due n) (sym is) (record { is_due = refl; exact = λ working. refl })
 
 module _ (definition : Frame) (n : ℕ) (files : List (List ℕ)) where
-  abbrev frames : List Frame
+  abbrev pub frames : List Frame
   frames = replicate n definition
 
   abbrev starts : List Facts
@@ -92,10 +87,11 @@ module _ (definition : Frame) (n : ℕ) (files : List (List ℕ)) where
   frames_count : length frames ≡ n
   frames_count = length-replicate n definition
 
-  frame_at : (o : ℕ) → o < n → get_or frames o no_frame ≡ definition
+  pub frame_at : (o : ℕ) → o < n → get_or frames o no_frame ≡ definition
   frame_at o lt = get_or-replicate n o definition no_frame lt
 
-  alike : (p o : ℕ) → p < n → o < n → IsSame (get_or frames o no_frame) (get_or frames p no_frame)
+  pub alike : (p o : ℕ) → p < n → o < n → IsSame (get_or frames o no_frame)
+      (get_or frames p no_frame)
   alike p o lp lo = subst (λ f. IsSame f (get_or frames p no_frame)) (sym (frame_at o lo))
       (subst (IsSame definition) (sym (frame_at p lp))
       (record { elections = refl; units = refl; parties = refl }))
@@ -162,7 +158,7 @@ module _ (definition : Frame) (n : ℕ) (files : List (List ℕ)) where
           (told_none (growth (held o) (held p)) r
           (out.itself (omega (arith, lp, frames_count)) same
           ∙ ap Accepted (sym (ap (λ q. growth (held o) (held q)) same
-          ∙ growth_itself (held o)))))
+          ∙ growth-itself (held o)))))
       inside_told held p o r lp lo out false e =
           let apart : p ≢ o = λ same. true≢false (sym (is_eq p o same) ∙ e) in
           subst (λ b. IsTold (if b then no_due else exchange_due) (growth (held o) (held p)) r)

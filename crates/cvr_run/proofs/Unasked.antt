@@ -23,7 +23,7 @@ use Rattle.cvr_run.specs.Refusals.{status_of}
 use Rattle.cvr_run.specs.Logged.{out_line}
 use Rattle.cvr_run.proofs.Known.{not_whole}
 use Rattle.cvr_run.proofs.Printed.{whole_front}
-use Rattle.cvr_run.proofs.Logging.{appended_none}
+use Rattle.cvr_report.proofs.Lemmas.{appended_none}
 
 -- a fault that leaves the output as it was
 pub quiet_told : (unchanged : Type 0) (f k : LoggedFault) (answer : Status) (c b a : Taken) → f ≡ k

@@ -1,8 +1,9 @@
 -- Each row stays one of a contest, with a number for each of its selections.
 use Rattle.std.proofs.Common.{◌≡◌, ℕ, ◌==◌, ◌<◌, true, false, cond, List, length, Some, None, refl}
-use Rattle.std.proofs.Common.{sym, ap, subst, ◌∙◌}
+use Rattle.std.proofs.Common.{sym, subst, ◌∙◌}
+use Rattle.std.proofs.lemmas.Option.{same_Some}
 use Rattle.std.specs.Cmp.{Equal-is}
-use Rattle.std.specs.Option.{IfSome, option_map_or, unwrap_or}
+use Rattle.std.specs.Option.{IfSome, option_map_or}
 use Rattle.std.specs.FinMap.{get, insert, remove, empty, get-empty, get-insert, get-remove}
 use Rattle.cdf_parts.specs.Places.{Contest, selections_at}
 use Rattle.cvr_fact_types.specs.declared.sums.VoteSums.{VoteSums}
@@ -33,18 +34,15 @@ pub kept : (cs : List Contest) (m m' : Rows) (n : ℕ) → m ≡ m' → AreOf cs
     → IsTotals (record { contests = cs; rows = m; moves = n })
 kept cs m m' n is all = are_totals cs m n (subst (AreOf cs) (sym is) all)
 
-is_key-same : (q k : RowKey) → is_key q k ≡ true → q ≡ k
+pub is_key-same : (q k : RowKey) → is_key q k ≡ true → q ≡ k
 is_key-same q k t = keys_exact q k ((Equal-is (key_cmp q k)).0 t)
-
-same_row : (a b : Row) → Some a ≡ Some b → a ≡ b
-same_row a b e = ap (λ o. unwrap_or o a) e
 
 inserted : (cs : List Contest) (m : Rows) (k : RowKey) (r : Row) → IsOf cs k r → AreOf cs m
     → AreOf cs (insert m k r)
 inserted cs m k r new all q x is =
     elim (is_key q k) as (λ b. is_key q k ≡ b → cond b (Some r) (get m q) ≡ Some x → IsOf cs q x) [
       | true ↦ λ t e. subst (λ z. IsOf cs z x) (sym (is_key-same q k t))
-          (subst (IsOf cs k) (same_row r x e) new)
+          (subst (IsOf cs k) (same_Some r x e) new)
       | false ↦ λ _ e. all q x e
     ] refl (sym (get-insert keys_total m k r q) ∙ is)
 

@@ -1,5 +1,5 @@
 -- Runs over one file whose facts are given.
-use Rattle.std.proofs.Common.{◌≡◌, ◌≤◌, ℕ, List, [], ◌∷◌, ◌++◌, length, true, inl, inr, refl}
+use Rattle.std.proofs.Common.{◌≡◌, ◌≤◌, ℕ, List, [], ◌∷◌, ◌++◌, length, true, refl}
 use Rattle.std.proofs.Common.{sym, ap, ◌∙◌, subst, arith, nat_le}
 use Rattle.std.proofs.lemmas.Bool.Decides.{nat_tests}
 use Rattle.std.specs.List.{Contains}
@@ -13,7 +13,7 @@ use Rattle.cvr_fact_types.specs.Facts.{Fact, fact_total, fact_exact}
 use Rattle.cvr_facts.specs.Choosing.{data_of}
 use Rattle.cvr_facts.specs.Reports.{facts}
 use Rattle.cvr_facts.specs.Unions.{union_assoc, union_same, union_empty}
-use Rattle.cvr_facts.proofs.Lemmas.{at_head, head_or_tail, none_listed, from_list-append}
+use Rattle.cvr_facts.proofs.Lemmas.{at_head, from_list-append, only_one}
 use Rattle.cvr_office.specs.CanHold.{starting_content}
 use Rattle.cvr_report.specs.Head.{Head}
 use Rattle.cvr_report.specs.Page.{volumes}
@@ -26,9 +26,6 @@ use Rattle.cvr_run.proofs.Lemmas.{text_beside}
 use Rattle.cvr_whole.specs.Runs.{AreOneDefinition}
 use Rattle.cvr_whole.specs.Volumes.{AreVolumes}
 use Rattle.cvr_whole.proofs.Volumes.{accepted, printed}
-
-pub only : {X : Type 0} (x y : X) → Contains (x ∷ []) y → x ≡ y
-only x y at = elim (head_or_tail x y [] at) [ inl is ↦ is | inr more ↦ absurd (none_listed y more) ]
 
 -- ---- a definition
 
@@ -85,7 +82,7 @@ currents_given def files fs text s held is =
 
 all_to_one : (n : ℕ) → n ≡ 1 → AreAllTo n (1 ∷ [])
 all_to_one n is i = (
-  λ at. let one = only 1 i at in (omega (arith, one), omega (arith, one, is)),
+  λ at. let one = only_one 1 i at in (omega (arith, one), omega (arith, one, is)),
   λ h. let low = h.0 in let high = h.1 in
       let one : 1 ≡ i = omega (arith, low, high, is) in
       subst (Contains (1 ∷ [])) one (at_head 1 []),
@@ -104,5 +101,5 @@ one_volume def head files can number short = record {
   short = λ file at.
       let text = printed (frame_in def) head (content_of_files (frame_in def) files) 1 can
       (omega (arith, number)) in
-      subst (λ file. length file ≤ max_file) (sym text ∙ only _ file at) (within _ short);
+      subst (λ file. length file ≤ max_file) (sym text ∙ only_one _ file at) (within _ short);
 }

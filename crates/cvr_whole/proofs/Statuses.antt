@@ -1,7 +1,8 @@
 -- The status of a whole run is that of its files.
-use Rattle.std.proofs.Common.{◌≡◌, ℕ, List, Bool, true, false, Option, Some, None, inl, inr, refl}
+use Rattle.std.proofs.Common.{◌≡◌, ℕ, List, Bool, true, false, inl, inr, refl}
 use Rattle.std.proofs.Common.{sym, ap, ◌∙◌, arith}
 use Rattle.std.proofs.lemmas.Bool.{false≢true, false_from_ne_true, or_from, or_parts}
+use Rattle.std.proofs.option.Match.{None-if_not_some}
 use Rattle.std.specs.Prelude.{◌||◌, ◌↔◌, is_some}
 use Rattle.std.specs.List.{Contains, list_any}
 use Rattle.std.specs.Cmp.{both_ways}
@@ -17,9 +18,9 @@ use Rattle.cvr_run.specs.Laws.{HaveSameBytes}
 use Rattle.cvr_run.specs.Outcome.{content_of_files, facts_fault, task_fault, files_refused}
 use Rattle.cvr_run.specs.Outcome.{task_refused, any_refused}
 use Rattle.cvr_run.proofs.Laws.{same_held, by_bytes}
-use Rattle.cvr_run.proofs.Lemmas.{one_that_passes, passes_by}
 use Rattle.cvr_whole.specs.Runs.{WholeRun, SameStatusLaw, IsClean, CleanRunLaw}
 use Rattle.cvr_whole.proofs.Runs.{status_of}
+use Rattle.cvr_facts.proofs.Lemmas.{one_that_passes, passes_by}
 
 -- it says whether anything is refused
 ends_as : (job : Job) (run : WholeRun job) (refused : Bool) → job_refused job ≡ refused
@@ -67,10 +68,6 @@ same_status job other run again takes same =
 
 -- ---- a clean run
 
-none_there : {X : Type 0} (o : Option X) → is_some o ≡ false → o ≡ None
-none_there None h = refl
-none_there (Some x) h = absurd (false≢true (sym h))
-
 clean : (job : Job) → takes_files job.request.task ≡ true → job_refused job ≡ false → IsClean job
 clean job takes none =
     let definition = frame_in job.def in
@@ -80,11 +77,12 @@ clean job takes none =
     (list_any (is_refused definition) job.files)
     (sym (of_files definition task job.files takes) ∙ parts.1) in
     record {
-      sound = (sound_file job.def).0 (none_there (first_unsound job.def) parts.0);
-      valid = λ file at. (valid_file definition file).0 (none_there (first_refusal definition file)
+      sound = (sound_file job.def).0 (None-if_not_some (first_unsound job.def) parts.0);
+      valid = λ file at. (valid_file definition file).0
+          (None-if_not_some (first_refusal definition file)
           (false_from_ne_true (is_refused definition file) (λ is. false≢true (sym files.1
           ∙ passes_by (is_refused definition) job.files file at is))));
-      no_fault = none_there (task_fault definition task job.files) files.0;
+      no_fault = None-if_not_some (task_fault definition task job.files) files.0;
     }
 
 not_refused : (job : Job) → takes_files job.request.task ≡ true → IsClean job

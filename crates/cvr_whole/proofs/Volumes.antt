@@ -1,7 +1,7 @@
 -- Volumes in the place of files hold what the files hold; and what files hold, an office keeps.
-use Rattle.std.proofs.Common.{◌≡◌, ◌≤◌, ℕ, List, [], ◌∷◌, length, not, false, Option, Some, None}
-use Rattle.std.proofs.Common.{refl, sym, ap, ◌∙◌, subst, arith, nat_lt}
-use Rattle.std.proofs.lemmas.Bool.Decides.{nat_tests}
+use Rattle.std.proofs.Common.{◌≡◌, ◌≤◌, ℕ, List, [], ◌∷◌, length, not, Option, Some, None}
+use Rattle.std.proofs.Common.{refl, sym, ap, ◌∙◌, subst}
+use Rattle.std.proofs.lemmas.Bool.{le-ltb}
 use Rattle.std.specs.Prelude.{is_some, if◌then◌else◌}
 use Rattle.std.specs.List.{Contains}
 use Rattle.std.specs.FinSet.{union, empty}
@@ -65,9 +65,6 @@ held_keeps def files s =
 
 -- ---- volumes
 
-below : (n i : ℕ) → i ≤ n → nat_lt n i ≡ false
-below n i le = grind (arith, nat_tests)
-
 -- what is printed is the volume
 pub printed : (definition : Frame) (head : Head) (s : Facts) (i : ℕ) → CanHead definition head
     → i ≤ volumes s
@@ -75,7 +72,7 @@ pub printed : (definition : Frame) (head : Head) (s : Facts) (i : ℕ) → CanHe
 printed definition head s i can within = whole_volume definition head.date head.device i s
     (λ k. if not (can.heading.moment k) then Some NotMoment
     else (if not (can.device k) then Some NoDevice
-    else (if below (volumes s) i within k then Some (NoVolume (volumes s)) else None)))
+    else (if le-ltb (volumes s) i within k then Some (NoVolume (volumes s)) else None)))
 
 module _ (def : List ℕ) (head : Head) (files : List (List ℕ)) (numbers : List ℕ) (s : Sound def)
     (are : AreVolumes def head files numbers) where

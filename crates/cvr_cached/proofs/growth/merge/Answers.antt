@@ -1,16 +1,12 @@
 -- Ahead of each `fact` of those `coming`, the `count` facts of `rest` that precede it are moved:
 -- list, `rest` and `coming` always make up the same merged list, for which there is room.
-use Rattle.std.proofs.Common.{◌≡◌, ◌∙◌, ◌++◌, ◌≤◌, ◌∷◌, length, take, refl, ap, sym, rules, arith}
-use Rattle.std.specs.Prelude.{List, []}
+use Rattle.std.proofs.Common.{◌∙◌, ◌++◌, ◌≤◌, length, take, ap, sym, rules, arith}
 use Rattle.std.proofs.lemmas.List.{take_all, length-drop, length-take-le, length-append}
+use Rattle.std.proofs.lemmas.List.{nil_from_length}
 use Rattle.std.proofs.lemmas.List.Sorted.{IsPartitionPoint-from_clause}
 use Rattle.cvr_cached.specs.Merged.{is_before, merged}
 use Rattle.cvr_cached.proofs.MergedFacts.{lead, merged_on, drop_rises}
 use Rattle.cvr_cached.proofs.growth.merge.Goals as goal
-
-none_left : {X : Type 0} (xs : List X) → length xs ≡ 0 → xs ≡ []
-none_left [] e = refl
-none_left (x ∷ xs) e = absurd (omega arith)
 
 pub move_front-requires-clause-within : goal.move_front-requires-clause-within
 move_front-requires-clause-within c =
@@ -90,7 +86,7 @@ pub returns : goal.returns
 returns c =
     let list = c.loop-fact.list.items in
     let rest = c.loop-fact.rest.items in
-    let none = none_left c.loop-fact.coming.items
+    let none = nil_from_length c.loop-fact.coming.items
     (omega (arith, c.in_default.ensures.cases.0, c.loop-fact.coming.ok.0)) in
     rw c.move_front-2.ensures.moved
     (ap (λ ys. list ++ ys) (take_all c.len-count.result rest

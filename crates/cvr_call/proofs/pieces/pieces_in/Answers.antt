@@ -1,16 +1,14 @@
 -- With each `piece` cut off, those so far and what is behind them (`more`) are the only way to cut
 -- the input: where an end doesn't fit, or bytes are left over, there is none.
-use Rattle.std.proofs.Common.{◌≡◌, ◌∙◌, ◌++◌, ◌+◌, ℕ, List, [], ◌∷◌, map, drop, get_or, length}
+use Rattle.std.proofs.Common.{◌≡◌, ◌∙◌, ◌++◌, ◌+◌, ℕ, List, [], ◌∷◌, drop, get_or, length}
 use Rattle.std.proofs.Common.{ap, subst, sym, true≢false}
 use Rattle.std.proofs.lemmas.Bool.{eqb-true, eq-eqb}
 use Rattle.std.proofs.lemmas.List.{map-append, nil_from_length}
 use denote.Bor.{Bor}
 use Rattle.cvr_call.proofs.Cutting.{AreCutSoFar, cut_all, cut_last, cut_next, cut_no_others}
 use Rattle.cvr_call.proofs.Cutting.{cut_one_more, uncut_piece, uncut_rest}
+use Rattle.cvr_call.proofs.Giving.{shown}
 use Rattle.cvr_call.proofs.pieces.pieces_in.Goals as goal
-
-abbrev shown : List (Bor (List ℕ)) → List (List ℕ)
-shown pieces = map (λ piece. piece.now) pieces
 
 pub returns-in_default-clause-none : goal.returns-in_default-clause-none
 returns-in_default-clause-none c fault =

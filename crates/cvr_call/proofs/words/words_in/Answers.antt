@@ -1,11 +1,9 @@
 use Rattle.std.proofs.Common.{◌≡◌, ◌<◌, ◌∙◌, ◌++◌, ◌+◌, ℕ, List, [], ◌∷◌, Global, IsUtf8, String}
 use Rattle.std.proofs.Common.{ap, below_more, get_or, length, map, string_bytes, subst, sym, take}
 use Rattle.std.proofs.lemmas.List.{get_or_default, map-append, take_more}
+use Rattle.cvr_call.proofs.Giving.{shown}
 use denote.Bor.{Bor}
 use Rattle.cvr_call.proofs.words.words_in.Goals as goal
-
-abbrev shown : List (Bor (List ℕ)) → List (List ℕ)
-shown pieces = map (λ piece. piece.now) pieces
 
 -- one piece more
 more_words : (words : List (String Global)) (word : String Global) (pieces : List (Bor (List ℕ)))

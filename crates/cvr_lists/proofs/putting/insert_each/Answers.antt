@@ -1,13 +1,10 @@
 -- With each `fact` in its place, putting in the `rest` still makes the list that putting in all of
 -- them makes; the room reserved at first is enough up to the last one.
-use Rattle.std.proofs.Common.{◌≡◌, List, [], ◌∷◌, length, refl, sym, ap, subst, arith}
+use Rattle.std.proofs.Common.{[], ◌∷◌, length, sym, ap, subst, arith}
+use Rattle.std.proofs.lemmas.List.{nil_from_length}
 use Rattle.cvr_office.specs.Plain.{IsPut}
 use Rattle.cvr_lists.proofs.Insertions.{put_then, put_nothing}
 use Rattle.cvr_lists.proofs.putting.insert_each.Goals as goal
-
-none_left : {X : Type 0} (xs : List X) → length xs ≡ 0 → xs ≡ []
-none_left [] e = refl
-none_left (x ∷ xs) e = absurd (omega arith)
 
 pub loop-fact-init : goal.loop-fact-init
 loop-fact-init c = record {
@@ -52,7 +49,8 @@ pub returns-clause-put : goal.returns-clause-put
 returns-clause-put c =
     let facts = c.loop-fact.facts.items in
     let left = c.loop-fact.rest.items in
-    let none = none_left left (omega (arith, c.in_default.ensures.cases.0, c.loop-fact.rest.ok.0))
+    let none = nil_from_length left
+    (omega (arith, c.in_default.ensures.cases.0, c.loop-fact.rest.ok.0))
     in rw (← c.reserve.ensures.items, ← c.from-rest.ensures.0)
     (c.loop-fact.invariant.rest facts
     (put_nothing facts left c.loop-fact.invariant.rises none))

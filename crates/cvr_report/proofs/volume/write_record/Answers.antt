@@ -10,8 +10,7 @@ use Rattle.cvr_report.specs.Volume.{record_data}
 use Rattle.cvr_report.specs.Writes.{Writes, record_piece}
 use Rattle.cvr_report.specs.Pieces.{record_text}
 use Rattle.cvr_report.proofs.Kept.{headed}
-use Rattle.cvr_report.proofs.Pieces.{some_prefix, cut_short}
-use Rattle.cvr_report.proofs.Progress.{appended_none}
+use Rattle.cvr_report.proofs.Pieces.{some_prefix, cut_short, appended_none}
 use Rattle.cvr_report.proofs.Shows.{can_show, stands_is, no_text, some_text}
 use Rattle.cvr_report.proofs.volume.write_record.Goals as goal
 use Rattle.cvr_report.proofs.volume.write_record.Goals.{then-later, else-later}

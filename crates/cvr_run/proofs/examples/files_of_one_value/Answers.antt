@@ -6,8 +6,8 @@ use Rattle.cdf_definition.specs.Acceptance.{frame_in}
 use Rattle.cdf_check.specs.FileExamples as file
 use Rattle.cdf_check.proofs.Lemmas.{ascii_refusal}
 use Rattle.cvr_run.specs.RunExamples as example
-use Rattle.cvr_run.proofs.GivenDrills.{value-ascii}
 use Rattle.cvr_run.proofs.GivenValues.{same_values}
+use Rattle.cvr_facts.proofs.Lemmas.{value_in-ascii}
 use Rattle.cvr_run.proofs.examples.files_of_one_value.Goals as goal
 
 pub returns : goal.returns
@@ -18,4 +18,4 @@ returns c =
     (ascii_refusal file.definition_file example.spelled_anew _ refl refl refl refl)
     (ascii_refusal file.definition_file file.one_file _ refl refl refl refl)
     (ascii_refusal file.definition_file file.two_faults_file _ refl refl refl refl)
-    (value-ascii example.spelled_anew refl ∙ sym (value-ascii file.one_file refl))
+    (value_in-ascii example.spelled_anew refl ∙ sym (value_in-ascii file.one_file refl))

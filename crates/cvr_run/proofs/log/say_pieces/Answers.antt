@@ -1,6 +1,7 @@
 use Rattle.std.proofs.Common.{sym, ◌∙◌}
-use Rattle.cvr_run.proofs.Pieces.{next_piece, proper_prefix, front_of_piece, piece_taken}
+use Rattle.cvr_run.proofs.Pieces.{next_piece, front_of_piece, piece_taken}
 use Rattle.cvr_run.proofs.Pieces.{failed_works, where_err, where_ok}
+use Rattle.cvr_report.proofs.Lemmas.{some_prefix}
 use Rattle.cvr_run.proofs.log.say_pieces.Goals as goal
 
 -- the log failed at this piece
@@ -10,7 +11,7 @@ returns-then-is_err g c =
     let old = g.L.Sink.taken c.args.log.now in
     let mid = g.L.Sink.taken c.loop-piece.log in
     let new = g.L.Sink.taken c.write_all.new.out in
-    let is_logged = proper_prefix mid new _ (where_err _ c.write_all.result err
+    let is_logged = some_prefix mid new _ (where_err _ c.write_all.result err
     c.write_all.ensures.front) in record {
       whole = failed_works _ _ (where_err _ c.write_all.result err c.write_all.ensures.failed);
       silent = λ had. failed_works _ _ had (sym c.failed.ensures ∙ c.if-failed.false);

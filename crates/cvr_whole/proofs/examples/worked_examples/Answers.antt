@@ -13,17 +13,17 @@ use Rattle.cdf_definition.proofs.Laws.{sound_file, valid_file}
 use Rattle.cdf_check.specs.FileExamples as file
 use Rattle.cdf_check.proofs.Lemmas.{ascii_unsound, ascii_refusal}
 use Rattle.cvr_facts.specs.Choosing.{data_of}
-use Rattle.cvr_facts.proofs.Lemmas.{at_head, at_tail}
+use Rattle.cvr_facts.proofs.Lemmas.{at_head, at_tail, value_in-ascii, only_one}
 use Rattle.cvr_report.specs.Head.{is_device_of}
 use Rattle.cvr_report.specs.Page.{volumes}
 use Rattle.cvr_report.specs.Volume.{volume}
 use Rattle.cvr_report.proofs.Lemmas.{volume-given, volumes-given}
 use Rattle.cvr_run.specs.RunExamples.{spelled_anew}
 use Rattle.cvr_run.proofs.Lemmas.{currents-given, facts-given, of_one_file, same_values}
-use Rattle.cvr_run.proofs.Lemmas.{starts-given, three_devices, value-ascii}
+use Rattle.cvr_run.proofs.Lemmas.{starts-given, three_devices}
 use Rattle.cvr_whole.specs.Examples.{OneIsClean, TwoAreNot, SameInput, TextOfOne, OneVolume}
 use Rattle.cvr_whole.specs.Examples.{definition_anew, heading}
-use Rattle.cvr_whole.proofs.OneFile.{only, frame_is, one_by_value, held_once, held_twice}
+use Rattle.cvr_whole.proofs.OneFile.{frame_is, one_by_value, held_once, held_twice}
 use Rattle.cvr_whole.proofs.OneFile.{currents_given, one_volume}
 use Rattle.cvr_whole.proofs.examples.worked_examples.Goals as goal
 
@@ -31,11 +31,11 @@ use Rattle.cvr_whole.proofs.examples.worked_examples.Goals as goal
 
 def_value : value_in file.definition_file ≡ data_of file.definition_file
 unfolding serde_json_on_literals jiff_on_literals digits
-def_value = value-ascii file.definition_file refl
+def_value = value_in-ascii file.definition_file refl
 
 anew_value : value_in definition_anew ≡ data_of definition_anew
 unfolding serde_json_on_literals jiff_on_literals digits
-anew_value = value-ascii definition_anew refl
+anew_value = value_in-ascii definition_anew refl
 
 def_sound : Sound file.definition_file
 unfolding serde_json_on_literals jiff_on_literals digits
@@ -61,7 +61,8 @@ one_there = (valid_file (frame_in definition_anew) file.one_file).0
 one_is_clean : OneIsClean
 one_is_clean = record {
   sound = def_sound;
-  valid = λ f at. subst (Valid (frame_in file.definition_file)) (only file.one_file f at) one_valid;
+  valid = λ f at. subst (Valid (frame_in file.definition_file)) (only_one file.one_file f at)
+      one_valid;
   no_fault = refl;
 }
 
@@ -87,7 +88,7 @@ same_input = record {
       (ascii_refusal file.definition_file spelled_anew _ refl refl refl refl)
       (ascii_refusal file.definition_file file.one_file _ refl refl refl refl)
       (ascii_refusal file.definition_file file.two_faults_file _ refl refl refl refl)
-      (value-ascii spelled_anew refl ∙ sym (value-ascii file.one_file refl));
+      (value_in-ascii spelled_anew refl ∙ sym (value_in-ascii file.one_file refl));
 }
 
 text_of_one : TextOfOne

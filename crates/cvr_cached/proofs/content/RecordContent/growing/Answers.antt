@@ -1,8 +1,9 @@
 -- An empty content becomes one of what is `fresh`; another gets this by a `growth`, whose `key` has
 -- unit and batch of the old header, while `few` facts show what it does then.
-use Rattle.std.proofs.Common.{◌≡◌, ◌∙◌, List, [], ◌∷◌, length, refl, ap, sym, subst, arith}
+use Rattle.std.proofs.Common.{◌≡◌, ◌∙◌, List, length, ap, sym, subst, arith}
 use Rattle.std.specs.List.Sorted.{IsStrictlySortedBy}
 use Rattle.std.proofs.lemmas.Bool.{eqb-true}
+use Rattle.std.proofs.lemmas.List.{nil_from_length}
 use Rattle.cvr_office.specs.declared.any_fact.AnyFact.{AnyFact}
 use Rattle.cvr_office.specs.Place.{any_cmp}
 use Rattle.cvr_office.specs.Plain.{IsPut}
@@ -11,14 +12,11 @@ use Rattle.cvr_cached.proofs.FreshFacts.{put_alone}
 use Rattle.cvr_cached.proofs.Grown.{grown_none, grown_put}
 use Rattle.cvr_cached.proofs.content.RecordContent.growing.Goals as goal
 
-none_left : {X : Type 0} (xs : List X) → length xs ≡ 0 → xs ≡ []
-none_left [] e = refl
-none_left (x ∷ xs) e = absurd (omega arith)
-
 pub returns-then-is_empty-clause-put : goal.returns-then-is_empty-clause-put
 returns-then-is_empty-clause-put c =
     let zero = eqb-true _ _ (sym c.is_empty.ensures ∙ c.if-is_empty.true) in
-    let none = none_left c.self.inside.facts.items (omega (arith, zero, c.self.inside.facts.ok.0))
+    let none = nil_from_length c.self.inside.facts.items
+    (omega (arith, zero, c.self.inside.facts.ok.0))
     in
     subst (IsPut c.args.self.now c.args.fresh.items)
     (sym (grown_none c.args.self.now c.of.result _ (sym c.self.view_is ∙ none) ∙ c.of.ensures))
