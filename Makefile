@@ -1,8 +1,8 @@
-# Installs and packs the program that `make` builds. Of what is installed you can set PREFIX, DESTDIR, CVR (another built
-# program) and ZSH.
+# Installs the program that ./cvr runs, and packs the one that was built here. Of what is installed you can set PREFIX,
+# DESTDIR, CVR (another program) and ZSH.
 PREFIX = /usr/local
 DESTDIR =
-CVR = crates/cvr/out/cvr
+CVR = $(shell tools/program)
 ZSH = $(PREFIX)/share/zsh/site-functions
 SHARE = $(DESTDIR)$(PREFIX)/share
 DOCUMENTS = README.md CHANGELOG.md LICENSE SECURITY.md examples/README.md docs/reference/README.md \
@@ -46,18 +46,15 @@ uninstall:
 	find ".$$prefix" -mindepth 1 -depth -type d ! -path './usr/local/bin' ! -path './usr/local/share' \
 		! -path './usr/local/share/man' -print0 | (cd / && xargs -0 rmdir 2>/dev/null || :)
 
-ifneq ($(filter package,$(MAKECMDGOALS)),)
-ifneq ($(origin CVR),file)
-$(error make package packs the program that was last built, and takes no CVR)
-endif
-endif
-
-package: all
+# What tests/targets.py made and tried of the program that was last built.
+package:
+	tools/build
 	tools/package
 
-# Once CHANGELOG has the heading of a release: writes its version and date where they stand, builds the program, and makes
-# the page in dist/ of it.
+# Once CHANGELOG has the heading of a release: writes its version and date where they stand, builds the program, makes and
+# tries it for all systems, and puts what is made of these in dist/.
 release:
 	tools/release
-	$(MAKE) all
-	tools/dist
+	tools/build
+	python3 tests/targets.py
+	tools/package --release

@@ -94,7 +94,7 @@ def rounds(definition, files, cvr, repeat):
 def read_words():
     words = argparse.ArgumentParser()
     words.add_argument('--data', required=True, help='a folder with def.json and reports')
-    words.add_argument('--cvr', default=os.path.join(TOP, 'crates/cvr/out/cvr'))
+    words.add_argument('--cvr', default=os.path.join(TOP, 'out/cvr'))
     words.add_argument('--repeat', type=int, default=3)
     words.add_argument('--keep', help='append to bench/runs/DATE-NAME.md')
     return words.parse_args()

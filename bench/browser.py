@@ -21,9 +21,9 @@ sys.path[:0] = [os.path.join(TOP, it) for it in ('bench', 'tests/web', 'tests/au
 import chromium     # noqa: E402
 import firefox      # noqa: E402
 from bench import Failed, Report, commit, keep, machine, timed, DATE    # noqa: E402
-from trial import CLICK, FOLDER, SETTLED, given     # noqa: E402 (they stand there)
+from trial import CLICK, SETTLED, given     # noqa: E402 (they stand there)
 
-PAGE = os.path.join(FOLDER, 'cvr.html')
+PAGE = os.path.join(TOP, 'out/targets/wasm/cvr.html')
 KINDS = {'chromium': chromium, 'firefox': firefox}
 STATE = "document.getElementById('state').textContent"
 BUSY = 'Starting', 'Reading', 'Running'
@@ -151,7 +151,7 @@ def measure(report, words, folder):
 def main():
     words = argparse.ArgumentParser()
     words.add_argument('--data', required=True, nargs='+', metavar='FOLDER')
-    words.add_argument('--cvr', default=os.path.join(TOP, 'crates/cvr/out/cvr'))
+    words.add_argument('--cvr', default=os.path.join(TOP, 'out/cvr'))
     words.add_argument('--rounds', type=int, default=3)
     words.add_argument('--only')
     words.add_argument('--keep', metavar='NAME')

@@ -51,7 +51,7 @@ def line_of(kind, ballots, seed, cvr):
 
 def main():
     words = argparse.ArgumentParser()
-    words.add_argument('--cvr', default=os.path.join(TOP, 'crates/cvr/out/cvr'))
+    words.add_argument('--cvr', default=os.path.join(TOP, 'out/cvr'))
     words.add_argument('--ballots', type=int, nargs='+', default=[3000, 21000])
     words.add_argument('--seed', type=int, default=5)
     words.add_argument('--keep', help='append to bench/runs/DATE-NAME.md')

@@ -116,7 +116,7 @@ def lines_of(cvr, files, repeat):
 def read_words():
     words = argparse.ArgumentParser()
     words.add_argument('--data', required=True, help='a folder for the files')
-    words.add_argument('--cvr', default=os.path.join(TOP, 'crates/cvr/out/cvr'))
+    words.add_argument('--cvr', default=os.path.join(TOP, 'out/cvr'))
     words.add_argument('--large', action='store_true')
     words.add_argument('--repeat', type=int, default=5)
     words.add_argument('--keep', help='append to bench/runs/DATE-NAME.md')

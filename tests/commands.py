@@ -3,14 +3,12 @@
 
 Runs the commands that the documents named in FILES show, and compares what they print. A command stands in a fenced
 block whose first line begins with `$ `: each line that begins so is a command for `sh`, and the lines up to the next
-one are what it prints on both outputs together. It is run at the top of a copy of the repository without what is built:
-some commands write files, and tests/package.py, which runs beside them, asks git whether the repository was changed.
-`./cvr` in a command is the given program, and the variable CVR names it, so that nothing is built here. A command ends
-with status 0, unless the next command is `echo $?`, which prints the status. Other blocks are not run. Where a machine
-has no tool of TOOLS that a block names, the block is not run: a line `skipped NAME` says so, and none of its commands
+one are what it prints on both outputs together. It is run at the top of a copy of the repository without what is built,
+since some commands write files. `./cvr` in a command is the given program, and the variable CVR names it, so that
+nothing is built here. A command ends with status 0, unless the next command is `echo $?`, which prints the status. Other blocks are not run. Where a machine
+has no tool of TOOLS that a block names, the block is not run: a line `left out` says so, and none of its commands
 counts as right. Each file must have a command that is run; the last line is `commands: N right, M wrong`, and the
 status is 0 only where M is 0."""
-import argparse
 import os
 import re
 import shlex
@@ -18,6 +16,9 @@ import shutil
 import subprocess
 import sys
 import tempfile
+
+sys.dont_write_bytecode = True
+import tenth        # (it stands beside this file)
 
 TOP = os.path.dirname(os.path.dirname(os.path.abspath(__file__)))
 FILES = ['README.md', 'docs/GUIDE.md', 'docs/AUDITING.md', 'docs/GATHER.md', 'docs/PAGE.md', 'examples/README.md',
@@ -95,7 +96,7 @@ def differences(command, cvr, expected, is_shown, before, folder):
 def try_all(name, cvr, folder):
     """Runs the commands of a document in a folder. Answers how many are right, and how many wrong."""
     with open(os.path.join(TOP, name), encoding='utf-8') as file:
-        shown = list(commands(file.read(), lambda line, tools: print('skipped %s: %s: %s' % (', '.join(tools), name, line))))
+        shown = list(commands(file.read(), lambda line, tools: tenth.leave_out('%s: %s' % (name, line), 'there is no ' + ', '.join(tools))))
     if not shown:
         print('WRONG %s: no command is run' % name)
         return 0, 1
@@ -111,13 +112,12 @@ def try_all(name, cvr, folder):
 
 
 def main():
-    words = argparse.ArgumentParser()
-    words.add_argument('--cvr', required=True, help='the built program')
+    words = tenth.words()
     words.add_argument('files', nargs='*', default=FILES, help='texts below the top of the repository')
     words = words.parse_args()
     with tempfile.TemporaryDirectory() as folder:
         copy = shutil.copytree(TOP, os.path.join(folder, 'cvr'), ignore=shutil.ignore_patterns('.git', 'out'))
-        found = [try_all(name, os.path.abspath(words.cvr), copy) for name in words.files or FILES]
+        found = [try_all(name, words.cvr, copy) for name in words.files or FILES]
     right, wrong = map(sum, zip(*found))
     print('commands: %d right, %d wrong' % (right, wrong))
     sys.exit(0 if right and not wrong else 1)

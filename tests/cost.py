@@ -7,8 +7,7 @@ get along with, by a limit on their address space, beyond which they would end i
 than is noted here. A proof doesn't see what a run costs.
 
 --figures prints what to note. The last line is `cost: N right, M wrong`; the status is 0 only where M is 0 and N is
-not. Where there is no valgrind, a line `skipped` says so, and only memory is tried."""
-import argparse
+not. Where there is no valgrind, a line `left out` says so, and only memory is tried."""
 import glob
 import os
 import re
@@ -20,8 +19,9 @@ import tempfile
 
 sys.dont_write_bytecode = True
 TOP = os.path.dirname(os.path.dirname(os.path.abspath(__file__)))
-sys.path.insert(0, os.path.join(TOP, 'bench'))
-import gen      # noqa: E402 (it stands there)
+sys.path[:0] = [os.path.join(TOP, 'tests'), os.path.join(TOP, 'bench')]
+import gen      # noqa: E402
+import tenth    # noqa: E402 (they stand there)
 
 COUNTED, HELD = 1600, 8000      # the records of the reports: 8 MB and 40 MB
 NOTED = {       # of a command the instructions for 8 MB, and the KiB with which 40 MB are read
@@ -40,7 +40,7 @@ def words_of(cvr, command, folder):
 def instructions(words):
     """How many instructions a command takes; it has to end with status 0."""
     ran = subprocess.run(['valgrind', '--tool=callgrind', '--callgrind-out-file=/dev/null', *words], stdin=subprocess.DEVNULL,
-                         stdout=subprocess.DEVNULL, stderr=subprocess.PIPE, text=True)
+                         stdout=subprocess.DEVNULL, stderr=subprocess.PIPE, text=True, timeout=tenth.SECONDS)
     found = re.search(r'Collected : (\d+)', ran.stderr)
     if ran.returncode or not found:
         raise SystemExit('cost: %s ended with status %d: %s' % (' '.join(words[:2]), ran.returncode, ran.stderr[-300:]))
@@ -52,7 +52,8 @@ def is_enough(words, size):
     def limit():
         resource.setrlimit(resource.RLIMIT_AS, (1024 * size, 1024 * size))
 
-    ran = subprocess.run(words, stdin=subprocess.DEVNULL, stdout=subprocess.DEVNULL, stderr=subprocess.DEVNULL, preexec_fn=limit)
+    ran = subprocess.run(words, stdin=subprocess.DEVNULL, stdout=subprocess.DEVNULL, stderr=subprocess.DEVNULL, preexec_fn=limit,
+                         timeout=tenth.SECONDS)
     return ran.returncode == 0
 
 
@@ -74,7 +75,7 @@ def tried(cvr, small, large):
     """Yields of each count whether it is right, and a line on it."""
     has_valgrind = shutil.which('valgrind')
     if not has_valgrind:
-        print('skipped instructions: valgrind is not there')
+        tenth.leave_out('instructions', 'valgrind is not there')
     for command, (steps, size) in NOTED.items():
         if has_valgrind:
             count = instructions(words_of(cvr, command, small))
@@ -83,8 +84,7 @@ def tried(cvr, small, large):
 
 
 def main():
-    words = argparse.ArgumentParser()
-    words.add_argument('--cvr', required=True, help='the program to try')
+    words = tenth.words()
     words.add_argument('--figures', action='store_true')
     words = words.parse_args()
     right = wrong = 0
@@ -93,10 +93,9 @@ def main():
         for place, amount in (small, COUNTED), (large, HELD):
             os.mkdir(place)
             gen.records(place, amount, 1)
-        cvr = os.path.abspath(words.cvr)
         if words.figures:
-            sys.exit(tell_figures(cvr, small, large))
-        for is_right, line in tried(cvr, small, large):
+            sys.exit(tell_figures(words.cvr, small, large))
+        for is_right, line in tried(words.cvr, small, large):
             right, wrong = right + is_right, wrong + (not is_right)
             print('%s%s' % ('' if is_right else 'WRONG ', line), flush=True)
     print('cost: %d right, %d wrong' % (right, wrong))

@@ -1,5 +1,5 @@
 #!/usr/bin/env python3
-"""damage.py --cvr PATH
+"""damage.py --cvr PATH [--tenth WORD]
 
 What becomes of files that were damaged on their way, and of runs whose devices fail.
 
@@ -9,33 +9,36 @@ leave what is printed as it was.
 - The output, the log or the reading fails at each call, with one byte a call, or reads or writes nothing: the bytes
 before are left, and the fault is reported, for each command, for help and for refused words. A file can't be opened, as
 it may not be read, or since memory is refused. The device is devices.c, which cc builds on the spot and LD_PRELOAD loads
-with the program.
+with the program. Where there is no cc, or nothing can be loaded with the program, a line `left out` says so.
 - A line of the log that has 4,096 bytes or fewer is one write, and a longer one comes in pieces.
 - The program is killed at each such call of its output, and from outside while it writes a long volume to a file: what
 is left is a prefix of the volume, and `check` refuses each proper prefix as no JSON.
 
-The texts are those of tests/rows/printed.py; for help and refused words those of the rows. The last line is `damage: N
-right, M wrong`; the status is 0 only where M is 0 and N is not."""
-import argparse
+The texts are those of tests/rows/printed.py; for help and refused words those of the rows. With --tenth a tenth of the
+damaged files and of the runs with failing devices are tried. The last line is `damage: N right, M wrong`; the status is 0
+only where M is 0 and N is not."""
 import collections
 import json
 import multiprocessing
 import os
+import shutil
 import signal
 import socket
 import subprocess
 import sys
 import tempfile
 import time
+from concurrent.futures import ProcessPoolExecutor
 
 sys.dont_write_bytecode = True
 HERE = os.path.dirname(os.path.abspath(__file__))
 ROWS = os.path.join(HERE, 'rows')
-sys.path.insert(0, ROWS)
+sys.path[:0] = [HERE, ROWS]
 import printed                # noqa: E402
 import random_files           # noqa: E402
 import rules as format_rules  # noqa: E402
-import run as rows            # noqa: E402 (all of them stand in tests/rows)
+import run as rows            # noqa: E402
+import tenth                  # noqa: E402 (it stands here, the others in tests/rows)
 
 SECONDS = 300
 BYTES = b'"0 \xff'          # what each byte is replaced by
@@ -99,7 +102,16 @@ class Program:
         self.cvr, self.folder = cvr, folder
         for name in ('def.json', 'f2.json', 'f6.json', 'f8.json'):
             self.put(name, rows.VECTORS[name])
-        subprocess.run(['cc', '-O1', '-shared', '-fPIC', '-o', self.path('devices.so'), os.path.join(HERE, 'devices.c')], check=True)
+
+    def lacks_devices(self):
+        """Builds the devices. Answers why there are none, or nothing."""
+        if tenth.is_static(self.cvr):
+            return 'the program is static'
+        if not shutil.which('cc'):
+            return 'cc is not there'
+        words = ['cc', '-O1', '-shared', '-fPIC', '-o', self.path('devices.so'), os.path.join(HERE, 'devices.c')]
+        subprocess.run(words, check=True, timeout=SECONDS)
+        return ''
 
     def path(self, name):
         return os.path.join(self.folder, name)
@@ -161,20 +173,20 @@ def told_otherwise(program, check):
     return ['check, status %r: %r' % (status, line) for line in sorted(wanted ^ got) or [b'another order']]
 
 
-def damaged(program, pool, data):
+def damaged(program, pool, data, word):
     """Yields what is wrong with each damaged file, or None."""
-    files = {name: one for whole in data.items() for name, one in replaced(*whole).items()}
+    files = dict(tenth.chosen(word, (one for whole in data.items() for one in replaced(*whole).items()), lambda it: it[0]))
     for name, one in files.items():
         program.put(name, one)
-    read = list(zip(files, pool.map(reading, files.values(), 50)))
+    read = list(zip(files, pool.map(reading, files.values(), chunksize=50)))
     wrong = told_otherwise(program, case('check', read))
     yield from wrong + [None] * (len(files) - len(wrong))
     refused = [(name, told) for name, told in read if isinstance(told, str)]
     f2, half = held('f2.json'), len(refused) // 2
-    yield from pool.imap(program.fault, [case(task, refused[:half] + f2 + refused[half:]) for task in TASKS])
+    yield from pool.map(program.fault, [case(task, refused[:half] + f2 + refused[half:]) for task in TASKS])
     alone = case('currents', f2)
     asked = (alone._replace(words=alone.words + [name], log=('%s: %s\n' % (name, told)).encode('utf-8'), status=1) for name, told in refused)
-    yield from pool.imap(program.fault, asked, 50)
+    yield from pool.map(program.fault, asked, chunksize=50)
 
 
 # ---- devices that fail
@@ -297,16 +309,19 @@ def fronts(program):
 
 
 def main():
-    words = argparse.ArgumentParser()
-    words.add_argument('--cvr', required=True, help='the program to try')
-    cvr = os.path.abspath(words.parse_args().cvr)
+    words = tenth.words().parse_args()
     volume = case('merge', held('f2.json', 'f6.json', 'f8.json')).out
-    with tempfile.TemporaryDirectory() as folder, multiprocessing.Pool(len(os.sched_getaffinity(0))) as pool:
-        program = Program(cvr, folder)
+    with tempfile.TemporaryDirectory() as folder, ProcessPoolExecutor(len(os.sched_getaffinity(0)), multiprocessing.get_context('fork')) as pool:
+        program = Program(words.cvr, folder)
         program.put('half', rows.VECTORS['f2.json'][:100])
         program.put('bad', BAD)
-        found = list(damaged(program, pool, {'f11': rows.VECTORS['f11.json'], 'volume': volume}))
-        found += pool.imap(program.fault, failing(), 50)
+        found = list(damaged(program, pool, {'f11': rows.VECTORS['f11.json'], 'volume': volume}, words.tenth))
+        lacking = program.lacks_devices()
+        if lacking:
+            tenth.leave_out('devices that fail', lacking)
+        else:
+            asked = tenth.chosen(words.tenth, failing(), lambda it: (it.words, it.device))
+            found += pool.map(program.fault, asked, chunksize=50)
         found += lines(program)
         found += fronts(program)
     wrong = [one for one in found if one]

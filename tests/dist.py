@@ -1,66 +1,95 @@
 #!/usr/bin/env python3
-"""dist.py
+"""dist.py [--built]
 
-Looks at dist/, which stands in the repository from a release on: SHA256SUMS has the sums of the page and of PROVENANCE,
-and PROVENANCE those of the page and of its module, and the version of the newest release in CHANGELOG.md. The page
-starts in Chromium or in Firefox, where one of them is installed: so it has tallied the county that it carries, and found
-the text that has to come. tests/web/run.py compares its bytes with the page of these sources, where they are the same.
+Looks at dist/, the release that stands in the repository. SHA256SUMS has the sums of all its files, and there is each once.
+PROVENANCE names the newest release in CHANGELOG.md, and has the sums of the page, of the module in it, and of the programs
+and libraries in the archives and wheels; it stands in each of these, too. The program for this system says the version.
+The page starts in Chromium or in Firefox, where one of them is installed: so it has tallied the county that it carries,
+and found the text that has to come.
 
-Then it tries itself on a stand-in, in which each part is changed once. The last line is `dist: N right, M wrong`; the
-status is 0 only where M is 0 and N is not."""
+Then `./cvr` is tried with releases of stand-ins (dist_ways.py), and so is this test, on some in which a part is changed.
+
+With --built it compares the release with what tools/targets and tools/html make here, where these are of the same sources,
+by the same kit, and with the same packages of Debian; and it runs the rows of tests/rows with the release's program.
+
+The last line is `dist: N right, M wrong`; the status is 0 only where M is 0 and N is not, or where it is said what was left
+out."""
+import argparse
 import base64
+import fnmatch
 import gzip
-import hashlib
+import io
 import os
 import re
-import runpy
-import shutil
 import subprocess
 import sys
+import tarfile
 import tempfile
+import zipfile
 import zlib
 
 sys.dont_write_bytecode = True
-TOP = os.path.dirname(os.path.dirname(os.path.abspath(__file__)))
-sys.path[:0] = [os.path.join(TOP, it) for it in ('tests/web', 'tests/audit')]
+HERE = os.path.dirname(os.path.abspath(__file__))
+TOP = os.path.dirname(HERE)
+sys.path[:0] = [HERE] + [os.path.join(HERE, it) for it in ('web', 'audit')]
 import chromium     # noqa: E402
 import firefox      # noqa: E402 (both stand in tests/web)
-from trial import SETTLED   # noqa: E402 (so does it)
+import tenth        # noqa: E402
+from dist_files import DIST, LACKS, PAGE, PLACES, is_of_these, of_release   # noqa: E402
+from dist_ways import NAMED, SUMS, TOLD, TOOL, called, held, list_files, named, stand_in, sum_of, way_faults     # noqa: E402 (these stand here)
+from trial import SETTLED   # noqa: E402 (it stands in tests/audit)
 
-TOOL = runpy.run_path(os.path.join(TOP, 'tools/dist'))
-PAGE, SUMS, TOLD = (TOOL[it] for it in ('PAGE', 'SUMS', 'TOLD'))
-
-
-def held(folder, name):
-    """The bytes of a file; none where it isn't there."""
-    path = os.path.join(folder, name)
-    return TOOL['held'](path) if os.path.exists(path) else b''
+VERSION = TOOL['VERSION']
+HERE_TARGET = '%s-%s' % (os.uname().sysname.lower(), os.uname().machine)
+FAULTS = EOFError, OSError, ValueError, tarfile.TarError, zipfile.BadZipFile, zlib.error
 
 
-def sum_of(data):
-    return hashlib.sha256(data).hexdigest()
+def told_in(text):
+    """What a PROVENANCE says, by name."""
+    return dict(re.findall(r'^([\w-]+)  +(\S.*)$', text.decode('utf-8', 'replace'), re.M))
 
 
-def module_in(page):
-    """The module that a page carries; nothing where it can't be unpacked."""
-    packed = re.search(rb'id="module">([^<]*)<', page)
+def inside(name, data):
+    """The files in an archive, or the module in the page, by their names; none where it can't be read."""
     try:
-        return gzip.decompress(base64.b64decode(packed.group(1))) if packed else b''
-    except (EOFError, OSError, ValueError, zlib.error):
-        return b''
+        if name == PAGE:
+            return {'cvr.wasm': gzip.decompress(base64.b64decode(re.search(rb'id="module">([^<]*)<', data).group(1)))}
+        if name.endswith('.tar.gz'):
+            with tarfile.open(fileobj=io.BytesIO(data)) as file:
+                return {it.name: file.extractfile(it).read() for it in file if it.isfile()}
+        with zipfile.ZipFile(io.BytesIO(data)) as file:
+            return {it: file.read(it) for it in file.namelist()}
+    except (AttributeError, *FAULTS):
+        return {}
 
 
-def faults(folder):
-    """Yields what is wrong with the files of a folder."""
-    texts = {it: held(folder, it) for it in (PAGE, TOLD)}
-    if held(folder, SUMS).decode('utf-8', 'replace') != TOOL['listed'](texts):
-        yield '%s has other sums' % SUMS
-    told = texts[TOLD].decode('utf-8', 'replace')
-    if not told.startswith('cvr.html, the page of cvr %s, was made of\n' % TOOL['PACKAGE']['VERSION']):
-        yield '%s has another version than CHANGELOG.md' % TOLD
-    for name, data in ('page', texts[PAGE]), ('module', module_in(texts[PAGE])):
-        if '\n%-8s %s\n' % (name, sum_of(data)) not in told:
-            yield '%s has another sum of the %s' % (TOLD, name)
+def one(its, pattern):
+    """The only one of these texts whose name has this pattern; nothing where there is none, or several."""
+    found = fnmatch.filter(its, pattern)
+    return its[found[0]] if len(found) == 1 else b''
+
+
+def faults(folder, version=VERSION):
+    """Yields what is wrong with the files of a folder: first a word, then why."""
+    texts = {it: held(os.path.join(folder, it)) for it in os.listdir(folder)}
+    if texts.pop(SUMS, b'').decode('utf-8', 'replace') != TOOL['listed'](texts):
+        yield '%s: other sums, or other files' % SUMS
+    names = {named(archive, version) for archive, _ in PLACES.values()}
+    wanted = {TOLD, *names, *(it[:-len('.tar.gz')] + '.o' for it in names if it.endswith('.tar.gz'))}
+    if len(texts) != len(wanted) or not all(one(texts, it) for it in wanted):
+        yield 'files: %s' % ', '.join(sorted(texts))
+    told = told_in(texts.get(TOLD, b''))
+    if told.get('version') != version:
+        yield 'version: PROVENANCE has another than %s' % version
+    sums = {'page': texts.get(PAGE, b'')}
+    held_in = {it: inside(it, one(texts, named(it, version))) for it, _ in PLACES.values()}
+    sums.update((called(name), one(held_in[archive], place)) for name, (archive, place) in PLACES.items())
+    for name, data in sums.items():
+        if told.get(name) != sum_of(data):
+            yield '%s: PROVENANCE has another sum' % name
+    for archive in set(held_in) - {PAGE}:
+        if one(held_in[archive], '*/' + TOLD) != texts.get(TOLD):
+            yield 'inside: another PROVENANCE in %s' % archive
 
 
 def browser():
@@ -81,60 +110,119 @@ def start_faults(folder, kind):
             its.end()
 
 
+def version_faults(folder):
+    """Yields why the program for this system doesn't say its version."""
+    with tempfile.TemporaryDirectory() as room:
+        path, name = os.path.join(room, 'cvr'), 'cvr-%s-%s.tar.gz' % (VERSION, HERE_TARGET)
+        TOOL['write'](path, one(inside(name, held(os.path.join(folder, name))), '*/bin/cvr'), 0o755)
+        try:
+            said = subprocess.run([path, '--version'], stdout=subprocess.PIPE, stderr=subprocess.STDOUT).stdout.decode('utf-8', 'replace')
+        except OSError as fault:
+            said = str(fault)
+    if said != 'cvr %s\n' % VERSION:
+        yield 'the program says %r' % said
+
+
 # ---- this test itself
 
-# A change of a file, from a text on whose last sign is another then, and how many faults it brings.
-CHANGES = [(PAGE, b'</html', 2), (PAGE, b'id="module">H4', 3), (TOLD, b'To check', 1), (TOLD, b'the page of cvr', 2),
-           (SUMS, b'cvr.html', 1)]
+def change(name, old):
+    """A change of one sign of a file, the last of this text."""
+    def how(folder):
+        path = os.path.join(folder, name)
+        assert held(path).count(old) >= 1
+        TOOL['write'](path, held(path).replace(old, old[:-1] + b'?', 1))
+    return how
 
 
-def stand_in(folder):
-    """Makes a page without a module, and what stands beside one."""
-    module, made = os.path.join(folder, TOOL['MODULE']), os.path.join(folder, 'dist')
-    with open(module, 'wb') as file:
-        file.write(b'no module')
-    subprocess.run([sys.executable, 'tools/html', module, os.path.join(folder, PAGE)], cwd=TOP, stdout=subprocess.DEVNULL, check=True)
-    TOOL['fill'](made, folder, sources='of', kit='these', tools='four', native='words')
-    return made
+def remove(folder):
+    os.remove(os.path.join(folder, 'cvr-%s-linux-aarch64.o' % NAMED))
+    list_files(folder)
 
 
-def changed(made, to, name, old):
-    """Copies a folder, with one sign of a file changed."""
-    shutil.copytree(made, to)
-    with open(os.path.join(to, name), 'wb') as file:
-        file.write(held(made, name).replace(old, old[:-1] + b'?', 1))
-    return to
+def add(folder):
+    TOOL['write'](os.path.join(folder, 'cvr-9.8.6-linux-x86_64.tar.gz'), 'an older one')
+    list_files(folder)
+
+
+# What is changed in a release, or told of it, and the first words of what is found.
+CHANGES = [
+    (change(PAGE, b'</html'), {}, {SUMS, 'page'}),
+    (change(PAGE, b'id="module">H4'), {}, {SUMS, 'page', 'page-module'}),
+    (change(TOLD, b'To check'), {}, {SUMS, 'inside'}),
+    (change(SUMS, b'cvr.html'), {}, {SUMS}),
+    (change('cvr-%s-linux-x86_64.tar.gz' % NAMED, b'\x1f\x8b'), {}, {SUMS, 'linux-x86_64', 'inside'}),
+    (remove, {}, {'files'}),
+    (add, {}, {'files'}),
+    *((lambda folder: None, {it: 'another'}, {it}) for it in ('version', 'page', *map(called, PLACES))),
+]
 
 
 def own_faults(folder, kind):
-    """Yields for each stand-in what this test finds wrongly, or None."""
-    made = stand_in(folder)
-    found = list(faults(made))
-    yield 'a stand-in: %s' % found if found else None
-    for number, (name, old, count) in enumerate(CHANGES):
-        found = list(faults(changed(made, os.path.join(folder, '%d' % number), name, old)))
-        yield None if len(found) == count else 'a change of %s at %s: %s' % (name, old, found)
+    """Yields for each release of stand-ins what this test finds wrongly, or None."""
+    for number, (how, told, wanted) in enumerate([(lambda folder: None, {}, set()), *CHANGES]):
+        made = stand_in(os.path.join(folder, '%d' % number), told=told)
+        how(made)
+        found = {it.partition(':')[0] for it in faults(made, NAMED)}
+        yield None if found == wanted else 'change %d of a release: %s, expected %s' % (number, found, wanted)
+    yield None if list(version_faults(made)) else 'a program that is not there says its version'
     if kind:
         yield None if list(start_faults(made, kind)) else 'a page without a module starts'
 
 
+# ---- what is made here
+
+def bases(name):
+    """What has to be the same here for a sum to be the same."""
+    if name.startswith('page'):
+        return ['kit', 'page-sources', 'page-tools']
+    return ['kit'] if name == 'native' else ['kit', 'linked-' + name.replace('library-', ''), *['page-sources'] * (name != 'linux-x86_64')]
+
+
+def built_faults(folder):
+    """Yields a line for each sum of the release that differs from that of what is made here of the same, and None for each
+    other; then the same of the rows."""
+    if not is_of_these():
+        tenth.leave_out("a comparison with the release's programs", LACKS)
+        return
+    subprocess.run([sys.executable, 'tools/targets'], cwd=TOP, stdout=subprocess.DEVNULL)
+    targets = [it for it in map(TOOL['Target'], TOOL['TARGETS']['FILES']) if it.is_made()]
+    page = TOOL['make_page'](folder, targets)
+    told, here = told_in(held(os.path.join(DIST, TOLD))), TOOL['told'](targets, page)
+    for name in ['native', *(it for it in ('page', *map(called, PLACES)) if it in here)]:
+        others = ['%s is %s here, and was %s' % (it, here.get(it), told.get(it)) for it in bases(name) if here.get(it) != told.get(it)]
+        if others:
+            print('%s is not compared: %s' % (name, '; '.join(others)))
+        else:
+            yield None if told.get(name) == here[name] else '%s: the release has another one than is made here' % name
+    rows = subprocess.run([sys.executable, 'tests/rows/run.py', '--cvr', of_release('linux-x86_64/cvr', folder)], cwd=TOP, stdout=subprocess.PIPE, text=True).stdout
+    yield None if re.search(r'^rows: [1-9]\d* right, 0 wrong\n\Z', rows, re.M) else rows[-2000:]
+
+
+def release_faults(kind):
+    """Yields a line for each thing that is wrong with dist/, or else None."""
+    found = list(faults(DIST)) if os.path.isdir(DIST) else ['there is no dist/: `make release` makes it']
+    found += version_faults(DIST) if HERE_TARGET in map(called, PLACES) else []
+    found += start_faults(DIST, kind) if kind and not found else []
+    yield from found or [None]
+
+
 def main():
-    kind, found = browser(), []
-    if not kind:
-        print('no page is opened: neither Chromium nor Firefox is installed')
-    if os.path.isdir(TOOL['DIST']):
-        found += list(faults(TOOL['DIST'])) or [None]
-        found += (list(start_faults(TOOL['DIST'], kind)) or [None]) if kind else []
-    else:
-        print('there is no dist: tools/dist makes it at a release')
+    words = argparse.ArgumentParser()
+    words.add_argument('--built', action='store_true', help='compare dist/ with what is made here')
+    words, kind = words.parse_args(), browser()
     with tempfile.TemporaryDirectory() as folder:
-        found += own_faults(folder, kind)
+        if words.built:
+            found = list(built_faults(folder))
+        else:
+            if not kind:
+                tenth.leave_out('the start of the page', 'neither Chromium nor Firefox is installed')
+            found = [*release_faults(kind), *own_faults(folder, kind), *way_faults(folder)]
     for line in found:
         if line:
             print('WRONG ' + line)
     right, wrong = found.count(None), len(found) - found.count(None)
     print('dist: %d right, %d wrong' % (right, wrong))
-    sys.exit(0 if right and not wrong else 1)
+    sys.exit(1 if wrong or not (right or words.built) else 0)
 
 
 if __name__ == '__main__':

@@ -1,42 +1,42 @@
 #!/usr/bin/env python3
-"""package.py --cvr PATH
+"""package.py [--installed] --cvr PATH
 
-What is installed and packed: `make install` below a folder, and what tools/package makes, unpacked: the package of
-Debian and the archive of the static program that tools/targets makes, and the ZIP. In the first the commands of all
-documents are run with its programs, but for those that read the sources, and in the package and the archive those of
-README and of AUDITING, each time in a folder with a copy of its examples, made as the guide says. Each link of a
-document leads to something there, and what links to a source in a checkout, to the reference. `make uninstall` leaves
-all that was there before `make install`, also what a package adds, and nothing else. `man` finds and reads the pages of
-the package, and the packed program needs no library. The object file beside it can be linked again. SHA256SUMS has the
-sums of all files, also that in each package, and each PROVENANCE those of its program and of the sources, as the
-commands in it print them; those to sign it and to check that are tried with right and wrong keys and texts, where there
-is `ssh-keygen`. The bill of materials names what is linked in and what is imported. A second packing gives the same
-bytes, and neither a program that was not tried is packed, nor one that isn't noted as built. Programs for other systems
-may be missing here (tests/targets.py makes them): something else stands in for them then. Where lintian is installed,
-it finds no error. Where git finds no commit at the top, as in an unpacked archive, a commit made of its files takes its
-place.
+What is installed: `make install` below a folder. There the commands of all documents are run with its programs, but for
+those that read the sources, in a folder with a copy of its examples, made as the guide says. Each link of a document leads
+to something there, and what links to a source in a checkout, to the reference. `man` finds and reads the pages. `make
+uninstall` leaves all that was there before `make install`, also what a package adds, and nothing else. With --installed
+that is all.
+
+Else also what is packed, in two copies of the repository without git: with what tools/targets made, as if it was tried;
+for what isn't made here (tests/targets.py makes it) something else stands in. Both copies give the same bytes, in out/packages
+as in dist/, which tests/dist.py finds whole. In what the archive of the static program has, the commands of README and of
+AUDITING are run, and so are those in its PROVENANCE: they print each sum in it, and sign it, and find the signature right
+or wrong, where there is `ssh-keygen`. The package of Debian has the same files, and `man` reads its pages. The packed
+program needs no library, and the object file beside it can be linked again. The bill of materials names what is linked in
+and what is imported. Nothing is packed that was not tried, or isn't noted as built; and no release that lacks a target, or
+has files that git doesn't know. Where lintian is installed, it finds no error.
 
 The last line is `package: N right, M wrong`; the status is 0 only where M is 0 and N is not."""
-import argparse
-import hashlib
+import gzip
 import importlib.machinery
 import importlib.util
 import json
 import os
 import re
-import runpy
 import shlex
 import shutil
 import subprocess
 import sys
 import tempfile
-import zipfile
 
 sys.dont_write_bytecode = True
 HERE = os.path.dirname(os.path.abspath(__file__))
 TOP = os.path.dirname(HERE)
 sys.path.insert(0, HERE)
-import commands  # noqa: E402 (it stands here)
+import commands  # noqa: E402
+import dist      # noqa: E402
+import tenth     # noqa: E402 (all stand here)
+from dist import TOOL, held, inside, one, told_in    # noqa: E402
 
 RUN = ['bin/cvr', 'bin/cvr-audit']
 FOR_EACH = ['share/man/man1/%s.1', 'share/bash-completion/completions/%s',
@@ -45,40 +45,20 @@ READ = [path % name for name in ('cvr', 'cvr-audit') for path in FOR_EACH]
 READ += ['share/doc/cvr/docs/FAULTS.md', 'share/doc/cvr/docs/AUDITING.md']
 READ += ['share/doc/cvr/docs/reference/README.md', 'share/doc/cvr/docs/reference/cvr_office.md']
 READ += ['share/cvr/cvr_audit/line.py']
-FILES = runpy.run_path(os.path.join(TOP, 'tools/targets'))['FILES']
-NAMES = list(FILES)     # of targets; the first runs here
-PROGRAM, MADE = os.path.join(TOP, 'crates/cvr/out/cvr'), os.path.join(TOP, 'out/targets')
-SECONDS = 1200  # which a command may take, also beside proofs
-MAKING = 3600   # and making the first program
+SUMS, TOLD, BILL, sum_of, write = (TOOL[it] for it in ('SUMS', 'TOLD', 'BILL', 'sum_of', 'write'))
+FILES = TOOL['TARGETS']['FILES']     # of each target the program, and the library
+FIRST = 'linux-x86_64'      # the target that runs here
+SECONDS = 3600  # which a command may take, also beside proofs
+NOT_COPIED = shutil.ignore_patterns('.git', 'out', '__pycache__')
 
 
-def done(*words, timeout=SECONDS, **more):
+def done(*words, top=TOP, **more):
     """(status, both outputs) of a command at the top."""
-    told = subprocess.run(words, cwd=TOP, stdin=subprocess.DEVNULL, stdout=subprocess.PIPE, stderr=subprocess.STDOUT, timeout=timeout, **more)
+    told = subprocess.run(words, cwd=top, stdin=subprocess.DEVNULL, stdout=subprocess.PIPE, stderr=subprocess.STDOUT, timeout=SECONDS, **more)
     return told.returncode, told.stdout.decode('utf-8', 'replace')
 
 
-def stand_in_a_commit(folder):
-    """Makes git find a commit of the files at the top, in this process and those that it starts."""
-    if done('git', 'rev-parse', 'HEAD')[0]:
-        os.environ.update(GIT_DIR=os.path.join(folder, 'git'), GIT_WORK_TREE=TOP, GIT_CONFIG_GLOBAL=os.devnull)     # which may ask for a signature
-        for words in ['init', '-q'], ['add', '-A'], ['-c', 'user.name=cvr', '-c', 'user.email=cvr@example.org', 'commit', '-m', 'The files that stand here']:
-            subprocess.run(['git', *words], cwd=TOP, stdout=subprocess.DEVNULL, check=True)
-
-
-def held(path):
-    with open(path, 'rb') as file:
-        return file.read()
-
-
-def write(path, text):
-    with open(path, 'w', encoding='utf-8') as file:
-        file.write(text)
-
-
-def sum_of(path):
-    return hashlib.sha256(held(path)).hexdigest()
-
+# ---- what is installed
 
 def is_installed(prefix):
     """Whether everything is below a prefix, for everybody to read, and the programs to run."""
@@ -141,17 +121,60 @@ def uninstalls(cvr, folder):
     yield 'make uninstall, below DESTDIR', is_uninstalled(cvr, tree, ['usr/other'], 'DESTDIR=' + tree, 'PREFIX=/usr', 'ZSH=/usr/share/zsh/vendor-completions')
 
 
-def kit():
-    """The kit that built the program: as it is noted, which `rt ci` leaves to what is called after it, or the one on the PATH."""
-    noted = os.path.join(TOP, 'out/kit')
-    return (held(noted).decode('utf-8') if os.path.exists(noted) else done('rt', 'version')[1]).strip()
+def man_page(prefix, name):
+    """(status, both outputs) of `man` for a page below a prefix."""
+    words = ['--warnings', '-E', 'UTF-8', '-M', os.path.join(prefix, 'share/man'), name]
+    env = dict(os.environ, MANPAGER='cat', MANWIDTH='100', LC_ALL='C.UTF-8')
+    return done('man', *words, env=env)
 
 
-def names_kit(prefix):
-    """Whether a page of the programs below a prefix names the kit, which stands in PROVENANCE there."""
-    words = [os.path.join(prefix, 'bin/cvr-audit'), 'page', 'examples/county/definition.json']
-    status, page = done(*words, env=dict(os.environ, CVR=os.path.join(prefix, 'bin/cvr')))
-    return status == 0 and ', kit %s</dd>' % kit() in page
+def read_pages(prefix):
+    """Yields whether `man` reads the pages below a prefix."""
+    for name, about in ('cvr', r'cvr +- +check'), ('cvr-audit', r'cvr-audit +- +print'):
+        status, text = man_page(prefix, name)
+        yield 'man reads the page of %s below %s' % (name, prefix), bool(status == 0 and re.search(about, text) and not re.search(r':\d+: warning', text))
+
+
+def installed(cvr, folder):
+    """Yields each trial of what is installed."""
+    prefix = os.path.join(folder, 'a prefix')
+    yield 'make install', done('make', 'install', 'CVR=' + cvr, 'PREFIX=' + prefix, umask=0o077)[0] == 0 and is_installed(prefix)
+    yield links(prefix)
+    yield from read_pages(prefix)
+    yield from first_runs(prefix, commands.FILES)
+    yield from uninstalls(cvr, folder)
+
+
+# ---- what is packed
+
+class Copy:
+    """A copy of the repository."""
+
+    def __init__(self, folder):
+        self.top, self.packages, self.dist = folder, folder + '/out/packages', folder + '/dist'
+
+    def make(self):
+        """Makes it as if all targets were made and tried, and the program was built."""
+        shutil.copytree(TOP, self.top, ignore=NOT_COPIED)
+        for name in 'cvr', 'kit':
+            write(self.path('out', name), held(os.path.join(TOP, 'out', name)), 0o755)
+        write(self.path('out/built'), done('tools/sum', 'out/cvr', top=self.top)[1])
+        for name, files in FILES.items():
+            made, place = TOOL['Target'](name), self.path('out/targets', name)
+            is_made = made.is_made()
+            shutil.copytree(made.folder if is_made else self.path('out/targets', FIRST), place, ignore=shutil.ignore_patterns('tried*'))
+            for note, file, other in zip(('tried', 'tried_library'), files, FILES[FIRST]):
+                if file and not is_made:
+                    shutil.copy(self.path('out/targets', FIRST, other), os.path.join(place, file))
+                if file:
+                    write(os.path.join(place, note), sum_of(os.path.join(place, file)))
+
+    def path(self, *names):
+        return os.path.join(self.top, *names)
+
+    def pack(self, *words, **more):
+        """(status, both outputs) of tools/package."""
+        return done('tools/package', *words, top=self.top, **more)
 
 
 def elsewhere(folder):
@@ -164,149 +187,104 @@ def elsewhere(folder):
     return {'umask': 0o077, 'env': dict(os.environ, **more)}
 
 
-def is_made(name):
-    """Whether a target is made of the built program."""
-    noted = os.path.join(MADE, name, 'native')
-    return os.path.exists(noted) and held(noted).decode().strip() == sum_of(PROGRAM)
+def texts_of(folder):
+    """The content of each file of a folder, by name."""
+    return {name: held(os.path.join(folder, name)) for name in os.listdir(folder)}
 
 
-def targets(folder):
-    """A folder with what is made for each target, as if it was tried. For what isn't made that of the first stands in."""
-    if not is_made(NAMES[0]) and done(sys.executable, 'tools/targets', NAMES[0], timeout=MAKING)[0]:
-        sys.exit('tools/targets makes no %s\npackage: 0 right, 1 wrong' % NAMES[0])
-    first = os.path.join(folder, NAMES[0])
-    for name, files in FILES.items():
-        place = os.path.join(folder, name)
-        shutil.copytree(os.path.join(MADE, name) if is_made(name) else first, place)
-        for note, file, other in zip(('tried', 'tried_library'), files, FILES[NAMES[0]]):
-            path = os.path.join(place, file)
-            if not os.path.exists(path):
-                shutil.copy(os.path.join(first, other), path)
-            if os.path.isfile(path):
-                with open(os.path.join(place, note), 'w') as out:
-                    out.write(sum_of(path))
-    return folder
+def packed(copy, other, folder):
+    """Yields whether both copies are packed to the same, and that a release has of it what it has to have."""
+    status, told = copy.pack()
+    yield 'tools/package: ' + told, status == 0
+    found = texts_of(copy.packages)
+    yield 'in another place the same', other.pack(**elsewhere(folder))[0] == 0 and texts_of(other.packages) == found
+    write(copy.dist + '/cvr-1.0.0-linux-x86_64.o', 'of an older release')
+    yield 'a release', copy.pack('--release')[0] == 0
+    its = texts_of(copy.dist)
+    yield 'a release has the same', {**its, SUMS: b''} == {name: text for name, text in {**found, SUMS: b''}.items() if not name.endswith('.deb')}
+    yield 'its sums are those', its[SUMS] == b''.join(it for it in found[SUMS].splitlines(True) if not it.endswith(b'.deb\n'))
+    for what in list(dist.faults(copy.dist)) or ['']:
+        yield 'dist/ of a copy: ' + what, not what
+    yield from sums(copy.packages)
 
 
-def pack(made, out, noted, **more):
-    """(status, both outputs) of tools/package, with what a note of tools/build would have."""
-    note = os.path.join(os.path.dirname(out), 'a note')
-    write(note, noted)
-    return done(sys.executable, 'tools/package', '--built', note, '--targets', made, '--out', out, **more)
-
-
-def packed(made, out, **more):
-    """The paths of what tools/package makes, by their names. The program counts as built: `rt ci` may still prove it."""
-    status, told = pack(made, out, done('tools/sum', os.path.relpath(PROGRAM, TOP))[1], **more)
-    if status:
-        sys.exit(told + 'package: 0 right, 1 wrong')
-    return {name: os.path.join(out, name) for name in os.listdir(out)}
-
-
-def one(found, end):
-    """The path of the one file whose name has this end."""
-    path, = [path for name, path in found.items() if name.endswith(end)]
-    return path
-
-
-def libraries(program):
-    """The libraries that a program needs, and its loader."""
-    return re.findall(r'NEEDED.*|INTERP', done('readelf', '-dl', program)[1])
-
-
-def man_page(prefix, name):
-    """(status, both outputs) of `man` for a page below a prefix."""
-    words = ['--warnings', '-E', 'UTF-8', '-M', os.path.join(prefix, 'share/man'), name]
-    env = dict(os.environ, MANPAGER='cat', MANWIDTH='100', LC_ALL='C.UTF-8')
-    return done('man', *words, env=env)
-
-
-def provenance(text, program):
-    """Yields what PROVENANCE has to say, and whether it does."""
-    told = dict(re.findall(r'^(\w+) +(.*)$', text.split('\n\n')[1], re.M))
-    yield 'the sum of the program', told['program'] == sum_of(program)
-    yield 'the sum of the sources', told['sources'] == done('sh', '-c', re.search(r'^ +(git ls-files .*)$', text, re.M).group(1))[1].split()[0]
-    yield 'the kit', told['kit'] == kit()
-    yield 'the same bytes where a clone changes ends of lines', '\r' not in done('git', '-c', 'core.autocrlf=true', 'archive', 'HEAD', 'cvr')[1]
-    yield 'the commit', told['commit'].split(',')[0] == done('git', 'rev-parse', 'HEAD')[1].strip()
-
-
-def unpacked(found, folder):
-    """Yields whether each is unpacked; then where the package and the archive for this kind of machine are."""
-    below = os.path.join(folder, 'local')
-    os.mkdir(below)
-    yield 'dpkg-deb unpacks it', done('dpkg-deb', '-x', one(found, '_amd64.deb'), os.path.join(folder, 'unpacked'))[0] == 0
-    words = ['tar', '-xzf', one(found, 'linux-x86_64.tar.gz'), '-C', below, '--strip-components=1']
-    yield 'tar unpacks it', done(*words, umask=0o022)[0] == 0 and is_installed(below)
-
-
-def held_in(place, program, made):
-    """Yields each trial of an unpacked package."""
-    told = os.path.join(place, 'share/doc/cvr')
-    yield links(place)
-    yield from first_runs(place, ['README.md', 'docs/AUDITING.md'])
-    yield 'the program in ' + place, held(os.path.join(place, 'bin/cvr')) == held(program)
-    yield 'PROVENANCE in ' + place, held(os.path.join(told, 'PROVENANCE')) == held(made['PROVENANCE-' + NAMES[0]])
-    yield 'the bill in ' + place, held(os.path.join(told, 'cvr.spdx.json')) == held(one(made, NAMES[0] + '.spdx.json'))
-    yield 'the page names the kit in ' + place, names_kit(place)
-    text = held(os.path.join(told, 'copyright'))
-    yield 'copyright in ' + place, held(os.path.join(TOP, 'LICENSE')).strip() in text and b'GNU LESSER GENERAL PUBLIC LICENSE' in text
-
-
-def zipped(path, program):
-    """Yields each trial of the ZIP."""
-    with zipfile.ZipFile(path) as file:
-        names = [it.partition('/')[2] for it in file.namelist()]
-        texts = {it.partition('/')[2]: file.read(it) for it in file.namelist()}
-    yield 'the program in the ZIP', texts['cvr.exe'] == held(program)
-    yield 'one of each name in the ZIP, in whatever case', len({it.lower() for it in names}) == len(names)
-    wanted = {'cvr-audit', 'cvr_audit/line.py', 'PROVENANCE', 'cvr.spdx.json', 'copyright', 'README.md', 'docs/FORMAT.md', 'examples/county/scan.json'}
-    yield 'what stands in the ZIP: %s' % (wanted - set(names)), wanted <= set(names)
-    listed = [line.split('  ') for line in texts['SHA256SUMS'].decode('utf-8').splitlines()]
-    yield 'the sums in the ZIP', {it: total for total, it in listed} == {
-        it: hashlib.sha256(text).hexdigest() for it, text in texts.items() if it != 'SHA256SUMS'}
-    yield 'PROVENANCE of the ZIP', b'\nprogram  %s\n' % sum_of(program).encode() in texts['PROVENANCE']
-
-
-def wheels(found, made):
-    """Yields each trial of the wheels."""
-    for end, target, library in ('_x86_64.whl', NAMES[0], 'libcvr.so'), ('-win_amd64.whl', NAMES[2], 'cvr.dll'):
-        with zipfile.ZipFile(one(found, end)) as file:
-            texts = {os.path.basename(it): file.read(it) for it in file.namelist()}
-        text = held(os.path.join(made, target, library))
-        yield 'the library in the wheel ' + end, texts[library] == text
-        yield 'README names the wheel ' + end, os.path.basename(one(found, end)) in held(os.path.join(TOP, 'README.md')).decode('utf-8')
-        yield 'the bill in the wheel ' + end, texts['cvr.spdx.json'] == held(one(found, target + '.spdx.json'))
-        yield 'PROVENANCE in the wheel ' + end, texts['PROVENANCE'] == held(found['PROVENANCE-' + target])
-        yield 'the sum of the library ' + end, b'\nlibrary  %s\n' % hashlib.sha256(text).hexdigest().encode() in texts['PROVENANCE']
-        yield 'the licences in the wheel ' + end, held(os.path.join(TOP, 'LICENSE')).strip() in texts['LICENSE'] and b'of the Rattle kit' in texts['LICENSE']
-
-
-def sums(folder, list_of='SHA256SUMS'):
+def sums(folder, list_of=SUMS):
     """Yields whether SHA256SUMS has every other file of a folder but links, with its sum."""
     status, text = done('sh', '-c', 'cd "$0" && sha256sum -c "$1"', folder, list_of)
     files = [path for path in everything(folder) if os.path.isfile(path) and not os.path.islink(path)]
     others = {os.path.relpath(path, folder) for path in files} - {list_of}
-    yield 'the sums of SHA256SUMS in ' + folder, status == 0 and {line.rpartition(': ')[0] for line in text.splitlines()} == others
+    yield 'the sums in ' + folder, status == 0 and {line.rpartition(': ')[0] for line in text.splitlines()} == others
 
 
-def bill(text, library, program):
-    """Yields what the bill of materials has to have, and whether it does."""
-    told = json.loads(text)
+def archive(copy, place):
+    """Yields each trial of the archive, unpacked below a prefix."""
+    os.mkdir(place)
+    words = ['tar', '-xzf', os.path.join(copy.packages, 'cvr-%s-%s.tar.gz' % (dist.VERSION, FIRST)), '-C', place, '--strip-components=1']
+    yield 'tar unpacks it', done(*words, umask=0o022)[0] == 0 and is_installed(place)
+    yield from first_runs(place, ['README.md', 'docs/AUDITING.md'])
+    yield from sums(place, 'share/doc/cvr/' + SUMS)
+    program, told = os.path.join(place, 'bin/cvr'), os.path.join(place, 'share/doc/cvr')
+    yield 'no library', re.findall(r'NEEDED.*|INTERP', done('readelf', '-dl', program)[1]) == []
+    status, page = done(program + '-audit', 'page', 'examples/county/definition.json', env=dict(os.environ, CVR=program))
+    yield 'a page names the kit', status == 0 and ', kit %s</dd>' % told_in(held(told + '/PROVENANCE'))['kit'] in page
+    text = held(os.path.join(told, 'copyright'))
+    yield 'the licences', held(os.path.join(TOP, 'LICENSE')).strip() in text and b'GNU LESSER GENERAL PUBLIC LICENSE' in text
+
+
+def debian(copy, place, unpacked):
+    """Yields each trial of the package of Debian, which has what the archive has, unpacked."""
+    path = os.path.join(copy.packages, 'cvr_%s_amd64.deb' % dist.VERSION)
+    yield 'dpkg-deb unpacks it', done('dpkg-deb', '-x', path, place)[0] == 0
+    list_of, more = 'share/doc/cvr/' + SUMS, ('share/doc/cvr/changelog', 'share/lintian/overrides/cvr')
+    found, wanted = ({os.path.relpath(it, top): held(it) for it in TOOL['files_below'](top) if not os.path.islink(it)} for top in (place + '/usr', unpacked))
+    packed = [name for name in found if re.search(r'man1/|/changelog', name)]
+    found.update({name[:-len('.gz')]: gzip.decompress(found.pop(name)) for name in packed})
+    wanted = {name.replace('site-functions', 'vendor-completions'): text for name, text in wanted.items()}
+    yield 'it has what the archive has, and its own', {**wanted, list_of: found[list_of], **{it: found[it] for it in more}} == found
+    yield from sums(place + '/usr', list_of)
+    yield from read_pages(place + '/usr')
+    for architecture in 'amd64', 'arm64':
+        control = done('dpkg-deb', '-f', path.replace('amd64', architecture), 'Architecture', 'Depends', 'Maintainer')[1]
+        yield 'no package is needed: ' + control, re.fullmatch(r'Architecture: %s\nMaintainer: .*\.invalid>\n' % architecture, control) is not None
+    if shutil.which('lintian'):
+        status, text = done('lintian', '--allow-root', '--fail-on', 'error', path)
+        yield 'lintian: ' + text, status == 0
+    else:
+        tenth.leave_out('lintian', 'it is missing')
+
+
+def others(copy):
+    """Yields each trial of the ZIP and the wheels."""
+    found = {name: inside(name, text) for name, text in texts_of(copy.packages).items() if name.endswith(('.zip', '.whl'))}
+    for name, texts in found.items():
+        yield 'README names ' + name, name in held(os.path.join(TOP, 'README.md')).decode('utf-8')
+        licences, text = one(texts, '*/LICENSE' if name.endswith('.whl') else '*/copyright'), held(os.path.join(TOP, 'LICENSE')).strip()
+        yield 'the licences in ' + name, text in licences and b'of the Rattle kit' in licences
+        yield from bill(name, one(texts, '*/' + BILL), copy, FIRST if 'linux' in name else 'windows-x86_64')
+    texts = {name.partition('/')[2]: text for name, text in one(found, '*.zip').items()}
+    yield 'one of each name in the ZIP, in whatever case', len({it.lower() for it in texts}) == len(texts)
+    wanted = {'cvr.exe', 'cvr-audit', 'cvr_audit/line.py', 'README.md', 'docs/FORMAT.md', 'examples/county/scan.json'}
+    yield 'what stands in the ZIP: %s' % (wanted - set(texts)), wanted <= set(texts)
+    yield 'the sums in the ZIP', texts.pop(SUMS, b'').decode('utf-8') == TOOL['listed'](texts)
+
+
+def bill(of, text, copy, target):
+    """Yields what the bill of materials of a package has to have, and whether it does."""
+    told, (program, library) = json.loads(text), [copy.path('out/targets', target, it) for it in FILES[target]]
     named = {it['name']: it for it in told['packages']}
     names, ids = set(named), [it['SPDXID'] for it in told['packages']]
     ends = [it[end] for it in told['relationships'] for end in ('spdxElementId', 'relatedSpdxElement')]
-    yield 'the form of SPDX', told['spdxVersion'] == 'SPDX-2.3' and len(set(ids)) == len(ids) and set(ends) <= {*ids, told['SPDXID']}
-    yield 'each part stands in a relation', set(ids) <= set(ends)
-    lines = held(os.path.join(TOP, 'crates.txt')).decode('utf-8')
+    yield 'the form of SPDX in ' + of, told['spdxVersion'] == 'SPDX-2.3' and len(set(ids)) == len(ids) and set(ends) <= {*ids, told['SPDXID']}
+    yield 'each part stands in a relation in ' + of, set(ids) <= set(ends)
+    lines, kit = held(os.path.join(TOP, 'crates.txt')).decode('utf-8'), held(copy.path('out/kit')).decode('utf-8').strip()
     crates = re.findall(r'^(\w+)[^:\n]*:', lines, re.M)
     used = {word for line in re.findall(r'^(?!#|cvr_example|cvr_calls)[^:\n]*:(.*)', lines, re.M) for word in line.split()} - set(crates)
-    yield 'the libraries of the kit', used == {it['name'] for it in told['packages'] if it['versionInfo'] == kit()} - {'rattle kit'}
-    yield 'what is linked in', {tuple(it.split()) for it in held(os.path.join(os.path.dirname(program), 'linked')).decode().splitlines()} <= {
-        (name, it['versionInfo']) for name, it in named.items()}
+    yield 'the libraries of the kit in ' + of, used == {it['name'] for it in told['packages'] if it['versionInfo'] == kit} - {'rattle kit'}
+    linked = {tuple(it.split()) for it in held(os.path.join(os.path.dirname(program), 'linked')).decode().splitlines()}
+    yield 'what is linked in, in ' + of, linked and linked <= {(name, it['versionInfo']) for name, it in named.items()}
     for path in program, library:
-        yield 'the sum of ' + path, named[os.path.basename(path)]['checksums'][0]['checksumValue'] == sum_of(path)
-    folders, env = [os.path.join(TOP, it) for it in ('companion', 'python')], dict(os.environ, LIBCVR=library)
+        yield 'the sum of %s in %s' % (path, of), named[os.path.basename(path)]['checksums'][0]['checksumValue'] == sum_of(path)
+    folders, env = [os.path.join(TOP, it) for it in ('companion', 'python')], dict(os.environ, LIBCVR=copy.path('out/targets', FIRST, FILES[FIRST][1]))
     status, loaded = done(sys.executable, '-c', LOADED, *folders, env=env)
     yield 'the modules of Python: ' + loaded, status == 0 and {it.partition(':')[2] for it in names if it.startswith('python:')} == set(loaded.split())
 
@@ -324,8 +302,23 @@ for package in 'cvr_audit', 'cvr':
 print(' '.join(sorted(found - {'', 'cvr', 'cvr_audit', 'builtins', 'frozen_importlib', 'frozen_importlib_external'})))'''
 
 
+def commands_of(copy):
+    """Yields whether the commands in PROVENANCE print each sum in it, but those that build, and that ask git."""
+    text = held(os.path.join(copy.packages, TOLD)).decode('utf-8')
+    shown = re.findall(r'^    (\S.*?)(?:  .*)?$', text.partition('There\n')[2].partition('\n\nWho')[0], re.M)
+    words = [it for it in shown if not re.match(r'git |rt |tools/build$', it)]
+    yield 'the commands in PROVENANCE: ' + ', '.join(shown), len(shown) - len(words) == 3 and len(words) == 5
+    status, told = done('sh', '-c', 'set -e\n' + '\n'.join(words), top=copy.top, env=dict(os.environ, PATH=copy.path('out') + ':' + os.environ['PATH']))
+    sums = {name: value for name, value in told_in(text.encode('utf-8')).items() if re.fullmatch('[0-9a-f]{64}', value)}
+    lacking = [name for name, value in sums.items() if value not in told]
+    yield 'they print the sums: %s: %s' % (lacking, told), status == 0 and not lacking and len(sums) >= 10
+
+
 def signed(path, folder):
     """Yields whether the commands in a PROVENANCE sign it, and find that; and no other text, key or name."""
+    if not shutil.which('ssh-keygen'):
+        tenth.leave_out('signatures', 'ssh-keygen is missing')
+        return
     room = os.path.join(folder, 'signed')
     os.mkdir(room)
     shutil.copy(path, os.path.join(room, 'PROVENANCE'))
@@ -340,83 +333,67 @@ def signed(path, folder):
     yield 'the signature of a builder is found', checks('builder')
     yield 'that of another key is not', not checks('other')
     yield 'that under another name is not', not checks('builder', 'first@builder')
-    write(os.path.join(room, 'PROVENANCE'), held(path).decode('utf-8').replace('program  ', 'program  0', 1))
+    write(os.path.join(room, 'PROVENANCE'), held(path).decode('utf-8').replace('native ', 'native 0', 1))
     yield 'that of another text is not', not checks('builder')
 
 
-def again(made, found, folder):
-    """Yields whether the object file beside a package gives a program that runs; and whether only what was tried is packed."""
-    program = os.path.join(folder, 'linked again')
-    status, _ = done('gcc', '-static-pie', '-o', program, one(found, 'linux-x86_64.o'))
-    yield 'the object file, linked again', status == 0 and done(program, '--version') == done(os.path.join(made, NAMES[0], 'cvr'), '--version')
-    for name, note in (NAMES[0], 'tried_library'), (NAMES[1], 'tried'), (NAMES[2], 'native'):
-        with open(os.path.join(made, name, note), 'w') as file:
-            file.write('another sum')
-    left = packed(made, os.path.join(folder, 'fewer'))
-    wanted = [it for it in found if not re.search('aarch64|arm64|win|whl', it)]
-    yield 'what was not tried is not packed', sorted(left) == sorted(wanted)
+def refused(copy, *words):
+    """What tools/package says where it packs nothing, and what was packed stays; else ''."""
+    before = [texts_of(it) for it in (copy.packages, copy.dist)]
+    status, told = copy.pack(*words)
+    return told if status == 1 and 'nothing is packed' in told and before == [texts_of(it) for it in (copy.packages, copy.dist)] else ''
 
 
-def unbuilt(made, folder):
-    """Yields whether nothing is packed where the note of what was built has another program or no line."""
-    script = os.path.join(folder, 'cvr')
-    write(script, '#!/bin/sh\necho cvr 1.0.0\n')
-    for noted in done('tools/sum', script)[1], '':
-        out = os.path.join(folder, 'unbuilt')
-        status, told = pack(made, out, noted)
-        yield 'what is not noted as built is not packed: ' + told, status == 1 and told.startswith('nothing is packed') and not os.path.exists(out)
+def fewer(copy):
+    """Yields whether nothing is packed that was not tried, is not noted as built, or is of other sources; and no release
+    without it, or with a file that git doesn't know."""
+    for words in ['init', '-q'], ['add', '-A']:
+        done('git', *words, top=copy.top)
+    write(copy.path('web/other.js'), '')
+    yield 'no release with an unknown file', refused(copy, '--release').endswith('\nweb/other.js\n\n')
+    os.remove(copy.path('web/other.js'))
+    for name, note in (FIRST, 'tried_library'), ('windows-x86_64', 'tried'), ('wasm', 'of'):
+        write(copy.path('out/targets', name, note), 'another')
+        yield 'no release without ' + name, name + ' is not packed' in refused(copy, '--release')
+    wanted = {TOLD, SUMS, 'cvr_%s_arm64.deb' % dist.VERSION, *('cvr-%s-linux-aarch64%s' % (dist.VERSION, it) for it in ('.o', '.tar.gz'))}
+    yield 'what is not tried is not packed', copy.pack()[0] == 0 and set(os.listdir(copy.packages)) == wanted
+    for path, text in ('out/built', ''), ('out/cvr', '#!/bin/sh\necho cvr 1.0.0\n'), ('crates/cvr/src/main.rt', ''):
+        before = held(copy.path(path))
+        write(copy.path(path), text)
+        yield 'nothing with another ' + path, bool(refused(copy))
+        write(copy.path(path), before)
 
 
-def tried(cvr, folder):
-    """Yields each trial, and whether it is right."""
-    prefix, out = os.path.join(folder, 'a prefix'), os.path.join(folder, 'one')
-    told = done('make', 'package', 'CVR=' + cvr)
-    yield 'make package, of a program that it would not pack', told[0] == 2 and 'takes no CVR' in told[1]
-    yield 'make install', done('make', 'install', 'CVR=' + cvr, 'PREFIX=' + prefix, umask=0o077)[0] == 0 and is_installed(prefix)
-    yield links(prefix)
-    yield from first_runs(prefix, commands.FILES)
-    yield from uninstalls(cvr, folder)
-    made = targets(os.path.join(folder, 'targets'))
-    found, other = packed(made, out), packed(made, os.path.join(folder, 'other'), **elsewhere(folder))
-    yield 'packed twice', {name: held(path) for name, path in found.items()} == {name: held(path) for name, path in other.items()}
-    yield from unpacked(found, folder)
-    program, place = os.path.join(made, NAMES[0], 'cvr'), os.path.join(folder, 'unpacked/usr')
-    for it in place, os.path.join(folder, 'local'):
-        yield from held_in(it, program, found)
-    yield from zipped(one(found, '.zip'), os.path.join(made, NAMES[2], 'cvr.exe'))
-    yield from wheels(found, made)
-    yield from sums(out)
-    for it in place, os.path.join(folder, 'local'):
-        yield from sums(it, 'share/doc/cvr/SHA256SUMS')
-    yield from bill(held(one(found, 'linux-x86_64.spdx.json')), os.path.join(made, *(NAMES[0], FILES[NAMES[0]][1])), program)
-    if shutil.which('ssh-keygen'):
-        yield from signed(found['PROVENANCE-' + NAMES[0]], folder)
-    else:
-        print('skipped: ssh-keygen is missing, so no PROVENANCE is signed')
-    yield from provenance(held(found['PROVENANCE-' + NAMES[0]]).decode('utf-8'), program)
-    yield 'no library', libraries(os.path.join(place, 'bin/cvr')) == []
-    for architecture in 'amd64', 'arm64':
-        control = done('dpkg-deb', '-f', one(found, '_%s.deb' % architecture), 'Architecture', 'Depends', 'Maintainer')[1]
-        yield 'no package is needed: ' + control, re.fullmatch(r'Architecture: %s\nMaintainer: .*\.invalid>\n' % architecture, control) is not None
-    for name, about in ('cvr', r'cvr +- +check'), ('cvr-audit', r'cvr-audit +- +print'):
-        status, text = man_page(place, name)
-        is_read = status == 0 and re.search(about, text) and not re.search(r':\d+: warning', text)
-        yield 'man reads the page of ' + name, bool(is_read)
-    if shutil.which('lintian'):
-        status, text = done('lintian', '--allow-root', '--fail-on', 'error', one(found, '_amd64.deb'))
-        yield 'lintian: ' + text, status == 0
-    yield from unbuilt(made, folder)
-    yield from again(made, found, folder)
+def whole(folder):
+    """Yields each trial of what is packed."""
+    status, told = done(sys.executable, 'tools/targets', FIRST)
+    yield 'tools/targets: ' + told, status == 0
+    if status:
+        return
+    copy, other, place = Copy(folder + '/one'), Copy(folder + '/another place'), folder + '/local'
+    copy.make()
+    shutil.copytree(copy.top, other.top)
+    yield from packed(copy, other, folder)
+    yield from archive(copy, place)
+    yield from debian(copy, folder + '/unpacked', place)
+    yield from others(copy)
+    yield from bill('the archive', held(place + '/share/doc/cvr/' + BILL), copy, FIRST)
+    yield from commands_of(copy)
+    yield from signed(os.path.join(copy.packages, TOLD), folder)
+    program = folder + '/linked again'
+    status, _ = done('gcc', '-static-pie', '-o', program, os.path.join(copy.packages, 'cvr-%s-%s.o' % (dist.VERSION, FIRST)))
+    yield 'the object file, linked again', status == 0 and done(program, '--version') == done(place + '/bin/cvr', '--version')
+    yield from fewer(copy)
+    yield 'the same bytes where a clone changes ends of lines', held(os.path.join(TOP, '.gitattributes')) == b'* -text\n'
 
 
 def main():
-    words = argparse.ArgumentParser()
-    words.add_argument('--cvr', required=True, help='the built program')
-    cvr = os.path.abspath(words.parse_args().cvr)
+    words = tenth.words()
+    words.add_argument('--installed', action='store_true', help='try what is installed alone')
+    words = words.parse_args()
     os.environ.pop('MAKEFLAGS', None)       # of a `make` that runs this, whose DESTDIR is not for what is installed here
     with tempfile.TemporaryDirectory() as folder:
-        stand_in_a_commit(folder)
-        found = list(tried(cvr, folder))
+        found = [*installed(words.cvr, folder), *([] if words.installed else whole(folder))]
     for what, is_right in found:
         if not is_right:
             print('WRONG: not so: ' + what)

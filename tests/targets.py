@@ -1,26 +1,28 @@
 #!/usr/bin/env python3
-"""targets.py [--only NAME]
+"""targets.py [--only NAME] [--dist] [--tenth WORD]
 
-Makes the program for other systems with tools/targets, and runs every row of tests/rows with each: ARM's under
-qemu-user, Windows' under Wine, with a server that stays. Output, log and status have to be the same bytes as the row
-states. The rows that a system can't run, such as those with names that Windows forbids, stand by their names and
-reasons in tests/targets/windows.txt; one that differs and doesn't stand there is wrong, and so is one that stands there
-and doesn't differ. Each also reads random files (tests/rows/random_files.py), and is tried on what no row has: standard
-input and a closed pipe, and on Windows also paths, and what tools/system.c says of open files (targets/looks.c). None
-needs a library of the system but those in NEEDED. Before that, small texts show what tools/targets changes in LLVM's
-text, and what it refuses.
+Makes the program for other systems with tools/targets, and runs every row of tests/rows with each, with --tenth a tenth of
+them: ARM's under qemu-user, Windows' under Wine, with a server that stays. Output, log and status have to be the same
+bytes as the row states. The rows that a system can't run, such as those with names that Windows forbids, stand by their
+names and reasons in tests/targets/windows.txt; one that differs and doesn't stand there is wrong, and so is one that
+stands there and doesn't differ. Each also reads random files (tests/rows/random_files.py), and is tried on what no row
+has: standard input and a closed pipe, and on Windows also paths, and what tools/system.c says of open files
+(targets/looks.c). None needs a library of the system but those in NEEDED. Before that, small texts show what
+tools/targets changes in LLVM's text, and what it refuses.
 
 On a busy machine Wine gives a wrong answer once in some thousand runs, also to a few lines of C (tests/rows/README.md says
 more). So under Wine a trial that differs is tried once more, alone. How many are right only then is printed, with what
 differed at first; where more than SECOND differ, none is tried again, and all are wrong.
 
-The module of WebAssembly runs in Node; targets/wasm.py has what is tried of it besides, and targets/wasm.txt its rows.
+The module of WebAssembly runs in Node; targets/wasm.py has what is tried of it besides.
 
-Where a target has the library, it is tried, too: that of Linux by tests/library/run.py, with the rows of `tally`; that of
-Windows by its driver.c, with one row of EACH, and by calls.c and offices.c.
+Where a target has the library, it is tried, too: that of Linux by tests/library/run.py; that of Windows by its driver.c,
+through which the rows go, and by calls.c and offices.c.
 
-Of a target that passes, out/targets/NAME/tried has the sum of the program, and tried_library that of the library, so
-that tools/package packs them. A target whose tools, qemu or Wine are missing is left out, and that is said.
+Of a target that passes whole, out/targets/NAME/tried has the sum of the program, and tried_library that of the library, so
+that tools/package packs them. With --dist nothing is made: the programs, Windows' library and the module are those of the
+release (dist_files.py), whose needs and whose library for Linux aren't tried. A target whose tools, qemu or Wine are missing is left out,
+and that is said.
 
 The last line is `targets: N right, M wrong`; the status is 0 only where M is 0 and N is not."""
 import argparse
@@ -29,30 +31,31 @@ import hashlib
 import os
 import re
 import runpy
+import select
 import shlex
 import shutil
 import subprocess
 import sys
 import tempfile
-from concurrent.futures import ThreadPoolExecutor
 from functools import partial
 
 sys.dont_write_bytecode = True
 HERE = os.path.dirname(os.path.abspath(__file__))
 TOP = os.path.dirname(HERE)
-sys.path[:0] = [os.path.join(HERE, 'rows'), os.path.join(HERE, 'targets')]
-import members      # noqa: E402
-import run as rows  # noqa: E402 (both stand in tests/rows)
+sys.path.insert(0, os.path.join(HERE, 'targets'))
+import dist_files   # noqa: E402
+import tenth        # noqa: E402
+import trials       # noqa: E402 (these stand beside this file)
 import wasm         # noqa: E402 (it stands in tests/targets)
+from trials import rows     # noqa: E402
 
 TOOL = runpy.run_path(os.path.join(TOP, 'tools/targets'))
-ROUNDS = 3          # of random files for each target
+ROUNDS = '3'        # of random files for each target; one of them with --tenth
 SECOND = 5          # so many trials under Wine may differ at first
+SECONDS = 300       # of one run of a program
 WINE, SERVER = '/usr/lib/wine/wine64', '/usr/lib/wine/wineserver64'
 # The libraries that each needs.
 NEEDED = {'cvr': set(), 'cvr.exe': {'KERNEL32.dll', 'msvcrt.dll', 'SHELL32.dll'}, 'cvr.dll': {'KERNEL32.dll', 'msvcrt.dll'}}
-EACH = 40           # of so many rows one is tried through the library under Wine
-ORDERED = 16        # of so many rows one is tried with its members in other orders under Wine and qemu
 COMPILED = ['x86_64-w64-mingw32-gcc', '-std=c11', '-O1', '-Wall', '-Wextra', '-Werror', '-static', '-pthread']
 
 
@@ -62,17 +65,15 @@ class Target:
 
     def __init__(self, name, before=(), packages='', listed=None):
         self.name, self.before, self.packages, self.is_windows = name, list(before), packages, name.startswith('windows')
-        self.is_wasm, files = name == 'wasm', TOOL['FILES'].get(name, (TOOL['MODULE'], ''))
-        self.path, self.library = (os.path.join(TOP, 'out/targets', name, it) if it else None for it in files)
-        self.listed = listed_in(listed) if listed else {}
+        self.is_wasm, self.listed = name == 'wasm', trials.listed_in(listed) if listed else {}
 
-    def lacks(self):
-        """What is missing to make or to run it, or None."""
-        if not os.path.exists(self.path):
-            return 'it is not made'
-        if self.before and not shutil.which(self.before[0]):
-            return 'there is no %s. On Debian: apt-get install %s' % (self.before[0], self.packages)
-        return None
+    def take(self, is_dist, folder):
+        """Takes what the release has of it, or has it made. Answers why it can't be run, or None."""
+        self.path, self.library = (it and dist_files.taken('%s/%s' % (self.name, it), is_dist, folder) for it in TOOL['FILES'][self.name])
+        missing = [it for it in self.before if not shutil.which(it)]
+        if missing:
+            return 'there is no %s. On Debian: apt-get install %s' % (missing[0], self.packages)
+        return None if self.path else 'it is not made'
 
     def script(self, folder, program):
         """A command that runs a program for the target, as a file."""
@@ -81,38 +82,6 @@ class Target:
             file.write('#!/bin/sh\nexec %s "$@"\n' % shlex.join(self.before + [program]))
         os.chmod(path, 0o755)
         return path
-
-
-def listed_in(name):
-    """The rows of a file, each with its reason: lines `# REASON`, and below each the names of its rows."""
-    found, reason = {}, ''
-    with open(os.path.join(HERE, 'targets', name), encoding='utf-8') as file:
-        for line in file.read().splitlines():
-            if line.startswith('# '):
-                reason = line[2:]
-            elif line:
-                found[line] = reason
-    return found
-
-
-# A trial is a function that answers what is wrong, or None.
-
-def row_trials(target, cvr):
-    """Yields a trial for each row."""
-    every = [it[1:] for it in rows.all_rows()] + [(row, {}) for row in members.rows()]
-    print('%s: %d rows, of which %d are listed as differing' % (target.name, len(every), len(target.listed)), flush=True)
-    for row, short in every:
-        yield partial(row_fault, cvr, row, short, target.listed.get(row['name']))
-    for name in sorted(set(target.listed) - {row['name'] for row, _ in every}):
-        yield partial(str, 'no row is called %s, which is listed' % name)
-
-
-def row_fault(cvr, row, short, reason=None):
-    """What is wrong with a row, or with the reason for which it is listed as one that differs."""
-    found = rows.tried(cvr, row, short)
-    if reason:
-        return None if found else 'row %s is listed (%s), and right' % (row['name'], reason)
-    return 'row %s: %s' % (row['name'], '; '.join(found)) if found else None
 
 
 # ---- how tools/targets changes LLVM's text
@@ -204,46 +173,45 @@ PATHS = [
 INPUTS = [(b'', 0, b'/dev/stdin 1\n', b''), (b'\r\n', 0, b'/dev/stdin 1\n', b''), (b'\x1a', 1, b'', b'/dev/stdin: E2\n')]
 
 
-def own_trials(target, cvr, folder):
+def own_trials(target, cvr, folder, is_dist):
     """Yields the trials of what no row has."""
     for row in PATHS if target.is_windows else []:
-        yield partial(row_fault, cvr, row, {})
+        yield partial(trials.row_fault, cvr, row, {})
     for name in 'def.json', 'f2.json':
         with open(os.path.join(folder, name), 'wb') as file:
             file.write(rows.VECTORS[name])
     for given in INPUTS:
         yield partial(input_fault, cvr, folder, *given)
-    if target.is_windows:
-        yield partial(looks_fault, target, folder)
     if not target.is_wasm:      # a closed pipe ends the driver, which isn't the program; serve.js sees what is imported
         yield partial(pipe_fault, cvr, folder)
-        yield partial(needed_fault, target.path)
+        yield from [] if is_dist else [partial(needed_fault, target.path)]
 
 
 def input_fault(cvr, folder, more, *wanted):
     """What is wrong where a file and more bytes come on standard input, or None."""
     got = subprocess.run([cvr, 'check', 'def.json', '/dev/stdin'], cwd=folder, input=rows.VECTORS['f2.json'] + more,
-                         stdout=subprocess.PIPE, stderr=subprocess.PIPE)
+                         stdout=subprocess.PIPE, stderr=subprocess.PIPE, timeout=SECONDS)
     return None if (got.returncode, got.stdout, got.stderr) == wanted else 'standard input with %r: %r' % (more, got)
 
 
 def looks_fault(target, folder):
     """What is wrong with what tools/system.c says of a file and of a pipe, as looks.c prints it, or None."""
     looks, path = os.path.join(folder, 'looks.exe'), os.path.join(folder, 'f2.json')
-    sources = [os.path.join(HERE, 'targets/looks.c'), os.path.join(TOP, 'tools/system.c')]
-    subprocess.run([*COMPILED, '-o', looks, *sources, '-lshell32'], check=True)
+    trials.compiled(COMPILED, looks, 'targets/looks.c', '../tools/system.c', libraries=['-lshell32'])
     os.utime(path, ns=(0, 1234567890123456700))
-    with subprocess.Popen([target.script(folder, looks)], cwd=folder, stdin=subprocess.PIPE, stdout=subprocess.PIPE, text=True) as ran:
-        got = ran.communicate()[0].split('\n')
+    got = trials.printed([target.script(folder, looks)], cwd=folder, stdin=None, input='')[1].split('\n')
     wanted = ['8000 %d 12345678901234567' % os.path.getsize(path), 'no file', '']
     return None if [it.rstrip() for it in got] == wanted else 'looks.c: %r, expected %r' % (got, wanted)
 
 
 def pipe_fault(cvr, folder):
     """What is wrong where standard output is a closed pipe, or None."""
-    reader, writer = os.pipe()
+    (reader, writer), closed = os.pipe(), select.poll()
     os.close(reader)
-    got = subprocess.run([cvr, 'check', 'def.json', 'f2.json'], cwd=folder, stdin=subprocess.DEVNULL, stdout=writer, stderr=subprocess.PIPE)
+    closed.register(writer, 0)
+    closed.poll(1000 * SECONDS)     # until no process that is just being started has the other end, either
+    got = subprocess.run([cvr, 'check', 'def.json', 'f2.json'], cwd=folder, stdin=subprocess.DEVNULL, stdout=writer, stderr=subprocess.PIPE,
+                         timeout=SECONDS)
     os.close(writer)
     return None if (got.returncode, got.stderr) == (3, b'out: X1\n') else 'a closed pipe: %r' % got
 
@@ -252,74 +220,38 @@ def needed_fault(path):
     """What is wrong with the libraries that a program or a library needs, or None. A static program also has no loader."""
     is_elf = '.' not in os.path.basename(path)
     words, form = (['readelf', '-dl'], r'(NEEDED.*|INTERP)') if is_elf else (['x86_64-w64-mingw32-objdump', '-p'], r'DLL Name: (\S+)')
-    found = set(re.findall(form, subprocess.run([*words, path], stdout=subprocess.PIPE, text=True, check=True).stdout))
+    found = set(re.findall(form, trials.printed([*words, path])[1]))
     return None if found == NEEDED[os.path.basename(path)] else '%s needs %s' % (path, found)
 
 
 # ---- the library of a target
 
-def library_trials(target, folder):
+def library_trials(target, folder, words):
     """Yields the trials of a target's library, if it has one."""
     if target.is_wasm:
         yield from wasm.trials(target.path, folder)
+    elif target.is_windows and not shutil.which(COMPILED[0]):
+        tenth.leave_out('calls of cvr.dll, and looks.c', 'there is no ' + COMPILED[0])
     elif target.is_windows:
-        yield from dll_trials(target, folder)
-    elif target.library:
-        yield partial(told_fault, 'library/run.py', '--only', 'tally', '--library', os.path.dirname(target.library))
+        yield partial(looks_fault, target, folder)
+        yield from dll_trials(target, folder, words)
+    elif target.library and not words.dist:
+        yield partial(trials.told_fault, 'library', [sys.executable, HERE + '/library/run.py', '--tenth', words.tenth])
 
 
-def dll_trials(target, folder):
-    """Yields those of a DLL, called by driver.c, calls.c and offices.c, which stand beside it, and of its wheel."""
-    room, source = os.path.join(folder, 'dll'), os.path.join(HERE, 'library/%s.c')
+def dll_trials(target, folder, words):
+    """Yields those of a DLL, called by programs that stand beside it, and of its wheel. The driver has the words in the letters
+    of Windows' own code page, so a row with others is left out."""
+    room = os.path.join(folder, 'dll')
     os.mkdir(room)
     shutil.copy(target.library, room)
-    for name in 'driver', 'calls', 'offices':
-        words = [*COMPILED, '-I', os.path.dirname(target.library), '-o', '%s/%s.exe' % (room, name), source % name, target.library]
-        ran = subprocess.run(words, stdout=subprocess.PIPE, stderr=subprocess.STDOUT, text=True)
-        if ran.returncode:
-            yield partial(str, '%s.c: %s' % (name, ran.stdout))
-            return
-    yield partial(needed_fault, target.library)
-    for name in 'calls', 'offices':
-        yield partial(calls_fault, name, target.script(room, '%s/%s.exe' % (room, name)))
-    yield from driven_trials(target, target.script(room, room + '/driver.exe'))
-    yield partial(told_fault, 'library/wheel.py', target.library)
-
-
-def calls_fault(name, program):
-    """What calls.c or offices.c finds wrong, or None."""
-    words = [program, 'definition.json', 'scan.json', 'adjudicated.json']
-    ran = subprocess.run(words, cwd=os.path.join(TOP, 'examples/county'), stdout=subprocess.PIPE, text=True)
-    return None if re.fullmatch(name + r': [1-9]\d* right, 0 wrong', ran.stdout.strip()) and not ran.returncode else '%s.c: %r' % (name, ran)
-
-
-def driven_trials(target, driver):
-    """Yields a trial for each row through the library. The driver has the words in the letters of Windows' own code page,
-    so a row with others is left out."""
-    every = [it[1:] for it in rows.all_rows()][::EACH]
-    every = [it for it in every if it[0]['name'] not in target.listed and str((it[0]['words'], list(it[0].get('files', ())))).isascii()]
-    print('%s: %d rows through the library' % (target.name, len(every)), flush=True)
-    for row, short in every:
-        yield partial(row_fault, driver, dict(row, name=row['name'] + ' through the library'), short)
+    yield from [] if words.dist else [partial(needed_fault, target.library)]
+    yield partial(trials.told_fault, 'wheel', [sys.executable, HERE + '/library/wheel.py', target.library])
+    is_odd = lambda row: row['name'] in target.listed or not str((row['words'], list(row.get('files', ())))).isascii()
+    yield from trials.call_trials(COMPILED, room, target.library, {}, words.tenth, partial(target.script, room), is_odd)
 
 
 # ---- all trials of a target
-
-def ordered(target):
-    """Which rows are run again with their members in other orders: all on Linux, elsewhere one of ORDERED, from one on that
-    the commit chooses."""
-    if not target.before:
-        return []
-    commit = subprocess.run(['git', 'rev-parse', 'HEAD'], cwd=TOP, stdout=subprocess.PIPE, stderr=subprocess.DEVNULL, text=True).stdout
-    return ['--of', '%d' % ORDERED, '--first', '%d' % (int(commit[:8] or '0', 16) % ORDERED)]
-
-
-def told_fault(name, *words):
-    """What another test finds wrong, or None. Its last line is printed."""
-    ran = subprocess.run([sys.executable, os.path.join(HERE, name), *words], stdout=subprocess.PIPE, stderr=subprocess.STDOUT, text=True)
-    print('  ' + ran.stdout.splitlines()[-1], flush=True)
-    return None if ran.returncode == 0 else ran.stdout
-
 
 @contextlib.contextmanager
 def wine(folder):
@@ -330,12 +262,13 @@ def wine(folder):
     os.mkdir(os.environ['WINEPREFIX'])
     server = subprocess.Popen([SERVER, '-f', '-p'], **quiet)
     try:
-        subprocess.run([WINE, 'wineboot', '-i'], **quiet)       # what it says for once, it says here
+        subprocess.run([WINE, 'wineboot', '-i'], **quiet, timeout=SECONDS)      # what it says for once, it says here
         yield
     finally:
         if server.poll() is not None:
             print('  the server of Wine has ended meanwhile, with status %d' % server.returncode)
-        subprocess.run([SERVER, '-k'], **quiet)
+        subprocess.run([SERVER, '-k'], **quiet, timeout=SECONDS)
+        server.kill()
         server.wait()
 
 
@@ -346,16 +279,16 @@ def server(target, folder):
     return wine(folder) if target.is_windows else contextlib.nullcontext()
 
 
-def tried(target):
+def tried(target, words):
     """(right, wrong) of a target that is made."""
     with tempfile.TemporaryDirectory() as folder, server(target, folder):
         cvr = wasm.driver(folder) if target.is_wasm else target.script(folder, target.path)
-        trials = [*own_trials(target, cvr, folder), *library_trials(target, folder), *row_trials(target, cvr)]
-        trials.append(partial(told_fault, 'rows/random_files.py', '--cvr', cvr, '--rounds', '%d' % ROUNDS))
-        trials.append(partial(told_fault, 'rows/orders.py', '--cvr', cvr, *ordered(target), '--without', *target.listed))
-        with ThreadPoolExecutor(min(rows.SIDE_BY_SIDE, len(os.sched_getaffinity(0)))) as pool:
-            found = list(pool.map(lambda it: it(), trials))
-        at_first = tried_again(trials, found) if target.is_windows else []
+        every = [*own_trials(target, cvr, folder, words.dist), *library_trials(target, folder, words),
+                 *trials.row_trials(cvr, target.listed, words.tenth)]
+        random_files = [sys.executable, HERE + '/rows/random_files.py', '--cvr', cvr, '--rounds', ROUNDS, '--tenth', words.tenth]
+        every.append(partial(trials.told_fault, 'files', random_files))
+        found = trials.outcomes(every)
+        at_first = tried_again(every, found) if target.is_windows else []
     for line in at_first:
         print('  right at the second try: ' + line[:300])
     for line in found:
@@ -366,12 +299,12 @@ def tried(target):
     return right, wrong
 
 
-def tried_again(trials, found):
+def tried_again(every, found):
     """Tries the few that differ once more, one by one, and notes what is found then. Answers what differed at first of
     those that are right then."""
     again = [(number, fault) for number, fault in enumerate(found) if fault]
     for number, _ in again if len(again) <= SECOND else []:
-        found[number] = trials[number]()
+        found[number] = trials.outcome(every[number])
     return [fault for number, fault in again if found[number] is None]
 
 
@@ -388,32 +321,46 @@ def note(target, is_right):
 
 TARGETS = [
     Target('linux-x86_64'),
-    Target('windows-x86_64', [WINE], 'wine64', 'windows.txt'),
+    Target('windows-x86_64', [WINE], 'wine64', 'targets/windows.txt'),
     Target('linux-aarch64', ['qemu-aarch64-static'], 'qemu-user-static'),
-    Target('wasm', ['node'], 'nodejs', 'wasm.txt'),
+    Target('wasm', ['node', 'gcc'], 'nodejs gcc', trials.CALLED),
 ]
+
+
+def outcome(target, words):
+    """(right, wrong) of a target, which is left out where something is missing."""
+    with tempfile.TemporaryDirectory() as folder:
+        try:
+            lacking = target.take(words.dist, folder)
+            if lacking:
+                tenth.leave_out(target.name, lacking)
+                return 0, 0
+            right, wrong = tried(target, words)
+        except trials.FAULTS as fault:
+            print('WRONG %s: %s: %s' % (target.name, type(fault).__name__, fault))
+            return 0, 1
+        if not (words.dist or words.tenth):
+            note(target, not wrong)
+        return right, wrong
 
 
 def main():
     words = argparse.ArgumentParser()
     words.add_argument('--only', help='the name of a target')
+    words.add_argument('--dist', action='store_true', help='try the programs of the release')
+    words.add_argument('--tenth', default='', metavar='WORD', help='try a tenth of the rows, by a hash of this word')
     words = words.parse_args()
-    sys.stdout.reconfigure(errors='backslashreplace')       # a word may be invalid UTF-8
-    found = [*text_faults(), *second_faults()]
-    for line in found:
+    sys.stdout.reconfigure(errors='backslashreplace')       # a word of a row may be invalid UTF-8
+    faults = [*text_faults(), *second_faults()]
+    for line in faults:
         if line:
             print('WRONG ' + line)
-    right, wrong = found.count(None), len(found) - found.count(None)
-    for target in [it for it in TARGETS if words.only in (None, it.name)]:
-        is_made = subprocess.run([sys.executable, os.path.join(TOP, 'tools/targets'), target.name]).returncode == 0
-        lacking = target.lacks()
-        if lacking:
-            print('%s is left out: %s' % (target.name, lacking), flush=True)
-            wrong += not is_made
-            continue
-        found = tried(target)
-        note(target, not found[1])
-        right, wrong = right + found[0], wrong + found[1]
+    found = [(faults.count(None), len(faults) - faults.count(None))]
+    if words.dist and not dist_files.is_of_these():
+        tenth.leave_out('programs for other systems', dist_files.LACKS)
+    else:
+        found += [outcome(it, words) for it in TARGETS if words.only in (None, it.name)]
+    right, wrong = map(sum, zip(*found))
     print('targets: %d right, %d wrong' % (right, wrong))
     sys.exit(0 if right and not wrong else 1)
 

@@ -84,7 +84,7 @@ def held(top):
 
 def run(top, words):
     """What a command prints where it doesn't end well."""
-    done = subprocess.run([sys.executable, *words], cwd=top, stdout=subprocess.PIPE, stderr=subprocess.STDOUT, text=True)
+    done = subprocess.run([sys.executable, *words], cwd=top, stdout=subprocess.PIPE, stderr=subprocess.STDOUT, text=True, timeout=600)
     return done.stdout if done.returncode else ''
 
 

@@ -1,6 +1,6 @@
 """What tools/library and tools/targets share: they have the kit prove and compile a crate once more, over the libraries that
-stand proved below it, as `rt ci` leaves them beside each crate, or `./cvr` in out/rlib. For the kit keeps neither the object
-file of a program, nor a library of C, nor what it hands to LLVM.
+stand proved below it, as `rt ci` and `./cvr` leave them in out/rlib of each crate. For the kit keeps neither the object file
+of a program, nor a library of C, nor what it hands to LLVM.
 
 It stands on these insides of the kit: its folder, with toolchain/; of bin/rtlib.py `Crate` with `below`, `rlib` and `words`,
 `guarded`, `RATTLE` and `KIT`; and that `--toolchain` names the folder of the clang that `rattle` calls, with a file *.bc
@@ -14,14 +14,15 @@ import shlex
 import shutil
 import subprocess
 import sys
+import tempfile
 
 TOP = os.path.dirname(os.path.dirname(os.path.realpath(__file__)))
 MADE = os.path.join(TOP, 'out/made')        # what was compiled: NAME.TRIPLE
 X86 = 'x86_64-unknown-linux-gnu'
 FORMS = {'cvr': ('cvr.o', []), 'cvr_call': ('libcvr_call.a', ['--backend', 'llvm'])}       # of each crate the file that is made
+SECONDS = 3000      # of a command, also where it proves beside other proofs
 # The calls of the library: the names that callers see.
 SEEN = ['cvr_call', *('cvr_office_' + it for it in ('conflicts', 'currents', 'free', 'import', 'join', 'new', 'tally', 'volume'))]
-LIBRARIES = ['crates/%(name)s/out/rlib/%(name)s.rlib', 'out/rlib/%(name)s.rlib']     # of `rt ci`; of `./cvr`
 # A clang that keeps what it compiles, and its words.
 KEEPS = '''#!/bin/sh
 for word; do case $word in *.bc) cp "$word" {kept}/text.bc; printf '%s\\n' "$@" >{kept}/words;; esac; done
@@ -33,15 +34,13 @@ class Stopped(Exception):
     """Why something isn't made."""
 
 
-FAULTS = (Stopped, AttributeError, ImportError, OSError, SyntaxError, TypeError)     # also of a kit with other insides
+FAULTS = Stopped, AttributeError, ImportError, OSError, SyntaxError, TypeError, subprocess.SubprocessError  # also of a kit with other insides
 
 
 def done(words, **more):
     """What a command prints; where it fails, stops with its last line."""
-    try:
-        ran = subprocess.run(words, stdin=subprocess.DEVNULL, stdout=subprocess.PIPE, stderr=subprocess.STDOUT, text=True, errors='replace', **more)
-    except OSError as fault:
-        raise Stopped('%s: %s' % (words[0], fault.strerror))
+    ran = subprocess.run(words, stdin=subprocess.DEVNULL, stdout=subprocess.PIPE, stderr=subprocess.STDOUT, text=True, errors='replace',
+                         timeout=SECONDS, **more)
     if ran.returncode:
         raise Stopped('%s: %s' % (os.path.basename(words[0]), ''.join(ran.stdout.strip().splitlines()[-1:])))
     return ran.stdout
@@ -78,26 +77,19 @@ def of_kit(path):
 def crate(name):
     """A crate, over the libraries that were built last."""
     made = rtlib().Crate(os.path.join(TOP, 'crates', name), TOP, {})
-    below = [it for it in made.below() if it.folder.startswith(TOP)]
-    places = [{it.name: os.path.join(TOP, form % {'name': it.name}) for it in below} for form in LIBRARIES]
-    whole = [it for it in places if all(os.path.exists(path + '/format') for path in it.values())]
-    if not whole:
+    if not all(os.path.exists(it.rlib + '/format') for it in made.below() if it.folder.startswith(TOP)):
         raise Stopped('the libraries below crates/%s are not built: ./cvr builds them' % name)
-    newest = max(whole, key=lambda it: max(os.path.getmtime(path + '/format') for path in it.values()))
-    for it in below:
-        it.rlib = newest[it.name]
     return made
 
 
-def toolchain(folder):
-    """Makes the kit's toolchain in a folder, with a clang that keeps there what it compiles."""
-    chain, clang = folder + '/chain', of_kit('toolchain/bin/clang')
-    os.makedirs(chain + '/bin')
+def toolchain(folder, clang):
+    """Makes the kit's toolchain in a new folder, with a script for clang. It has links, at which `rt ci` stops in a checkout."""
+    os.makedirs(folder + '/bin')
     for name in set(os.listdir(of_kit('toolchain/bin'))) - {'clang'}:
-        os.symlink(of_kit('toolchain/bin/' + name), '%s/bin/%s' % (chain, name))
-    write(chain + '/bin/clang', KEEPS.format(kept=shlex.quote(folder), clang=shlex.quote(clang)))
-    os.chmod(chain + '/bin/clang', 0o755)
-    return chain
+        os.symlink(of_kit('toolchain/bin/' + name), '%s/bin/%s' % (folder, name))
+    write(folder + '/bin/clang', clang)
+    os.chmod(folder + '/bin/clang', 0o755)
+    return folder
 
 
 def of_what(*more):
@@ -122,8 +114,11 @@ def compiled(name, triple, what, see=None):
             return folder
         for it in folder, fresh:
             shutil.rmtree(it, ignore_errors=True)
+        os.mkdir(fresh)
         words = [*rtlib().guarded(), rtlib().RATTLE, 'build', *crate(name).words(['--jobs', '1'], keeps=False), *more, '--target', triple]
-        done(words + ['--toolchain', toolchain(fresh), '-o', os.path.join(fresh, file)], cwd=os.path.join(TOP, 'crates', name))
+        with tempfile.TemporaryDirectory() as room:
+            chain = toolchain(room + '/chain', KEEPS.format(kept=shlex.quote(fresh), clang=shlex.quote(of_kit('toolchain/bin/clang'))))
+            done(words + ['--toolchain', chain, '-o', os.path.join(fresh, file)], cwd=os.path.join(TOP, 'crates', name))
         if see:
             see(fresh)
         write(fresh + '/of', what)

@@ -74,39 +74,28 @@ def linked(line):
     return part(name, version, externalRefs=called('deb/debian', name, version))
 
 
-class Bill:
-    """The parts, and how each stands to others."""
-
-    def __init__(self):
-        self.parts, self.relations = {}, []
-
-    def add(self, it, relation, other):
-        """Adds a part, where it isn't there yet, which has a relation to another."""
-        self.parts[it['SPDXID']] = it
-        self.relations.append({'spdxElementId': it['SPDXID'], 'relationshipType': relation, 'relatedSpdxElement': other})
-        return it['SPDXID']
-
-    def link(self, it, user):
-        """Adds a part that is linked into another."""
-        self.parts[it['SPDXID']] = it
-        self.relations.append({'spdxElementId': user, 'relationshipType': 'STATIC_LINK', 'relatedSpdxElement': it['SPDXID']})
-
-
-def bill(label, version, moment, programs, packages, kit, folder):
+def bill(label, version, date, programs, packages, kit, folder):
     """The text for what has this label. `programs` has the crate and the sum of each program or library in it, by name,
     `packages` the lines of what else is linked in; `folder` is where the kit has its libraries."""
-    held, document = Bill(), 'SPDXRef-DOCUMENT'
+    held, relations, document = {}, [], 'SPDXRef-DOCUMENT'
+
+    def add(it):
+        held[it['SPDXID']] = it
+        return it['SPDXID']
+
     for name, (crate, total, purpose) in programs.items():
-        user = held.add(own(name, version, total, purpose), 'DESCRIBED_BY', document)
-        held.add(part('rattle kit', kit, comment='the compiler, the core library, and some C that is linked in'), 'BUILD_TOOL_OF', user)
-        for it in [of_kit(it, kit, folder) for it in libraries_of(crate)] + [linked(it) for it in packages]:
-            held.link(it, user)
+        user = add(own(name, version, total, purpose))
+        relations.append((user, 'DESCRIBED_BY', document))
+        relations.append((add(part('rattle kit', kit, comment='the compiler, the core library, and some C that is linked in')), 'BUILD_TOOL_OF', user))
+        parts = [of_kit(it, kit, folder) for it in libraries_of(crate)] + [linked(it) for it in packages]
+        relations += [(user, 'STATIC_LINK', add(it)) for it in parts]
     for name, patterns in PYTHON.items():
-        user = held.add(own(name, version, '', 'APPLICATION'), 'DESCRIBED_BY', document)
-        for it in modules_of(patterns):
-            held.add(part('python:' + it, '3.9 or later', licenseDeclared='PSF-2.0'), 'RUNTIME_DEPENDENCY_OF', user)
+        user = add(own(name, version, '', 'APPLICATION'))
+        relations.append((user, 'DESCRIBED_BY', document))
+        parts = [part('python:' + it, '3.9 or later', licenseDeclared='PSF-2.0') for it in modules_of(patterns)]
+        relations += [(add(it), 'RUNTIME_DEPENDENCY_OF', user) for it in parts]
     return json.dumps({
         'spdxVersion': 'SPDX-2.3', 'dataLicense': 'CC0-1.0', 'SPDXID': document, 'name': label,
         'documentNamespace': 'https://cvr.invalid/spdx/%s-%s' % (label, list(programs.values())[0][1]),
-        'creationInfo': {'created': moment, 'creators': ['Tool: tools/package of cvr ' + version]},
-        'packages': list(held.parts.values()), 'relationships': held.relations}, indent=1) + '\n'
+        'creationInfo': {'created': date + 'T00:00:00Z', 'creators': ['Tool: tools/package of cvr ' + version]}, 'packages': list(held.values()),
+        'relationships': [dict(zip(('spdxElementId', 'relationshipType', 'relatedSpdxElement'), it)) for it in relations]}, indent=1) + '\n'

@@ -30,7 +30,7 @@ def kit_of(path, digest):
     folder = os.path.dirname(os.path.realpath(path))
     try:
         with open(os.path.join(folder, PROVENANCE), encoding='utf-8') as file:
-            found = re.search(r'^kit +(.+)\nprogram +%s$' % digest, file.read(), re.M)
+            found = re.search(r'^kit +(.+)\n(?:.+\n)*\S+ +%s$' % digest, file.read(), re.M)
     except (OSError, UnicodeDecodeError):
         return None
     return found and found.group(1)

@@ -1,5 +1,5 @@
 #!/usr/bin/env python3
-"""page.py --cvr PATH [--sets N] [--seed N] [--companion FOLDER] [--masks] [--picture PNG]
+"""page.py --cvr PATH [--tenth WORD] [--companion FOLDER] [--masks] [--picture PNG]
 
 Tests `cvr-audit page`. The county of examples/: its two pages are compared line by line with
 page/county.txt, but for columns that it doesn't name, and page/public.txt, which were written by hand.
@@ -22,11 +22,10 @@ program counted.
 Beside that the slips of page_ways.py: each is made in a copy, and the county or the sets have to find
 it. With --companion the copy in that folder is tested, without a browser and without the largest sets,
 until something is wrong; with --masks only what follows from what it withholds. Where a tool isn't
-there a line `skipped` says so. --picture writes the picture that README shows.
+there a line `left out` says so. With --tenth a tenth of the sets and of the slips are tried. --picture
+writes the picture that README shows.
 The last line is `page: N right, M wrong`; the status is 0 only where M is 0 and N is not."""
-import argparse
 import hashlib
-import importlib
 import json
 import os
 import random
@@ -37,11 +36,13 @@ import sys
 import tempfile
 import threading
 from concurrent.futures import ThreadPoolExecutor
+from operator import attrgetter, itemgetter
 
 sys.dont_write_bytecode = True
 HERE = os.path.dirname(os.path.abspath(__file__))
 TOP = os.path.dirname(os.path.dirname(HERE))
-sys.path[:0] = [HERE, os.path.join(TOP, 'tests', 'rows')]
+sys.path[:0] = [HERE, os.path.dirname(HERE), os.path.join(TOP, 'tests', 'rows')]
+import companion     # noqa: E402
 import journal       # noqa: E402
 import page_form     # noqa: E402
 import page_masks    # noqa: E402
@@ -51,13 +52,13 @@ import page_sets     # noqa: E402
 import page_tables   # noqa: E402
 import page_text     # noqa: E402
 import page_views    # noqa: E402
-import page_ways     # noqa: E402 (all of them stand beside this file)
-import wrong_ways    # noqa: E402
+import page_ways     # noqa: E402
+import tenth         # noqa: E402 (these stand beside this file and in tests/)
 
 COUNTY = os.path.join(TOP, 'examples', 'county')
 FILES = ['scan.json', 'adjudicated.json', 'corrected.json', 'damaged.json']
 REFUSED = 'damaged.json: E3 /CVR/0/UniqueId 2\n'
-PROVENANCE = 'cvr 1.0.0 was built of\n\ncommit   a\nsources  b\nkit      kit-1 logic 2\nprogram  '
+PROVENANCE = 'cvr 1.0.0 was made so:\n\nversion       1.0.0\nkit           kit-1 logic 2\nnative        a\nlinux-x86_64  '
 MADE = '1730930400'         # 2024-11-06T22:00:00Z
 RANKS = """table: Selections by rank
 Selection | Rank 1 | Rank 2 | Rank 3
@@ -77,7 +78,7 @@ LARGE, BYTES = 3000, 250000     # ballots, and the bytes that their page may hav
 NO_ROUNDS = 'They are added up over all ranks, and no rounds are computed.'
 SECONDS = 1800      # which a slip may take beside proofs
 SIDE_BY_SIDE = 4
-FEW = 8             # the sets with which a slip is tried
+SETS, FEW = 40, 8   # random ones, and those with which a slip is tried
 
 
 class Found(Exception):
@@ -87,11 +88,10 @@ class Found(Exception):
 class Trial:
     """A companion and a program that are tested. Of a copy the first wrong thing is enough."""
 
-    def __init__(self, cvr, companion, is_seen=True):
-        self.cvr, self.companion, self.is_seen = cvr, companion, is_seen
+    def __init__(self, cvr, folder, is_seen=True):
+        self.cvr, self.companion, self.is_seen = cvr, folder, is_seen
         self.right, self.wrong, self.lock = 0, 0, threading.Lock()
-        sys.path.insert(0, companion)
-        self.package = importlib.import_module('cvr_audit.line') and sys.modules['cvr_audit']
+        self.package = companion.package_in(folder)
 
     def see(self, what, wrong):
         """Counts a thing that was tested, and prints what is wrong with it."""
@@ -104,8 +104,8 @@ class Trial:
 
     def page(self, folder, definition, files, *words, cvr=None):
         """(page, log, status) of the words."""
-        companion = os.path.join(self.companion, 'cvr-audit')
-        return run(folder, sys.executable, companion, 'page', definition, *files, *words,
+        script = os.path.join(self.companion, 'cvr-audit')
+        return run(folder, *companion.PYTHON, script, 'page', definition, *files, *words,
                    CVR=cvr or self.cvr, SOURCE_DATE_EPOCH=MADE)
 
     def printed(self, folder, *words):
@@ -235,23 +235,23 @@ def differences(got, wanted):
 
 # ---- sets
 
-def sets(trial, words):
-    """The sets, by name: the bytes of their files by name; those that take longest first."""
+def sets(words):
+    """The sets, by name: what makes the bytes of their files by name; those that take longest first."""
+    texts, definition = page_sets.texts_of, page_sets.many_contests(2)[0]
     if not words.companion:
-        yield '300 contests', page_sets.texts_of(page_sets.many_contests())
-        yield '2,000 units', page_sets.texts_of(page_sets.many_units())
-    yield 'odd names', page_sets.texts_of(page_sets.odd())
-    yield 'ranks', page_sets.texts_of(page_sets.ranked(24))
-    yield '60 units', page_sets.texts_of(page_sets.many_units(60))
-    yield 'small units', page_sets.texts_of(page_sets.small_units())
-    yield 'several votes', page_sets.texts_of(page_sets.several_votes())
-    definition = page_sets.many_contests(2)[0]
-    yield 'no record', page_sets.texts_of((definition, {}))
-    refused = page_sets.texts_of((definition, {'a.json': dict(definition, Version='2.0.0')}))
-    yield 'a ballot of DEF', page_sets.one_each(is_in_definition=True)[0]
-    yield 'refused files', dict(refused, **{'b.json': b'{', 'c.json': b'\xff'})
-    for seed in range(words.seed, words.seed + words.sets):
-        yield 'set %d' % seed, page_sets.texts_of(page_sets.uneven(random.Random(seed)))
+        yield '300 contests', lambda: texts(page_sets.many_contests())
+        yield '2,000 units', lambda: texts(page_sets.many_units())
+    yield 'odd names', lambda: texts(page_sets.odd())
+    yield 'ranks', lambda: texts(page_sets.ranked(24))
+    yield '60 units', lambda: texts(page_sets.many_units(60))
+    yield 'small units', lambda: texts(page_sets.small_units())
+    yield 'several votes', lambda: texts(page_sets.several_votes())
+    yield 'no record', lambda: texts((definition, {}))
+    yield 'a ballot of DEF', lambda: page_sets.one_each(is_in_definition=True)[0]
+    refused = {'a.json': dict(definition, Version='2.0.0')}
+    yield 'refused files', lambda: dict(texts((definition, refused)), **{'b.json': b'{', 'c.json': b'\xff'})
+    for seed in range(1, 1 + (FEW if words.companion else SETS)):
+        yield 'set %d' % seed, lambda seed=seed: texts(page_sets.uneven(random.Random(seed)))
 
 
 def counts_of(trial, folder, files):
@@ -320,9 +320,9 @@ def plain(part):
 def see_way(trial, way):
     """Tests a copy with a slip, which has to be found."""
     with tempfile.TemporaryDirectory() as folder:
-        copy = wrong_ways.made(os.path.join(TOP, 'companion'), folder, way)
-        words = [sys.executable, os.path.abspath(__file__), '--cvr', trial.cvr, '--sets', str(FEW),
-                 '--companion', copy] + ['--masks'] * (way.seen in page_ways.MASKED)
+        copy = companion.made(folder, way)
+        words = [sys.executable, os.path.abspath(__file__), '--cvr', trial.cvr, '--companion', copy]
+        words += ['--masks'] * (way.seen in page_ways.MASKED)
         out, log, status = run(folder, *words)
     lines = [line for line in out.splitlines() if line.startswith('WRONG ') and way.seen in line]
     is_broken = any(it in out + log for it in ('Error', 'Traceback'))
@@ -351,7 +351,8 @@ def pages(trial, words):
         yield see_large, LARGE
     yield see_lines, 'ranks', page_sets.ranked(), [RANKS, SCORES, NO_ROUNDS]
     yield see_lines, 'machines', page_sets.machines(9), ['## Adjudications\nNone.\n']
-    for name, held in sets(trial, words):
+    for name, made in tenth.chosen(words.tenth, sets(words), itemgetter(0)):
+        held = made()
         yield see_set, name, held, False
         yield see_set, name, held, True
 
@@ -359,9 +360,9 @@ def pages(trial, words):
 def see_masks(trial, words):
     """Tests what follows from what the rule withholds."""
     trial.see('tables', list(page_tables.wrong_of(trial.package.page_masking, trial.is_seen)))
-    ranges = page_ranges.wrong_of(trial.package.page_masking, words.counties)
+    ranges = page_ranges.wrong_of(trial.package.page_masking)
     if ranges is None:
-        print('skipped the ranges of withheld numbers, and slips that these find: glpsol is not there')
+        tenth.leave_out('the ranges of withheld numbers, and slips that these find', 'glpsol is not there')
     else:
         trial.see('ranges', ranges)
 
@@ -381,18 +382,13 @@ def see_all(trial, words):
 
 
 def main():
-    words = argparse.ArgumentParser()
-    words.add_argument('--cvr', required=True, help='the program to try it with')
-    words.add_argument('--sets', type=int, default=40)
-    words.add_argument('--seed', type=int, default=1)
-    words.add_argument('--counties', type=int, default=8, help='how many the solver looks at')
+    words = tenth.words()
     words.add_argument('--companion', help='a folder with a copy of the companion')
     words.add_argument('--masks', action='store_true', help='test only what follows from what is withheld')
     words.add_argument('--picture', help='write the picture of the county that README shows')
     words = words.parse_args()
-    companion = os.path.abspath(words.companion or os.path.join(TOP, 'companion'))
-    trial = Trial(os.path.abspath(words.cvr), companion, not words.companion)
-    ways = [] if words.companion else [it for it in page_ways.WAYS if page_ways.can_be_found(it)]
+    trial = Trial(words.cvr, os.path.abspath(words.companion or companion.compiled()), not words.companion)
+    ways = [] if words.companion else tenth.chosen(words.tenth, filter(page_ways.can_be_found, page_ways.WAYS), attrgetter('name'))
     with ThreadPoolExecutor(min(SIDE_BY_SIDE, len(os.sched_getaffinity(0)))) as pool:
         tries = pool.map(lambda way: see_way(trial, way), ways)     # they begin at once
         try:

@@ -41,7 +41,8 @@ class Browser:
         script = 'exec 3<&%d 4>&%d; exec "$@"' % (theirs_in, theirs_out)
         self.process = subprocess.Popen(
             ['bash', '-c', script, 'bash'] + words, pass_fds=(theirs_in, theirs_out),
-            stdin=subprocess.DEVNULL, stdout=subprocess.DEVNULL, stderr=subprocess.DEVNULL, start_new_session=True)
+            stdin=subprocess.DEVNULL, stdout=subprocess.DEVNULL, stderr=subprocess.DEVNULL, start_new_session=True,
+            env=dict(os.environ, TMPDIR=self.profile))
         os.close(theirs_in)
         os.close(theirs_out)
         self.left, self.number, self.session = b'', 0, None

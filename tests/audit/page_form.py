@@ -89,7 +89,7 @@ def tidied(text):
     if not shutil.which('tidy'):
         return
     done = subprocess.run(['tidy', '-q', '-e', '-utf8'], input=text.encode('utf-8'),
-                          stdout=subprocess.PIPE, stderr=subprocess.PIPE)
+                          stdout=subprocess.PIPE, stderr=subprocess.PIPE, timeout=300)
     for line in done.stderr.decode('utf-8', 'replace').splitlines():
         yield 'tidy: ' + line
 

@@ -3,7 +3,7 @@ have, by a solver (`glpsol` of Debian's glpk-utils) over all that a page shows t
 
 A reader knows the ballots that are shown, that the contests of a unit are over the same ballots, and how
 many votes a ballot may have. One reader knows that every ballot has all its votes; another one only that
-it has no more. Where the solver is missing, a line `skipped` says so."""
+it has no more. Where the solver is missing, a line `left out` says so."""
 import os
 import random
 import re
@@ -13,6 +13,7 @@ import tempfile
 from collections import namedtuple
 
 LEAST = 10
+RANDOM = 8      # counties beside those of COUNTIES
 SECONDS = 120
 
 # A contest: of each unit the ballots and the votes; how many a ballot may have; and whether the page knows
@@ -153,19 +154,16 @@ def ranges(solver, contests, masks, is_full):
         yield what, number, ends
 
 
-def wrong_of(masking, counties, seed=1):
-    """What a reader finds in random counties, as lines; None where there is no solver."""
+def wrong_of(masking):
+    """What a reader finds in counties, as lines; None where there is no solver."""
     solver = shutil.which('glpsol')
     if not solver:
         return None
-    return list(county_wrong(solver, masking, seed, counties))
-
-
-def county_wrong(solver, masking, seed, counties):
-    tried = [(name, held, True) for name, held in COUNTIES.items()]
-    tried += [(it, *county(random.Random(it))) for it in range(seed, seed + counties)]
+    found, tried = [], [(name, held, True) for name, held in COUNTIES.items()]
+    tried += [(it, *county(random.Random(it))) for it in range(1, 1 + RANDOM)]
     for name, contests, is_full in tried:
         masks = masking.masks([it.held for it in contests], [it.is_single for it in contests])
         for what, votes, ends in ranges(solver, contests, masks, is_full):
             if not is_safe(*ends):
-                yield 'county %s: %s is %d, and is seen to be from %d to %s' % (name, what, votes, *ends)
+                found.append('county %s: %s is %d, and is seen to be from %d to %s' % (name, what, votes, *ends))
+    return found

@@ -11,6 +11,7 @@ import threading
 import page_browser
 import page_picture
 import page_text
+import tenth
 
 WIDTHS = 1280, 390
 SHEET = 680         # pixels between the margins of A4, the narrower paper
@@ -27,14 +28,15 @@ SCREEN = 1000       # pixels from the top of the page of a large county to its f
 SHEETS = 30         # of A4, for such a county
 BROWSERS = 3        # that run side by side
 OWN = threading.local()
-LACKING = set()     # the tools that a line `skipped` has named
+ANSWERS = 'later answers of Chromium'
+LACKING = set()     # the tools that a line `left out` has named
 
 
-def lacks(what, is_there):
+def lacks(what, is_there, why='it is not there'):
     """Whether a tool isn't there; the first time, a line says so."""
     if not is_there and what not in LACKING:
         LACKING.add(what)
-        print('skipped %s: it is not there' % what)
+        tenth.leave_out(what, why)
     return not is_there
 
 
@@ -49,14 +51,13 @@ def shown():
 def see(trial, path, what):
     """Tests a page in windows and in print."""
     lacks('tidy', shutil.which('tidy'))
-    if lacks('chromium', page_browser.program()) or 'an answer of chromium' in LACKING:
+    if lacks('Chromium', page_browser.program()) or ANSWERS in LACKING:
         return
     try:
         look(trial, path, what, shown())
     except OSError as fault:
         # a browser that can't run here shows nothing about the page
-        LACKING.add('an answer of chromium')
-        print('skipped chromium from %s on: %s' % (what, fault))
+        lacks(ANSWERS, False, '%s: %s' % (what, fault))
 
 
 def look(trial, path, what, browser):
@@ -76,7 +77,7 @@ def look(trial, path, what, browser):
 
 def see_large(trial, path, what):
     """Tests where the first votes of a page stand, and how many sheets it has."""
-    if page_browser.program() is None or 'an answer of chromium' in LACKING:
+    if page_browser.program() is None or ANSWERS in LACKING:
         return
     try:
         browser = shown()
@@ -87,8 +88,7 @@ def see_large(trial, path, what):
             count = len(sheets_of(browser, path, 'A4')) - 1
             trial.see(what + ': sheets', ['%d sheets' % count] * (not 2 < count < SHEETS))
     except OSError as fault:
-        LACKING.add('an answer of chromium')
-        print('skipped chromium from %s on: %s' % (what, fault))
+        lacks(ANSWERS, False, '%s: %s' % (what, fault))
 
 
 def over_wrong(browser):
@@ -107,7 +107,7 @@ def sheets_of(browser, path, paper):
     with tempfile.TemporaryDirectory() as folder:
         pdf = os.path.join(folder, 'page.pdf')
         browser.printed(pdf, paper)
-        done = subprocess.run(['pdftotext', '-raw', pdf, '-'], stdout=subprocess.PIPE, check=True)
+        done = subprocess.run(['pdftotext', '-raw', pdf, '-'], stdout=subprocess.PIPE, check=True, timeout=tenth.SECONDS)
     return [bare(it) for it in done.stdout.decode('utf-8', 'replace').split('\f')]
 
 

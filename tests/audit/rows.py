@@ -7,7 +7,7 @@ A log of argparse isn't compared, as it differs between versions of Python. A li
 for the heads of the columns of the tally, `{undervotes 1, pending 2}` for their numbers, which are 0
 where they aren't named, and `{absent}` for empty cells. A column that no row names may have any number
 here, and any line of `compare`: sets.py holds it against the tally. A row that `needs` a path of the
-system is left out where that isn't there, and a line `skipped` says so."""
+system is left out where that isn't there, and a line `left out` says so."""
 import json
 import os
 import re
@@ -19,6 +19,10 @@ import tempfile
 import printed
 
 HERE = os.path.dirname(os.path.abspath(__file__))
+sys.path.append(os.path.dirname(HERE))
+import companion  # noqa: E402
+import tenth      # noqa: E402 (they stand in tests/)
+
 TOP = os.path.dirname(os.path.dirname(HERE))
 COUNTY = os.path.join(TOP, 'examples', 'county')
 ALLOWED = ['"VoteVariation": "plurality"', '"VoteVariation": "plurality", "VotesAllowed": 1']
@@ -36,7 +40,7 @@ def held():
     rows = [row for text in TEXTS for row in json.loads(text)['rows']]
     lacking = [row for row in rows if not os.path.exists(row.get('needs', HERE))]
     for row in lacking:
-        print('skipped row %s: %s is not there' % (row['name'], row['needs']))
+        tenth.leave_out('row ' + row['name'], '%s is not there' % row['needs'])
     return [row for row in rows if row not in lacking]
 
 
@@ -123,10 +127,10 @@ def closed_pipe():
     return theirs
 
 
-def run(companion, cvr, row, folder):
+def run(copy, cvr, row, folder):
     """(output, log, status) of a run with the row's words."""
     script = '%s\nexec "$@" %s' % (row.get('before', ':'), row.get('redirected', ''))
-    words = ['sh', '-c', script, 'sh', sys.executable, os.path.join(companion, 'cvr-audit')]
+    words = ['sh', '-c', script, 'sh', *companion.PYTHON, os.path.join(copy, 'cvr-audit')]
     env = dict(os.environ, CVR=row.get('program', cvr), REAL=cvr)
     env.pop('PYTHONUNBUFFERED', None)       # with it Python writes at once, and nothing at the end
     with open(os.path.join(folder, 'out'), 'wb') as out:
@@ -155,11 +159,11 @@ def spelled(lines, advice):
     return re.sub(r'\{(.*?)\}', cells_of, text)
 
 
-def differences(companion, cvr, row, advice):
+def differences(copy, cvr, row, advice):
     """What differs between a row and its run, as lines."""
     with tempfile.TemporaryDirectory() as folder:
         lay(folder, row.get('files', {}))
-        out, *got = run(companion, cvr, row, folder)
+        out, *got = run(copy, cvr, row, folder)
     for column in UNNAMED:
         out = re.sub('(?m)^(?:row|part) .* %s .*\n' % column, '', out)
     log = got[0] if row['err'] is None else spelled(row['err'], advice)

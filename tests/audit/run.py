@@ -1,31 +1,34 @@
 #!/usr/bin/env python3
-"""run.py --cvr PATH [--sets N] [--seed N]
+"""run.py --cvr PATH [--tenth WORD]
 
 Tests companion/cvr-audit with the given program: the rows of rows.json and hostile.json, what a
 terminal shows, random sets of files (sets.py), what a journal holds (journal.py), and what a run
 leaves beside what it prints (outputs.py). Then the slips of wrong_ways.py: each is made in a copy, and
-the row that it names, the terminal, the sets or a part of journal.py have to find it. The last line is
-`audit: N right, M wrong`; the status is 0 only where M is 0 and N is not."""
-import argparse
+the row that it names, the terminal, the sets or a part of journal.py have to find it. With --tenth a
+tenth of the sets and of the slips are tried. The last line is `audit: N right, M wrong`; the status is
+0 only where M is 0 and N is not."""
 import os
 import subprocess
 import sys
 import tempfile
 from concurrent.futures import ThreadPoolExecutor
+from operator import attrgetter
 
 sys.dont_write_bytecode = True
 HERE = os.path.dirname(os.path.abspath(__file__))
 TOP = os.path.dirname(os.path.dirname(HERE))
-COMPANION = os.path.join(TOP, 'companion')
 sys.path[:0] = [HERE, os.path.dirname(HERE), os.path.join(TOP, 'tests', 'rows')]
+import companion   # noqa: E402
 import journal     # noqa: E402
 import outputs     # noqa: E402
 import rows        # noqa: E402
 import sets        # noqa: E402
+import tenth       # noqa: E402
 import terminal    # noqa: E402
 import wrong_ways  # noqa: E402 (these stand beside this file and in tests/)
 
 SIDE_BY_SIDE = 4
+SETS = 60
 FEW = 12            # the sets with which a slip is tried
 SHOWN = ['cvr check: 3 files', 'cvr check: 3 files', 'cvr merge: 3 files', 'read 0 of 2 files',
          'read 1 of 2 files', 'cvr tally: 3 files']
@@ -34,13 +37,13 @@ SCREEN = ['damaged.json: E3 /CVR/0/UniqueId 2',
 BROKEN = 'NameError', 'SyntaxError', 'ImportError'
 
 
-def terminal_differences(companion, cvr):
+def terminal_differences(copy, cvr):
     """What is wrong with what a terminal shows of a run over three files, one of them refused."""
     words = ['records', 'definition.json', 'scan.json', 'damaged.json', 'adjudicated.json']
     with tempfile.TemporaryDirectory() as folder:
         rows.lay(folder, {})
         log = terminal.End('terminal')
-        done = subprocess.run([sys.executable, os.path.join(companion, 'cvr-audit')] + words,
+        done = subprocess.run([sys.executable, os.path.join(copy, 'cvr-audit')] + words,
                               cwd=folder, env=dict(os.environ, CVR=cvr), stdin=subprocess.DEVNULL,
                               stdout=subprocess.PIPE, stderr=log.theirs, timeout=rows.SECONDS)
     screen, before = terminal.screen(log.all())
@@ -59,23 +62,23 @@ def number_differences(package):
     return [] if ''.join(text.split()) == wanted else ['numbers: ' + text]
 
 
-def set_differences(companion, cvr, seed):
+def set_differences(copy, cvr):
     """What a few sets find wrong with a copy of the companion, which has a process of its own."""
-    words = [companion, cvr, str(seed), str(FEW)]
+    words = [copy, cvr, str(FEW)]
     done = subprocess.run([sys.executable, os.path.join(HERE, 'sets.py')] + words,
                           stdin=subprocess.DEVNULL, stdout=subprocess.PIPE,
                           stderr=subprocess.STDOUT, timeout=rows.SECONDS)
     return done.stdout.decode('utf-8', 'replace').splitlines()
 
 
-def way_differences(cvr, seed, held, advice, way):
+def way_differences(cvr, held, advice, way):
     """Nothing where the row, terminal or sets that a slip names find it."""
     with tempfile.TemporaryDirectory() as folder:
-        copy = wrong_ways.made(COMPANION, folder, way)
+        copy = companion.made(folder, way)
         if way.row == wrong_ways.TERMINAL:
             found = terminal_differences(copy, cvr)
         elif way.row == wrong_ways.SETS:
-            found = set_differences(copy, cvr, seed)
+            found = set_differences(copy, cvr)
         elif way.row.startswith(wrong_ways.JOURNAL):
             found = journal.differences(copy, cvr, way.row[len(wrong_ways.JOURNAL):])
         else:
@@ -85,19 +88,20 @@ def way_differences(cvr, seed, held, advice, way):
     return [] if found else ['wrong way %s: not found by: %s' % (way.name, way.row)]
 
 
-def jobs(words, cvr):
+def jobs(words):
     """What is tested, each as a call that answers what is wrong."""
-    package = sets.package_in(COMPANION)
-    advice, held = package.advice.ADVICE, {row['name']: row for row in rows.held()}
-    yield from ((rows.differences, COMPANION, cvr, row, advice) for row in held.values())
-    yield terminal_differences, COMPANION, cvr
+    cvr, copy = words.cvr, companion.compiled()
+    package, held = companion.package_in(copy), {row['name']: row for row in rows.held()}
+    advice = package.advice.ADVICE
+    yield from ((rows.differences, copy, cvr, row, advice) for row in held.values())
+    yield terminal_differences, copy, cvr
     yield number_differences, package
-    yield from ((outputs.differences, COMPANION, cvr, see) for see in outputs.SEEN)
-    yield from ((journal.differences, COMPANION, cvr, name) for name in journal.PARTS)
-    for seed in range(words.seed, words.seed + words.sets):
+    yield from ((outputs.differences, copy, cvr, see) for see in outputs.SEEN)
+    yield from ((journal.differences, copy, cvr, name) for name in journal.PARTS)
+    for seed in tenth.chosen(words.tenth, range(1, 1 + SETS)):
         yield sets.differences, package, cvr, seed
-    for way in wrong_ways.WAYS:
-        yield way_differences, cvr, words.seed, held, advice, way
+    for way in tenth.chosen(words.tenth, wrong_ways.WAYS, attrgetter('name')):
+        yield way_differences, cvr, held, advice, way
 
 
 def tried(job):
@@ -109,18 +113,10 @@ def tried(job):
         return ['%s of %s: %s: %s' % (job[0].__name__, name, type(fault).__name__, fault)]
 
 
-def read_words():
-    words = argparse.ArgumentParser()
-    words.add_argument('--cvr', required=True, help='the program to try it with')
-    words.add_argument('--sets', type=int, default=60)
-    words.add_argument('--seed', type=int, default=1)
-    return words.parse_args()
-
-
 def main():
-    words, right, wrong = read_words(), 0, 0
+    right = wrong = 0
     with ThreadPoolExecutor(min(SIDE_BY_SIDE, len(os.sched_getaffinity(0)))) as pool:
-        for found in pool.map(tried, jobs(words, os.path.abspath(words.cvr))):
+        for found in pool.map(tried, jobs(tenth.words().parse_args())):
             right, wrong = right + (not found), wrong + bool(found)
             for line in found:
                 print('WRONG ' + line)

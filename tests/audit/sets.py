@@ -1,4 +1,4 @@
-"""sets.py COMPANION CVR SEED N: N random sets of files, and what cvr-audit prints for them, compared
+"""sets.py COMPANION CVR N: N random sets of files, and what cvr-audit prints for them, compared
 with `cvr` and with the files. Each line is a difference; run.py runs most sets in its own process.
 
 A set is a definition and files as random_files.py makes them: most records come again with other
@@ -7,7 +7,6 @@ agree with `drill` and with the tallies of both sides, `trace` to come to each r
 places that exist in the files, and `warnings` to have what the texts of `cvr` have. The bodies that
 the companion finds in the files have to be those of volumes 1 to N, and `definition` has to have
 each object of the accepted files once, by id, and of a device the greatest text."""
-import importlib
 import json
 import os
 import random
@@ -17,13 +16,13 @@ import tempfile
 from types import SimpleNamespace
 
 TOP = os.path.dirname(os.path.dirname(os.path.dirname(os.path.abspath(__file__))))
-sys.path[:0] = [os.path.dirname(os.path.abspath(__file__)), os.path.join(TOP, 'tests', 'rows')]
+sys.path[:0] = [os.path.join(TOP, 'tests', it) for it in ('audit', '.', 'rows')]
 sys.dont_write_bytecode = True
-import members                # noqa: E402
+import companion              # noqa: E402
 import printed                # noqa: E402
 import random_files           # noqa: E402
-import rules as format_rules  # noqa: E402 (they stand in rows/)
-import said                   # noqa: E402 (it stands beside this file)
+import rules as format_rules  # noqa: E402
+import said                   # noqa: E402 (they stand in tests/ and beside this file)
 
 CELL = re.compile(r'("(?:[^"]|"")*"|[^,"\r\n]*)([,\n])')
 WORD = re.compile(r'"(?:[^"\\]|\\.)*"|[^ ]+')
@@ -327,12 +326,6 @@ def parts_of(words):
     return [json.loads(it) if it[0] in '"-0123456789' and it != '-' else it for it in parts]
 
 
-def package_in(companion):
-    """The companion's modules in a folder."""
-    sys.path.insert(0, companion)
-    return importlib.import_module('cvr_audit.line') and sys.modules['cvr_audit']
-
-
 def differences(package, cvr, seed):
     """What one set finds wrong, as lines."""
     found = []
@@ -352,10 +345,10 @@ def differences(package, cvr, seed):
 
 
 def main():
-    companion, cvr, seed, count = sys.argv[1:]
-    package = package_in(companion)
-    for number in range(int(count)):
-        found = differences(package, cvr, int(seed) + number)
+    folder, cvr, count = sys.argv[1:]
+    package = companion.package_in(folder)
+    for seed in range(1, 1 + int(count)):
+        found = differences(package, cvr, seed)
         print(''.join(line + '\n' for line in found), end='')
         if found:
             break

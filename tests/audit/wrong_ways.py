@@ -1,8 +1,6 @@
 """wrong_ways.py: slips that the companion could have. Each changes a text that stands once in its
 file, and the row of rows.json that it names, the terminal, the sets or a part of journal.py have to
 find it."""
-import os
-import shutil
 from collections import namedtuple
 
 Way = namedtuple('Way', 'name file old new row')
@@ -446,18 +444,3 @@ WAYS = [
     Way('takes_a_moved_line', 'journal.py', "held and held.get('before') == before", 'held',
         JOURNAL + 'changed'),
 ]
-
-
-def made(companion, folder, way):
-    """Makes a copy of the companion with the slip; answers its folder."""
-    copy = os.path.join(folder, 'companion')
-    shutil.copytree(companion, copy)
-    path = os.path.join(copy, 'cvr_audit', way.file)
-    with open(path, encoding='utf-8') as file:
-        text = file.read()
-    if text.count(way.old) != 1:
-        count = text.count(way.old)
-        raise ValueError('its text stands %d times in %s, not once' % (count, way.file))
-    with open(path, 'w', encoding='utf-8') as file:
-        file.write(text.replace(way.old, way.new))
-    return copy

@@ -1,14 +1,14 @@
 #!/usr/bin/env python3
-"""run.py --cvr PATH [--sets N] [--seed N] [--only KIND]
+"""run.py --cvr PATH [--tenth WORD]
 
 Tests `cvr-audit gather` with the given program. The exports of examples/exports are those that make.py makes, and each
 has the tally of examples/county. Random exports of make.py have the votes that recount.py counts, whose few lines share no
 code with the companion. The exports of faults.py are refused, and leave nothing. Then the slips of wrong_ways.py: each is
-made in a copy of the companion, and the recount of random exports has to find it. The last line is `gather: N right, M
-wrong`; the status is 0 only where M is 0 and N is not."""
-import argparse
+made in a copy of the companion, and the recount of random exports has to find it. With --tenth a tenth of the random exports
+and of the slips are tried. The last line is `gather: N right, M wrong`; the status is 0 only where M is 0 and N is not."""
 import csv
 import hashlib
+import multiprocessing
 import os
 import shutil
 import signal
@@ -18,21 +18,25 @@ import sys
 import tempfile
 import time
 import zipfile
-from concurrent.futures import ThreadPoolExecutor
+from concurrent.futures import ProcessPoolExecutor
+from functools import partial
+from operator import itemgetter
 
 sys.dont_write_bytecode = True
 HERE = os.path.dirname(os.path.abspath(__file__))
 TOP = os.path.dirname(os.path.dirname(HERE))
-COMPANION = os.path.join(TOP, 'companion')
-sys.path[:0] = [HERE, os.path.join(TOP, 'examples', 'recipes')]
+sys.path[:0] = [HERE, os.path.dirname(HERE), os.path.join(TOP, 'examples', 'recipes')]
+import companion   # noqa: E402
 import faults      # noqa: E402
 import make        # noqa: E402
 import recount     # noqa: E402
-import wrong_ways  # noqa: E402 (they stand here and in examples/recipes)
+import tenth       # noqa: E402
+import wrong_ways  # noqa: E402 (they stand here, in tests/ and in examples/recipes)
 
 SIDE_BY_SIDE = 4
 SECONDS = 300
 BALLOTS = 80
+SEEDS = 1, 2, 3     # of the random exports of each kind
 OTHER = 'contests are not those of the files before it'
 NOT_THOSE = {'dominion': 'its election or its ' + OTHER, 'clearballot': 'its election or its ' + OTHER, 'ess': 'its ' + OTHER}
 # what is said of records with such a column, which is left out
@@ -40,6 +44,8 @@ NOTES = {'remade': 'Remade that is not 0', 'status': 'Status ("Held" 3, "a, b" 1
 # the names of the county's batches in each kind; ES&S's form has none
 BATCHES = {'dominion': {'1-1': 'batch-1', '2-1': 'batch-2'}, 'dominion-json': {'1-1': 'batch-1', '2-1': 'batch-2'},
            'clearballot': {'BOX-1-1': 'batch-1', 'BOX-2-1': 'batch-2'}, 'hart': {'1001': 'batch-1', '2001': 'batch-2'}, 'ess': {None: None}}
+
+HELD = []           # the trials, which the processes that try them have, too
 
 
 class Wrong(Exception):
@@ -51,10 +57,11 @@ def see(is_right, text):
         raise Wrong(text)
 
 
-def run(words, cvr, companion=COMPANION, folder=None, **more):
-    """(output, log, status) of cvr-audit."""
-    done = subprocess.run([sys.executable, os.path.join(companion, 'cvr-audit')] + words, cwd=folder, env=dict(os.environ, CVR=cvr, **more),
-                          stdin=subprocess.DEVNULL, stdout=subprocess.PIPE, stderr=subprocess.PIPE, timeout=SECONDS)
+def run(words, cvr, copy=None, folder=None, **more):
+    """(output, log, status) of cvr-audit, or of a copy of it."""
+    words = [*companion.PYTHON, os.path.join(copy or companion.compiled(), 'cvr-audit'), *words]
+    done = subprocess.run(words, cwd=folder, env=dict(os.environ, CVR=cvr, **more), stdin=subprocess.DEVNULL, stdout=subprocess.PIPE,
+                          stderr=subprocess.PIPE, timeout=SECONDS)
     return done.stdout.decode('utf-8', 'replace'), done.stderr.decode('utf-8', 'replace'), done.returncode
 
 
@@ -94,22 +101,22 @@ def see_modes(out):
     see(modes == {0o600} and stat.S_IMODE(os.stat(out).st_mode) == 0o700, 'others may read what is written')
 
 
-def gathered(kind, export, cvr, out, companion=COMPANION):
+def gathered(kind, export, cvr, out, copy=None):
     """Gathers an export, and compares it with the recount; answers how many votes were compared."""
-    text, log, status = run(['gather', export, '-o', out], cvr, companion)
+    text, log, status = run(['gather', export, '-o', out], cvr, copy)
     see((status, log) == (0, ''), 'status %d, %r' % (status, log))
     found, compared = recount.differences(kind, export, cvr, out)
     see(not found, '\n    '.join(found[:5]))
     return text, compared
 
 
-def see_random(kind, cvr, seed, companion=COMPANION, ballots=BALLOTS):
+def see_random(kind, cvr, seed, copy=None):
     with tempfile.TemporaryDirectory() as folder:
-        make.make(kind, folder, ballots, seed)
+        make.make(kind, folder, BALLOTS, seed)
         out = os.path.join(folder, 'out')
-        text, compared = gathered(kind, path_of(kind, folder), cvr, out, companion)
+        text, compared = gathered(kind, path_of(kind, folder), cvr, out, copy)
         see(compared > 10, 'only %d votes were compared' % compared)
-        if companion is COMPANION:
+        if not copy:
             counts = see_sources(out, path_of(kind, folder))
             see(text.splitlines()[:2] == ['kind ' + kind, '%s/records-1.json %d' % (out, counts['records-1.json'])], 'what is printed')
             see_modes(out)
@@ -155,21 +162,13 @@ def see_examples():
 
 def see_fault(fault, cvr):
     with tempfile.TemporaryDirectory() as folder:
-        shutil.copytree(make.EXAMPLES, os.path.join(folder, 'exports'))
-        done = subprocess.run([sys.executable, os.path.abspath(__file__), '--change', fault.name], cwd=os.path.join(folder, 'exports'),
-                              stdout=subprocess.PIPE, stderr=subprocess.STDOUT, timeout=SECONDS)
-        see(done.returncode == 0, done.stdout.decode('utf-8', 'replace'))
-        before = os.listdir(folder)
-        text, log, status = run(['gather', fault.export, '-o', '../out', *fault.words], cvr, folder=os.path.join(folder, 'exports'))
-        see(os.listdir(folder) == before and not [it for it in os.listdir(os.path.join(folder, 'exports')) if it.startswith('.')], 'something is left')
+        os.chdir(shutil.copytree(make.EXAMPLES, os.path.join(folder, 'exports')))       # of this process alone
+        fault.change()
+        text, log, status = run(['gather', fault.export, '-o', '../out', *fault.words], cvr)
+        see(os.listdir(folder) == ['exports'] and not [it for it in os.listdir() if it.startswith('.')], 'something is left')
     wanted = 'cvr-audit: %s\n' % fault.log
     is_right = log == wanted or wanted.endswith('..\n') and log.startswith(wanted[:-3]) and log.count('\n') == 1
     see(is_right and text == '' and status == fault.status, 'status %d, %r, and not %r' % (status, log, wanted))
-
-
-def change(name):
-    """Makes a fault in the folder where this runs."""
-    next(it for it in faults.all_faults() if it.name == name).change()
 
 
 def see_there(cvr):
@@ -392,10 +391,10 @@ def see_stopped(cvr, number):
         false = os.path.join(folder, 'false')
         faults.write(false, b'#!/bin/sh\n[ "$1" = --version ] && exec "$REAL" --version\n: >"$0.seen"\nexec sleep 60\n')
         os.chmod(false, 0o700)
-        process = subprocess.Popen([sys.executable, os.path.join(COMPANION, 'cvr-audit'), 'gather', path_of('cdf', make.EXAMPLES), '-o', os.path.join(folder, 'out')],
-                                   env=dict(os.environ, CVR=false, REAL=cvr), stdin=subprocess.DEVNULL, stdout=subprocess.PIPE, stderr=subprocess.PIPE)
+        words = [*companion.PYTHON, os.path.join(companion.compiled(), 'cvr-audit'), 'gather', path_of('cdf', make.EXAMPLES), '-o', os.path.join(folder, 'out')]
+        process = subprocess.Popen(words, env=dict(os.environ, CVR=false, REAL=cvr), stdin=subprocess.DEVNULL, stdout=subprocess.PIPE, stderr=subprocess.PIPE)
         end = time.time() + 60
-        while not os.path.exists(false + '.seen') and time.time() < end:
+        while not os.path.exists(false + '.seen') and process.poll() is None and time.time() < end:
             time.sleep(0.05)
         process.send_signal(number)
         process.communicate(timeout=SECONDS)
@@ -405,10 +404,10 @@ def see_stopped(cvr, number):
 def see_way(way, cvr):
     """The recount of one of some random exports finds a slip."""
     with tempfile.TemporaryDirectory() as folder:
-        copy = wrong_ways.made(COMPANION, folder, way)
+        copy = companion.made(folder, way)
         for seed in wrong_ways.SEEDS:
             try:
-                see_random(way.kind, cvr, seed, copy, wrong_ways.BALLOTS)
+                see_random(way.kind, cvr, seed, copy)
             except Wrong as wrong:
                 see('Error' not in str(wrong) or 'Traceback' not in str(wrong), 'the copy doesn\'t run: %s' % wrong)
                 return
@@ -417,44 +416,25 @@ def see_way(way, cvr):
 
 # ---- all trials
 
-def trials(words, cvr):
+def trials(words):
     """Each trial: its name, and the call that makes it."""
-    kinds = [words.only] if words.only else list(make.KINDS)
-    yield 'examples', see_examples
-    for kind in kinds:
-        yield 'the county in ' + kind, lambda kind=kind: see_county(kind, cvr)
-        yield 'a ZIP of ' + kind, lambda kind=kind: see_zip(kind, cvr)
-        for seed in range(words.seed, words.seed + words.sets):
-            yield '%s, seed %d' % (kind, seed), lambda kind=kind, seed=seed: see_random(kind, cvr, seed)
-    for fault in faults.all_faults():
-        if fault.export.partition('.')[0] in kinds or not words.only:
-            yield fault.name, lambda fault=fault: see_fault(fault, cvr)
-    yield 'a folder that is there', lambda: see_there(cvr)
-    yield 'two kinds', lambda: see_two_kinds(cvr)
-    yield 'a long report', lambda: see_long(cvr)
-    yield 'a changed source', lambda: see_changed(cvr)
-    yield 'the bytes of records', lambda: see_bytes(cvr)
-    yield 'variants of tables', lambda: see_variants(cvr)
-    for kind in NOT_THOSE:
-        yield 'no contest in a first file of ' + kind, lambda kind=kind: see_contests_missing(kind, cvr)
-    for kind in BATCHES:
-        yield 'names that meet in ' + kind, lambda kind=kind: see_names(kind, cvr)
-    yield 'names that are formulas', lambda: see_formulas(cvr)
-    yield 'long heads', lambda: see_long_heads(cvr)
-    yield 'a ZIP of a Mac', lambda: see_mac(cvr)
-    yield 'two written names', lambda: see_written(cvr)
-    for kind in ('vxsuite', 'dominion', 'ess', 'clearballot'):
-        yield 'two parts of ' + kind, lambda kind=kind: see_halves(kind, cvr)
-    for number in (signal.SIGINT, signal.SIGTERM):
-        yield 'signal %d' % number, lambda number=number: see_stopped(cvr, number)
-    for way in wrong_ways.WAYS:
-        if way.kind in kinds:
-            yield 'wrong way %s of %s' % (way.name, way.kind), lambda way=way: see_way(way, cvr)
+    cvr = words.cvr
+    few = [('%s, seed %d' % (kind, seed), partial(see_random, kind, cvr, seed)) for kind in make.KINDS for seed in SEEDS]
+    few += [('wrong way %s of %s' % (it.name, it.kind), partial(see_way, it, cvr)) for it in wrong_ways.WAYS]
+    of_kinds = [('the county in', see_county, make.KINDS), ('a ZIP of', see_zip, make.KINDS), ('no contest in a first file of', see_contests_missing, NOT_THOSE),
+                ('names that meet in', see_names, BATCHES), ('two parts of', see_halves, ('vxsuite', 'dominion', 'ess', 'clearballot'))]
+    every = [('%s %s' % (name, kind), partial(see_it, kind, cvr)) for name, see_it, held in of_kinds for kind in held]
+    every += [(see_it.__name__, partial(see_it, cvr)) for see_it in (see_there, see_two_kinds, see_long, see_changed, see_bytes, see_variants,
+                                                                   see_formulas, see_long_heads, see_mac, see_written)]
+    every += [(it.name, partial(see_fault, it, cvr)) for it in faults.all_faults()]
+    every += [('signal %d' % number, partial(see_stopped, cvr, number)) for number in (signal.SIGINT, signal.SIGTERM)]
+    return [('examples', see_examples), *every, *tenth.chosen(words.tenth, few, itemgetter(0))]
 
 
-def tried(trial):
-    """What a trial finds wrong, or None."""
-    name, call = trial
+def tried(place):
+    """What the trial at a place finds wrong, or None."""
+    name, call = HELD[place]
+    os.chdir(TOP)
     try:
         call()
     except Wrong as wrong:
@@ -464,24 +444,13 @@ def tried(trial):
     return None
 
 
-def read_words():
-    words = argparse.ArgumentParser()
-    words.add_argument('--cvr', help='the program to try it with')
-    words.add_argument('--sets', type=int, default=3, help='random exports of each kind')
-    words.add_argument('--seed', type=int, default=1)
-    words.add_argument('--only', choices=list(make.KINDS))
-    words.add_argument('--change', help='make a fault in this folder, for a process of its own')
-    return words.parse_args()
-
-
 def main():
-    words, right, wrong = read_words(), 0, 0
+    right = wrong = 0
     signal.signal(signal.SIGINT, signal.default_int_handler)        # what starts this in the background may have it ignored
-    if words.change:
-        change(words.change)
-        return 0
-    with ThreadPoolExecutor(min(SIDE_BY_SIDE, len(os.sched_getaffinity(0)))) as pool:
-        for found in pool.map(tried, trials(words, os.path.abspath(words.cvr))):
+    HELD.extend(trials(tenth.words().parse_args()))
+    companion.compiled()
+    with ProcessPoolExecutor(min(SIDE_BY_SIDE, len(os.sched_getaffinity(0))), multiprocessing.get_context('fork')) as pool:
+        for found in pool.map(tried, range(len(HELD))):
             right, wrong = right + (found is None), wrong + (found is not None)
             if found:
                 print('WRONG ' + found, flush=True)

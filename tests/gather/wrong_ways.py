@@ -1,12 +1,9 @@
 """wrong_ways.py: slips that a converter could have, a dozen for each kind. Each changes a text that stands once in a file of
 the companion, and the recount of random exports has to find it: by other votes, or by other records than `cvr` reads."""
-import os
-import shutil
 from collections import namedtuple
 
 Way = namedtuple('Way', 'kind name file old new')
 SEEDS = 11, 12, 13          # of the random exports with which a slip is tried
-BALLOTS = 80
 
 # ---- what several kinds use
 MARKED = [
@@ -117,17 +114,3 @@ CDF = of('cdf', REPORTS + [
     ('forgets_the_first_record', 'gather_cdf.py', '            out.add(', '            if number: out.add('),
 ])
 WAYS = DOMINION + DOMINION_JSON + ESS + HART + CLEARBALLOT + VXSUITE + CDF
-
-
-def made(companion, folder, way):
-    """Makes a copy of the companion with the slip; answers its folder."""
-    copy = os.path.join(folder, 'companion')
-    shutil.copytree(companion, copy)
-    path = os.path.join(copy, 'cvr_audit', way.file)
-    with open(path, encoding='utf-8') as file:
-        text = file.read()
-    if text.count(way.old) != 1:
-        raise ValueError('its text stands %d times in %s, not once' % (text.count(way.old), way.file))
-    with open(path, 'w', encoding='utf-8') as file:
-        file.write(text.replace(way.old, way.new))
-    return copy

@@ -107,7 +107,8 @@ def is_played(pool, told):
         data = os.path.join(folder, 'data')
         shutil.copytree(DATA, data)
         write(data, pool)
-        ran = subprocess.run([PROGRAM], cwd=data, stdin=subprocess.DEVNULL, stdout=subprocess.PIPE, text=True)
+        ran = subprocess.run([PROGRAM], cwd=data, stdin=subprocess.DEVNULL, stdout=subprocess.PIPE, text=True,
+                             timeout=600)
     return ran.returncode == 0 and ran.stdout.partition(BEGIN)[2] == ''.join(told)
 
 

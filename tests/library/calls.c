@@ -1,7 +1,6 @@
 /* Calls the library and prints what it answers, for run.py: which statuses there are, that sizes and rooms are what
    cvr.h says, that calls side by side answer as one after the other, that no byte stays behind, and what a refused growth
-   does. The last two are left out on Windows, since the linker can't get at the memory of a DLL, and with APART, of a
-   library in another process.
+   does; the last two where memory.h counts.
 
    calls DEFINITION FILE ..  */
 #include "cvr.h"
@@ -210,7 +209,7 @@ static void try_threads(char **paths, int many) {
     tell(all && first.status == CVR_DONE, "eight calls at once answer as one does");
 }
 
-#if !defined _WIN32 && !defined APART
+#ifdef COUNTED
 static void try_many(void) {
     long long before = live, calls = taken;
     for (int n = 0; n < CALLS; n++)
@@ -250,7 +249,7 @@ int main(int many, char **paths) {
     try_rooms(paths + 1, many - 1);
     try_log_room(paths + 1, many - 1);
     try_threads(paths + 1, many - 1);
-#if !defined _WIN32 && !defined APART
+#ifdef COUNTED
     try_many();
     try_refusals(over("tally", paths + 1, many - 1, 0));
     try_refusals(over("conflicts", paths + 1, many - 1, 0));

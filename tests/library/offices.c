@@ -1,5 +1,5 @@
 /* Makes offices through the library and prints what it answers, for run.py: that an office lives between calls, holds what
-   it took in, says why it refuses, and leaves no byte behind, also where a growth was refused. On Windows the last is left out.
+   it took in, says why it refuses, and, where memory.h counts, leaves no byte behind, also where a growth was refused.
 
    offices DEFINITION FILE ..  */
 #include "cvr.h"
@@ -234,7 +234,7 @@ static void try_no_volumes(const File *files) {
     cvr_office_free(&office);
 }
 
-#ifndef _WIN32
+#ifdef COUNTED
 /* An office's life: the statuses of its calls, of which none is wrong where no growth is refused. */
 static int lives(const File *files, int many) {
     CvrOffice office = CVR_NO_HANDLE, other = CVR_NO_HANDLE;
@@ -281,7 +281,7 @@ int main(int many, char **paths) {
     try_no_volumes(files);
     try_refused(files);
     try_others(files);
-#ifndef _WIN32
+#ifdef COUNTED
     try_memory(files, many - 1);
 #endif
     printf("offices: %d right, %d wrong\n", right, wrong);

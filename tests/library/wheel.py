@@ -9,7 +9,6 @@ import base64
 import hashlib
 import os
 import re
-import subprocess
 import sys
 import tempfile
 import zipfile
@@ -17,19 +16,14 @@ import zipfile
 sys.dont_write_bytecode = True
 HERE = os.path.dirname(os.path.abspath(__file__))
 TOP = os.path.dirname(os.path.dirname(HERE))
-SECONDS = 600
+sys.path.insert(0, os.path.dirname(HERE))
+import trials               # noqa: E402
+from dist_files import held     # noqa: E402 (both stand there)
 
 
 def printed(*words):
     """(status, output) of a command in a folder that has nothing of cvr, without what says where the library is."""
-    env = {name: text for name, text in os.environ.items() if name not in ('LIBCVR', 'PYTHONPATH')}
-    ran = subprocess.run(words, cwd='/', env=env, stdin=subprocess.DEVNULL, stdout=subprocess.PIPE, stderr=subprocess.STDOUT, text=True, timeout=SECONDS)
-    return ran.returncode, ran.stdout
-
-
-def held(path):
-    with open(path, 'rb') as file:
-        return file.read()
+    return trials.printed(words, cwd='/', env={name: text for name, text in os.environ.items() if name not in ('LIBCVR', 'PYTHONPATH')})
 
 
 def packed(library, folder):

@@ -1,6 +1,6 @@
 """hosts.py: examples/many-machines/tally.py on two hosts, through `ssh`. Each host is an `sshd` of this
 machine, at a port of its own, whose processes all end with it. They share its files. Where these can't
-be made a line `skipped` says why."""
+be made a line `left out` says why."""
 import getpass
 import os
 import shutil
@@ -8,19 +8,19 @@ import socket
 import subprocess
 import sys
 import tempfile
-import time
 
 import lies
 import sets
+import tenth
 import ways
 import workers
 
-SSHD, SECONDS = '/usr/sbin/sshd', 60        # SECONDS: how long a host may take to be ready
+SSHD = '/usr/sbin/sshd'
 # Notes each part and the port of its host, and works on it as long as there is a file that says so.
 PROGRAM = '''#!/bin/sh
 if [ "$3" = --files-from ]; then
     echo "${SSH_CONNECTION##* }" >>"%(log)s"
-    while [ -e "%(log)s-stays" ]; do sleep 0.1; done
+    for n in $(seq 1200); do [ -e "%(log)s-stays" ] && sleep 0.1; done
 fi
 exec "%(cvr)s" "$@"
 '''
@@ -63,15 +63,9 @@ class Host:
         self.process = subprocess.Popen(words, stdin=subprocess.DEVNULL, stdout=subprocess.DEVNULL,
                                         stderr=subprocess.DEVNULL)
 
-    def wait(self):
-        end = time.monotonic() + SECONDS
-        while True:
-            try:
-                return socket.create_connection(('127.0.0.1', self.port)).close()
-            except OSError:
-                if time.monotonic() > end or self.process.poll() is not None:
-                    raise
-                time.sleep(0.1)
+    def is_ready(self):
+        with socket.socket() as asked:
+            return not asked.connect_ex(('127.0.0.1', self.port))
 
     def kill(self):
         self.process.kill()
@@ -88,7 +82,7 @@ class Hosts(lies.Hosts):
         self.put('bin/ssh', '#!/bin/sh\nexec %s -F "%s/config" "$@"\n' % (shutil.which('ssh'), folder))
         for name in 'host', 'key', 'another':
             subprocess.run(['ssh-keygen', '-q', '-t', 'ed25519', '-N', '', '-f', os.path.join(folder, name)],
-                           stdout=subprocess.DEVNULL, check=True)
+                           stdout=subprocess.DEVNULL, check=True, timeout=workers.SECONDS)
         words = ' '.join([sys.executable] + ways.script().WORKER)
         self.put('authorized', 'restrict,command="%s" %s' % (words, self.text('key.pub')))
         self.hosts = [Host(folder), Host(folder)]
@@ -106,8 +100,6 @@ class Hosts(lies.Hosts):
         return workers.text_of(os.path.join(self.folder, name))
 
     def __enter__(self):
-        for it in self.hosts:
-            it.wait()
         return self
 
     def __exit__(self, *_):
@@ -118,23 +110,20 @@ class Hosts(lies.Hosts):
         """Starts a run, and kills hosts once one of them works on a part. (What it told, the parts.)"""
         self.put('log')
         self.put('log-stays')
-        process, end = self.start(self.names, *more), time.monotonic() + SECONDS
-        while not {str(it.port) for it in hosts} & set(self.text('log').split()):
-            if time.monotonic() > end:
-                process.kill()
-                raise OSError('a host has no part')
-            time.sleep(0.01)
+        process = self.start(self.names, *more)
+        workers.wait_for(process, lambda: {str(it.port) for it in hosts} & set(self.text('log').split()))
         for it in hosts:
             it.kill()
         os.remove(self.log + '-stays')
-        out, log = process.communicate(timeout=2 * SECONDS)
-        return (process.returncode, out, log), self.text('log').split()
+        return workers.left(process), self.text('log').split()
 
 
 def on_hosts(work):
     """A try that has such hosts of its own."""
     def done(cvr):
         with tempfile.TemporaryDirectory() as folder, Hosts(cvr, folder) as at:
+            for it in at.hosts:
+                workers.wait_for(it.process, it.is_ready)
             return work(at)
     return done
 
@@ -203,6 +192,6 @@ def tries():
     """What can be tried here."""
     for it in SSHD, shutil.which('ssh') or 'ssh', shutil.which('ssh-keygen') or 'ssh-keygen':
         if not os.path.exists(it):
-            print('skipped hosts through ssh: %s is not there' % it)
+            tenth.leave_out('hosts through ssh', '%s is not there' % it)
             return []
     return [] if lies.lacking() else TRIES

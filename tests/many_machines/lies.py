@@ -3,28 +3,29 @@ another user of the machine can do. A script in the place of `ssh` runs the work
 one that lies, or where a file has other bytes of the same length and date."""
 import glob
 import importlib
-import json
 import os
 import pickle
 import re
-import shlex
 import shutil
 import subprocess
 import sys
 import tempfile
-import time
 
 sys.dont_write_bytecode = True
-sys.path.insert(0, os.path.dirname(os.path.abspath(__file__)))
-ways = importlib.import_module('ways')          # (they stand beside this file)
+sys.path.insert(0, os.path.dirname(os.path.dirname(os.path.abspath(__file__))))
+tenth = importlib.import_module('tenth')
+ways = importlib.import_module('ways')          # (these stand beside this file, and tenth above)
 workers = importlib.import_module('workers')
 
+# by the name of the host: the worker as it is, with other bytes in the place of a file, or one that lies
 SSH = '''#!/bin/sh
 while [ "$1" != -- ]; do shift; done
-exec '%s' '%s' "$2" "$3"
+case $2 in
+    first | second) eval "exec $3" ;;
+    /*) exec unshare -m sh -c 'mount --bind "$OTHER" "$1" && eval "exec $2"' sh "$2" "$3" ;;
+esac
+exec '%s' '%s' "$2"
 ''' % (sys.executable, os.path.abspath(__file__))
-# the words of this: a file, what stands in its place, and a command
-BOUND = 'mount --bind "$2" "$1" && shift 2 && exec "$@"'
 
 
 class Ran:
@@ -87,13 +88,8 @@ ODD = {
 }
 
 
-def as_host(name, command):
-    """What the script in the place of `ssh` runs for a host of this name."""
-    words = shlex.split(command)
-    if name in ('first', 'second'):
-        os.execvp(words[0], words)
-    if name.startswith('/'):
-        os.execvp('unshare', ['unshare', '-m', 'sh', '-c', BOUND, 'sh', name, os.environ['OTHER']] + words)
+def as_host(name):
+    """A worker that lies in the way of this name."""
     module = ways.script()
     (FALSE[name][0] if name in FALSE else ODD[name])(module)
     module.work()
@@ -106,26 +102,16 @@ class Hosts(workers.Folder):
         super().__init__(cvr, folder)
         os.mkdir(os.path.join(folder, 'bin'))
         os.chmod(self.put('bin/ssh', SSH), 0o755)
-        self.files.append(self.put('damaged.json', workers.text_of(workers.COUNTY[2])))
-        self.definition = os.path.abspath(workers.DEFINITION)
+        self.files.append(self.put('damaged.json', workers.text_of(workers.COUNTY[1])))
         self.trace, self.other = os.path.join(folder, 'ran'), os.path.join(folder, 'other')
 
-    def start(self, hosts, *more, **how):
+    def start(self, hosts, *more, **variables):
         words = [word for host in hosts for word in ('--host', host)]
         path = '%s:%s' % (os.path.join(self.folder, 'bin'), os.environ['PATH'])
-        return subprocess.Popen(
-            [sys.executable, ways.SCRIPT, '--cvr', self.program, '--parts', '6', *words, *more, '--',
-             self.definition, *self.files], cwd=ways.TOP, stdin=subprocess.DEVNULL,
-            env=dict(os.environ, PATH=path, RAN=self.trace, OTHER=self.other, **how), stdout=subprocess.PIPE,
-            stderr=subprocess.PIPE)
+        return super().start(*words, *more, PATH=path, RAN=self.trace, OTHER=self.other, **variables)
 
     def ask(self, *words):
-        process = self.start(*words)
-        out, log = process.communicate(timeout=120)
-        return process.returncode, out, log
-
-    def whole(self, command='tally'):
-        return workers.run([self.cvr, command, '--', self.definition] + self.files)
+        return workers.left(self.start(*words))
 
 
 def in_hosts(work):
@@ -190,19 +176,6 @@ def other_bytes(choose, old, new):
     return in_hosts(work)
 
 
-def under_way(at):
-    """A run of which a part takes a second, and the folder of its pieces."""
-    place = os.path.join(at.folder, 'pieces')
-    os.mkdir(place)
-    os.chmod(place, 0o777)
-    os.chmod(at.folder, 0o755)
-    at.put('slow')
-    process = at.start(['first', 'second'], TMPDIR=place)
-    while not os.path.exists(os.path.join(at.folder, 'log')):
-        time.sleep(0.01)
-    return process, place
-
-
 def tree(process):
     return [process] + [it for child in workers.processes_of(process) for it in tree(child)]
 
@@ -215,10 +188,10 @@ def sockets(process):
 @in_hosts
 def no_socket(at):
     """Nothing listens, and nothing is connected, while it works: there are pipes alone."""
-    process, _ = under_way(at)
+    process, _ = at.under_way(['first', 'second'])
     held = tree(process.pid)
     found = [sockets(it) for it in held]
-    process.communicate()
+    workers.left(process)
     return '' if len(held) > 3 and not any(found) else repr((held, found))
 
 
@@ -229,13 +202,15 @@ def other_user(cvr):
 
 
 def by_other_user(at):
-    process, place = under_way(at)
+    process, place = at.under_way(['first', 'second'])
+    os.chmod(place, 0o777)
+    os.chmod(at.folder, 0o755)
     pieces = glob.glob(place + '/*/*')
     script = 'ls -d "$0"/* >/dev/null || exit 9; ls "$0"/* || touch "$0"/*/0-0.json || cat $1'
     done = subprocess.run(['sh', '-c', script, place, ' '.join(pieces)], user=65534, group=65534,
-                          extra_groups=[], stdout=subprocess.PIPE, stderr=subprocess.DEVNULL)
+                          extra_groups=[], stdout=subprocess.PIPE, stderr=subprocess.DEVNULL, timeout=workers.SECONDS)
     told = done.returncode, done.stdout
-    process.communicate()
+    workers.left(process)
     return '' if pieces and told == (1, b'') else repr((pieces, told))
 
 
@@ -252,7 +227,7 @@ TRIES += [('an odd worker: ' + name, odd(name)) for name in ODD]
 MOUNTS = [
     ('another user', other_user),
     ('other bytes of a file', other_bytes(lambda at: at.files[3], b'"1-0003"', b'"1-0009"')),
-    ('other bytes of the definition', other_bytes(lambda at: at.definition, b'Invented', b'Invonted')),
+    ('other bytes of the definition', other_bytes(lambda _: workers.DEFINITION, b'Invented', b'Invonted')),
     ('another cvr', other_bytes(lambda at: at.program, b'here=', b'HERE=')),
     ('another script', other_bytes(lambda at: ways.SCRIPT, b'"""tally', b'"""tolly')),
 ]
@@ -261,7 +236,7 @@ MOUNTS = [
 def tries():
     told = lacking()
     if told:
-        print('skipped hosts with other bytes: %s' % told)
+        tenth.leave_out('hosts with other bytes, and other users', told)
     return TRIES + ([] if told else MOUNTS)
 
 

@@ -1,5 +1,5 @@
 #!/usr/bin/env python3
-"""run.py --cvr PATH [--cases N] [--seed N]
+"""run.py --cvr PATH [--tenth WORD]
 
 Compares examples/many-machines/tally.py with one run of `cvr` over all files: output, log and
 status have to be the same. First random sets of files (sets.py), each with all commands; then slips
@@ -7,28 +7,30 @@ that the script could have, each of which such a set has to find (ways.py). Then
 runs: on the county of the examples, also with a definition that is refused, files that aren't
 there, names that begin with a hyphen, and words that it refuses; with workers and programs that die
 (workers.py); with hosts that lie or have other bytes (lies.py); and on hosts through `ssh`
-(hosts.py). Where these can't be made a line `skipped` says so.
+(hosts.py). Where these can't be made a line `left out` says so. With --tenth it tries a tenth of these,
+but each of the runs of ROWS.
 
 The last line is `many machines: N right, M wrong`; the status is 0 only where M is 0 and N is
 not."""
-import argparse
 import os
 import shutil
 import sys
 import tempfile
 from concurrent.futures import ThreadPoolExecutor
+from functools import partial
+from operator import itemgetter
 
 sys.dont_write_bytecode = True
-sys.path.insert(0, os.path.dirname(os.path.abspath(__file__)))
+sys.path.insert(0, os.path.dirname(os.path.dirname(os.path.abspath(__file__))))
 import hosts    # noqa: E402
 import lies     # noqa: E402
 import sets     # noqa: E402
+import tenth    # noqa: E402
 import ways     # noqa: E402
-import workers  # noqa: E402 (they stand beside this file)
+import workers  # noqa: E402
+from workers import COUNTY, DEFINITION  # noqa: E402 (tenth stands in tests/, the others here)
 
-DEFINITION = 'examples/county/definition.json'
-COUNTY = ['examples/county/%s.json' % name
-          for name in ('scan', 'damaged', 'adjudicated', 'corrected')]
+CASES = 200         # random sets
 
 
 def by_script(cvr, definition, files, folder=ways.TOP, more=()):
@@ -61,21 +63,20 @@ def odd_names(cvr):
         os.mkdir(os.path.join(folder, 'a: E3 '))
         for name in names:
             shutil.copy(COUNTY[1], os.path.join(folder, name))
-        definition = os.path.abspath(DEFINITION)
-        return ''.join(by_script(cvr, definition, it, folder, ['--parts', '2'])
+        return ''.join(by_script(cvr, DEFINITION, it, folder, ['--parts', '2'])
                        for it in (names[:-1], names))
 
 
 def other_language(cvr):
     """The same for a name that is no ASCII where the language has another encoding, if there is one."""
     if not os.path.exists('/usr/share/i18n/locales/de_DE'):
-        print('skipped a language of another encoding: the system has none')
+        tenth.leave_out('a language of another encoding', 'the system has none')
         return ''
     script = ('unset PYTHONUTF8; localedef -i de_DE -f ISO-8859-1 ./de_DE.ISO-8859-1; '
               'export LOCPATH="$PWD" LC_ALL=de_DE.ISO-8859-1; exec "$@"')
     with tempfile.TemporaryDirectory() as folder:
         shutil.copy(COUNTY[0], os.path.join(folder, '\u20ac'))
-        words = [os.path.abspath(DEFINITION), '\u20ac']
+        words = [DEFINITION, '\u20ac']
         start = [sys.executable, ways.SCRIPT, '--cvr', cvr]
         told = workers.run(['sh', '-c', script, 'sh', *start, *words], folder)
         whole = workers.run([cvr, 'tally', *words], folder)
@@ -139,19 +140,15 @@ ROWS = [
 ]
 
 
-def tries(cvr, cases, seed):
+def tries(words):
     """(name, what gives what is wrong with it) of each try."""
-    module = ways.script()
-
     def passes(changed, number):
-        return not sets.tried(changed, cvr, '%d %d' % (seed, number))
-    for number in range(cases):
-        yield ('set %d of seed %d' % (number, seed),
-               lambda number=number: sets.tried(module, cvr, '%d %d' % (seed, number)))
-    for way in ways.WAYS:
-        yield 'slip %s' % way.name, lambda way=way: ways.unfound(way, passes)
-    for name, work in hosts.tries() + lies.tries() + ROWS + workers.TRIES:
-        yield name, lambda work=work: work(cvr)
+        return not sets.tried(changed, words.cvr, '1 %d' % number)
+    module = ways.script()
+    few = [('set %d' % number, partial(sets.tried, module, words.cvr, '1 %d' % number)) for number in range(CASES)]
+    few += [('slip %s' % way.name, partial(ways.unfound, way, passes)) for way in ways.WAYS]
+    few += [(name, partial(work, words.cvr)) for name, work in hosts.tries() + lies.tries() + workers.TRIES]
+    return tenth.chosen(words.tenth, few, itemgetter(0)) + [(name, partial(work, words.cvr)) for name, work in ROWS]
 
 
 def told_of(work):
@@ -162,14 +159,9 @@ def told_of(work):
 
 
 def main():
-    words = argparse.ArgumentParser()
-    words.add_argument('--cvr', required=True, help='the program to try')
-    words.add_argument('--cases', type=int, default=200)
-    words.add_argument('--seed', type=int, default=1)
-    words = words.parse_args()
-    cvr, right, wrong = os.path.abspath(words.cvr), 0, 0
+    words, right, wrong = tenth.words().parse_args(), 0, 0
     os.chdir(ways.TOP)
-    named = list(tries(cvr, words.cases, words.seed))
+    named = tries(words)
     with ThreadPoolExecutor(1 + os.cpu_count()) as lanes:
         answers = lanes.map(told_of, [work for _, work in named])
     for name, told in zip((name for name, _ in named), answers):

@@ -11,8 +11,9 @@ import time
 import sets
 import ways
 
-COUNTY = ['examples/county/%s.json' % name for name in ('scan', 'adjudicated', 'damaged')]
-DEFINITION = 'examples/county/definition.json'
+SECONDS = 120       # which a run may take
+COUNTY = ['examples/county/%s.json' % name for name in ('scan', 'damaged', 'adjudicated', 'corrected')]
+DEFINITION = os.path.join(ways.TOP, 'examples', 'county', 'definition.json')
 # Notes each part in a file `log`. Where there is a file `kill`, it ends by a signal at the third part or
 # later; with `worker` or `workers` one worker or each ends so; with `piece` it reports a piece as refused;
 # and so on.
@@ -41,7 +42,7 @@ class Folder:
         self.program = self.put('program', PROGRAM % {'cvr': cvr})
         os.chmod(self.program, 0o755)
         self.files = [self.scan(n) for n in range(6)]
-        self.files.append(self.put('desk.json', text_of(COUNTY[1])))
+        self.files.append(self.put('desk.json', text_of(COUNTY[2])))
 
     def put(self, name, text=''):
         path = os.path.join(self.folder, name)
@@ -57,17 +58,31 @@ class Folder:
                 text = text.replace('-000%d"' % n, '-%d-000%d"' % (number, n))
         return self.put('scan-%d.json' % number, text)
 
+    def start(self, *more, **variables):
+        """The script at work on the files."""
+        words = [sys.executable, ways.SCRIPT, '--cvr', self.program, '--parts', '6', *more, '--', DEFINITION]
+        return subprocess.Popen(words + self.files, cwd=ways.TOP, env=dict(os.environ, **variables),
+                                stdin=subprocess.DEVNULL, stdout=subprocess.PIPE, stderr=subprocess.PIPE)
+
+    def under_way(self, *more):
+        """The script once it works on a part, which takes a second, and the folder of its pieces."""
+        place = os.path.join(self.folder, 'pieces')
+        os.mkdir(place)
+        self.put('slow')
+        process = self.start(*more, TMPDIR=place)
+        wait_for(process, lambda: os.path.exists(os.path.join(self.folder, 'log')))
+        return process, place
+
     def run(self, *more):
         """(status, output, log) of the script, and how many parts it works out."""
         log = os.path.join(self.folder, 'log')
         if os.path.exists(log):
             os.remove(log)
-        words = [sys.executable, ways.SCRIPT, '--cvr', self.program, '--parts', '6']
-        told = run(words + list(more) + ['--', DEFINITION] + self.files)
+        told = left(self.start(*more))
         return told, len(text_of(log).split()) if os.path.exists(log) else 0
 
-    def whole(self):
-        return run([self.cvr, 'tally', '--', DEFINITION] + self.files)
+    def whole(self, command='tally'):
+        return run([self.cvr, command, '--', DEFINITION] + self.files)
 
 
 def text_of(path):
@@ -77,8 +92,28 @@ def text_of(path):
 
 def run(words, folder=ways.TOP):
     done = subprocess.run(words, cwd=folder, stdin=subprocess.DEVNULL, stdout=subprocess.PIPE,
-                          stderr=subprocess.PIPE)
+                          stderr=subprocess.PIPE, timeout=SECONDS)
     return done.returncode, done.stdout, done.stderr
+
+
+def left(process):
+    """(status, output, log) of a process that ends; one that doesn't is killed."""
+    try:
+        out, log = process.communicate(timeout=SECONDS)
+        return process.returncode, out, log
+    except subprocess.TimeoutExpired:
+        process.kill()
+        raise
+
+
+def wait_for(process, is_so):
+    """Waits until something is so; kills the process where it isn't in time, or once it has ended."""
+    end = time.monotonic() + SECONDS
+    while not is_so():
+        if process.poll() is not None or time.monotonic() > end:
+            process.kill()
+            raise OSError('what the process had to do is not done')
+        time.sleep(0.01)
 
 
 def in_folder(work):
@@ -170,19 +205,6 @@ def one_file_is_split(at):
     return '' if told == at.whole() and split == at.files[-1:] else repr((told, split))
 
 
-def under_way(at):
-    """A run that works on its first part, and the folder of its pieces."""
-    place = os.path.join(at.folder, 'pieces')
-    os.mkdir(place)
-    at.put('slow')
-    words = [sys.executable, ways.SCRIPT, '--cvr', at.program, '--', DEFINITION] + at.files
-    process = subprocess.Popen(words, cwd=ways.TOP, env=dict(os.environ, TMPDIR=place),
-                               stdout=subprocess.PIPE, stderr=subprocess.PIPE)
-    while not os.path.exists(os.path.join(at.folder, 'log')):
-        time.sleep(0.01)
-    return process, place
-
-
 def processes_of(parent):
     """The child processes of a process."""
     held = []
@@ -198,27 +220,25 @@ def processes_of(parent):
 @in_folder
 def stopped(at):
     """SIGTERM ends the run, and leaves no piece."""
-    process, place = under_way(at)
+    process, place = at.under_way()
     before = glob.glob(place + '/*/*')
     process.terminate()
-    told = process.communicate(timeout=60)[0], process.returncode, os.listdir(place)
-    return '' if before and told == (b'', 143, []) else repr((before, told))
+    told = left(process)[:2], os.listdir(place)
+    return '' if before and told == ((143, b''), []) else repr((before, told))
 
 
 @in_folder
 def killed(at):
     """The workers of a run that is killed end, too."""
-    process, _ = under_way(at)
+    process, _ = at.under_way()
     held = processes_of(process.pid)
     process.kill()
-    process.communicate()
-    end = time.monotonic() + 60
-    while held and time.monotonic() < end:
-        left = [it for it in held if os.path.exists('/proc/%d' % it)]
-        if not left:
-            return ''
+    left(process)
+    end, stay = time.monotonic() + SECONDS, held
+    while stay and time.monotonic() < end:
+        stay = [it for it in held if os.path.exists('/proc/%d' % it)]
         time.sleep(0.1)
-    return 'of %r are left %r' % (held, left if held else [])
+    return '' if held and not stay else 'of %r stay %r' % (held, stay)
 
 
 def fewest_bytes(_):

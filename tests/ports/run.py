@@ -1,5 +1,5 @@
 #!/usr/bin/env python3
-"""run.py [--seconds N | --texts N] [--seed N] [--peer PROGRAM]
+"""run.py [--texts N] [--seed N] [--peer PROGRAM]
 
 Compares what the kit's libraries `json`, `serde_json`, `fast_float` and `jiff` make of texts with second readings in
 Python: its own `json`, with the limits that FORMAT states, `float` and the C library's `strtod`, and the moments of
@@ -23,7 +23,6 @@ import struct
 import subprocess
 import sys
 import tempfile
-import time
 
 sys.dont_write_bytecode = True
 HERE = os.path.dirname(os.path.abspath(__file__))
@@ -32,6 +31,7 @@ import rules  # noqa: E402 (it stands in rows/)
 
 CRATES = 'ports: serde_json json fast_float jiff hex\n'
 BLOCK = 20000           # texts in one run of the program
+SECONDS = 600           # of such a run; to prove and build the program, beside other proofs, may take five times as long
 VALUE_DEPTH, TEXT_DEPTH = 127, 128      # how deep `serde_json` reads, and `json`
 FLOAT = re.compile(rb'[+-]?(inf|infinity|nan|(\d+\.?\d*|\.\d+)(e[+-]?\d+)?)', re.I)
 NUMERAL = re.compile(rb'(\d+)(\.\d+)?([eE][+-]?\d+)?')
@@ -51,8 +51,6 @@ PIECES = {
           b'02-29', b'02-30', b'25', b'-000001', b'+009999', b'-009999', b'9999-12-30T22:00:00Z', b'-05:00', b'[UTC]', b'999999999', b'W', b'366',
           b'20241106', b'\xe2\x88\x92'],
 }
-
-
 
 
 # ---- second readings: whether what ports/ prints of a text is right
@@ -168,7 +166,7 @@ def texts(chance, base):
 def told(program, held):
     """What a program prints of each text; else the end."""
     given = b''.join(b'%s %s\n' % (kind.encode('ascii'), data.hex().encode('ascii')) for kind, data in held)
-    done = subprocess.run([program], input=given, stdout=subprocess.PIPE, check=True)
+    done = subprocess.run([program], input=given, stdout=subprocess.PIPE, check=True, timeout=SECONDS)
     lines = done.stdout.decode('utf-8').split('\n')[:-1]
     if len(lines) != len(held):
         raise ValueError('%s prints %d lines for %d texts' % (program, len(lines), len(held)))
@@ -220,7 +218,7 @@ def built(folder):
     with open(os.path.join(folder, 'crates.txt'), 'w', encoding='utf-8') as file:
         file.write(CRATES)
     done = subprocess.run(['rt', 'run', 'ports'], cwd=os.path.join(folder, 'ports'), stdin=subprocess.DEVNULL,
-                          stdout=subprocess.PIPE, stderr=subprocess.STDOUT)
+                          stdout=subprocess.PIPE, stderr=subprocess.STDOUT, timeout=5 * SECONDS)
     if done.returncode:
         raise ValueError(done.stdout.decode('utf-8', 'replace')[-2000:])
     return os.path.join(folder, 'ports', 'out', 'ports')
@@ -228,18 +226,16 @@ def built(folder):
 
 def blocks(words):
     """Lists of texts: those that are kept, and then random ones, as many as the words say."""
-    base, chance, end = kept(), random.Random(words.seed), time.monotonic() + words.seconds
+    base, chance = kept(), random.Random(words.seed)
     yield base
-    held, left = texts(chance, base), words.texts
-    while left > 0 if words.texts else time.monotonic() < end:
-        yield [next(held) for _ in range(min(BLOCK, left or BLOCK))]
-        left -= BLOCK
+    held = texts(chance, base)
+    for left in range(words.texts, 0, -BLOCK):
+        yield [next(held) for _ in range(min(BLOCK, left))]
 
 
 def main():
     words = argparse.ArgumentParser(usage=__doc__)
-    words.add_argument('--seconds', type=float, default=15)
-    words.add_argument('--texts', type=int, default=0)
+    words.add_argument('--texts', type=int, default=200000)
     words.add_argument('--seed', type=int, default=1)
     words.add_argument('--peer')
     words = words.parse_args()

@@ -1,13 +1,12 @@
 #!/usr/bin/env python3
-"""at_scale.py --cvr PATH
+"""at_scale.py --cvr PATH [--tenth WORD]
 
 Tries the program where a limit that no other test reaches could stand: a list of 100,000 paths, a file of 150,000
 records, a drill of 64 offices and 10,000 steps, and a line of 60 MB. What it prints, its log and its status have to be
 those of printed.py. Of the list that reads each file once, since a repeated one brings nothing new, and of the many
-records, which differ only in their names, one.
+records, which differ only in their names, one. With --tenth it tries one of these four.
 
 The last line is `scale: N right, M wrong`; the status is 0 only where M is 0 and N is not."""
-import argparse
 import json
 import os
 import random
@@ -16,9 +15,10 @@ import sys
 import tempfile
 
 sys.dont_write_bytecode = True
-sys.path.insert(0, os.path.dirname(os.path.abspath(__file__)))
+sys.path.insert(0, os.path.dirname(os.path.dirname(os.path.abspath(__file__))))
 import printed          # noqa: E402
-import random_files     # noqa: E402 (these stand here)
+import random_files     # noqa: E402
+import tenth            # noqa: E402 (they stand here and in tests/)
 
 PATHS, RECORDS, OFFICES, STEPS, LETTERS = 100_000, 150_000, 64, 10_000, 60_000_000
 SMALL = ['f2.json', 'f6.json', 'f8.json', 'f11.json']
@@ -101,11 +101,10 @@ def see_line(trial):
 
 
 def main():
-    words = argparse.ArgumentParser()
-    words.add_argument('--cvr', required=True, help='the program to try')
+    words = tenth.words().parse_args()
     with tempfile.TemporaryDirectory() as folder:
-        trial = Trial(os.path.abspath(words.parse_args().cvr), folder)
-        for see in see_list, see_records, see_drill, see_line:
+        trial = Trial(words.cvr, folder)
+        for see in tenth.chosen(words.tenth, [see_list, see_records, see_drill, see_line], lambda it: it.__name__):
             see(trial)
     print('scale: %d right, %d wrong' % (trial.right, trial.wrong))
     sys.exit(0 if trial.right and not trial.wrong else 1)

@@ -1,5 +1,5 @@
 #!/usr/bin/env python3
-"""orders.py --cvr PATH [--of N] [--first K] [--without ROW ..]
+"""orders.py --cvr PATH [--tenth WORD]
 
 Runs the rows again with the members of each file in other orders: by name, reversed, `CVR` first and last, each time
 with the members of no table between them. What is printed and logged and the status have to be the row's: a file is
@@ -9,20 +9,21 @@ counts. This doesn't hold where a row's file is no JSON, as the list that doesn'
 
 Members are moved as text, so that each number and each text keeps its spelling. A file stays as it is where it is no
 object, has a name twice, or has more than 256 KiB. A row without any other file isn't run, nor one of more than a
-hundred files, which differ in a byte, nor a row's second run with its file as the definition. With --of it runs one row
-of N, from number K on; it leaves out the rows that --without names. It tries itself first.
+hundred files, which differ in a byte, nor a row's second run with its file as the definition. With --tenth it runs a
+tenth of the rows. It tries itself first.
 The last line is `orders: N right, M wrong`; the status is 0 only where M is 0 and N is not."""
-import argparse
 import functools
 import multiprocessing
 import os
 import sys
 import tempfile
+from concurrent.futures import ProcessPoolExecutor
 
 sys.dont_write_bytecode = True
-sys.path.insert(0, os.path.dirname(os.path.abspath(__file__)))
+sys.path.insert(0, os.path.dirname(os.path.dirname(os.path.abspath(__file__))))
 import run           # noqa: E402
-import members       # noqa: E402 (both stand beside this file)
+import members       # noqa: E402
+import tenth         # noqa: E402 (they stand here and in tests/)
 
 MOST = 1 << 18      # the most bytes of a file that is arranged
 FILES = 100         # the most files of a row that is run
@@ -197,23 +198,18 @@ def try_itself():
 
 
 def main():
-    words = argparse.ArgumentParser()
-    words.add_argument('--cvr', required=True, help='the program to try')
-    words.add_argument('--of', type=int, default=1, metavar='N', help='run one row of N')
-    words.add_argument('--first', type=int, default=0, metavar='K', help='the number of the first')
-    words.add_argument('--without', nargs='*', default=[], metavar='ROW', help='rows to leave out')
-    words = words.parse_args()
+    words, right, wrong = tenth.words().parse_args(), 0, 0
     sys.stdout.reconfigure(errors='backslashreplace')       # a word may be invalid UTF-8
-    cvr, right, wrong = os.path.abspath(words.cvr), 0, 0
     for line in try_itself():
         print('WRONG the tool itself: %s' % line)
         wrong += 1
     rows = [it for it in run.all_rows() + [('members.py', row, {}) for row in members.rows()]
             if len(it[1].get('files', {})) <= FILES and not it[1]['name'].endswith('(as definition)')]
-    rows = [it for it in rows[words.first::words.of] if it[1]['name'] not in words.without]
+    rows = tenth.chosen(words.tenth, rows, lambda it: it[1]['name'])
     # processes, since moving the members takes the time
-    with multiprocessing.get_context('fork').Pool(min(run.SIDE_BY_SIDE, len(os.sched_getaffinity(0)))) as pool:
-        for (where, row, _), (count, found) in zip(rows, pool.imap(functools.partial(tried, cvr), rows)):
+    lanes = min(run.SIDE_BY_SIDE, len(os.sched_getaffinity(0)))
+    with ProcessPoolExecutor(lanes, multiprocessing.get_context('fork')) as pool:
+        for (where, row, _), (count, found) in zip(rows, pool.map(functools.partial(tried, words.cvr), rows)):
             right, wrong = right + count, wrong + bool(found)
             for line in found:
                 print('WRONG %s: %s: %s' % (where, row['name'], line))

@@ -1,15 +1,13 @@
 #!/usr/bin/env python3
-"""random_files.py --cvr PATH [--seed N] [--seconds N | --rounds N]
+"""random_files.py --cvr PATH [--tenth WORD] [--rounds N] [--seed N]
 
 Compares the program with rules.py and printed.py on random files. First vectors with one to three random changes, with
 members in any order and sometimes twice: each file is checked beside its vector's definition, and has to have the fault
 that rules.py gives, or its number of records; and output, log and status have to be those of all of them. Then several
 files at once, random reports as of round_trip.py and changed vectors: what `currents`, `tally`, `conflicts` and `merge`
 print and log for them, and a `drill` of random steps, has to be what printed.py gives. Each difference is printed with
-its files. One seed gives the same files on every machine: as many rounds, or as many as begin within the seconds. The last
-line is `files: N right, M wrong`, of files that were checked and of commands; the status is 0 only where M is 0 and N is
-not."""
-import argparse
+its files. One seed gives the same files in a round on every machine. The last line is `files: N right, M wrong`, of files
+that were checked and of commands; the status is 0 only where M is 0 and N is not."""
 import copy
 import json
 import os
@@ -17,15 +15,15 @@ import random
 import subprocess
 import sys
 import tempfile
-import time
 
 sys.dont_write_bytecode = True
-sys.path.insert(0, os.path.dirname(os.path.abspath(__file__)))
+sys.path.insert(0, os.path.dirname(os.path.dirname(os.path.abspath(__file__))))
 import make_vectors           # noqa: E402
 import members                # noqa: E402
 import printed                # noqa: E402
 import round_trip             # noqa: E402
-import rules as format_rules  # noqa: E402 (all of them stand beside this file)
+import rules as format_rules  # noqa: E402
+import tenth                  # noqa: E402 (they stand here and in tests/)
 
 VECTORS = make_vectors.vectors()
 DEFINITIONS = {'classes.json': 'classes.json', 'parties.json': 'parties-def.json', 'f2.json': 'def.json', 'f11.json': 'def.json', 'f20.json': 'def.json'}
@@ -102,7 +100,7 @@ def laid(files, work):
 
 
 def run(cvr, words, folder):
-    done = subprocess.run([cvr] + words, cwd=folder, stdout=subprocess.PIPE, stderr=subprocess.PIPE)
+    done = subprocess.run([cvr] + words, cwd=folder, stdout=subprocess.PIPE, stderr=subprocess.PIPE, timeout=tenth.SECONDS)
     return done.stdout.decode('utf-8'), done.stderr.decode('utf-8'), done.returncode
 
 
@@ -178,19 +176,16 @@ def printed_of(cvr, rules, chance, names):
 
 
 def main():
-    words = argparse.ArgumentParser()
-    words.add_argument('--cvr', required=True, help='the program to try')
+    words = tenth.words()
+    words.add_argument('--rounds', type=int, default=30)
     words.add_argument('--seed', type=int, default=1)
-    words.add_argument('--seconds', type=float, default=60)
-    words.add_argument('--rounds', type=int)
-    words = words.parse_args()
-    cvr, rules, chance, right, wrong = os.path.abspath(words.cvr), format_rules.Rules(), random.Random(words.seed), 0, 0
+    words, rules, right, wrong = words.parse_args(), format_rules.Rules(), 0, 0
     names = sorted({'@type', '@id', 'x', 'a/b~', '', '\ue000', '\U0001f600'}.union(*rules.classes.values()))
-    end = time.time() + words.seconds
-    for _ in range(words.rounds) if words.rounds else iter(lambda: time.time() < end, False):
-        found = list(checked(cvr, rules, chance, names))
+    for seed in tenth.chosen(words.tenth, ('%d %d' % (words.seed, number) for number in range(words.rounds))):
+        chance = random.Random(seed)
+        found = list(checked(words.cvr, rules, chance, names))
         for _ in range(CASES):
-            found += printed_of(cvr, rules, chance, names)
+            found += printed_of(words.cvr, rules, chance, names)
         right, wrong = right + found.count(None), wrong + len(found) - found.count(None)
         for one in found:
             if one:

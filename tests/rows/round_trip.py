@@ -7,7 +7,6 @@ volumes are read back shuffled, some twice and some beside the reports themselve
 and each volume have to be the same bytes as before. One seed gives the same cases on every machine. The last line is
 `round trips: N right, M wrong`; the status is 0 only where M is 0 and N is not, and where every kind of conflict and
 three volumes have occurred."""
-import argparse
 import json
 import os
 import random
@@ -19,8 +18,9 @@ from collections import Counter
 from concurrent.futures import ThreadPoolExecutor
 
 sys.dont_write_bytecode = True
-sys.path.insert(0, os.path.dirname(os.path.abspath(__file__)))
-import make_vectors  # noqa: E402 (it stands beside this file)
+sys.path.insert(0, os.path.dirname(os.path.dirname(os.path.abspath(__file__))))
+import make_vectors  # noqa: E402
+import tenth         # noqa: E402 (they stand here and in tests/)
 
 DEFINITION = make_vectors.vectors()['def.json']
 HEADING = ['2024-11-07T09:30:00-05:00', 'desk']
@@ -112,7 +112,8 @@ class Office:
 
     def text(self, words):
         """Standard output. A log, and another status than 0, is kept."""
-        done = subprocess.run([self.cvr, words[0], 'definition'] + words[1:] + self.files, cwd=self.folder, stdout=subprocess.PIPE, stderr=subprocess.PIPE)
+        done = subprocess.run([self.cvr, words[0], 'definition'] + words[1:] + self.files, cwd=self.folder, stdout=subprocess.PIPE, stderr=subprocess.PIPE,
+                              timeout=tenth.SECONDS)
         if done.returncode or done.stderr:
             self.told += 'status %d, %r; ' % (done.returncode, done.stderr)
         return done.stdout
@@ -151,18 +152,17 @@ def tried(cvr, seed):
 
 
 def main():
-    words = argparse.ArgumentParser()
-    words.add_argument('--cvr', required=True, help='the program to try')
+    words = tenth.words()
     words.add_argument('--cases', type=int, default=300)
     words.add_argument('--seed', type=int, default=1)
-    words = words.parse_args()
-    cvr, wrong, occurred = os.path.abspath(words.cvr), 0, Counter()
+    words, wrong, occurred = words.parse_args(), 0, Counter()
+    seeds = ['%d %d' % (words.seed, number) for number in range(words.cases)]
     with ThreadPoolExecutor(os.cpu_count()) as lanes:
-        for number, (told, kinds) in enumerate(lanes.map(lambda n: tried(cvr, '%d %d' % (words.seed, n)), range(words.cases))):
+        for seed, (told, kinds) in zip(seeds, lanes.map(lambda it: tried(words.cvr, it), seeds)):
             occurred.update(kinds)
             if told:
                 wrong += 1
-                print('WRONG: case %d of seed %d: %s' % (number, words.seed, told))
+                print('WRONG: case %s: %s' % (seed, told))
     for kind in ('device', 'header', 'snapshot', 'volumes 1', 'volumes 2', 'volumes 3'):
         if not occurred[kind]:
             wrong += 1

@@ -8,17 +8,17 @@ import contextlib
 import hashlib
 import json
 import os
-import re
 import runpy
 import shutil
 import subprocess
 import time
 from functools import partial
 
+from tenth import leave_out
+from trials import FILES, compiled, printed, told_fault
+
 HERE = os.path.dirname(os.path.abspath(__file__))
 TOP = os.path.dirname(os.path.dirname(HERE))
-COUNTY = os.path.join(TOP, 'examples', 'county')
-FILES = ['definition.json', 'scan.json', 'adjudicated.json']
 COMPILED = ['gcc', '-std=gnu11', '-O1', '-Wall', '-Wextra', '-Werror', '-Wno-attributes', '-pthread', '-I', os.path.join(TOP, 'library')]
 LOW = ['-no-pie', '-Wl,--defsym=__heap_base=0x10000008']        # where heap.c has its memory
 PATIENCE = 60       # seconds until Node listens
@@ -136,28 +136,13 @@ def serving(module, folder):
             time.sleep(0.1)
         yield
     finally:
-        server.terminate()
+        server.kill()
         server.wait()
-
-
-def compiled(folder, name, *sources, words=()):
-    """A program of these sources. What the compiler says of them ends the test."""
-    program = os.path.join(folder, name)
-    subprocess.run([*COMPILED, *words, '-o', program, *(os.path.join(TOP, 'tests', it) for it in sources)], check=True)
-    return program
 
 
 def driver(folder):
     """The command line over the module."""
-    return compiled(folder, 'driver', 'library/driver.c', 'targets/ask.c')
-
-
-def fault(name, command):
-    """What is wrong with a test that ends with `NAME: N right, M wrong`, or None."""
-    ran = subprocess.run(command, cwd=COUNTY, stdout=subprocess.PIPE, stderr=subprocess.STDOUT, text=True)
-    last = ran.stdout.strip().split('\n')[-1]
-    print('  ' + last, flush=True)
-    return None if re.fullmatch(name + r': [1-9]\d* right, 0 wrong', last) and not ran.returncode else ran.stdout
+    return compiled(COMPILED, os.path.join(folder, 'driver'), 'library/driver.c', 'targets/ask.c')
 
 
 def jsc_fault(module):
@@ -165,9 +150,8 @@ def jsc_fault(module):
     html, scripts = runpy.run_path(os.path.join(TOP, 'tools/html')), ['-e', 'globalThis.onmessage = null']      # which a worker has
     for name in html['WORKER']:
         scripts.append(os.path.join(TOP, 'web', name))
-    ran = subprocess.run(['jsc', *scripts, os.path.join(HERE, 'engine.js'), '--', module, *FILES], cwd=COUNTY, stdout=subprocess.PIPE, stderr=subprocess.STDOUT)
-    is_right = hashlib.sha256(ran.stdout).hexdigest() == json.loads(html['carried']())['sum']
-    return None if is_right else 'jsc: %r' % ran.stdout
+    told = printed(['jsc', *scripts, os.path.join(HERE, 'engine.js'), '--', module, *FILES])[1]
+    return None if hashlib.sha256(told.encode()).hexdigest() == json.loads(html['carried']())['sum'] else 'jsc: ' + told
 
 
 def trials(module, folder):
@@ -175,7 +159,8 @@ def trials(module, folder):
     if shutil.which('jsc'):
         yield partial(jsc_fault, module)
     else:
-        print('the engine of Safari is left out: there is no jsc. On Debian: apt-get install libjavascriptcoregtk-4.0-bin', flush=True)
-    yield partial(fault, 'heap', [compiled(folder, 'heap', 'targets/heap.c', words=LOW)])
-    yield partial(fault, 'calls', [compiled(folder, 'calls', 'library/calls.c', 'targets/ask.c', words=['-DAPART']), *FILES])
-    yield partial(fault, 'refuse', ['node', '--wasm-max-mem-pages=%d' % PAGES, os.path.join(HERE, 'refuse.js'), module, *FILES])
+        leave_out('the engine of Safari', 'there is no jsc. On Debian: apt-get install libjavascriptcoregtk-4.0-bin')
+    heap, calls = os.path.join(folder, 'heap'), os.path.join(folder, 'calls')
+    yield partial(told_fault, 'heap', [compiled(COMPILED + LOW, heap, 'targets/heap.c')])
+    yield partial(told_fault, 'calls', [compiled(COMPILED + ['-DAPART'], calls, 'library/calls.c', 'targets/ask.c'), *FILES])
+    yield partial(told_fault, 'refuse', ['node', '--wasm-max-mem-pages=%d' % PAGES, os.path.join(HERE, 'refuse.js'), module, *FILES])

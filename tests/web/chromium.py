@@ -8,7 +8,7 @@ class Browser(page_browser.Browser):
     """A browser with one window, which saves files in a folder, and keeps what it asks the network for."""
 
     def __init__(self, saved, *more):
-        self.asked = []
+        self.saved, self.asked = saved, []
         super().__init__(*more)
         self.call('Browser.setDownloadBehavior', behavior='allow', downloadPath=saved)
         self.call('Network.enable')

@@ -10,7 +10,7 @@ import sys
 import tempfile
 import zipfile
 
-from trial import CLICK, COUNTY, FILES, SETTLED, TEXTS, TOP, given, saved_at
+from trial import CLICK, COUNTY, FILES, SECONDS, SETTLED, TEXTS, TOP, given, saved
 
 sys.path.append(os.path.join(TOP, 'tests/gather'))
 import faults   # noqa: E402
@@ -54,23 +54,19 @@ def tally(browser):
 def native(trial, words, folder):
     """What cvr-audit prints in a folder."""
     done = subprocess.run([sys.executable, os.path.join(TOP, 'companion/cvr-audit'), *words], cwd=folder, env=dict(os.environ, CVR=trial.cvr),
-                          stdout=subprocess.PIPE, stderr=subprocess.STDOUT, text=True)
+                          stdout=subprocess.PIPE, stderr=subprocess.STDOUT, text=True, timeout=SECONDS)
     return done.stdout
 
 
-def see_files(browser, trial, out, saved):
+def see_files(browser, trial, out):
     """What the page makes are the files of cvr-audit gather, and its tally is theirs."""
     for name in 'definition.json', 'records-1.json':
-        path = os.path.join(saved, name)
-        if os.path.exists(path):
-            os.remove(path)
-        browser.value("[...document.querySelectorAll('button')].find(it => it.textContent === 'Save %s').click()" % name)
-        trial.see('an export: ' + name, saved_at(path), faults.read(os.path.join(out, name)))
-    text = subprocess.run([trial.cvr, 'tally', 'definition.json', 'records-1.json'], cwd=out, stdout=subprocess.PIPE).stdout
+        trial.see('an export: ' + name, saved(browser, 'Save ' + name, name), faults.read(os.path.join(out, name)))
+    text = subprocess.run([trial.cvr, 'tally', 'definition.json', 'records-1.json'], cwd=out, stdout=subprocess.PIPE, timeout=SECONDS).stdout
     trial.see('an export: its tally', browser.value(TEXTS % 'text'), text.decode())
 
 
-def see_export(browser, trial, room, saved, has_folders):
+def see_export(browser, trial, room, has_folders):
     """A random export, with a file and a member that aren't known, as a ZIP and, where the protocol gives folders, as one."""
     make.make('vxsuite', room, BALLOTS, 5)
     meta = os.path.join(room, 'vxsuite/metadata.json')
@@ -85,7 +81,7 @@ def see_export(browser, trial, room, saved, has_folders):
         trial.see('an export: what is left out', browser.value(LEFT), [it for it in told if it.startswith(('left out', 'note'))])
         trial.see('an export: the commands', browser.value("document.querySelector('#answer pre').textContent").splitlines()[0],
                   'cvr-audit gather %s -o gathered' % os.path.basename(path))
-        see_files(browser, trial, os.path.join(room, out), saved)
+        see_files(browser, trial, os.path.join(room, out))
 
 
 def see_fault(browser, trial, fault, room):
@@ -149,10 +145,10 @@ def see_zip(browser, trial, room, is_wide):
     trial.see('its text', browser.value(TEXTS % 'text'), trial.printed('tally', *FILES[:3]).decode())
 
 
-def see_exports(browser, trial, folder, saved, is_whole):
+def see_exports(browser, trial, folder, is_whole):
     """All of these; in the second browser an export as a ZIP alone, since its protocol gives no folders."""
     room = tempfile.mkdtemp(dir=folder)
-    see_export(browser, trial, room, saved, is_whole)
+    see_export(browser, trial, room, is_whole)
     see_damaged(browser, trial, room)
     if is_whole:
         see_zip(browser, trial, room, False)

@@ -32,7 +32,7 @@ class Browser:
     """A browser with one window, which saves files in a folder."""
 
     def __init__(self, saved):
-        self.profile, port = tempfile.mkdtemp(), free_port()
+        self.saved, self.profile, port = saved, tempfile.mkdtemp(), free_port()
         with open(self.profile + '/user.js', 'w') as file:
             for name, value in {**PREFERENCES, 'marionette.port': port, 'browser.download.dir': saved}.items():
                 file.write('user_pref(%s, %s);\n' % (json.dumps(name), json.dumps(value)))
@@ -49,7 +49,8 @@ class Browser:
             try:
                 return socket.create_connection(('127.0.0.1', port), timeout=PATIENCE)
             except OSError:
-                time.sleep(0.25)
+                time.sleep(0.25 if self.process.poll() is None else 0)
+        page_browser.end_all(self.process, self.profile)
         raise OSError('it does not listen')
 
     def end(self):

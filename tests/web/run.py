@@ -1,5 +1,5 @@
 #!/usr/bin/env python3
-"""run.py --cvr PATH [--only chromium|firefox] [--pictures FOLDER] [--all]
+"""run.py --cvr PATH [--dist] [--tenth WORD] [--only chromium|firefox] [--pictures FOLDER]
 
 Tests the page that tools/html makes of web/ and the module, in Chromium and in Firefox, each headless and driven by its
 own protocol. The county of examples/, with a file that is refused and one that contradicts the others: each table, list
@@ -10,11 +10,11 @@ Arabic and of 300 characters stand as texts. A run that is cancelled shows nothi
 whose module is changed, or that gives another tally of its example, does nothing. Chromium also shows it at the width
 of a phone, in the dark, in forced colours and on paper, without a mouse, with a script that isn't run, with little
 memory, and keeps what it asks the network for: nothing; a server here, which the page is made to call, hears nothing in
-either. There also slips of the page's own code (slips.py) are each found, of which the commit's hash chooses some.
+either. There also slips of the page's own code (slips.py) are each found, with --tenth a tenth of them.
 
-The page is made twice, and its parts looked at; without the module or a browser only that is tried, which is said. The
-last line is `browser: N right, M wrong`; the status is 0 only where M is 0 and N is not."""
-import argparse
+tools/targets makes the module, or with --dist it is that of the release (dist_files.py). The page is made twice, and its
+parts looked at; without the module or a browser only that is tried, which is said. The last line is `browser: N right, M
+wrong`; the status is 0 only where M is 0 and N is not."""
 import base64
 import hashlib
 import html.parser
@@ -32,16 +32,18 @@ import time
 sys.dont_write_bytecode = True
 HERE = os.path.dirname(os.path.abspath(__file__))
 TOP = os.path.dirname(os.path.dirname(HERE))
-sys.path[:0] = [HERE, *(os.path.join(TOP, it) for it in ('tests/audit', 'tests/rows', 'companion'))]
+sys.path[:0] = [HERE, *(os.path.join(TOP, it) for it in ('tests', 'tests/audit', 'tests/rows', 'companion'))]
 import chromium     # noqa: E402
+import dist_files   # noqa: E402
 import exports      # noqa: E402
-import firefox      # noqa: E402 (these stand beside this file)
+import firefox      # noqa: E402
 import page_picture     # noqa: E402
 import rows         # noqa: E402
 import slips        # noqa: E402
-from trial import CLICK, COLUMNS, COUNTY, FILES, FOLDER, SETTLED, TEXTS, Found, Trial, given, saved_at, sum_of, tallied     # noqa: E402 (it stands beside this file)
+import tenth        # noqa: E402
+from trial import CLICK, COLUMNS, COUNTY, FILES, PRESS, SETTLED, TEXTS, Found, Trial, given, saved, sum_of, tallied     # noqa: E402
 from cvr_audit.advice import ADVICE         # noqa: E402
-from cvr_audit.page_warnings import KINDS   # noqa: E402 (these stand in tests/audit and companion)
+from cvr_audit.page_warnings import KINDS   # noqa: E402 (these stand beside this file, in tests, tests/audit or companion)
 
 # The names of the county's definition, as the page has to show them.
 NAMES = {'council': 'County Council council', 'council-iris': 'Iris Vale Heron Party council-iris', 'parks': 'Measure 1: parks parks',
@@ -56,7 +58,6 @@ SOME = 2400         # records that it tallies, but can't look at
 UNREAD = 'Starting. If this stays, this browser is too old for the page, or runs no JavaScript.'
 REACHED = "[...document.querySelectorAll('input, select, button, summary')].filter(it => it.checkVisibility() && !it.disabled)"    # by the key Tab
 ROLES = {'button', 'combobox', 'textbox', 'spinbutton', 'DisclosureTriangle'}      # of what has to have a name
-CHOSEN = 12         # how many slips are tried without --all
 READY = 'The page has tallied its own example rightly. It waits for files.'
 ODD = {'Iris Vale': '<img src="x" onerror="document.title = 1">', 'Omar Field': 'عمر فيلد', 'County Council': 'x' * 300,
        'Alder County General Election': '</script><b>&amp;'}
@@ -196,13 +197,11 @@ class Parts(html.parser.HTMLParser):
 
 
 def see_made(trial, folder):
-    """The page with another module, made twice: the same bytes; its policy allows the script and the style in it."""
-    module, pages = os.path.join(folder, 'none.wasm'), []
-    with open(module, 'wb') as file:
-        file.write(b'no module')
-    for name in 'one.html', 'two.html':
-        subprocess.run([sys.executable, TOP + '/tools/html', module, os.path.join(folder, name)], stdout=subprocess.DEVNULL, check=True)
-        with open(os.path.join(folder, name), encoding='utf-8', newline='') as file:
+    """The path of the page with the module, which is made twice: the same bytes; its policy allows the script and the style in it."""
+    paths, pages = [os.path.join(folder, it) for it in ('cvr.html', 'again.html')], []
+    for path in paths:
+        subprocess.run([sys.executable, TOP + '/tools/html', trial.module, path], stdout=subprocess.DEVNULL, check=True, timeout=dist_files.MAKING)
+        with open(path, encoding='utf-8', newline='') as file:
             pages.append(file.read())
     trial.see('the page is the same each time', pages[0] == pages[1], True)
     its = Parts(pages[0])
@@ -212,15 +211,7 @@ def see_made(trial, folder):
         with open(os.path.join(TOP, 'web', way.file), encoding='utf-8') as file:
             trial.see('a slip that fits: ' + way.name, file.read().count(way.old), 1)
     trial.see('nothing in it comes from elsewhere', its.names & {'src', 'href', 'srcset', 'action', 'onclick', 'onload'}, set())
-
-
-def see_dist(trial, page):
-    """The page of the release is the one that is made here, where it was made of the same sources by the same tools."""
-    tool = runpy.run_path(os.path.join(TOP, 'tools/dist'))
-    if tool['is_of_these']():
-        trial.see('the page of the release', sum_of(os.path.join(tool['DIST'], tool['PAGE'])), sum_of(page))
-    else:
-        print('dist has no page of these sources, this kit and these tools: its bytes are not compared')
+    return paths[0]
 
 
 def started(browser, trial, page):
@@ -239,7 +230,7 @@ def see_county(browser, trial, page):
     head, *lists = browser.value(LISTS)
     trial.see('the lists', lists, list(lists_of(text.decode())))
     version = trial.printed('--version').decode().splitlines()[0]
-    trial.see('the head', head[2:], ['By', version + ', in a browser', 'Module', 'SHA-256 ' + sum_of(FOLDER + '/cvr.wasm'), 'Page', 'SHA-256 ' + sum_of(page),
+    trial.see('the head', head[2:], ['By', version + ', in a browser', 'Module', 'SHA-256 ' + sum_of(trial.module), 'Page', 'SHA-256 ' + sum_of(page),
                                      'Command', 'cvr tally -- ' + ' '.join(FILES)])
     trial.see('the title', browser.value('document.title'), 'UNOFFICIAL: Alder County General Election')
     trial.see('the election', browser.value("document.querySelector('#answer h1').textContent"), 'Alder County General Election')
@@ -302,27 +293,22 @@ def see_no_device(browser, trial, folder):
     trial.see('no device: a note', 'no current snapshot was looked at' in browser.value(TEXTS % 'answer'), True)
 
 
-def see_saved(browser, trial, saved):
+def see_saved(browser, trial):
     text = trial.printed('tally', *FILES)
-    for said, name in ('Save the text', 'tally.txt'), ('Save the totals as CSV', 'tally.csv'):
-        if os.path.exists(os.path.join(saved, name)):
-            os.remove(os.path.join(saved, name))
-        browser.value("[...document.querySelectorAll('button')].find(it => it.textContent === '%s').click()" % said)
-        got = saved_at(os.path.join(saved, name))
-        trial.see(said, got, text if name == 'tally.txt' else csv_of(text.decode()).encode())
+    for said, name, wanted in ('Save the text', 'tally.txt', text), ('Save the totals as CSV', 'tally.csv', csv_of(text.decode()).encode()):
+        trial.see(said, saved(browser, said, name), wanted)
 
 
-def see_volume(browser, trial, saved):
+def see_volume(browser, trial):
     """A volume of merge that is saved: the command's bytes. A date that is none gives no volume."""
-    words, path = ['merge', '--', 'definition.json', '2024-11-07T00:00:00Z', 'desk-1', '2', *FILES[1:]], os.path.join(saved, 'volume-2.json')
-    if os.path.exists(path):
-        os.remove(path)
-    for date, said in ('2024-11-07T00:00:00Z', 'Saved, as by: cvr ' + ' '.join(words)), ('never', 'The program stopped: '):
-        for key, value in ('date', date), ('device', 'desk-1'), ('number', '2'):
-            browser.value("(document.getElementById('%s').value = '%s')" % (key, value))
-        browser.value("[...document.querySelectorAll('button')].find(it => it.textContent === 'Save the volume').click()")
-        trial.see('a volume at %s' % date, browser.value(SETTLED)[:len(said)], said)
-    trial.see('the volume', saved_at(path), trial.printed(*words))
+    words, label = ['merge', '--', 'definition.json', '2024-11-07T00:00:00Z', 'desk-1', '2', *FILES[1:]], 'Save the volume'
+    for key, value in ('date', 'never'), ('device', 'desk-1'), ('number', '2'):
+        browser.value("(document.getElementById('%s').value = '%s')" % (key, value))
+    browser.value(PRESS % label)
+    trial.see('no volume of no date', browser.value(SETTLED)[:21], 'The program stopped: ')
+    browser.value("(document.getElementById('date').value = '2024-11-07T00:00:00Z')")
+    trial.see('the volume', saved(browser, label, 'volume-2.json'), trial.printed(*words))
+    trial.see('it is said', browser.value(SETTLED), 'Saved, as by: cvr ' + ' '.join(words))
 
 
 def csv_of(text):
@@ -573,14 +559,7 @@ def see_forced(browser, trial, page, pictures):
     browser.call('Emulation.setEmulatedMedia', media='', features=[])
 
 
-def chosen(is_all):
-    """The slips that are tried: all, or as many as CHOSEN, by the commit's hash; without git always the same."""
-    has_git = shutil.which('git') and os.path.exists(os.path.join(TOP, '.git'))
-    commit = subprocess.run(['git', 'rev-parse', 'HEAD'], cwd=TOP, stdout=subprocess.PIPE).stdout if has_git else b''
-    return sorted(slips.WAYS, key=lambda it: hashlib.sha256(commit + it.name.encode()).digest())[:None if is_all else CHOSEN]
-
-
-def slipped(way):
+def slipped(way, module):
     """The page with a slip in its code."""
     html = runpy.run_path(os.path.join(TOP, 'tools/html'))
     held = html['held']
@@ -588,22 +567,21 @@ def slipped(way):
     def with_slip(*path):
         return held(*path).replace(way.old.encode(), way.new.encode()) if path == ('web', way.file) else held(*path)
     html['page'].__globals__['held'] = with_slip
-    return html['page'](held(FOLDER, 'cvr.wasm'))
+    return html['page'](held(module))
 
 
-def see_ways(browser, trial, folder, saved, is_all):
+def see_ways(browser, trial, folder, word):
     """Each slip of the page is found, once the page has started."""
     page, seen = os.path.join(folder, 'slip.html'), {
         'county': lambda own: see_county(browser, own, page), 'warnings': lambda own: see_warnings(browser, own),
         'odd': lambda own: see_odd(browser, own, tempfile.mkdtemp(dir=folder)), 'cancel': lambda own: see_cancel(browser, own, folder, 240),
         'no device': lambda own: see_no_device(browser, own, tempfile.mkdtemp(dir=folder)),
-        'gather': lambda own: exports.see_exports(browser, own, folder, saved, True),
-        'volume': lambda own: (tallied(browser, COUNTY, FILES), see_volume(browser, own, saved)),
-        'saved': lambda own: (tallied(browser, COUNTY, FILES), see_saved(browser, own, saved))}
-    for way in chosen(is_all):
-        own = Trial(trial.name, trial.cvr, False)
+        'gather': lambda own: exports.see_exports(browser, own, folder, True),
+        'saved': lambda own: (tallied(browser, COUNTY, FILES), see_saved(browser, own))}
+    for way in tenth.chosen(word, slips.WAYS, lambda it: it.name):
+        own = Trial(trial.name, trial.cvr, trial.module, False)
         with open(page, 'w', encoding='utf-8', newline='') as file:
-            file.write(slipped(way))
+            file.write(slipped(way, trial.module))
         starts = False
         try:
             started(browser, own, page)
@@ -616,60 +594,54 @@ def see_ways(browser, trial, folder, saved, is_all):
 
 def see_browser(kind, trial, page, words):
     with tempfile.TemporaryDirectory() as folder:
-        saved, odd = os.path.join(folder, 'saved'), os.path.join(folder, 'odd')
-        os.mkdir(saved)
-        os.mkdir(odd)
-        browser = kind.Browser(saved)
+        browser = kind.Browser(tempfile.mkdtemp(dir=folder))
         try:
             started(browser, trial, page)
             see_county(browser, trial, page)
-            see_saved(browser, trial, saved)
-            see_volume(browser, trial, saved)
+            see_saved(browser, trial)
+            see_volume(browser, trial)
             see_warnings(browser, trial)
             see_no_device(browser, trial, folder)
-            see_odd(browser, trial, odd)
-            exports.see_exports(browser, trial, folder, saved, kind is chromium)
+            see_odd(browser, trial, tempfile.mkdtemp(dir=folder))
+            exports.see_exports(browser, trial, folder, kind is chromium)
             see_refused(browser, trial, folder)
             see_cancel(browser, trial, folder)
             see_network(browser, trial)
             if kind is chromium:
-                with tempfile.TemporaryDirectory(dir=os.path.join(TOP, 'out')) as shown:
+                with tempfile.TemporaryDirectory(dir='/var/tmp') as shown:
                     see_dropped(browser, trial, shown)
                 see_views(browser, trial, page, words.pictures)
                 see_forced(browser, trial, page, words.pictures)
                 see_keys(browser, trial, page)
                 see_unread(browser, trial, page, folder)
-                see_ways(browser, trial, folder, saved, words.all)
+                see_ways(browser, trial, folder, words.tenth)
             see_changed(browser, trial, page, folder)
         finally:
             browser.end()
 
 
 def main():
-    words = argparse.ArgumentParser()
-    words.add_argument('--cvr', required=True, help='the program to compare with')
+    words = tenth.words()
+    words.add_argument('--dist', action='store_true', help='try the module of the release')
     words.add_argument('--only', help='the name of a browser')
     words.add_argument('--pictures', help='a folder for pictures of the page')
-    words.add_argument('--all', action='store_true', help='try all slips of the page\'s code')
     words = words.parse_args()
-    page, own = FOLDER + '/cvr.html', Trial('page', os.path.abspath(words.cvr))
     with tempfile.TemporaryDirectory() as folder:
-        see_made(own, folder)
-    subprocess.run([sys.executable, 'tools/targets', 'wasm'], cwd=TOP, check=True)
-    if os.path.exists(FOLDER + '/cvr.wasm'):
-        subprocess.run([sys.executable, 'tools/html'], cwd=TOP, check=True)
-        see_dist(own, page)
-    right, wrong = own.right, own.wrong
-    for name, kind in [('chromium', chromium), ('firefox', firefox)] if os.path.exists(FOLDER + '/cvr.wasm') else []:
-        if words.only in (None, name) and not kind.program():
-            print('%s is left out: it is not there' % name)
-        elif words.only in (None, name):
-            trial = Trial(name, os.path.abspath(words.cvr))
-            see_browser(kind, trial, page, words)
-            if kind is chromium:
-                see_memory(trial, page)
-            print('%s: %d right, %d wrong' % (name, trial.right, trial.wrong), flush=True)
-            right, wrong = right + trial.right, wrong + trial.wrong
+        module = dist_files.taken('wasm/cvr.wasm', words.dist, folder)
+        if not module:
+            tenth.leave_out('cvr.html in a browser', dist_files.LACKS if words.dist else 'tools/targets makes no module')
+        found = [Trial('page', words.cvr, module or os.path.join(HERE, 'run.py'))]
+        page = see_made(found[0], folder)
+        for name, kind in [('chromium', chromium), ('firefox', firefox)] if module else []:
+            if words.only in (None, name) and not kind.program():
+                tenth.leave_out('cvr.html in ' + name, 'it is not there')
+            elif words.only in (None, name):
+                found.append(Trial(name, words.cvr, module))
+                see_browser(kind, found[-1], page, words)
+                if kind is chromium:
+                    see_memory(found[-1], page)
+                print('%s: %d right, %d wrong' % (name, found[-1].right, found[-1].wrong), flush=True)
+    right, wrong = sum(it.right for it in found), sum(it.wrong for it in found)
     print('browser: %d right, %d wrong' % (right, wrong))
     sys.exit(0 if right and not wrong else 1)
 

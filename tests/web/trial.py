@@ -7,7 +7,7 @@ import time
 TOP = os.path.dirname(os.path.dirname(os.path.dirname(os.path.abspath(__file__))))
 COUNTY = os.path.join(TOP, 'examples', 'county')
 FILES = ['definition.json', 'scan.json', 'adjudicated.json', 'corrected.json', 'damaged.json']
-FOLDER = os.path.join(TOP, 'out/targets/wasm')
+SECONDS = 300       # of a command
 COLUMNS = ['Ballots', 'Overvotes', 'Undervotes', 'Write-ins', 'Pending', 'Unassigned']
 SETTLED = '''new Promise(done => {
   const look = () => { const it = document.getElementById('state').textContent; /^(Starting|Reading|Running)/.test(it) ? setTimeout(look, 20) : done(it) }
@@ -15,6 +15,7 @@ SETTLED = '''new Promise(done => {
 })'''
 GIVEN = SETTLED.replace('(Starting|', '(0 files|Starting|')
 TEXTS = "document.getElementById('%s').textContent"
+PRESS = "[...document.querySelectorAll('button')].find(it => it.textContent === '%s').click()"
 CLICK = "document.getElementById('%s').click()"
 
 
@@ -23,10 +24,10 @@ class Found(Exception):
 
 
 class Trial:
-    """What was right and wrong in a browser. One that doesn't tell ends at what is wrong."""
+    """What was right and wrong in a browser, by a program and the page's module. One that doesn't tell ends at what is wrong."""
 
-    def __init__(self, name, cvr, tells=True):
-        self.name, self.cvr, self.tells, self.right, self.wrong = name, cvr, tells, 0, 0
+    def __init__(self, name, cvr, module, tells=True):
+        self.name, self.cvr, self.module, self.tells, self.right, self.wrong = name, cvr, module, tells, 0, 0
 
     def see(self, what, got, wanted):
         if got == wanted:
@@ -39,7 +40,7 @@ class Trial:
 
     def printed(self, *words):
         """What `cvr` prints in the folder of the county."""
-        return subprocess.run([self.cvr, *words], cwd=COUNTY, stdout=subprocess.PIPE, stderr=subprocess.DEVNULL).stdout
+        return subprocess.run([self.cvr, *words], cwd=COUNTY, stdout=subprocess.PIPE, stderr=subprocess.DEVNULL, timeout=SECONDS).stdout
 
 
 def sum_of(path):
@@ -62,8 +63,12 @@ def given(browser, paths, selector='#files'):
     return browser.value(GIVEN)
 
 
-def saved_at(path):
-    """The bytes of a file that a browser saves, once they stand there."""
+def saved(browser, label, name):
+    """The bytes of the file that a button with this label saves, once they stand there."""
+    path = os.path.join(browser.saved, name)
+    if os.path.exists(path):
+        os.remove(path)
+    browser.value(PRESS % label)
     for _ in range(100):
         if os.path.exists(path) and os.path.getsize(path) and not os.path.exists(path + '.part') and not os.path.exists(path + '.crdownload'):
             with open(path, 'rb') as file:
