@@ -1,8 +1,9 @@
 # Installs the program that ./cvr runs, and packs the one that was built here. Of what is installed you can set PREFIX,
-# DESTDIR, CVR (another program) and ZSH.
+# DESTDIR, CVR (another program), PAGE (another page for a browser, or none) and ZSH.
 PREFIX = /usr/local
 DESTDIR =
 CVR = $(shell tools/program)
+PAGE = $(wildcard dist/cvr.html)
 ZSH = $(PREFIX)/share/zsh/site-functions
 SHARE = $(DESTDIR)$(PREFIX)/share
 DOCUMENTS = README.md CHANGELOG.md LICENSE SECURITY.md examples/README.md docs/reference/README.md \
@@ -35,6 +36,7 @@ install:
 		install -D -m 644 "man/$$name.bash" "$(SHARE)/bash-completion/completions/$$name" && \
 		install -D -m 644 "man/_$$name" "$(DESTDIR)$(ZSH)/_$$name" && \
 		install -D -m 644 "man/$$name.fish" "$(SHARE)/fish/vendor_completions.d/$$name.fish" || exit; done
+	$(if $(PAGE),install -D -m 644 "$(PAGE)" "$(SHARE)/doc/cvr/cvr.html")
 	$(call copied,$(SHARE)/doc/cvr)
 
 # Removes what `install` with the same variables puts there, as an install into an empty folder shows; then the folders

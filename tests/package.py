@@ -67,6 +67,12 @@ def is_installed(prefix):
     return modes == [0o755] * len(RUN) + [0o644] * len(READ) and folders == {0o755}
 
 
+def has_page(prefix, page):
+    """Whether the page for a browser, where there is one, is below a prefix, and else none."""
+    path = os.path.join(prefix, 'share/doc/cvr/cvr.html')
+    return held(path) == held(page) if os.path.exists(page) else not os.path.exists(path)
+
+
 def pages(prefix):
     """The text of each document below a prefix, by its path."""
     folder = os.path.join(prefix, 'share/doc/cvr')
@@ -139,6 +145,7 @@ def installed(cvr, folder):
     """Yields each trial of what is installed."""
     prefix = os.path.join(folder, 'a prefix')
     yield 'make install', done('make', 'install', 'CVR=' + cvr, 'PREFIX=' + prefix, umask=0o077)[0] == 0 and is_installed(prefix)
+    yield 'make install, the page for a browser', has_page(prefix, os.path.join(TOP, 'dist/cvr.html'))
     yield links(prefix)
     yield from read_pages(prefix)
     yield from first_runs(prefix, commands.FILES)
@@ -221,6 +228,7 @@ def archive(copy, place):
     os.mkdir(place)
     words = ['tar', '-xzf', os.path.join(copy.packages, 'cvr-%s-%s.tar.gz' % (dist.VERSION, FIRST)), '-C', place, '--strip-components=1']
     yield 'tar unpacks it', done(*words, umask=0o022)[0] == 0 and is_installed(place)
+    yield 'the page for a browser in the archive', has_page(place, os.path.join(copy.packages, 'cvr.html'))
     yield from first_runs(place, ['README.md', 'docs/AUDITING.md'])
     yield from sums(place, 'share/doc/cvr/' + SUMS)
     program, told = os.path.join(place, 'bin/cvr'), os.path.join(place, 'share/doc/cvr')

@@ -51,14 +51,24 @@ function gatheredOf({files, count, left, notes}) {
     lines.length ? folded('Not in them', lines.length, element('ul', {className: 'places'}, ...lines.map(it => text('li', text('code', text('bdi', it)))))) : null)
 }
 
-const FEW = 6, MOST = 200       // more places of one kind are folded, and more than the most left out
+const FEW = 10, MOST = 200      // more places of one kind are folded, and more than the most left out
 
-function warnings(lines, unseen) {
-  const places = its => element('details', {open: its.length <= FEW}, text('summary', its.length === 1 ? '1 place' : `${its.length.toLocaleString('en')} places`),
-    its.length > MOST ? text('p', `The first ${MOST}: cvr-audit warnings prints all.`) : null,
-    element('ul', {className: 'places'}, ...its.slice(0, MOST).map(it => text('li', text('code', text('bdi', it.join(' ')))))))
-  const kinds = Object.entries(HELD.kinds).map(([kind, title]) => [kind, title, lines.filter(it => it[0] === kind).map(it => it.slice(1))]).filter(it => it[2].length)
-  const said = kinds.map(([kind, title, its]) => text('li', text('strong', title), `: ${HELD.advice[kind]} `, places(its)))
+// The places of warnings of a kind, with names; where they are many, behind their number in each file.
+function placesOf(names, kind, its, seen) {
+  const lines = element('ul', {className: 'places'}, ...its.slice(0, MOST).map(it => {
+    const said = namesIn(names, it)
+    return text('li', text('code', text('bdi', it.slice(1).join(' '))), said ? ': ' : null, said ? text('bdi', said) : null)
+  }))
+  if (its.length <= FEW) return lines
+  const counts = filesIn(kind, its, seen)
+  const files = counts.length > FEW ? `${counts.length.toLocaleString('en')} files` : counts.map(([path, count]) => `${path} ${count.toLocaleString('en')}`).join(', ')
+  return element('details', {className: 'shut'}, text('summary', `${its.length.toLocaleString('en')} places${files ? ': ' + files : ''}`),
+    its.length > MOST ? text('p', `The first ${MOST}: cvr-audit warnings --all prints all.`) : null, lines)
+}
+
+function warnings(names, lines, {seen, unseen}) {
+  const kinds = Object.entries(HELD.kinds).map(([kind, title]) => [kind, title, lines.filter(it => it[0] === kind)]).filter(it => it[2].length)
+  const said = kinds.map(([kind, title, its]) => text('li', text('strong', title), `: ${HELD.advice[kind]} `, placesOf(names, kind, its, seen)))
   return section('Warnings', unseen ? text('p', text('strong', unseen), ', so no current snapshot was looked at.') : null,
     said.length ? element('ul', {className: 'warnings'}, ...said) : text('p', unseen ? 'No others.' : 'None.'),
     text('p', text('small', 'cvr-audit warnings also looks at a batch manifest.')))
@@ -116,26 +126,36 @@ function barred(votes, most) {
   return element('td', {className: 'number'}, element('span', {className: 'track'}, bar), votes.toLocaleString('en'))
 }
 
-function contestOf(names, key, rows) {
+// The votes of each selection by rank; without a rank first.
+function rankTable(selections, held) {
+  const ranks = [...held.keys()].sort((a, b) => a === null ? -1 : b === null ? 1 : a < b ? -1 : 1)
+  const rows = selections.map(it => [named(it.name, it.key, it.more), ...ranks.map(rank => held.get(rank).get(it.key) ?? 0n)])
+  return table('Selections by rank', ['Selection', ...ranks.map(it => it === null ? 'No rank' : `Rank ${it}`)], rows)
+}
+
+function contestOf(names, key, rows, seen) {
   const its = names.contests.get(key), held = byId(its?.ContestSelection), selections = rows[0].selections.map(it => ({key: it, ...names.selection(held.get(it) ?? {})}))
   const sums = sumsBy(rows, 'contest').get(key), votes = sums.slice(COLUMNS.length), most = votes.reduce((a, b) => a > b ? a : b, 0n)
-  const counted = votes.reduce((a, b) => a + b, 0n)
-  return {key, rows, selections, sums, title: () => text('h3', named(its && textIn(its, 'Name'), key)),
-    table: () => table('Selections', ['Selection', 'Votes'], selections.map((it, place) => [named(it.name, it.key, it.more), barred(votes[place], most)]),
-      ['All selections', counted])}
+  const counted = votes.reduce((a, b) => a + b, 0n), is_ranked = isRanked(its, seen?.greatest), shown = shownBy(seen)
+  return {key, rows, selections, sums, is_ranked, shown: numbers => numbers.map((it, at) => shown(key, at, it)),
+    title: () => text('h3', named(its && textIn(its, 'Name'), key)),
+    table: () => is_ranked ? text('div', text('p', 'The votes of this contest are ranks or scores: they stand by rank, and no rounds are computed.'),
+      seen ? rankTable(selections, seen.ranks.get(key)) : text('p', 'No rank was looked at.')) :
+      table('Selections', ['Selection', 'Votes'], selections.map((it, place) => [named(it.name, it.key, it.more), barred(votes[place], most)]), ['All selections', counted])}
 }
 
 function contests(its) {
   return section('Contests', ...its.map(it => element('div', {className: 'contest'}, it.title(), listed([['Ballots', it.sums[0].toLocaleString('en')]]), it.table(),
-    listed(COLUMNS.slice(1).map((name, place) => [name, it.sums[place + 1].toLocaleString('en')])))))
+    listed(it.shown(it.sums).slice(1, COLUMNS.length).map((number, place) => [COLUMNS[place + 1], number.toLocaleString('en')])))))
 }
 
 function divided(names, its) {
-  const heads = it => [...COLUMNS, ...it.selections.map(one => one.name ?? one.key)]
+  const heads = it => [...COLUMNS, ...it.is_ranked ? [] : it.selections.map(one => one.name ?? one.key)]
+  const shown = (it, numbers) => it.shown(numbers).slice(0, it.is_ranked ? COLUMNS.length : undefined)       // ranks are not added up
   const part = (it, member, none, name) => {
     const sums = [...sumsBy(it.rows, member)]
-    const rows = sums.map(([key, numbers]) => [key === null ? none : named(name(key), key), ...numbers])
-    return folded('By ' + member, rows.length, table('By ' + member, [member, ...heads(it)], rows, ['Sum', ...it.sums]))
+    const rows = sums.map(([key, numbers]) => [key === null ? none : named(name(key), key), ...shown(it, numbers)])
+    return folded('By ' + member, rows.length, table('By ' + member, [member, ...heads(it)], rows, ['Sum', ...shown(it, it.sums)]))
   }
   return section('By unit and by batch', ...its.flatMap(it => [it.title(), part(it, 'unit', 'no unit', key => names.named(names.units, key)), part(it, 'batch', 'no batch', () => null)]))
 }
@@ -152,11 +172,12 @@ function button(said, act) {
   return element('button', {type: 'button', onclick: act}, said)
 }
 
-function head(title, command) {
+// A long command isn't printed, since Inputs has its files.
+function head(title, {command, files}) {
   const sum = it => text('code', it)
   return text('header', element('p', {className: 'unofficial'}, 'UNOFFICIAL'), text('h1', text('bdi', title)),
     listed([['Made', new Date().toString()], ['By', `${HELD.version}, in a browser`], ['Module', 'SHA-256 ', sum(own_sums.module)], ['Page', 'SHA-256 ', sum(own_sums.page)],
-      ['Command', text('pre', command)]]))
+      ['Command', files.length > MANY + 1 ? element('details', {className: 'shut'}, text('summary', `cvr tally of ${(files.length - 1).toLocaleString('en')} files, as Inputs has them`), text('pre', command)) : text('pre', command)]]))
 }
 
 // What a volume of `cvr merge` needs besides the files: a date, one of the definition's devices, and its number.
@@ -173,19 +194,25 @@ function signature(answer, rows) {
   const {tally} = answer
   return section('Signature', text('p', 'SHA-256 of the text that cvr tally prints: ', element('code', {id: 'sum'}, tally.sum)),
     element('p', {className: 'ours'}, button('Save the text', () => save('tally.txt', tally.bytes, 'text/plain')), ' ',
-      button('Save the totals as CSV', () => save('tally.csv', csvOf(rows), 'text/csv')), ' ', button('Print', () => print())), volumeOf(answer),
+      button('Save the totals as CSV', () => save('tally.csv', answer.said.lines.map(it => it + '\r\n').join('') + csvOf(rows, shownBy(answer.seen)), 'text/csv')), ' ', button('Print', () => print())), volumeOf(answer),
     element('div', {className: 'sign'}, ...['Made by', 'Checked by', 'Place and date'].map(it => text('p', it))),
     element('details', {className: 'ours'}, text('summary', 'The text'), element('pre', {id: 'text'}, tally.text)))
 }
 
+// What the reports say of themselves: above all else, and on each printed sheet.
+function saidBy({said: {lines}}) {
+  const sheet = element('p', {className: 'sheet', ariaHidden: 'true'}, lines.map(it => it.split(':')[0]).join(' '))
+  return lines.length ? [...lines.map(it => element('p', {className: 'said'}, it)), sheet] : []
+}
+
 function show(answer) {
-  const {report, tally, command} = answer
-  if (!report) return at('answer').replaceChildren(head('No tally', command), inputs(answer))
+  const {report, tally} = answer
+  if (!report) return at('answer').replaceChildren(head('No tally', answer), inputs(answer))
   const names = new Names(report), rows = rowsOf(tally.text)
-  const held = grouped(rows, it => it.contest), its = [...held].map(([key, rows]) => contestOf(names, key, rows))
+  const held = grouped(rows, it => it.contest), its = [...held].map(([key, rows]) => contestOf(names, key, rows, answer.seen))
   const missing = [...names.contests.keys()].filter(it => !held.has(it))
-  at('answer').replaceChildren(head(names.election, command), answer.made ? gatheredOf(answer.made) : '', inputs(answer), warnings(warningsOf(answer, [...names.contests.values()], rows), answer.unseen),
+  at('answer').replaceChildren(...saidBy(answer), head(names.election, answer), answer.made ? gatheredOf(answer.made) : '', warnings(names, warningsOf(answer, [...names.contests.values()], rows), answer),
     conflictsOf(answer), contests(its),
-    missing.length ? text('p', 'No record has these contests: ', missing.join(', '), '.') : '', divided(names, its), signature(answer, rows))
+    missing.length ? text('p', 'No record has these contests: ', missing.join(', '), '.') : '', divided(names, its), inputs(answer), signature(answer, rows))
   document.title = 'UNOFFICIAL: ' + names.election
 }

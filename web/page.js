@@ -201,14 +201,15 @@ async function tally() {
   await busily(async () => {
     const made = is_export ? await run(sources) : null, all = made ? made.files : [definition, ...files.filter(it => it !== definition)]
     const paths = all.map(it => it.path), words = task => [task, '--', ...paths]
-    const {first, sums, states, repeated, answers, seen, unseen, disagreements, volumes} = await run(all, [['check', '--', paths[0], ...paths], words('tally'), words('conflicts'),
+    const {first, sums, states, repeated, said, answers, seen, unseen, disagreements, volumes} = await run(all, [['check', '--', paths[0], ...paths], words('tally'), words('conflicts'),
       ['merge', '--', paths[0], DATE, null, '1', ...paths.slice(1)]])
     const tally = {...answers[1], text: new TextDecoder().decode(answers[1].text), bytes: answers[1].text}
     const failed = answers.find(it => it.status > 1)
     if (failed) throw {fault: failed.status === 4 ? 'memory' : 'program', said: failed.log}
+    if (said.mixed) throw {fault: 'unfit', said: said.mixed}
     const is_read = states[0].records !== undefined
     if (made) seeGathered(made, states, seen)
-    show({made, files: all, states, sums, repeated, seen, unseen, disagreements, volumes, tally, report: is_read ? valueOf(new TextDecoder().decode(first)) : null,
+    show({made, said, files: all, states, sums, repeated, seen, unseen, disagreements, volumes, tally, report: is_read ? valueOf(new TextDecoder().decode(first)) : null,
       command: commandsOf(made, paths)})
     say(is_read ? 'Done.' : 'The definition was refused, so there is no tally.', !is_read)
   })

@@ -79,23 +79,64 @@ function ranksIn(snapshot) {
     chosen.SelectionPosition.map(one => one.Rank ?? chosen.Rank).filter(rank => rank !== undefined))])
 }
 
-// Of a current snapshot: its id; the latest moment that stands with it; whether one does, and nobody's name; how many files
-// have the record, and which of them have the snapshot.
+// ---- what a contest of a snapshot adds to the tally
+
+const counts = it => (it.IsAllocable ?? it.HasIndication) === 'yes', isPending = it => it.HasIndication === 'yes' && it.IsAllocable === 'unknown'
+const sumOf = values => values.reduce((a, b) => a + b, 0n)
+
+// Each position of a contest: its selection, or null; its Rank, or null; its votes where they count, and where they are pending.
+function positionsOf(contest) {
+  return (contest.CVRContestSelection ?? []).flatMap(it => it.SelectionPosition.map(one => {
+    const votes = BigInt(one.NumberVotes)
+    return {selection: it.ContestSelectionId ?? null, rank: one.Rank ?? it.Rank ?? null, votes: counts(one) ? votes : 0n, pending: isPending(one) ? votes : 0n}
+  }))
+}
+
+// The votes of a contest by selection; null stands for none.
+function votesOf(contest) {
+  const held = new Map()
+  for (const {selection, votes} of positionsOf(contest)) held.set(selection, (held.get(selection) ?? 0n) + votes)
+  return held
+}
+
+// Of a snapshot what each contest adds, without what is 0; ABSENT for one that it doesn't have.
+function readingsOf(snapshot, contests) {
+  const held = new Map((snapshot.CVRContest ?? []).map(it => [it.ContestId, it]))
+  return [...contests.keys()].map(key => {
+    const it = held.get(key)
+    if (!it) return ABSENT
+    const votes = votesOf(it), columns = {overvotes: it.Overvotes ?? 0, undervotes: it.Undervotes ?? 0, 'write-ins': it.WriteIns ?? 0,
+      pending: sumOf(positionsOf(it).map(one => one.pending)), unassigned: votes.get(null) ?? 0n}
+    votes.delete(null)
+    return compact(Object.fromEntries([...Object.entries(columns), ...votes].filter(([, number]) => BigInt(number))))
+  })
+}
+
+// Where the names of records stand in the parts of a line, behind its kind.
+const RECORDS = {exceeds: 2, doubled: 3, waiting: 1, record: 1, ballot: 2}
+
+// Of a current snapshot: its id; the latest moment that stands with it; whether one does, and nobody's name, or neither; which
+// files have the record, and which of them have the snapshot.
 function originOf(current) {
   const notes = current.Annotation ?? [], moments = notes.filter(it => it.TimeStamp !== undefined).map(it => instant(it.TimeStamp))
   const has_name = notes.some(it => (it.AdjudicatorName ?? []).some(name => name))
-  return {id: current['@id'], moment: moments.reduce((a, b) => a === null || b > a ? b : a, null), is_unnamed: moments.length > 0 && !has_name, files: 0, having: []}
+  return {id: current['@id'], moment: moments.reduce((a, b) => a === null || b > a ? b : a, null), is_unnamed: moments.length > 0 && !has_name,
+    is_unsigned: !moments.length && !has_name, files: [], having: []}
 }
 
-// What volume 1 says of the records, and then each file: their number, warnings of them, the greatest Rank of each contest, and
-// which contests have which number stated.
+// What volume 1 says of the records, and then each file: their number, warnings of them, the greatest Rank of each contest and
+// its votes by Rank, and which contests have which number stated.
 class Seen {
-  constructor(conflicts) {
+  constructor(conflicts, contests) {
     this.conflicts = conflicts
+    this.contests = contests
     this.records = new Map()
     this.made = new Map()       // of each file its moment
     this.stated = new Set()
     this.greatest = new Map()
+    this.ranks = new Map()
+    this.excess = new Map([...contests.keys()].map(it => [it, []]))
+    this.undone = []
     this.waiting = []
     this.empty = []
     this.ballots = []
@@ -109,7 +150,31 @@ class Seen {
     if (record.BallotAuditId !== undefined) this.ballots.push([record.BallotAuditId, name])
     for (const [contest, ranks] of ranksIn(current)) for (const it of ranks) if (!(it <= this.greatest.get(contest))) this.greatest.set(contest, it)
     for (const it of record.CVRSnapshot) this.takeStated(it)
+    for (const it of current.CVRContest ?? []) this.takeVotes(it, name.map(spelled))
     this.conflicts.shows({CVR: [record]})
+  }
+
+  // Notes the votes of a contest: by rank, and as lines where no ballot has so many, in all or for one selection.
+  takeVotes(contest, name) {
+    const key = contest.ContestId, its = this.contests.get(key), votes = votesOf(contest), counted = sumOf([...votes.values()]), by_rank = this.ranks.get(key) ?? new Map()
+    const stated = isNumber(its.VotesAllowed) ? its.VotesAllowed : 0, most = 'VotesAllowed' in its ? stated : ONE.includes(its['@type']) ? 1 : 0
+    if (most > 0 && counted > BigInt(most)) this.excess.get(key).push(['exceeds', spelled(key), ...name, counted, most])
+    for (const it of SEVERAL.includes(its.VoteVariation) ? [] : its.ContestSelection ?? [])
+      if (it.IsWriteIn !== true && votes.get(it['@id']) > 1n) this.excess.get(key).push(['doubled', spelled(key), spelled(it['@id']), ...name, votes.get(it['@id'])])
+    for (const {selection, rank, votes} of positionsOf(contest)) {
+      const held = by_rank.get(rank) ?? new Map()
+      if (votes) by_rank.set(rank, held.set(selection, (held.get(selection) ?? 0n) + votes))
+    }
+    this.ranks.set(key, by_rank)
+  }
+
+  // Notes a record of a file that names another of its snapshots as the current one than the one that counts.
+  takeUndone(path, record, id) {
+    const held = new Map(record.CVRSnapshot.map(it => [it['@id'], it])), named = record.CurrentSnapshotId
+    if (named === id || !held.has(id)) return
+    const [a, b] = [named, id].map(it => readingsOf(held.get(it), this.contests))
+    const differ = [...this.contests.keys()].flatMap((key, at) => a[at] === b[at] ? [] : [spelled(key), a[at], b[at]])
+    this.undone.push(['undone', ...[path, ...nameOf(record), named, id].map(spelled), ...differ])
   }
 
   takeStated(snapshot) {
@@ -127,18 +192,19 @@ class Seen {
     for (const it of report.CVR ?? []) {
       const held = this.records.get(spelled(nameOf(it)))
       files.add(held)
+      this.takeUndone(path, it, held.id)
       if (this.stands(it, held)) having.add(held)
     }
-    for (const it of files) it.files++
+    for (const it of files) it.files.push(path)
     for (const it of having) it.having.push(path)
     this.made.set(path, instant(report.GeneratedDate))
   }
 
   // What is said of the files that have the snapshot that counts: each kind and file with the number of records.
   decided() {
-    const counts = {decides: new Map(), nobody: new Map(), later: new Map()}
-    for (const {files, having, is_unnamed, moment} of this.records.values()) {
-      const kinds = {decides: files > having.length, nobody: is_unnamed, later: moment !== null && having.every(it => moment > this.made.get(it))}
+    const counts = {decides: new Map(), unsigned: new Map(), nobody: new Map(), later: new Map()}
+    for (const {files, having, is_unnamed, is_unsigned, moment} of this.records.values()) {
+      const decides = files.length > having.length, kinds = {decides, unsigned: decides && is_unsigned, nobody: is_unnamed, later: moment !== null && having.every(it => moment > this.made.get(it))}
       for (const path of having) for (const kind in kinds) if (kinds[kind]) counts[kind].set(path, (counts[kind].get(path) ?? 0) + 1)
     }
     return Object.entries(counts).flatMap(([kind, its]) => [...this.made.keys()].filter(it => its.has(it)).map(it => [kind, spelled(it), its.get(it)]))
@@ -147,7 +213,19 @@ class Seen {
   ended() {
     const twice = several(this.ballots, it => it[0]).map(([ballot, its]) => ['ballot', spelled(ballot), ...its.flatMap(it => it[1]).map(spelled)])
     for (const it of this.conflicts.ended()) if (it.name[0] === 'snapshot') for (const {value} of it.texts) this.takeStated(value)
-    return {count: this.records.size, greatest: this.greatest, stated: this.stated, lines: [...this.decided(), ...this.waiting, ...this.empty, ...twice]}
+    const excess = [...this.excess].flatMap(([key, its]) => isRanked(this.contests.get(key), this.greatest) ? [] : its)
+    const lines = [...this.decided(), ...this.undone, ...excess, ...this.waiting, ...this.empty, ...twice]
+    return {count: this.records.size, greatest: this.greatest, ranks: this.ranks, stated: this.stated, lines, files: this.filesOf(lines)}
+  }
+
+  // Of each kind of lines about records the files that have these, each with the number of the lines.
+  filesOf(lines) {
+    const held = {}
+    for (const it of lines) for (const path of RECORDS[it[0]] ? this.records.get(spelled(it.slice(RECORDS[it[0]]).slice(0, 2).map(JSON.parse))).files : []) {
+      held[it[0]] ??= new Map()
+      held[it[0]].set(path, (held[it[0]].get(path) ?? 0) + 1)
+    }
+    return held
   }
 }
 
@@ -207,15 +285,18 @@ function repeatedIn(report) {
 // What the records say, from what `cvr check` and `cvr conflicts` print, and from volume 1, if there is one. `read` gives the
 // bytes of a file.
 function looked(paths, read, check, printed, volume) {
-  const states = judged(paths, check.text, check.log), conflicts = new Conflicts(conflictsIn(printed)), seen = volume ? new Seen(conflicts) : null
+  const states = judged(paths, check.text, check.log), conflicts = new Conflicts(conflictsIn(printed))
+  const seen = volume ? new Seen(conflicts, byId(valueOf(new TextDecoder().decode(read(0))).Election[0].Contest)) : null
   for (const it of volume?.records() ?? []) seen.take(it)
+  const said = new Reports()
   conflicts.shows(volume ? {ReportingDevice: volume.rest.ReportingDevice} : {})
   const repeated = paths.map((path, at) => {
     if (states[at].records === undefined) return []
     const report = valueOf(new TextDecoder().decode(read(at)))
+    if (at || saidIn(report).length) said.take(path, report)
     conflicts.take(path, at ? report : {ReportingDevice: report.ReportingDevice})
     if (at) seen?.takeFile(path, report)
     return repeatedIn(report)
   })
-  return {states, repeated, seen: seen?.ended() ?? null, disagreements: conflicts.ended(), volumes: Number(/\d+\n$/.exec(printed)?.[0] ?? 0)}
+  return {states, repeated, said: {mixed: said.mixed(), lines: said.lines()}, seen: seen?.ended() ?? null, disagreements: conflicts.ended(), volumes: Number(/\d+\n$/.exec(printed)?.[0] ?? 0)}
 }

@@ -2,6 +2,9 @@
 // What cvr prints and logs, as values; and the definition's names. Numbers are BigInt: a sum may be longer than 53 bits.
 
 const COLUMNS = ['Ballots', 'Overvotes', 'Undervotes', 'Write-ins', 'Pending', 'Unassigned']
+const RANKED = ['borda', 'range', 'rcv'], ABSENT = '-'
+const ONE = ['CVR.BallotMeasureContest', 'CVR.RetentionContest']        // of one vote, where nothing states how many
+const SEVERAL = ['cumulative', ...RANKED]       // in which one selection may have several votes of a ballot
 const FAULT = /^(?:E[126]|E3 .* \d+|E[45] .*|K[12]|memory)$/
 
 // The parts of a printed line: texts, numbers and null.
@@ -71,18 +74,21 @@ function inWords(fault, faults) {
   return {code, place, meaning: rule ? faults.rules[rule][0] : meaning, todo: rule ? faults.rules[rule][1] : todo}
 }
 
+// Whether the votes of a contest are ranks or scores.
+const isRanked = (its, greatest) => RANKED.includes(its?.VoteVariation) || greatest?.get(its?.['@id']) > 1
+
 // The words of a command, as a shell takes them.
 function commandOf(words) {
   return words.map(it => /^[\w@%+=:,./-]+$/.test(it) ? it : `'${it.replace(/'/g, `'"'"'`)}'`).join(' ')
 }
 
 // The rows as CSV, one line for each number of votes; a cell that a table would take for a formula begins with an apostrophe.
-function csvOf(rows) {
+function csvOf(rows, shown) {
   const cell = it => it === null ? '' : `"${String(it).replace(/^[=+\-@\t\r]/, `'$&`).replace(/"/g, '""')}"`
   const lines = [['contest', 'unit', 'batch', 'number of', 'selection', 'number']]
   for (const {contest, unit, batch, selections, numbers} of rows)
     numbers.forEach((it, at) => lines.push([contest, unit, batch, at < COLUMNS.length ? COLUMNS[at].toLowerCase() : 'votes',
-      at < COLUMNS.length ? null : selections[at - COLUMNS.length], it]))
+      at < COLUMNS.length ? null : selections[at - COLUMNS.length], shown(contest, at, it)]))
   return lines.map(it => it.map(cell).join(',') + '\r\n').join('')
 }
 
@@ -105,6 +111,42 @@ const pointed = step => '/' + String(step).replace(/~/g, '~0').replace(/\//g, '~
 function compact(it) {
   if (Array.isArray(it)) return `[${it.map(compact).join(',')}]`
   return isObject(it) ? `{${Object.keys(it).sort(byText).map(name => `${spelled(name)}:${compact(it[name])}`).join(',')}}` : spelled(it)
+}
+
+// ---- what reports say of themselves
+
+// By its OtherReportType whether a report is of a test, or lacks ballots.
+const saidIn = report => (typeof report.OtherReportType === 'string' ? report.OtherReportType : '').toLowerCase().match(/[a-z]+/g) ?? []
+
+// Reports by path: all, those of a test, and those that lack ballots. RULES has the sentences.
+class Reports {
+  constructor() {
+    this.all = new Set()
+    this.tests = new Set()
+    this.parts = new Set()
+  }
+
+  take(path, report) {
+    const words = saidIn(report)
+    this.all.add(path)
+    if (words.some(it => RULES.TESTS.some(one => it.startsWith(one)))) this.tests.add(path)
+    if (words.includes(RULES.INCOMPLETE)) this.parts.add(path)
+  }
+
+  // What is wrong where some are of a test and others aren't, or null.
+  mixed() {
+    const others = [...this.all].filter(it => !this.tests.has(it))
+    return this.tests.size && others.length ? filled(RULES.MIXED, [...this.tests][0], others[0], this.tests.size, others.length) : null
+  }
+
+  lines() {
+    return [[RULES.OF_A_TEST, this.tests], [RULES.NOT_WHOLE, this.parts]].filter(([, some]) => some.size).map(([said, some]) => filled(said, some.size, this.all.size))
+  }
+
+  members() {
+    const words = [...this.tests.size ? [RULES.TESTS[0]] : [], ...this.parts.size ? [RULES.INCOMPLETE] : []]
+    return words.length ? {ReportType: ['other'], OtherReportType: words.join(',')} : {}
+  }
 }
 
 // ---- the definition's names

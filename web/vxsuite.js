@@ -114,16 +114,55 @@ async function seeFrame(compiled, path, frame) {
   if (status) throw status === 4 ? new Refused() : new Error(log)
 }
 
-async function frameIn(source, compiled, notes) {
-  const text = await textOf(source), held = parsed(source.path, text), frame = isObject(held) ? own(held, RULES.FRAME) : null
+// What an export says of itself; JSON that is whole, and no member of it twice.
+async function metadataIn(source) {
+  const text = await textOf(source), held = parsed(source.path, text)
   seeMembers(source.path, text)
+  return held
+}
+
+async function frameIn(source, held, compiled, notes, reports) {
+  const frame = isObject(held) ? own(held, RULES.FRAME) : null
   if (!isObject(frame)) throw new Unfit(source.path, RULES.NO_FRAME)
   if (!['null', '[]', '{}', '0', '""', 'false'].includes(compact(own(frame, 'CVR') ?? null))) throw new Unfit(source.path, RULES.OWN_RECORDS)
   for (const name of Object.keys(held).sort(byText))
     if (name !== RULES.FRAME && !RULES.LEFT.includes(name)) notes.push(filled(RULES.LEFT_OUT, source.path, spelled(name)))
   const its = {...frame, CVR: []}
   await seeFrame(compiled, source.path, its)
+  reports.take(source.path, its)
+  if (its.OtherReportType && ![reports.tests, reports.parts].some(it => it.has(source.path))) notes.push(filled(RULES.OTHER_TYPE, source.path, spelled(its.OtherReportType)))
+  if (folderOf(source.path).split('/').some(it => it.toUpperCase().startsWith(RULES.TEST_FOLDER)) && !reports.tests.has(source.path)) throw new Unfit(source.path, filled(RULES.MISNAMED, RULES.TEST_FOLDER))
   return its
+}
+
+// ---- what has to be there
+
+const lacks = (path, said, place) => { throw new Unfit(path, said + RULES.GO_ON, place) }
+
+// Stops where ballots may follow. A central scanner says nothing of polls.
+function seeClosed(path, held) {
+  const isClosed = own(held, RULES.CLOSED) ?? (Object.hasOwn(held, RULES.CLOSED) ? null : true)
+  if (typeof isClosed !== 'boolean') throw new Unfit(path, RULES.NO_TRUTH)
+  if (!isClosed) lacks(path, RULES.STILL_OPEN)
+}
+
+// The number of sheets that an export states of each batch.
+function batchesIn(path, held) {
+  if (!Object.hasOwn(held, RULES.BATCHES)) lacks(path, RULES.NO_BATCHES)
+  const stated = new Map(), batches = Array.isArray(held[RULES.BATCHES]) ? held[RULES.BATCHES] : [null]
+  for (const [at, it] of batches.entries()) {
+    const name = isObject(it) ? own(it, 'id') : null
+    if (typeof name !== 'string' || stated.has(name) || typeof own(it, 'sheetCount') !== 'number') throw new Unfit(path, RULES.NO_BATCH, `/${RULES.BATCHES}/${at}`)
+    stated.set(name, it.sheetCount)
+  }
+  return stated
+}
+
+// Stops at the first batch of which another number of ballots is stated than came.
+function seeBatches(path, stated, came) {
+  const stop = (said, name, ...numbers) => lacks(path, filled(said, spelled(name), ...numbers), `/${RULES.BATCHES}`)
+  for (const [name, number] of stated) if (number !== (came.get(name) ?? 0)) stop(RULES.OTHER_COUNT, name, number, came.get(name) ?? 0)
+  for (const [name, number] of came) if (!stated.has(name)) stop(RULES.UNLISTED, name, number)
 }
 
 // ---- the records
@@ -131,10 +170,10 @@ async function frameIn(source, compiled, notes) {
 const isRejected = folder => baseOf(folder).startsWith(RULES.REJECTED)
 
 // Stops at a ballot without a report: part of the export is missing.
-function seeBallots(folder, sources, held) {
+function seeBallots(exports, sources, held) {
   for (const it of sources) {
     const its = folderOf(it.path)
-    if (its !== folder && folderOf(its) === folder && !held.has(its) && !isRejected(its)) throw new Unfit(its, RULES.NO_REPORT)
+    if (!exports.has(its) && exports.has(folderOf(its)) && !held.has(its) && !isRejected(its)) throw new Unfit(its, RULES.NO_REPORT)
   }
 }
 
@@ -152,7 +191,8 @@ async function recordIn(source) {
   } catch (fault) {       // more than one member
     stop(RULES.NO_ONE_RECORD)
   }
-  return {text: its[1].trim(), name: nameOf(records[0]).map(spelled).join(' ')}
+  const batch = own(records[0], 'BatchId')
+  return {text: its[1].trim(), name: nameOf(records[0]).map(spelled).join(' '), batch: typeof batch === 'string' ? batch : null}
 }
 
 // The records in files, each behind those before it.
@@ -189,29 +229,38 @@ class Records {
 
 const TOGETHER = 64     // reports that are read at once, since each has a browser wait
 
-const isLeft = ({path, file}) => ![RULES.METADATA, RULES.REPORT].includes(baseOf(path)) && !(RULES.IMAGES.some(it => path.endsWith(it)) && !isRejected(folderOf(path)))
+const isRead = path => baseOf(path) === RULES.METADATA || baseOf(path) === RULES.REPORT && !isRejected(folderOf(path))
+const isLeft = ({path}) => !isRead(path) && !(RULES.IMAGES.some(it => path.endsWith(it)) && !isRejected(folderOf(path)))
 
 // The definition and the files of records that an export gives; how many records it has, counted by folders; what is left out;
 // and of each file of records the sources of these.
 async function gathered(sources, compiled, tell) {
   const all = sources.sort((a, b) => byText(a.path, b.path)), root = all[0].path.split('/')[0], notes = [], union = new Union(), out = new Records()
-  const of = name => all.filter(it => baseOf(it.path) === name), reports = of(RULES.REPORT), held = new Set(reports.map(it => folderOf(it.path)))
-  const folders = new Set(of(RULES.METADATA).map(it => folderOf(it.path)))
+  const of = name => all.filter(it => baseOf(it.path) === name), reports = of(RULES.REPORT).filter(it => isRead(it.path)), held = new Set(reports.map(it => folderOf(it.path)))
+  const saids = new Map(), came = new Map(of(RULES.METADATA).map(it => [folderOf(it.path), new Map()])), said = new Reports()
   for (const it of of(RULES.METADATA)) {
     tell(it.path, 'Reading ' + it.path)
-    union.take(it.path, await frameIn(it, compiled, notes))
-    seeBallots(folderOf(it.path), all, held)
+    saids.set(it.path, await metadataIn(it))
   }
+  for (const it of of(RULES.METADATA)) union.take(it.path, await frameIn(it, saids.get(it.path), compiled, notes, said))
+  seeBallots(came, all, held)
   for (let from = 0; from < reports.length; from += TOGETHER) {
     const some = reports.slice(from, from + TOGETHER)
     for (const [at, it] of (await Promise.allSettled(some.map(recordIn))).entries()) {
       tell(some[at].path, at ? null : `Reading ballot ${from + 1} of ${reports.length}`)
-      if (!folders.has(folderOf(folderOf(some[at].path)))) throw new Unfit(some[at].path, RULES.NO_METADATA)
+      const batches = came.get(folderOf(folderOf(some[at].path)))
+      if (!batches) throw new Unfit(some[at].path, RULES.NO_METADATA)
       if (it.reason) throw it.reason
       out.add(some[at].path, it.value)
+      batches.set(it.value.batch, (batches.get(it.value.batch) ?? 0) + 1)
     }
   }
-  const report = union.report()
+  for (const [path, it] of saids) {
+    seeClosed(path, it)
+    seeBatches(path, batchesIn(path, it), came.get(folderOf(path)))
+  }
+  if (said.mixed()) throw new Unfit(null, said.mixed())
+  const report = {...union.report(), ...said.members()}
   if (!reports.length) throw new Unfit(root, filled(RULES.NO_RECORD, 'vxsuite'))
   if (!report.Election[0].Contest.length) throw new Unfit(root, RULES.NO_CONTEST)
   const blobs = [new Blob([textOfReport(report)]), ...out.ended(report, root)]

@@ -6,7 +6,7 @@ import sys
 import tempfile
 from contextlib import contextmanager
 
-from . import VERSION, compare, program, reading
+from . import VERSION, compare, program, reading, testing
 from .progress import Progress
 from .reading import spelled
 
@@ -97,17 +97,20 @@ def laid(text):
 
 def run(words):
     """The definition, once `cvr` has accepted it and, under it, each of the reports."""
-    cvr, union = program.find(), Union()
+    cvr, union, reports = program.find(), Union(), testing.Reports()
     progress = Progress(sys.stderr, len(words.files))
     marks = {path: program.mark_of(path) for path in words.files}
     try:
         for place, path in enumerate(words.files):
             progress.show('read %d of %d files' % (place, len(words.files)))
             see_accepted(cvr, [path])
-            union.take(path, frame_of(path))
+            frame = frame_of(path)
+            reports.take(path, frame)
+            union.take(path, frame)
     finally:
         progress.end()
-    text = text_of(union.report())
+    program.see_one_sort(reports, words.test)
+    text = text_of({**union.report(), **reports.members()})
     with laid(text) as path:
         see_accepted(cvr, [path] + words.files)
     for path, mark in marks.items():

@@ -1,4 +1,7 @@
 """Forms of `records` that other tools read; docs/AUDITING.md says how well each is known."""
+from collections import Counter
+from functools import partial
+
 from .program import WORDS, ended
 from .table import AUDIT, BATCH, DEVICE, NUMBERS, SEQUENCE, STYLE, UNIQUE, UNIT, contests_in
 
@@ -7,16 +10,26 @@ ARLO = ['CvrNumber', 'TabulatorNum', 'BatchId', 'RecordId', 'ImprintedId', 'Coun
 TIED = 'the record %s %s has two selections of one Rank in %s, which this form cannot have'
 
 
+def apart(ids, name_of):
+    """The name of each id; where several have one name, with the id behind it."""
+    names = {key: name_of(key) for key in ids}
+    counts = Counter(names.values())
+    return {key: name if counts[name] == 1 else '%s (%s)' % (name, key) for key, name in names.items()}
+
+
+def heads_of(about):
+    """For each selection the heads of its column: its contest, and its own name."""
+    for contest, name in apart(about.selections, about.names.plain_contest).items():
+        names = apart(about.selections[contest], partial(about.names.plain_selection, contest))
+        head = '%s (Vote For=%d)' % (name, about.allowed.get(contest) or 1)
+        yield from ((head, it) for it in names.values())
+
+
 def arlo(lines, about):
     """Dominion's CSV of cast vote records, as Arlo reads it."""
-    heads = [(contest, selection) for contest, chosen in about.selections.items()
-             for selection in chosen]
-    names = ['%s (Vote For=%d)' % (about.names.plain_contest(it), about.allowed.get(it) or 1)
-             for it, _ in heads]
-    blank = [None] * len(ARLO)
+    heads, blank = list(heads_of(about)), [None] * len(ARLO)
     yield [about.names.election, 'cvr-audit'] + blank[2:] + [None] * len(heads)
-    yield blank + names
-    yield blank + [about.names.plain_selection(*it) for it in heads]
+    yield from (blank + list(it) for it in zip(*heads))
     yield ARLO + [None] * len(heads)
     places = {}
     for number, cells in enumerate(lines, 1):

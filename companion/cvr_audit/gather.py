@@ -4,7 +4,7 @@ import os
 import re
 import sys
 
-from . import (gather_cdf, gather_clearballot, gather_dominion, gather_dominion_json, gather_ess,
+from . import (gather_cdf, gather_clearballot, gather_devices, gather_dominion, gather_dominion_json, gather_ess,
                gather_hart, gather_vxsuite, page_faults, program)
 from . import gather_said as said
 from .gather_out import DEFINITION, writing
@@ -21,6 +21,9 @@ KINDS = {
     'hart': gather_hart,
     'clearballot': gather_clearballot,
 }
+# the options that not every kind reads
+OF_KINDS = {'contests': ('dominion', 'clearballot', 'ess'), 'heads': ('clearballot',), 'votes': ('hart',), 'left_out': ('ess',),
+            'device': ('dominion', 'dominion-json', 'ess', 'clearballot')}
 RECORD = re.compile(r'/CVR/(\d+)')
 UNKNOWN = ('no form of export is recognised here (%s); if it is one of these, name it with --as, '
            'and see docs/GATHER.md' % ', '.join(KINDS))
@@ -59,7 +62,7 @@ def refused(out, log):
 
 
 def see_accepted(cvr, out):
-    """The number of records that `cvr check` prints, and of names that `cvr currents` prints."""
+    """The number of records that `cvr check` prints, and what `cvr currents` prints."""
     paths = [out.at(DEFINITION)] + [out.at(name) for name in out.files]
     done = program.started([cvr, 'check', '--'] + paths)
     if done.returncode == 1:
@@ -70,50 +73,75 @@ def see_accepted(cvr, out):
     done = program.started([cvr, 'currents', '--'] + paths)
     if done.returncode:
         raise program.Ended(done.returncode, done.stderr)
-    return [count for _, count in counts], done.stdout.count(b'\n')
+    return [count for _, count in counts], done.stdout
 
 
-def see_counts(cvr, kind, sources, out):
+def see_counts(cvr, kind, sources, out, report):
     """Stops where the records that `cvr` reads are not as many as those of the sources, which are
-    counted here in another way."""
-    counts, names = see_accepted(cvr, out)
-    expected = kind.count(sources)
+    counted here in another way. Notes those that name another snapshot than `cvr` counts."""
+    counts, currents = see_accepted(cvr, out)
+    expected, names = kind.count(sources), currents.count(b'\n')
     if (sum(counts), names) != expected:
         text = ('cvr reads %d records with %d names, but the sources have %d with %d; nothing is '
                 'written' % (sum(counts), names, *expected))
         raise program.mismatch(text)
+    for note in out.named.notes(currents, report) if out.named else ():
+        out.note(note)
     return counts
 
 
 def text_of(name, words, out, counts, sources):
     """What is printed: the kind, the reports with their records, and what isn't in them."""
-    lines = ['kind %s' % name]
+    lines = ['kind %s' % name] + gather_devices.lines_of(words)
     lines += ['%s %d' % (os.path.join(words.folder, file), count)
               for file, count in zip(out.files, counts)]
     lines += ['left out %s' % spelled(it.name) for it in sources
               if it.digest is None and not KINDS[name].stays(it)]
-    return ''.join(line + '\n' for line in lines + out.left)
+    return out.reports.headed(''.join(line + '\n' for line in lines + out.left))
+
+
+def see_options(words, name):
+    """Stops at an option that the kind doesn't read."""
+    for option, kinds in OF_KINDS.items():
+        if getattr(words, option) and name not in kinds:
+            raise program.ended(program.WORDS, '--%s is of the kinds %s alone, and this export is of the '
+                                'kind %s' % (option.replace('_', '-'), ', '.join(kinds), name))
+
+
+def see_said(out, report, words):
+    """Gives the definition what the sources say of themselves. With --test all of it is of a test."""
+    program.see_one_sort(out.reports, words.test)
+    out.reports.is_made_test = words.test
+    if words.manifest:
+        out.see_manifest(words.manifest)
+    report.update(out.reports.members())
 
 
 def run(words):
     """Writes the folder; the text says what it has."""
     cvr, progress = program.find(), Progress(sys.stderr, 2)
-    sources = sources_in(words.files)
+    gather_devices.see_names(words)
+    sources = sources_in(words.files, words.device)
     name = words.kind or recognised(sources, words.files)
     kind = KINDS[name]
     if not any(map(kind.fits, sources)):
         raise fault(words.files[0], 'nothing here is of the kind %s' % name)
+    see_options(words, name)
     with writing(words.folder) as out:
+        out.take(words)
+        out.way = gather_devices.WAY if name in OF_KINDS['device'] else ''
         try:
             progress.show('read %d sources of the kind %s' % (len(sources), name))
-            report = kind.read(sources, out, cvr)
+            report = kind.read(sources, out, cvr, words)
+            see_said(out, report, words)
+            gather_devices.see_distinct(sources)
             if not out.count:
                 raise fault(words.files[0], said.NO_RECORD % name)
             if not report['Election'][0]['Contest']:
                 raise fault(words.files[0], said.NO_CONTEST)
             out.finish(report, sources)
             progress.show('cvr check: %d records' % out.count)
-            counts = see_counts(cvr, kind, sources, out)
+            counts = see_counts(cvr, kind, sources, out, report)
         finally:
             progress.end()
         text = text_of(name, words, out, counts, sources)

@@ -1,6 +1,7 @@
 """Reports of the standard, as they are or longer than `cvr` reads them."""
 from . import definition
 from .gather_json import Document, Names, record_of, see_frame
+from .gather_undone import Named
 
 CLASS = b'"CVR.'       # of a report or, where its records stand first, of one of these
 # of VxSuite: such a report without its records, and others without what it has
@@ -16,16 +17,18 @@ def stays(source):
     return False
 
 
-def read(sources, out, cvr):
+def read(sources, out, cvr, words):
     """Adds the records; answers the definition."""
-    union = definition.Union()
+    union, out.named = definition.Union(), Named()
     for source in filter(fits, sources):
         document = Document(source, 'CVR')
         for number, value, text in document.items():
             out.add(record_of(source, number, value, text), may_repeat=True)
+            out.named.take(source, number, value)
         frame = dict(document.rest, CVR=[])
         see_frame(cvr, source, frame)
         union.take(source.name, frame)
+        out.take_report(source.name, frame)
     return union.report()
 
 

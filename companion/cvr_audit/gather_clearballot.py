@@ -2,13 +2,15 @@
 import re
 from collections import Counter
 
-from .gather_frame import Contest, Frame, snapshot
-from .gather_table import Table, begins, marks, rows_of
+from .gather_choices import choices_of
+from .gather_columns import Contests, Head
+from .gather_frame import Frame, snapshot
+from .gather_table import Table, begins, rows_of
 from .reading import spelled
 
 NEEDED = ['BoxID', 'BoxPosition', 'BallotID', 'PrecinctID', 'BallotStyleID', 'ScanComputerName']
 OPTIONAL = ['RowNumber', 'PrecinctStyleName', 'Status', 'Remade']
-CHOICE = re.compile(r'Choice_\d+_1:(.+):Vote For ([1-9][0-9]{0,8}):(.+):([^:]*)', re.S)
+CHOICE = re.compile(r'Choice_\d+_1:(.+):Vote For ([1-9][0-9]{0,8}):(.+)', re.S)
 HEADS = 1
 SHOWN = 5           # texts of Status in a note
 
@@ -22,51 +24,46 @@ def stays(source):
 
 
 class Heads:
-    """The heads: `fixed` has the index of each column that is no selection's, and `columns` the index
-    and the id of each selection, by contest."""
+    """The heads: `fixed` has the index of each column that is no selection's, and `contests` a Head
+    for each of the others."""
 
-    def __init__(self, table, rows, frame):
-        self.table, self.frame, self.columns = table, frame, {}
+    def __init__(self, table, rows, order):
+        self.table = table
         self.cells = table.head(rows, 'its heads')
         fixed = [it for it in self.cells if not it.startswith('Choice_')]
         table.see_head(fixed, NEEDED, OPTIONAL)
         self.fixed = {name: self.cells.index(name) for name in fixed}
-        for place, cell in enumerate(self.cells):
-            if cell.startswith('Choice_'):
-                self.take(place, cell)
+        held = [self.parts(place, cell) for place, cell in enumerate(self.cells, 1)
+                if cell.startswith('Choice_')]
+        choices = choices_of(table, [(column, rest) for column, _, _, rest in held], order)
+        self.contests = [Head(column, name, (name, allowed), int(allowed), *choice)
+                         for (column, name, allowed, _), choice in zip(held, choices)]
 
-    def take(self, place, cell):
-        """Adds a column of a selection."""
+    def parts(self, column, cell):
+        """The contest of a column, its number of votes, and what stands behind."""
         found = CHOICE.fullmatch(cell)
-        if not found:
-            raise self.table.fault('column %d has no contest, `Vote For N` and choice: %s'
-                                   % (place + 1, cell))
-        name, allowed, choice, party = found.groups()
-        held = self.frame.contests.setdefault(name, Contest(name, name, int(allowed)))
-        key, columns = held.key_of(choice, party), self.columns.setdefault(name, [])
-        if held.allowed != int(allowed) or key is None:
-            raise self.table.fault('the choice %s stands twice in %s, or the contest has two numbers '
-                                   'of votes' % (choice, name))
-        if columns and columns[-1][0] != place - 1:
-            raise self.table.fault('the contest %s stands in two places' % name)
-        held.add(key, choice)
-        columns.append((place, key))
+        if not found or cell.count(':Vote For ') > 1:
+            raise self.table.fault('column %d has no contest, `Vote For N` once, and choice: %s'
+                                   % (column, cell))
+        return (column, *found.groups())
 
 
 class Reader:
     """The rows of a source as records."""
 
-    def __init__(self, source, out, ballots):
+    def __init__(self, source, out, ballots, order):
         self.out, self.table, self.ballots = out, Table(source), ballots
         self.remade, self.statuses = 0, Counter()
-        self.rows, self.own = self.table.rows(), Frame('clearballot')
-        self.heads = Heads(self.table, self.rows, self.own)
+        self.rows = self.table.rows()
+        self.heads = Heads(self.table, self.rows, order)
 
-    def read(self, frame):
-        frame.see_same(self.own, self.table)
+    def read(self, frame, contests):
+        own = Frame('clearballot')
+        columns = contests.take(self.table, own, self.heads.contests)
+        frame.see_same(own, self.table)
         for cells in self.rows:
             self.table.see_row(cells, self.heads.cells)
-            self.out.add(self.record(frame, cells))
+            self.out.add(self.record(frame, cells, contests.texts(self.table, frame, columns, cells)))
         if self.remade:
             self.note(self.remade, 'Remade that is not 0')
         if self.statuses:
@@ -85,13 +82,15 @@ class Reader:
 
     def see_ballot(self, ballot):
         """Stops where an id of a ballot stands twice."""
-        if ballot in self.ballots:
-            raise self.table.fault('the BallotID %s stands here and in %s'
-                                   % (ballot, self.ballots[ballot]))
-        place = '%s: line %d' % (self.table.source.name, self.table.line)
-        self.ballots.update({ballot: place} if ballot else {})
+        source = self.table.source
+        if (source.device, ballot) in self.ballots:
+            first, line = self.ballots[source.device, ballot]
+            raise self.table.fault('the BallotID %s stands here and in %s: line %d%s'
+                                   % (ballot, first, line, self.out.way_beside(source, first)))
+        if ballot:
+            self.ballots[source.device, ballot] = source.name, self.table.line
 
-    def record(self, frame, cells):
+    def record(self, frame, cells, texts):
         """The record of a row."""
         held = {name: cells[place] for name, place in self.heads.fixed.items()}
         parts = [held['BoxID'], held['BoxPosition']]
@@ -100,10 +99,6 @@ class Reader:
         self.see_ballot(held['BallotID'])
         self.remade += held.get('Remade', '') not in ('', '0')
         self.statuses.update(filter(None, [held.get('Status')]))
-        found = [(name, marks(self.table, columns, cells))
-                 for name, columns in self.heads.columns.items()]
-        texts = [frame.contests[name].marked(chosen) for name, chosen in found
-                 if chosen is not None]
         header = {'BallotAuditId': held['BallotID'], 'BallotStyleId': held['BallotStyleID'],
                   'BallotStyleUnitId': frame.unit(held['PrecinctID']), 'BatchId': held['BoxID']}
         name = held['ScanComputerName'], '-'.join(parts)
@@ -111,11 +106,12 @@ class Reader:
                             [('a', snapshot('a', 'interpreted', texts))])
 
 
-def read(sources, out, cvr):
+def read(sources, out, cvr, words):
     """Adds the records; answers the definition."""
-    frame, ballots = Frame('clearballot'), {}
+    frame, ballots, contests = Frame('clearballot'), {}, Contests(words.contests)
     for source in filter(fits, sources):
-        Reader(source, out, ballots).read(frame)
+        Reader(source, out, ballots, words.heads).read(frame, contests)
+    contests.see_overvoted(frame, out)
     return frame.report()
 
 

@@ -1,7 +1,12 @@
 """The JSON of Dominion: CvrExport.json, and lists of what its numbers name."""
+from collections import Counter, namedtuple
+
+from .gather_ess_words import NO_CHOICE, is_no_choice
 from .gather_frame import Contest, Frame, position, snapshot
 from .gather_json import STRICT, Document, value_in
+from .gather_sessions import Stated
 from .gather_source import fault
+from .gather_writein import is_write_in
 from .reading import pointer, spelled
 
 EXPORT, LIST = 'CvrExport', 'Manifest.json'
@@ -24,7 +29,16 @@ LEFT = {
     'Mark': {'ManifestationId', 'PartyId', 'MarkDensity', 'WriteinIndex', 'WriteinDensity',
              'OutstackConditionIds'},
 }
+APART = '; gather each export by itself, with --device NAME where they number their ballots alike'
 KINDS = (('Original', 'original'), ('Modified', 'modified'))
+UNSTATED = ('%d contests in snapshots have more marks that are votes than are allowed, and state no '
+            'overvote; each is taken for overvoted')
+UNEQUAL = ('in %d contests in snapshots the votes and Undervotes don\'t come to VoteFor; each is '
+           'written as it stands')
+OF_TYPE = '%d sessions have the SessionType %s; each is read as the others'
+SCANNED = 'ScannedVote', None
+# A mark; the rank is None in a contest without ranks.
+Mark = namedtuple('Mark', 'choice is_vote is_sure rank')
 
 
 def is_export(source):
@@ -60,8 +74,8 @@ def list_named(sources, base, is_needed=True):
     """The list of a name; it stands once among the sources."""
     held = [it for it in sources if it.base == base]
     if len(held) > 1 or is_needed and not held:
-        raise fault(held[-1].name if held else base, 'it has to be there once, beside %s.json'
-                    % EXPORT)
+        text = 'it has to be there once, beside %s.json' % EXPORT
+        raise fault(held[-1].name if held else base, text + APART * bool(held))
     return texts_in(held[0]) if held else None
 
 
@@ -69,22 +83,50 @@ def add_contests(frame, sources):
     """Adds the contests and their choices, as the lists have them."""
     for key, item in list_named(sources, CONTESTS).items():
         allowed = item.get('VoteFor')
-        if type(allowed) is not int:
-            raise fault(CONTESTS, 'the contest %s has no VoteFor' % key)
+        if type(allowed) is not int or allowed < 1:
+            raise fault(CONTESTS, 'the contest %s has no VoteFor of 1 or more' % key)
         frame.contests[key] = Contest(key, item['Description'], allowed,
                                       'rcv' if item.get('NumOfRanks') else None)
     for key, item in list_named(sources, CANDIDATES).items():
         contest = str(item.get('ContestId'))
         if contest not in frame.contests:
             raise fault(CANDIDATES, 'the candidate %s is of no contest' % key)
-        frame.contests[contest].add(key, item['Description'], item.get('Type') == 'WriteIn')
+        if is_no_choice(item['Description']):
+            raise fault(CANDIDATES, NO_CHOICE % (item['Description'],
+                                                 frame.contests[contest].shown['Name']))
+        frame.contests[contest].add(key, item['Description'], is_write_in(str(item.get('Type'))))
+
+
+def is_ranked(contest):
+    return 'VoteVariation' in contest.shown
+
+
+class Export:
+    """What all sessions share: the election, the list of units or None, how many contests are
+    overvoted by their marks alone, in how many votes and undervotes are too many or too few, and how
+    many sessions are of a type that isn't SCANNED."""
+
+    def __init__(self, sources):
+        self.frame, self.types = Frame('dominion-json'), Counter()
+        self.unstated = self.unequal = 0
+        add_contests(self.frame, sources)
+        self.units = list_named(sources, UNITS, is_needed=False)
+
+    def notes(self):
+        """What is said of all sessions."""
+        if self.unstated:
+            yield UNSTATED % self.unstated
+        if self.unequal:
+            yield UNEQUAL % self.unequal
+        for kind, number in sorted(self.types.items()):
+            yield OF_TYPE % (number, kind)
 
 
 class Session:
     """A session of an export: the records of its cards."""
 
-    def __init__(self, frame, units, source, number, value):
-        self.frame, self.units, self.source = frame, units, source
+    def __init__(self, export, source, number, value):
+        self.export, self.frame, self.source = export, export.frame, source
         self.place, self.value = pointer('Sessions', number), value
 
     def fault(self, text, *steps):
@@ -109,7 +151,7 @@ class Session:
     # ---- votes
 
     def mark(self, contest, value, steps):
-        """A mark: its choice and its position. One that is ambiguous is never a vote."""
+        """A mark. One that is ambiguous is never a vote."""
         self.see(value, 'Mark', steps)
         key = str(self.of(value, 'CandidateId', int, steps))
         if key not in contest.selections:
@@ -117,9 +159,22 @@ class Session:
                              *steps)
         is_vote = self.of(value, 'IsVote', bool, steps)
         is_sure = not self.of(value, 'IsAmbiguous', bool, steps)
-        is_ranked = 'VoteVariation' in contest.shown
-        rank = self.of(value, 'Rank', int, steps) if is_ranked else None
-        return key, position(is_vote, is_sure, rank), is_vote and is_sure
+        rank = self.of(value, 'Rank', int, steps) if is_ranked(contest) else None
+        return Mark(key, is_vote, is_sure, rank)
+
+    def overvoted(self, contest, marks, stated, steps):
+        """The ranks that have too many votes; in a contest without ranks, None stands for all of it.
+        Where an overvote is stated, marks that are no vote may show its rank."""
+        if stated and not is_ranked(contest):
+            return {None}
+        allowed = 1 if is_ranked(contest) else contest.allowed
+        votes = Counter(it.rank for it in marks if it.is_sure and (it.is_vote or stated))
+        found = {rank for rank, number in votes.items() if number > allowed}
+        if stated and not found:
+            raise self.fault('it states Overvotes %d, but no rank is marked twice: which of its %d marks '
+                             'are overvoted isn\'t known' % (stated, len(marks)), *steps)
+        self.export.unstated += bool(found and not stated)
+        return found
 
     def contest(self, value, steps):
         """The text of a contest in a snapshot."""
@@ -127,17 +182,24 @@ class Session:
         key = str(self.of(value, 'Id', int, steps))
         if key not in self.frame.contests:
             raise self.fault('the contest %s is not in %s' % (key, CONTESTS), *steps)
-        contest, chosen, written = self.frame.contests[key], {}, 0
-        for place, mark in enumerate(self.of(value, 'Marks', list, steps)):
-            choice, made, is_counted = self.mark(contest, mark, [*steps, 'Marks', place])
-            is_written, votes = contest.selections[choice], chosen.setdefault(choice, [])
-            if votes and not is_written and 'VoteVariation' not in contest.shown:
-                raise self.fault('the CandidateId %s is marked twice' % choice, *steps)
-            votes.append(made)
-            written += is_counted and is_written
+        contest, chosen = self.frame.contests[key], {}
+        marks = [self.mark(contest, it, [*steps, 'Marks', place])
+                 for place, it in enumerate(self.of(value, 'Marks', list, steps))]
         numbers = {it: self.of(value, it, int, steps) for it in ('Overvotes', 'Undervotes')
                    if it in value}
-        return contest.written(chosen.items(), dict(numbers, WriteIns=int(written)))
+        over = self.overvoted(contest, marks, numbers.get('Overvotes', 0), steps)
+        if not over and not is_ranked(contest) and 'Undervotes' in numbers:
+            votes = sum(it.is_vote and it.is_sure for it in marks)
+            self.export.unequal += votes + numbers['Undervotes'] != contest.allowed
+        for it in marks:
+            votes = chosen.setdefault(it.choice, [])
+            if votes and not contest.selections[it.choice] and not is_ranked(contest):
+                raise self.fault('the CandidateId %s is marked twice' % it.choice, *steps)
+            votes.append(position(it.is_vote and it.rank not in over, it.is_sure, it.rank))
+        if over:
+            numbers['Overvotes'] = numbers.get('Overvotes') or contest.allowed
+        numbers.update({'Status': ['overvoted']} if None in over else {})
+        return contest.written(chosen.items(), numbers)
 
     def cards(self, name):
         """The cards of a version, each with the steps that lead to it."""
@@ -175,10 +237,11 @@ class Session:
     def header(self, version, parts):
         """The header of the records, by the current version."""
         name, style = (self.id_of(version, it) for it in ('PrecinctPortionId', 'BallotTypeId'))
-        if name is not None and self.units is not None:
-            if name not in self.units:
+        units = self.export.units
+        if name is not None and units is not None:
+            if name not in units:
                 raise self.fault('the PrecinctPortionId %s is not in %s' % (name, UNITS), version)
-            self.frame.unit(name, self.units[name]['Description'])
+            self.frame.unit(name, units[name]['Description'])
         elif name is not None:
             self.frame.unit(name)
         return {'BallotStyleUnitId': name, 'BallotStyleId': style, 'BatchId': '-'.join(parts[:2])}
@@ -199,6 +262,9 @@ class Session:
         held = [[card.get('Id') for card, _ in it] for it in cards]
         if any(it != held[0] for it in held):
             raise self.fault('Original and Modified have different cards')
+        self.see_contests_apart(cards[-1])
+        if self.value.get('SessionType') not in SCANNED:
+            self.export.types[spelled(self.value['SessionType'])] += 1
         header = self.header(names[-1], parts)
         for place, versions in enumerate(zip(*cards)):
             more = [str(place + 1)] if len(held[0]) > 1 else []
@@ -207,6 +273,17 @@ class Session:
             yield self.frame.record(self.source, self.place + pointer(*versions[0][1]),
                                     (parts[0], '-'.join(parts + more)), dict(header, **sheet),
                                     snapshots)
+
+    def see_contests_apart(self, cards):
+        """Stops where a contest stands on two cards, as a ballot would then be counted twice."""
+        held = {}
+        for number, (card, steps) in enumerate(cards):
+            for place, it in enumerate(self.of(card, 'Contests', list, steps)):
+                key = it.get('Id') if isinstance(it, dict) else None
+                if held.setdefault(str(key), number) != number:
+                    raise self.fault('the contest %s stands on the cards %d and %d of this session'
+                                     % (key, held[str(key)] + 1, number + 1), *steps, 'Contests',
+                                     place)
 
     def snapshot(self, name, card, steps):
         kind = dict(KINDS)[name]
@@ -221,19 +298,21 @@ class Session:
         return str(value)
 
 
-def read(sources, out, cvr):
+def read(sources, out, cvr, words):
     """Adds the records; answers the definition."""
-    frame = Frame('dominion-json')
-    add_contests(frame, sources)
-    units = list_named(sources, UNITS, is_needed=False)
+    export, stated = Export(sources), Stated()
     for source in filter(is_export, sources):
-        document = Document(source, 'Sessions', STRICT)
+        document, number = Document(source, 'Sessions', STRICT), -1
         for number, value, _ in document.items():
-            for record in Session(frame, units, source, number, value).records():
+            for record in Session(export, source, number, value).records():
                 out.add(record)
         if not document.is_there:
             raise fault(source.name, 'it has no Sessions')
-    return frame.report()
+        stated.take(source, document.rest, number + 1)
+    stated.see(out)
+    for text in export.notes():
+        out.note(text)
+    return export.frame.report()
 
 
 def cards_of(session):

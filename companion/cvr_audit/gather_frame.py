@@ -1,6 +1,8 @@
 """An election as a form of export names it, and records under it, in the standard's members."""
 from . import VERSION
+from .gather_devices import Ballots
 from .gather_out import Record
+from .gather_writein import is_write_in, votes_of
 from .reading import pointer, spelled
 
 ELECTION, SCOPE = 'election', 'all units'
@@ -9,11 +11,6 @@ NOTES = ('Made by cvr-audit %s of an export of the kind %s. GeneratedDate stands
          'export has none.')
 HEADER = 'BallotAuditId', 'BallotSheetId', 'BallotStyleId', 'BallotStyleUnitId', 'BatchId', \
          'BatchSequenceId'
-
-
-def is_write_in(name):
-    """Whether the name of a choice says that it is for names that are written in."""
-    return name.lower().replace('-', '').replace(' ', '').startswith('writein')
 
 
 class Contest:
@@ -40,10 +37,10 @@ class Contest:
         self.columns.add((choice, party))
         return key
 
-    def add(self, key, name, is_written=None):
+    def add(self, key, name, is_written=False):
         """Adds a selection, if it isn't there."""
         if key not in self.selections:
-            self.selections[key] = is_write_in(name) if is_written is None else is_written
+            self.selections[key] = is_written or is_write_in(name)
             self.names[key] = name
 
     def candidate(self, key):
@@ -67,11 +64,13 @@ class Contest:
     # ---- in a snapshot
 
     def written(self, chosen, members):
-        """The text of the contest in a snapshot: selections with their positions, and numbers."""
+        """The text of the contest in a snapshot: a list of selections with their positions, and
+        numbers."""
         held = [{'@type': 'CVR.CVRContestSelection', 'ContestSelectionId': key,
                  'SelectionPosition': positions} for key, positions in chosen]
         more = {'CVRContestSelection': held} if held else {}
-        return spelled(dict({'@type': 'CVR.CVRContest', 'ContestId': self.key}, **members, **more))
+        made = dict({'@type': 'CVR.CVRContest', 'ContestId': self.key}, **members, **more)
+        return spelled(dict(made, WriteIns=votes_of(self, chosen)))
 
     def marked(self, chosen):
         """The same where one mark stands for each of the selections `chosen`, of which only so many
@@ -80,8 +79,7 @@ class Contest:
         if chosen not in self.texts:
             lost = self.allowed - len(chosen)
             positions = [(key, [position(is_vote=lost >= 0)]) for key in chosen]
-            members = {'Overvotes': self.allowed if lost < 0 else 0, 'Undervotes': max(lost, 0),
-                       'WriteIns': sum(self.selections[key] for key in chosen)}
+            members = {'Overvotes': self.allowed if lost < 0 else 0, 'Undervotes': max(lost, 0)}
             members.update({'Status': ['overvoted']} if lost < 0 else {})
             self.texts[chosen] = self.written(positions, members)
         return self.texts[chosen]
@@ -110,6 +108,7 @@ class Frame:
     def __init__(self, kind, name=None):
         self.kind, self.name, self.contests, self.units, self.devices = kind, name, {}, {}, {}
         self.first = None       # what the first source says
+        self.ballots = Ballots()
 
     def see_same(self, other, table):
         """Takes over the contests of a first source, and stops where a later one has others."""
@@ -129,10 +128,21 @@ class Frame:
         self.devices[key] = {'@id': key, '@type': 'CVR.ReportingDevice'}
         return key
 
+    def of_source(self, source, name, header, snapshots):
+        """The name of a record and its header, with what --device names its source."""
+        device, unique = name
+        if source.device is None:
+            return name, header
+        self.ballots.take(source, name, (header.get('BallotStyleUnitId'), *snapshots))
+        batch = header.get('BatchId')
+        header = dict(header, BatchId=batch and '%s/%s' % (source.device, batch))
+        is_named = device != self.kind      # as that of a form is that names none
+        return ('%s/%s' % (source.device, device) if is_named else source.device, unique), header
+
     def record(self, source, place, name, header, snapshots):
         """A record of the device and UniqueId `name`. What is None or empty of its header is left out;
         the current snapshot is the last of (id, text)."""
-        device, unique = name
+        (device, unique), header = self.of_source(source, name, header, snapshots)
         held = {'@type': 'CVR.CVR', 'CreatingDeviceId': self.device(device), 'UniqueId': unique,
                 'ElectionId': ELECTION, 'CurrentSnapshotId': snapshots[-1][0]}
         held.update((member, header[member]) for member in HEADER if header.get(member))
@@ -141,6 +151,7 @@ class Frame:
 
     def report(self):
         """The definition. All is in the order of ids, but contests and selections are as added."""
+        self.ballots.see_others()
         scope = SCOPE
         while scope in self.units:
             scope = 'really ' + scope

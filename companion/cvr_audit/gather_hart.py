@@ -3,8 +3,10 @@ import collections
 import re
 
 from . import gather_xml
-from .gather_frame import Contest, Frame, is_write_in, position, snapshot
+from .gather_ess_words import NO_CHOICE, is_no_choice
+from .gather_frame import Contest, Frame, position, snapshot
 from .gather_source import fault
+from .gather_votes import Votes
 
 SPACE = '{http://tempuri.org/CVRDesign.xsd}'
 ROOT = SPACE + 'Cvr'
@@ -43,8 +45,8 @@ def stays(source):
 class Reader:
     """A source as a record."""
 
-    def __init__(self, source, frame):
-        self.source, self.frame = source, frame
+    def __init__(self, source, frame, votes):
+        self.source, self.frame, self.votes = source, frame, votes
 
     def fault(self, text):
         return fault(self.source.name, text)
@@ -106,17 +108,24 @@ class Reader:
         key = self.text(held, 'Id') or (WRITTEN if is_written else '')
         if not key or not name:
             raise self.fault('an Option of %s has no Name or no Id' % contest.key)
-        contest.add(key, name, is_written or is_write_in(name))
+        if key not in contest.selections and is_no_choice(name):
+            raise self.fault(NO_CHOICE % (name, contest.shown['Name']))
+        contest.add(key, name, is_written)
         if contest.names[key] != name:
             raise self.fault('the Option %s is named %s, and %s elsewhere'
                              % (key, name, contest.names[key]))
+        if is_written and not contest.selections[key]:
+            raise self.fault('the Option %s of %s has WriteInData, and none in a file before'
+                             % (key, contest.key))
         return key if value == '1' else None
 
     def contest(self, element):
         """The text of a contest in a snapshot."""
         held = self.parts(element, 'Contest')
         key, name = self.text(held, 'Id'), self.text(held, 'Name')
-        contest = self.frame.contests.setdefault(key, Contest(key, name))
+        if key not in self.frame.contests:
+            self.frame.contests[key] = Contest(key, name, self.votes.of(key, name))
+        contest = self.frame.contests[key]
         if contest.shown['Name'] != name:
             raise self.fault('the Contest %s is named %s, and %s elsewhere'
                              % (key, name, contest.shown['Name']))
@@ -126,10 +135,13 @@ class Reader:
         for it, number in marks.items():
             if number > 1 and not contest.selections[it]:
                 raise self.fault('an Option of %s is marked twice' % key)
-        numbers = {'WriteIns': sum(contest.selections[it] for it in chosen)}
-        numbers.update((it, self.number(held, it)) for it in ('Undervotes', 'Overvotes')
-                       if it in held)
-        positions = [(it, [position()] * number) for it, number in marks.items()]
+        numbers = {it: self.number(held, it) for it in ('Undervotes', 'Overvotes') if it in held}
+        self.votes.take(self.source, contest, len(chosen), numbers)
+        is_over = bool(numbers.get('Overvotes')) \
+            or contest.allowed is not None and len(chosen) > contest.allowed
+        if is_over:
+            numbers.update(Overvotes=numbers.get('Overvotes') or contest.allowed, Status=['overvoted'])
+        positions = [(it, [position(not is_over)] * number) for it, number in marks.items()]
         return contest.written(positions, numbers)
 
     def unit(self, held):
@@ -165,11 +177,12 @@ def in_order(frame):
         contest.selections = {key: contest.selections[key] for key in sorted(contest.selections)}
 
 
-def read(sources, out, cvr):
+def read(sources, out, cvr, words):
     """Adds the records; answers the definition."""
-    frame = Frame('hart')
+    frame, votes = Frame('hart'), Votes(words.votes)
     for source in filter(is_export, sources):
-        out.add(Reader(source, frame).record())
+        out.add(Reader(source, frame, votes).record())
+    votes.see(frame.contests)
     in_order(frame)
     return frame.report()
 

@@ -1,6 +1,7 @@
 """What `gather` writes: a folder with a definition, reports, and a list of where each record came
 from. It has another name until all is done, and nothing is left of it where that fails."""
 import csv
+import json
 import os
 import shutil
 import signal
@@ -8,9 +9,10 @@ import tempfile
 from collections import namedtuple
 from contextlib import contextmanager
 
-from . import definition
+from . import definition, testing
 from . import gather_said as said
 from .gather_source import fault, in_a_line
+from .manifest import Sizes, manifest_in
 from .program import FAILED, ended
 from .reading import spelled
 
@@ -29,12 +31,27 @@ def private(path, flags):
     return os.open(path, flags, 0o600)
 
 
+def named(batch):
+    """The name of a batch in a sentence; None where a record has no BatchId."""
+    parts = batch if isinstance(batch, tuple) else (None, batch)
+    return ' '.join(map(spelled, parts[parts[0] is None:]))
+
+
+def header_of(record):
+    """The texts of a record that its size goes by; `cvr` refuses another kind of them."""
+    value = json.loads(record.text)
+    held = {it: value.get(it) for it in ('CreatingDeviceId', 'BatchId', 'BallotSheetId')}
+    return {name: it for name, it in held.items() if isinstance(it, str)}
+
+
 class Out:
-    """The folder that is written. `files` has the names of the reports, and `left` the lines for
-    what isn't in them."""
+    """The folder that is written. `files` has the names of the reports, `left` the lines for what
+    isn't in them, and `reports` what the sources say of themselves."""
 
     def __init__(self, path):
-        self.path, self.names, self.files, self.left = path, set(), [], []
+        self.reports, self.sizes, self.is_part = testing.Reports(), None, False
+        self.named = None       # of a kind whose records name their current snapshot
+        self.path, self.names, self.files, self.left, self.way = path, set(), [], [], ''
         self.file, self.room, self.count = None, 0, 0
         above, name = os.path.split(os.path.abspath(path))
         if os.path.lexists(path):
@@ -53,6 +70,39 @@ class Out:
     def note(self, text):
         self.left.append(in_a_line('note: %s' % text))
 
+    def take_report(self, path, frame):
+        """Notes what a report says of itself. What isn't known of that is named."""
+        self.reports.take(path, frame)
+        if frame.get(testing.OTHER) and not {path} & {*self.reports.tests, *self.reports.parts}:
+            self.note(said.OTHER_TYPE % (path, spelled(frame[testing.OTHER])))
+
+    def lack(self, name, text, place=None):
+        """Stops at a source of which ballots are missing, or notes it where that is meant."""
+        if not self.is_part:
+            raise fault(name, text + said.GO_ON, place)
+        self.note(': '.join(it for it in (name, place, text) if it))
+        self.reports.lacks += 1
+
+    def see_manifest(self, path):
+        """Compares the batches with those of a manifest of the county."""
+        expected = manifest_in(path)
+        came = {batch: ballots for batch, (ballots, _) in self.sizes.by(expected).items()}
+        self.see_batches(path, expected, came)
+
+    def see_batches(self, name, stated, came, place=None):
+        """Stops at the first batch of a source of which another number of ballots is stated than came;
+        None states none. Names are texts or, of a manifest, a device or None, and a text."""
+        for batch, number in (stated or {}).items():
+            if number != came.get(batch, 0):
+                self.lack(name, said.OTHER_COUNT % (named(batch), number, came.get(batch, 0)), place)
+        for batch, number in came.items() if stated is not None else ():
+            if batch not in stated:
+                self.lack(name, said.UNLISTED % (named(batch), number), place)
+
+    def take(self, words):
+        """Notes what is meant by options."""
+        self.is_part, self.sizes = words.incomplete, Sizes() if words.manifest else None
+
     # ---- records
 
     def add(self, record, may_repeat=False):
@@ -60,6 +110,8 @@ class Out:
         name = record.device, record.unique
         if name in self.names and not may_repeat:
             raise self.twice(record)
+        if self.sizes and name not in self.names:
+            self.sizes.take(header_of(record))
         self.names.add(name)
         self.count += 1
         if len(record.text) + 2 > self.room:
@@ -86,7 +138,11 @@ class Out:
         names = [spelled(record.device), spelled(record.unique)]
         first = next(line for line in self.held() if line[4:6] == names)
         text = said.ELSEWHERE % (' '.join(names), *first[:2])
-        return fault(record.source.name, text, record.place)
+        return fault(record.source.name, text + self.way_beside(record.source, first[0]), record.place)
+
+    def way_beside(self, source, first):
+        """What goes on where a name stands in a source and in another one."""
+        return self.way if source.name != first else ''
 
     def held(self):
         """The lines of the list as far as it is written."""

@@ -47,7 +47,8 @@ LONG_ELECTION = 'the election has more than %d bytes'
 # ---- VxSuite
 METADATA, REPORT = 'metadata.json', 'cast-vote-record-report.json'
 FRAME = 'castVoteRecordReportMetadata'
-LEFT = 'arePollsClosed', 'castVoteRecordRootHash', 'batchManifest'
+CLOSED, BATCHES = 'arePollsClosed', 'batchManifest'
+LEFT = CLOSED, 'castVoteRecordRootHash', BATCHES
 REJECTED = 'rejected-'
 IMAGES = '.jpg', '.jpeg', '.png', '.layout.json'
 NO_FRAME = 'it has no ' + FRAME
@@ -56,3 +57,30 @@ LEFT_OUT = '%s: its member %s is left out'
 NO_REPORT = 'there is no %s in this folder of a ballot' % REPORT
 NO_METADATA = 'there is no %s beside its folder' % METADATA
 NO_ONE_RECORD = 'it is no object with a CVR of one record, and nothing else'
+
+# ---- reports of a test, and exports that aren't whole
+TESTS, INCOMPLETE, TEST_FOLDER = ('test', 'pretest'), 'incomplete', 'TEST__'
+OTHER_TYPE = '%s: its OtherReportType %s is left out, as it names no test'
+MIXED = ('%s is of a test by its OtherReportType, and %s is not: %d reports of a test and %d others; '
+         'leave out those of one sort, or go on with --test')
+MISNAMED = ('its folder has a name that begins with %s, as of a test, and its OtherReportType says '
+            'nothing of one; give the folder another name, or go on with --test')
+MADE_TEST = 'TEST: all of it is of a test by --test, and %d of %d reports by themselves'
+OF_A_TEST = 'TEST: %d of %d reports are of a test'
+NOT_WHOLE = 'INCOMPLETE: %d of %d reports lack ballots'
+MADE_PART = 'INCOMPLETE: ballots are missing, as %d notes below say'
+GO_ON = '; look for what is missing, or go on with --incomplete'
+NO_BATCHES = 'it has no batchManifest, so nothing says how many sheets there are'
+NO_BATCH = 'it is no batch with an id of its own and a sheetCount'
+OTHER_COUNT = 'the batch %s has %d ballots there, and %d came'
+UNLISTED = 'the batch %s is not there, and %d ballots of it came'
+UNKNOWN_BESIDE = 'the member %s beside Sessions is not of this form as it is known'
+OTHER_SESSIONS = 'its %s is %d, and it has %d sessions'
+STILL_OPEN = 'arePollsClosed is false, so ballots may follow'
+NO_TRUTH = 'arePollsClosed is neither true nor false'
+
+# ---- records that name another snapshot than the one that counts
+UNDONE = ('%s: %s: the record %s %s names %s as its current snapshot, and %s counts: %s; look at both in the '
+          'adjudication log')
+READINGS = '%s has %s in the first, and %s in the second'
+SAME_READING = 'both say the same of all contests'

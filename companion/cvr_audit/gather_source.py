@@ -6,6 +6,7 @@ import re
 import stat
 import zipfile
 import zlib
+from itertools import zip_longest
 
 from . import gather_said as said
 from .program import ended
@@ -32,10 +33,11 @@ def fault(name, text, place=None):
 class Source:
     """A file of what was given. `name` is its path, with that of its ZIP before it, and `digest` the
     SHA-256 of what was read of it, once it was read. A folder without files has a name that ends
-    with `/`."""
+    with `/`. `device` is what --device names it."""
 
     def __init__(self, name, size, opened):
         self.name, self.size, self.opened, self.digest = name, size, opened, None
+        self.device = None
         self.folder, self.base = os.path.split(name)
 
     def file(self):
@@ -176,10 +178,10 @@ def is_zip(path):
         return file.read(len(PACKED)) == PACKED
 
 
-def sources_in(paths):
-    """The sources of what was given, by name."""
+def sources_in(paths, devices=()):
+    """The sources of what was given, by name, with a device for each path where there are some."""
     held = {}
-    for path in map(named, paths):
+    for path, device in zip_longest(map(named, paths), devices or ()):
         if os.path.isdir(path):
             found = in_folder(path)
         else:
@@ -190,5 +192,5 @@ def sources_in(paths):
                 raise fault(source.name, said.WITHIN)
             if source.name in held:
                 raise fault(source.name, 'it was given twice')
-            held[source.name] = source
+            source.device, held[source.name] = device, source
     return [held[name] for name in sorted(held)]

@@ -99,19 +99,6 @@ class Table:
             raise self.fault('the head stands here again: two files in one')
 
 
-def marks(table, columns, cells):
-    """The selections of a contest that a row marks with 1; None where the cells are empty, as the
-    contest isn't on the ballot. `columns` has the index and the id of each selection."""
-    found = {cells[place] for place, _ in columns}
-    if found == {''}:
-        return None
-    for text in found - {'0', '1'}:
-        said = 'some cells of a contest are empty and others are not' if text == '' else \
-            'a mark is neither 1, 0 nor empty, but %s' % text
-        raise table.fault(said)
-    return [key for place, key in columns if cells[place] == '1']
-
-
 def rows_of(sources, heads):
     """The number of rows behind the first ones, counted in another way than they are gathered."""
     number = 0

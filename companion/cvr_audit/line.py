@@ -2,8 +2,8 @@
 import argparse
 import sys
 
-from . import (VERSION, compare, definition, gather, journal, lines, output, page, paths, program, records,
-               strict, totals, trace, warnings, why, without, writeins)
+from . import (VERSION, compare, definition, gather, gather_choices, journal, lines, output, page,
+               paths, program, records, strict, totals, trace, warnings, why, without, writeins)
 
 ABOUT = ('Print cast vote records one by one, compare two sets of files, trace a number of the '
          'tally, warn of what needs a person, make what a voting system exports into files that cvr '
@@ -70,6 +70,8 @@ FROM = (('--files-from',), 'LIST', {'help': 'a list of the paths of files, one a
 NULL = (('--null',), None, {'action': 'store_true', 'help': 'paths in lists end with a NUL byte'})
 PLAIN = (('--spreadsheet',), None, {'action': 'store_true', 'help': 'an apostrophe before each cell of CSV '
                                     'that a spreadsheet would take for a formula'})
+TEST = (('--test',), None, {'action': 'store_true', 'help': 'takes reports of a test, also beside '
+                            'others'})
 # each command's options, with what stands for their values
 OPTIONS = {
     'records': [
@@ -86,6 +88,7 @@ OPTIONS = {
         (('--format',), 'FORM', {'choices': list(totals.FORMS), 'default': 'text', 'dest': 'form',
                                  'help': '`text`, `csv` or `json`'}),
         PLAIN,
+        TEST,
         (('-o',), 'OUT', {'dest': 'output',
                           'help': 'the file to write to, in place of standard output'}),
     ],
@@ -95,7 +98,7 @@ OPTIONS = {
         (('-o',), 'JSON', {'dest': 'output',
                            'help': 'the file to write to, in place of standard output'}),
     ],
-    'strict': [],
+    'strict': [TEST],
     'why': [
         (('--format',), 'FORM', {'choices': list(why.FORMS), 'default': 'text', 'dest': 'form',
                                  'help': '`text` or `json`'}),
@@ -123,13 +126,17 @@ OPTIONS = {
         (('--public',), None, {'action': 'store_true', 'help': 'a page for the public: no path, no '
                                'record, and no number from which one below ten follows'}),
         (('--second',), 'PROGRAM', {'help': 'a second program, whose `tally` has to print the same'}),
+        TEST,
         (('-o',), 'HTML', {'dest': 'output',
                            'help': 'the file to write to, in place of standard output'}),
     ],
     'warnings': [
         (('--manifest',), 'CSV', {'help': MANIFEST}),
+        (('--all',), None, {'action': 'store_true', 'help': 'each line also where there are more than '
+                            'ten of one kind, which are otherwise folded to their number'}),
     ],
     'definition': [
+        TEST,
         (('-o',), 'JSON', {'dest': 'output',
                            'help': 'the file to write to, in place of standard output'}),
     ],
@@ -138,6 +145,22 @@ OPTIONS = {
                           'help': 'the folder to write, which isn\'t there yet'}),
         (('--as',), 'KIND', {'dest': 'kind', 'choices': list(gather.KINDS),
                              'help': 'the kind of the export, in place of recognising it'}),
+        TEST,
+        (('--incomplete',), None, {'action': 'store_true', 'help': 'goes on where ballots are missing '
+                                   'that the export or a manifest states'}),
+        (('--manifest',), 'CSV', {'help': MANIFEST}),
+        (('--contests',), 'CONTEST=COLUMNS', {'action': 'append',
+                                              'help': 'the columns of a table, from 1, that are a contest '
+                                                      'each, such as `Council=4-5,6-7`'}),
+        (('--left-out',), 'COLUMN', {'action': 'append', 'help': 'the head of a column of ES&S that is no '
+                                                                 'contest, and is left out'}),
+        (('--device',), 'NAME', {'action': 'append', 'help': 'the source of the records of each FROM, in '
+                                 'the order of these'}),
+        (('--votes',), 'CONTEST=N', {'action': 'append',
+                                     'help': 'how many votes a contest of Hart allows, by its name or Id'}),
+        (('--heads',), 'ORDER', {'choices': list(gather_choices.ORDERS),
+                                 'help': 'what stands behind `Vote For N:` in heads of Clear Ballot: '
+                                         '`choice:party`, `party:choice` or `choice`'}),
     ],
     'journal': [
         (('--verify',), None, {'action': 'store_true', 'help': 'in place of a run: print what was '
@@ -301,11 +324,25 @@ def made(words):
             if side.recount:
                 side.recount.see()
             side.see_unchanged()
-            log(side.notes.encode('utf-8', 'surrogateescape'))
+            program.see_one_sort(side.reports, getattr(words, 'test', True))
+            text = side.reports.headed(text) if is_headed(words) else text
+            log((said_beside(side, words) + side.notes).encode('utf-8', 'surrogateescape'))
     except OSError as fault:
         parts = [str(it) for it in (fault.filename, fault.strerror) if it]
         raise program.ended(program.FAILED, ': '.join(parts)) from None
     return text, 1 if is_found or any(side.status for side in files) else 0
+
+
+def is_headed(words):
+    """Whether what the reports say of themselves stands before the text."""
+    return words.run in (totals.run, strict.run, warnings.run) and getattr(words, 'form', '') != 'json'
+
+
+def said_beside(side, words):
+    """The same for standard error, where it stands neither in the text nor on a page."""
+    is_there = is_headed(words) or words.run in (page.run, totals.run)
+    lines = () if is_there else side.reports.lines()
+    return ''.join('cvr-audit: %s\n' % it for it in lines)
 
 
 def inputs_of(words):

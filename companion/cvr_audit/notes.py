@@ -1,6 +1,6 @@
 """What each command says of the records that it counts: `warnings` and `page` with what to do, the
 others in a line of standard error that counts them."""
-from . import origins, ranks, reading, recount
+from . import counting, excess, origins, ranks, reading, recount
 from .advice import line_of
 from .reading import spelled
 
@@ -42,17 +42,19 @@ def waiting_in(snapshot):
 
 
 class Notes:
-    """What is seen in volume 1, and then in the files. A record that waits stands with its contests."""
+    """What is seen in volume 1, and then in the files. A record that waits stands with its contests;
+    `stated` has which contests have which number stated, in whatever snapshot of a file."""
 
     def __init__(self, files):
-        self.files, self.waiting = files, []
+        self.files, self.waiting, self.stated = files, [], set()
         files.recount = recount.Recount(files)
-        self.origins, self.ranks = origins.Origins(), ranks.Ranks(files.report)
+        self.origins, self.ranks = origins.Origins(files.report), ranks.Ranks(files.report)
+        self.excess = excess.Excess(files.report)
 
     def take(self, record):
         """Notes a record of volume 1."""
         current = reading.current_of(record)
-        self.files.recount.take(record)
+        self.excess.take(record, self.files.recount.take(record))
         self.origins.take_record(record)
         self.ranks.take(current)
         contests = waiting_in(current)
@@ -62,6 +64,19 @@ class Notes:
     def take_file(self, path, report):
         """Notes a file, once all records of volume 1 are noted."""
         self.origins.take(path, report)
+        for record in report.get('CVR', []):
+            for snapshot in record['CVRSnapshot']:
+                self.take_stated(snapshot)
+
+    def take_stated(self, snapshot):
+        for contest in snapshot.get('CVRContest', []):
+            for column in counting.WANTED:
+                if counting.STATED[column] in contest:
+                    self.stated.add((contest['ContestId'], column))
+
+    def is_stated(self, contest, column):
+        """Whether a file states a number of a contest; where none does, the 0 of its column means nothing."""
+        return column not in counting.WANTED or (contest, column) in self.stated
 
     def lines(self):
         """What is said of the records and files."""
@@ -69,6 +84,8 @@ class Notes:
         yield from self.origins.repeated_lines()
         yield from self.origins.counted_lines()
         yield from self.origins.decided_lines()
+        yield from self.origins.undone.held
+        yield from self.excess.lines(self.ranks.is_ranked)
         yield from (('waiting', list(map(spelled, parts))) for parts in self.waiting)
         yield from self.ranks.lines()
 

@@ -1,5 +1,5 @@
 """In which files each record stands, and which of them have the snapshot that counts."""
-from . import reading
+from . import reading, undone
 from .moments import instant
 from .program import mismatch
 from .reading import spelled
@@ -7,9 +7,10 @@ from .reading import spelled
 
 class Record:
     """A record: its current snapshot by id and digest; whether a moment but no adjudicator stands with
-    it, and the latest moment; how many files have the record, and which have that snapshot."""
+    it, or neither, and the latest moment; how many files have the record, and which have that
+    snapshot."""
 
-    __slots__ = 'current', 'digest', 'is_unnamed', 'moment', 'files', 'having'
+    __slots__ = 'current', 'digest', 'is_unnamed', 'is_unsigned', 'moment', 'files', 'having'
 
     def __init__(self, snapshot):
         notes = snapshot.get('Annotation', [])
@@ -18,6 +19,7 @@ class Record:
         self.current, self.digest = snapshot['@id'], reading.digest(snapshot)
         self.moment = max(moments, default=None)
         self.is_unnamed = bool(moments) and not named
+        self.is_unsigned = not moments and not named
         self.files, self.having = (), ()
 
     def stands_in(self, record):
@@ -29,8 +31,9 @@ class Record:
 class Origins:
     """The records by name, and the files by place."""
 
-    def __init__(self):
+    def __init__(self, definition):
         self.records, self.paths, self.made, self.repeated = {}, [], [], []
+        self.undone = undone.Undone(definition)
 
     def take_record(self, record):
         """Notes a record of volume 1."""
@@ -46,6 +49,7 @@ class Origins:
             counts[name] = counts.get(name, 0) + 1
             if name not in self.records:
                 raise mismatch('a record of a file stands in no volume')
+            self.undone.take(path, it, self.records[name].current)
             if self.records[name].stands_in(it):
                 having.add(name)
         for name, count in counts.items():
@@ -78,6 +82,8 @@ class Origins:
         """What is said of the files that have the current snapshot of a record."""
         if len(record.files) > len(record.having):
             yield 'decides'
+            if record.is_unsigned:
+                yield 'unsigned'
         if record.is_unnamed:
             yield 'nobody'
         if record.moment is not None and all(record.moment > self.made[it] for it in record.having):

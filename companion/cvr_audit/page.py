@@ -1,5 +1,5 @@
 """cvr-audit page: the tally as a page for a browser, with all else that a canvass looks at."""
-from . import digests, page_contests, page_counts, page_inputs, page_records, page_summary, page_warnings
+from . import digests, page_contests, page_counts, page_inputs, page_records, page_said, page_summary, page_warnings
 from .page_facts import Facts
 from .page_style import style_of
 from .page_tree import code, cut, element, section, shown, text_of
@@ -24,7 +24,6 @@ def signature(facts):
 def sections(facts):
     """The sections of the page, in their order."""
     contests = page_contests.contests_of(facts)
-    yield page_inputs.inputs(facts)
     yield page_warnings.warned(facts)
     yield page_contests.totals(facts, contests)
     yield page_contests.details(facts, contests)
@@ -32,6 +31,7 @@ def sections(facts):
     if not facts.is_public:
         yield page_records.conflicts(facts)
         yield page_records.adjudications(facts)
+    yield page_inputs.inputs(facts)
     yield signature(facts)
 
 
@@ -49,7 +49,7 @@ def document(facts):
                    element('meta', name='viewport', content='width=device-width, initial-scale=1'),
                    element('title', 'UNOFFICIAL: ' + facts.names.election),
                    element('style', style_of(shown(cut(facts.names.election)))))
-    body = element('body', page_summary.head(facts), contents(parts), element('main', *parts))
+    body = element('body', *page_said.shown(facts.files.reports), page_summary.head(facts), contents(parts), element('main', *parts))
     return element('html', head, body, lang='en')
 
 

@@ -8,10 +8,10 @@ COLUMNS = 10        # columns of numbers in one table, as a sheet of paper has r
 WITHHELD = '*'
 UNKNOWN = ('The definition does not say how many votes a ballot has (VotesAllowed), so nothing is '
            'said of whether they come to the ballots.')
-ALLOWED = 'Votes and unassigned come to {:,}, and the ballots have {:,}: {}.'
+ALLOWED = 'Votes and unassigned come to {:,}, and the ballots have {:,}{}.'
 SUMS = 'Votes, overvotes, undervotes, pending and unassigned come to {:,}, the ballots to {:,}: {}.'
-RANKED = ('The votes of this contest are ranks or scores. They are added up over all ranks, and no '
-          'rounds are computed.')
+RANKED = 'The votes of this contest are ranks or scores: {}, and no rounds are computed.'
+BY_RANK, ELSEWHERE = 'they stand by rank', 'they stand on the whole page alone'
 NOTE = ('* stands for a number that is withheld: it is below ten, or one below ten would follow '
         'from it.')
 HEADS = [it.capitalize() for it in counting.COLUMNS]
@@ -41,8 +41,7 @@ class Contest:
         self.allowed, self.is_whole = facts.allowed.get(key), not facts.is_public
         self.plain, self.is_ranked = facts.names.plain_contest(key), facts.is_ranked(key)
         self.is_single = self.allowed == 1 and not self.is_ranked       # a ballot has one vote at most
-        self.stated = [it not in counting.WANTED or (key, counting.STATED[it]) in facts.seen.stated
-                       for it in counting.COLUMNS]
+        self.stated = [facts.seen.notes.is_stated(key, it) for it in counting.COLUMNS]
         self.mask = page_masking.NOTHING
 
     def title(self, facts):
@@ -83,13 +82,13 @@ def barred(votes, most):
 
 
 def selection_rows(facts, contest):
-    """The selections: votes and, where none of them is withheld, per cent; of ranks the votes alone."""
+    """The selections: votes and, where none of them is withheld, per cent."""
     hidden, counted = contest.mask.selections, sum(contest.votes)
     most = max([it for place, it in enumerate(contest.votes) if place not in hidden], default=0)
     for place, (key, votes) in enumerate(zip(contest.selections, contest.votes)):
         name = facts.names.selection(contest.key, key)
-        if place in hidden or contest.is_ranked:
-            yield [name, WITHHELD if place in hidden else votes]
+        if place in hidden:
+            yield [name, WITHHELD]
         else:
             yield [name, barred(votes, most)] + [share(votes, counted)] * (not hidden)
 
@@ -97,9 +96,8 @@ def selection_rows(facts, contest):
 def selections(facts, contest):
     """The table of the selections."""
     hidden = contest.mask.selections
-    is_shared = not hidden and not contest.is_ranked
-    heads = ['Selection', 'Votes'] + ['Per cent'] * is_shared
-    foot = None if hidden else ['Votes counted', sum(contest.votes)] + [''] * is_shared
+    heads = ['Selection', 'Votes'] + ['Per cent'] * (not hidden)
+    foot = None if hidden else ['Votes counted', sum(contest.votes), '']
     return table('Selections', heads, selection_rows(facts, contest), foot, contest.plain)
 
 
@@ -122,7 +120,7 @@ def sums_of(contest):
         return UNKNOWN
     if contest.allowed > 1:
         most = contest.ballots * contest.allowed
-        return ALLOWED.format(counted, most, 'too many' if counted > most else 'not too many')
+        return ALLOWED.format(counted, most, ': too many' if counted > most else '')
     return SUMS.format(total, contest.ballots, 'the same' if total == contest.ballots else
                        'not the same')
 
@@ -140,13 +138,14 @@ def contest_parts(facts, contest):
         yield element('p', 'Its numbers are withheld.')
         return
     yield listed([('Ballots', WITHHELD if contest.mask.is_loose else contest.ballots)])
-    yield selections(facts, contest)
     if contest.is_ranked:
-        yield element('p', RANKED)
+        yield element('p', RANKED.format(BY_RANK if contest.is_whole else ELSEWHERE))
+        yield from rank_tables(facts, contest) if contest.is_whole else ()
+    else:
+        yield selections(facts, contest)
     if contest.is_whole:
-        yield from rank_tables(facts, contest) if contest.is_ranked else ()
         yield listed(others_of(contest))
-        yield element('p', sums_of(contest))
+        yield None if contest.is_ranked else element('p', sums_of(contest))
 
 
 def totals(facts, contests):
@@ -165,7 +164,8 @@ def chunks(columns):
 def columns_of(facts, contest):
     """The heads of the columns with their indices in a row, in parts that a sheet has room for."""
     votes = [(facts.names.short_selection(contest.key, key), len(HEADS) + place)
-             for place, key in enumerate(contest.selections) if place not in contest.mask.apart]
+             for place, key in enumerate(contest.selections)
+             if place not in contest.mask.apart and not contest.is_ranked]
     numbers = [(head, place) for place, head in enumerate(HEADS) if contest.stated[place]]
     return chunks(numbers * contest.is_whole + votes)
 
@@ -193,7 +193,7 @@ def tables(facts, contest, what, held, name):
 def parts_of(facts, contest):
     """What the page has about a contest by unit and by batch."""
     yield contest.title(facts)
-    if not contest.rows or len(contest.mask.apart) == len(contest.votes) and not contest.is_whole:
+    if not contest.rows or not columns_of(facts, contest):
         yield element('p', 'No record has this contest.' if contest.is_whole else 'Withheld.')
         return
     yield from tables(facts, contest, 'Unit', by(contest.rows, 1), facts.names.unit)

@@ -66,12 +66,18 @@ def sums_of(rows):
     return {contest: [numbers[0], sum(counting.parts(numbers)[1])] for contest, numbers in sums.items()}
 
 
+def parts_of(facts, key, sums):
+    """The ballots and the votes of a contest; of ranks, which are not added up, the ballots alone."""
+    ballots, votes = sums.get(key, [0, 0])
+    return [ballots, '–' if facts.is_ranked(key) else votes]
+
+
 def counts(facts):
     """The ballots and votes of each contest as each program counted them."""
     heads = ['Contest'] + ['%s: %s' % (it.name, what) for it in facts.counters
                            for what in ('ballots', 'votes')]
     sums = [sums_of(it.rows) for it in facts.counters]
-    rows = [[facts.names.contest(key)] + [number for it in sums for number in it.get(key, [0, 0])]
+    rows = [[facts.names.contest(key)] + [part for it in sums for part in parts_of(facts, key, it)]
             for key in facts.selections]
     return element('div', element('p', SAME), folded(
         len(rows) > MANY, 'Counts of {:,} contests'.format(len(rows)), table('Counts', heads, rows)))

@@ -1,5 +1,5 @@
 """What a page is made from: the texts of `cvr`, and what was seen in records and files."""
-from . import counting, manifest, page_counts, page_names, warnings
+from . import counting, excess, manifest, page_counts, page_names, warnings
 from .page_records import adjudicated_in
 
 
@@ -23,7 +23,7 @@ class Facts:
         self.files, self.is_public = files, words.public
         self.names = page_names.Names(files.report)
         self.selections = counting.selections_of(files.report)
-        self.allowed = warnings.allowed_of(files.report)
+        self.allowed = excess.allowed_of(files.report)
         self.manifest = manifest.manifest_in(words.manifest) if words.manifest else None
         self.seen = Seen(self)
         self.warnings = list(warnings.found_in(files, words.manifest, self.seen))

@@ -7,7 +7,7 @@ COLOURS = {
     'head': ('#1f4e79', '#8ec3f2'), 'alarm': ('#7a1f1f', '#7a1f1f'), 'white': ('#ffffff', '#ffffff'),
     'box': ('#f2f4f7', '#23272d'), 'top': ('#e8edf3', '#2b3138'), 'line': ('#8c959f', '#6b747e'),
     'warn': ('#fff4d6', '#3a3016'), 'edge': ('#8a5a00', '#d9a441'), 'bar': ('#2f6ea5', '#5b9bd5'),
-    'found': ('#ffe08a', '#5a4700'),
+    'found': ('#ffe08a', '#5a4700'), 'red': ('#b00020', '#ff7b7b'),
 }
 RULES = '''
 * { box-sizing: border-box }
@@ -24,6 +24,9 @@ code { font-family: ui-monospace, monospace }
 a { color: var(--head) }
 .unofficial { background: var(--alarm); color: var(--white); display: inline-block;
   font-weight: bold; letter-spacing: .1em; margin: 0; padding: .2rem .7rem }
+.said { border: 3px solid var(--red); color: var(--red); font-size: 1.2rem; font-weight: bold;
+  margin: .3rem 0; padding: .2rem .6rem }
+.sheet { display: none }
 nav ul { display: flex; flex-wrap: wrap; gap: .2rem 1.2rem; list-style: none; padding: 0 }
 dl { display: grid; gap: .2rem .8rem; grid-template-columns: minmax(6rem, 10rem) 1fr;
   margin: .6rem 0 }
@@ -36,6 +39,7 @@ pre { background: var(--box); margin: .3rem 0; padding: .5rem; white-space: pre-
   margin: .4rem 0; padding: .4rem .7rem }
 .warnings { padding: 0 }
 .places { columns: 15rem; margin: .2rem 0; padding-left: 1.2rem }
+.places > li { break-inside: avoid }
 .wide { overflow-x: auto; margin: .6rem 0 }
 table { border-collapse: collapse; width: 100% }
 caption { font-weight: bold; padding: .3rem 0; text-align: left }
@@ -63,6 +67,8 @@ summary { cursor: pointer; font-weight: bold }
   table { font-size: 8pt; line-height: 1.15 }
   body { max-width: none; padding: 0 }
   nav { display: none }
+  .sheet { color: var(--red); display: block; font-size: 13vw; font-weight: bold; left: 0; line-height: 1;
+    margin: 0; opacity: .22; position: fixed; text-align: center; top: 35%; width: 100%; z-index: -1 }
   th, td { min-width: 0; padding: .05rem .3rem }
   tbody th { min-width: 7rem }
   thead th { min-width: 3.8rem }
@@ -74,7 +80,7 @@ summary { cursor: pointer; font-weight: bold }
   .warnings > li { break-inside: auto }
   h2, h3, caption, summary, thead { break-after: avoid }
   tbody > tr:first-child { break-before: avoid }
-  details::details-content { content-visibility: visible; block-size: auto }
+  details:not(.shut)::details-content { content-visibility: visible; block-size: auto }
 }
 '''
 MARGINS = '''@page { margin: 12mm 14mm 15mm; font: 8pt system-ui, sans-serif;

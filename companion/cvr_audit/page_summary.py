@@ -32,13 +32,13 @@ def records_of(facts):
 
 
 def command_of(facts):
-    """The command that gives the same numbers."""
+    """The command that gives the same numbers; a long one isn't printed, since Inputs has its files."""
     if facts.is_public:
         return element('pre', 'cvr tally -- DEF FILE ...')
     files = facts.files
     words = ['cvr', 'tally', '--', files.definition] + files.files
-    return folded(len(files.files) > MANY, 'cvr tally of {:,} files'.format(len(files.files)),
-                  element('pre', ' '.join(map(shlex.quote, words))))
+    return folded(len(files.files) > MANY, 'cvr tally of {:,} files, as Inputs has them'.format(len(files.files)),
+                  element('pre', ' '.join(map(shlex.quote, words))), is_shut=True)
 
 
 def head(facts):

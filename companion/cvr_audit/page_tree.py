@@ -111,11 +111,11 @@ def table(caption, heads, rows, foot=None, of=None):
                    aria_label=caption if of is None else '%s: %s' % (of, caption))
 
 
-def folded(is_many, summary, *parts):
-    """The parts, behind a line that unfolds them where they are many."""
+def folded(is_many, summary, *parts, is_shut=False):
+    """The parts, behind a line that unfolds them where they are many; in print, too, or there not."""
     if not is_many:
         return element('div', *parts)
-    return element('details', element('summary', summary), *parts)
+    return element('details', element('summary', summary), *parts, class_='shut' if is_shut else None)
 
 
 def text_of(root):

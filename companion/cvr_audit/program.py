@@ -8,7 +8,7 @@ import stat
 import subprocess
 import tempfile
 
-from . import reading
+from . import reading, testing
 from .progress import Progress
 
 DATE = '1970-01-01T00:00:00Z'       # of the heading of a volume, which nothing here reads
@@ -35,6 +35,12 @@ def ended(status, text):
 
 def mismatch(text):
     return ended(MISMATCH, text)
+
+
+def see_one_sort(reports, is_meant):
+    """Stops where some reports are of a test and others aren't, unless that is meant."""
+    if reports.mixed() and not is_meant:
+        raise ended(1, reports.mixed())
 
 
 def find():
@@ -97,7 +103,8 @@ class Files:
             raise Ended(self.status, self.log)
         self.accepted = accepted_in(files, out)
         self.notes, self.recount, self.tallied = '', None, None
-        self.report = self.report_at(definition)
+        self.report, self.reports = self.report_at(definition), testing.Reports()
+        self.reports.take_definition(definition, self.report)
 
     def run(self, task, words, files, out=subprocess.PIPE):
         """(status, output, log) of a command of the program; more paths than a system may take as words
@@ -166,7 +173,9 @@ class Files:
         try:
             for place, (path, _) in enumerate(self.accepted):
                 self.progress.show('read %d of %d files' % (place, len(self.accepted)))
-                take(path, self.report_at(path))
+                report = self.report_at(path)
+                self.reports.take(path, report)
+                take(path, report)
         finally:
             self.progress.end()
 

@@ -1,6 +1,6 @@
 """cvr-audit records: a line of CSV for each record; together they add up to the tally."""
 from . import counting, forms, notes, page_names, ranks, reading, table
-from .warnings import allowed_of
+from .excess import allowed_of
 
 BETWEEN = '; '              # between several texts in one cell
 FORMS = {'manifest': table.manifest, 'batches': table.batches, 'cvrs': table.cvrs,

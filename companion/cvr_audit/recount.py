@@ -11,10 +11,11 @@ class Recount:
         self.selections = counting.selections_of(files.report)
 
     def take(self, record):
-        """Counts a record of volume 1."""
-        current = reading.current_of(record)
-        for row, numbers in counting.rows_of(record, current, self.selections).items():
+        """Counts a record of volume 1; answers what it adds to each of its rows."""
+        rows = counting.rows_of(record, reading.current_of(record), self.selections)
+        for row, numbers in rows.items():
             counting.add(self.rows, row, numbers)
+        return rows
 
     def see(self):
         """Stops where this count isn't the tally; answers its rows."""

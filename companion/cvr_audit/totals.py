@@ -5,6 +5,7 @@ GROUPS = {'unit': 'BallotStyleUnitId', 'batch': 'BatchId', 'device': 'CreatingDe
           'style': 'BallotStyleId'}
 PRINTED = {'unit': 1, 'batch': 2}       # the groups that a row of the tally has
 NUMBERS = counting.COLUMNS
+UNSTATED = 'not stated'     # in place of a number that no file states
 
 
 def counted(files, said, selections, member):
@@ -19,9 +20,8 @@ def counted(files, said, selections, member):
     return sums
 
 
-def sums_of(files, selections, group):
+def sums_of(files, said, selections, group):
     """The sums by contest and group, in the order of the definition, then of the group's ids."""
-    said = notes.Notes(files)
     sums = counted(files, said, selections, GROUPS.get(group))
     files.notes = said.text()
     if group is None or group in PRINTED:
@@ -36,8 +36,10 @@ def sums_of(files, selections, group):
 def entries(files, group):
     """Each contest in each group: ids, names and numbers."""
     selections, names = counting.selections_of(files.report), page_names.Names(files.report)
-    for (contest, key), numbers in sums_of(files, selections, group):
+    said = notes.Notes(files)
+    for (contest, key), numbers in sums_of(files, said, selections, group):
         held, votes = counting.parts(numbers)
+        held.update((it, None) for it in NUMBERS if not said.is_stated(contest, it))
         entry = {} if group is None else {GROUPS[group]: key}
         if group == 'unit':
             entry['unit'] = names.units.get(key)
@@ -54,7 +56,8 @@ def shown(name, key):
 def as_text(made, group):
     """Lines for a reader."""
     for it in made:
-        numbers = ', '.join('%d %s' % (it[column], column) for column in NUMBERS)
+        numbers = ', '.join('%s %s' % ((column, UNSTATED) if it[column] is None else (it[column], column))
+                            for column in NUMBERS)
         where = ''
         if group is not None:
             key = it[GROUPS[group]]
@@ -71,7 +74,8 @@ def as_csv(made, group):
     yield head + ['ContestId', 'contest', 'ContestSelectionId', 'selection', 'votes', *NUMBERS]
     for it in made:
         first = [it[name] for name in head] + list(it['contest'].values())
-        yield first + [None, None, it['votes']] + [it[column] for column in NUMBERS]
+        numbers = [UNSTATED if it[column] is None else it[column] for column in NUMBERS]
+        yield first + [None, None, it['votes']] + numbers
         for one in it['selections']:
             yield first + [one['id'], one['name'], one['votes']] + [None] * len(NUMBERS)
 
@@ -85,6 +89,7 @@ def run(files, words):
     if words.form == 'csv':
         return table.text_of(as_csv(made, words.group), words.spreadsheet), False
     if words.form == 'json':
-        return written.text_of({'schema': 'cvr-audit totals 1', 'by': words.group,
+        said = {'said': list(files.reports.lines())} if files.reports.members() else {}
+        return written.text_of({'schema': 'cvr-audit totals 1', 'by': words.group, **said,
                                 'totals': made}), False
     return ''.join(as_text(made, words.group)), False

@@ -1,19 +1,19 @@
 """cvr-audit warnings: a line for each thing that needs a person before the tally is used."""
-from . import bodies, counting, notes, reading
-from .advice import line_of
+from . import bodies, counting, notes, page_names, reading
+from .advice import ADVICE, FEW, FOLDED, KNOWN, counts_of, line_of, names_in
+from .excess import allowed_of
 from .manifest import Sizes, has_devices, manifest_in
 from .reading import spelled
 
 
 class Seen:
     """What was seen in the records: the sizes of batches, the names with each BallotAuditId, the
-    names of records without a contest, which contests have which number stated, the texts of each
-    name in conflict, each as its value with the paths of the files that have it, and what is said by
-    every command."""
+    names of records without a contest, the texts of each name in conflict, each as its value with the
+    paths of the files that have it, and what is said by every command."""
 
     def __init__(self, files):
         self.notes = notes.Notes(files)
-        self.sizes, self.ballots, self.empty, self.stated = Sizes(), {}, [], set()
+        self.sizes, self.ballots, self.empty = Sizes(), {}, []
         self.texts = {}
 
     def take(self, record):
@@ -25,14 +25,6 @@ class Seen:
             self.ballots.setdefault(ballot, []).append(reading.name_of(record))
         if not reading.current_of(record).get('CVRContest'):
             self.empty.append(reading.name_of(record))
-        for snapshot in record['CVRSnapshot']:
-            self.take_stated(snapshot)
-
-    def take_stated(self, snapshot):
-        for contest in snapshot.get('CVRContest', []):
-            for name in counting.STATED.values():
-                if name in contest:
-                    self.stated.add((contest['ContestId'], name))
 
 
 def see(files, seen):
@@ -44,9 +36,6 @@ def see(files, seen):
         texts.update(conflicts.of({'ReportingDevice': [], 'CVR': [record]}))
     texts.update(conflicts.of(volume.rest))
     files.each_report(seen.notes.take_file)
-    for (kind, *_), held in texts.items():
-        for snapshot in held.values() if kind == 'snapshot' else ():
-            seen.take_stated(snapshot)
     for name in sorted(texts, key=lambda it: (bodies.KINDS.index(it[0]), it)):
         paths = conflicts.paths[name]
         seen.texts[name] = [(value, [*paths[text]]) for text, value in texts[name].items()]
@@ -61,25 +50,19 @@ def conflict_lines(texts):
         yield kind, line
 
 
-def allowed_of(definition):
-    """How many votes a ballot has in each contest, where the definition states it."""
-    allowed = {it['@id']: it.get('VotesAllowed') for it in definition['Election'][0]['Contest']}
-    return {contest: most for contest, most in allowed.items() if type(most) is int and most > 0}
-
-
 def row_lines(row, numbers, allowed):
     held, (counted, total) = counting.parts(numbers)[0], counting.come_to(numbers)
-    name, most, ballots = counting.named(row), allowed.get(row[0]), held['ballots']
+    name, most, ballots = list(map(spelled, row)), allowed.get(row[0]), held['ballots']
     for column in ('pending', 'unassigned'):
         if held[column]:
-            yield column, [name, str(held[column])]
+            yield column, [*name, str(held[column])]
     if most and counted > ballots * most:
-        yield 'votes', [name, str(counted), str(ballots * most)]
+        yield 'votes', [*name, str(counted), str(ballots * most)]
     elif most == 1 and total != ballots:
-        yield 'sum', [name, str(total), str(ballots)]
+        yield 'sum', [*name, str(total), str(ballots)]
 
 
-def contest_lines(selections, rows, stated):
+def contest_lines(selections, rows, is_stated):
     """The lines for contests that no record has, and for numbers that no file states."""
     shown = {row[0] for row in rows}
     for contest in selections:
@@ -87,9 +70,8 @@ def contest_lines(selections, rows, stated):
             yield 'contest', [spelled(contest)]
             continue
         for column in counting.WANTED:
-            name = counting.STATED[column]
-            if (contest, name) not in stated:
-                yield 'unstated', [spelled(contest), name]
+            if not is_stated(contest, column):
+                yield 'unstated', [spelled(contest), counting.STATED[column]]
 
 
 def manifest_lines(path, sizes):
@@ -110,7 +92,7 @@ def ballot_lines(ballots):
             yield 'ballot', [spelled(ballot), *(spelled(part) for name in names for part in name)]
 
 
-def found_in(files, manifest, seen):
+def all_in(files, manifest, seen):
     """Each warning as its kind and its parts. Notes in `seen` what is seen in the records."""
     yield from (('refused', [spelled(path), fault]) for path, fault in files.refused())
     see(files, seen)
@@ -119,13 +101,42 @@ def found_in(files, manifest, seen):
     rows, allowed = counting.rows_in(files.tally()), allowed_of(files.report)
     for row, numbers in rows.items():
         yield from row_lines(row, numbers, allowed)
-    yield from contest_lines(counting.selections_of(files.report), rows, seen.stated)
+    yield from contest_lines(counting.selections_of(files.report), rows, seen.notes.is_stated)
     yield from (('record', list(map(spelled, name))) for name in seen.empty)
     yield from manifest_lines(manifest, seen.sizes) if manifest else ()
     yield from ballot_lines(seen.ballots)
 
 
+def found_in(files, manifest, seen):
+    """Each warning as its kind and its parts, by importance."""
+    places = {kind: place for place, kind in enumerate(ADVICE)}
+    return sorted(all_in(files, manifest, seen), key=lambda it: places[it[0]])
+
+
+def by_kind(found):
+    """The parts of the warnings of each kind."""
+    held = {}
+    for kind, parts in found:
+        held.setdefault(kind, []).append(parts)
+    return held
+
+
+def folded(kind, lines, origins):
+    """The line in place of many of one kind: their number, and each file with that of its lines, or the
+    number of the files where these are many."""
+    counts = counts_of(kind, lines, origins)
+    files = [it for path, count in counts.items() for it in (spelled(path), count)]
+    files = files if len(counts) <= FEW else ['files', len(counts)]
+    return 'folded %s: %s%s\n' % (' '.join(map(str, [kind, len(lines), *files])), ADVICE[kind], FOLDED)
+
+
 def run(files, words):
-    """The text, and whether there is a warning."""
-    lines = [line_of(*it) for it in found_in(files, words.manifest, Seen(files))]
-    return ''.join(lines), bool(lines)
+    """The text, and whether something needs a person."""
+    seen, names, text = Seen(files), page_names.Names(files.report), []
+    held = by_kind(found_in(files, words.manifest, seen))
+    for kind, lines in held.items():
+        if len(lines) > FEW and not words.all:
+            text.append(folded(kind, lines, seen.notes.origins))
+        else:
+            text += [line_of(kind, it, names_in(kind, it, names)) for it in lines]
+    return ''.join(text), any(kind not in KNOWN for kind in held)

@@ -71,11 +71,12 @@ Selection | No rank
 Low low | 0
 High high | 30
 """
+TOO_MANY = ['Votes and unassigned come to 7, and the ballots have 6: too many.\n', ' 3 2: School board (board)\n']
 COUNTS = """Contest | cvr: ballots | cvr: votes | cvr-audit: ballots | cvr-audit: votes | second: ballots | second: votes
 County Council council | 4 | 2 | 4 | 2 | 4 | 2
 Measure 1: parks parks | 4 | 3 | 4 | 3 | 4 | 3""".splitlines()
 LARGE, BYTES = 3000, 250000     # ballots, and the bytes that their page may have
-NO_ROUNDS = 'They are added up over all ranks, and no rounds are computed.'
+NO_ROUNDS = 'The votes of this contest are ranks or scores: they stand by rank, and no rounds are computed.'
 SECONDS = 1800      # which a slip may take beside proofs
 SIDE_BY_SIDE = 4
 SETS, FEW = 40, 8   # random ones, and those with which a slip is tried
@@ -190,22 +191,29 @@ def see_second(trial, folder):
 
 
 def see_lines(trial, what, made, wanted, absent=()):
-    """Tests that the page of a set has these lines, and none of the others."""
+    """Tests that the page of a set has these lines, and none of the others. Reports of a test beside others are meant."""
     held = page_sets.texts_of(made)
     with tempfile.TemporaryDirectory() as folder:
         for path, data in held.items():
             with open(os.path.join(folder, path), 'wb') as file:
                 file.write(data)
-        text, log, status = trial.page(folder, 'def.json', [it for it in held if it != 'def.json'])
+        text, log, status = trial.page(folder, 'def.json', [it for it in held if it != 'def.json'], '--test')
     lines = ''.join(it + '\n' for it in page_text.lines(page_text.read(text)))
     wrong = ['status %d: %s' % (status, log)] * bool(status)
     wrong += ['%r is not there' % it for it in wanted if it not in lines]
     trial.see(what, wrong + ['%r is there' % it for it in absent if it in lines])
 
 
+def of_a_test(made):
+    """A set whose first three files alone are left; two of these are of a test, of which one lacks ballots."""
+    definition, files = made
+    said = [{}, {'OtherReportType': 'Test'}, {'OtherReportType': 'test,incomplete'}]
+    return definition, {path: dict(it, **more) for (path, it), more in zip(files.items(), said)}
+
+
 def see_large(trial, count):
-    """Tests that the page of a county of thousands of ballots is small, and begins with its votes."""
-    held, what = page_sets.texts_of(page_sets.machines(count)), '{:,} ballots'.format(count)
+    """Tests that the page of a county of thousands of ballots in many files is small, and begins with its votes."""
+    held, what = page_sets.texts_of(page_sets.machines(count, most=50)), '{:,} ballots'.format(count)
     see_set(trial, what, held, False)
     with tempfile.TemporaryDirectory() as folder:
         for path, data in held.items():
@@ -303,7 +311,9 @@ def mask_wrong(trial, tally, masks):
     contests = [{unit: numbers[:1] + numbers[end:] for unit, numbers in tally.sums(key, 0).items()}
                 for key in tally.contests]
     singles = [tally.allowed[key] == 1 and key not in tally.ranked for key in tally.contests]
-    for held, mask, wanted in zip(contests, masks, trial.package.page_masking.masks(contests, singles)):
+    for key, held, mask, wanted in zip(tally.contests, contests, masks, trial.package.page_masking.masks(contests, singles)):
+        if key in tally.ranked:         # of which a page for the public shows the ballots alone
+            mask, wanted = (*mask[:2], set(), set(), set()), (*wanted[:2], set(), set(), set())
         *mask, units = map(plain, mask)
         *wanted, wanted_units = map(plain, wanted)
         has_table = any(len(wanted[3]) < len(numbers) - 1 for numbers in held.values())
@@ -349,7 +359,9 @@ def pages(trial, words):
     yield see_own, words
     if not words.companion:
         yield see_large, LARGE
-    yield see_lines, 'ranks', page_sets.ranked(), [RANKS, SCORES, NO_ROUNDS]
+    yield see_lines, 'ranks', page_sets.ranked(), [RANKS, SCORES, NO_ROUNDS], ['| 60\n', 'come to 60', ' | 60 |']
+    yield see_lines, 'a test', of_a_test(page_sets.machines(9, most=3)), ['TEST: 2 of 3 reports are of a test\nINCOMPLETE: 1 of 3 reports lack ballots\nTEST INCOMPLETE\n']
+    yield see_lines, 'too many votes', page_sets.too_many(), TOO_MANY
     yield see_lines, 'machines', page_sets.machines(9), ['## Adjudications\nNone.\n']
     for name, made in tenth.chosen(words.tenth, sets(words), itemgetter(0)):
         held = made()

@@ -4,7 +4,7 @@ import re
 import shutil
 import subprocess
 
-SECTIONS = ['inputs', 'warnings', 'contests', 'units', 'batches', 'conflicts', 'adjudications',
+SECTIONS = ['warnings', 'contests', 'units', 'batches', 'conflicts', 'adjudications', 'inputs',
             'signature']
 TAGS = set('html head meta title style body header nav main section h1 h2 h3 p ul li dl dt dd div '
            'span strong small code pre bdi mark a table caption thead tbody tfoot tr th td details '

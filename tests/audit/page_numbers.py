@@ -13,12 +13,13 @@ END = len(COLUMNS)
 HIDDEN = '*'
 RANKED = 'borda', 'range', 'rcv'
 MAY_LACK = [COLUMNS.index(it) for it in ('Overvotes', 'Undervotes')]    # where no file states them
-WARNINGS = ['File refused', 'Records in DEF', 'DEF among the files', 'No file',
-            'One record several times in a file', 'Fewer records than the files have', 'A file that decides',
-            'Decided by nobody', 'Later than its files', 'Waiting', 'Ranks or scores',
-            'Two texts of a device', 'Two headers of a record', 'Two texts of a snapshot', 'Pending',
-            'Unassigned', 'Too many votes', 'Sum', 'Not stated', 'Contest without a record',
-            'Record without a contest', 'Batch', 'One ballot twice']
+WARNINGS = ['File refused', 'No file', 'DEF among the files', 'Records in DEF', 'Two headers of a record',
+            'Two texts of a snapshot', 'Another snapshot is named as current', 'One record several times in a file',
+            'One ballot twice', 'Batch', 'More votes on a ballot than it has', 'Several votes of a ballot for one',
+            'Too many votes', 'Sum', 'Waiting', 'Pending', 'Unassigned', 'Contest without a record',
+            'Record without a contest', 'Decided without a name or a moment', 'Decided by nobody',
+            'Later than its files', 'Two texts of a device', 'Ranks or scores', 'Not stated',
+            'Fewer records than the files have', 'Adjudicated records']
 COUNTED = ['Contest', 'cvr: ballots', 'cvr: votes', 'cvr-audit: ballots', 'cvr-audit: votes']
 ODD = '\x00\x07\x85\ufffe'      # the characters of page_sets.py that HTML can't have
 
@@ -94,18 +95,18 @@ class Held:
             if is_stated or place not in MAY_LACK or numbers[place]:
                 is_loose = not self.see('%s %s' % (key, column), terms[column], numbers[place], True)
         self.masks[key] = [False, is_loose, set(), {*range(len(numbers) - END)}, set()]
+        if key in self.tally.ranked:
+            self.see_ranks(tables, key, numbers[END:])
+            return
         self.see_votes(tables[0], key, numbers[0], numbers[END:])
-        if key in self.tally.ranked and not self.is_public:
-            self.see_ranks(tables[1:], key, numbers[END:])
-        elif tables[1:]:
+        if tables[1:]:
             self.wrong.append('%s: a table of ranks' % key)
         if not self.is_public:
             self.see_sums(list(part.all('p'))[-1].text(), key, numbers)
 
     def see_votes(self, table, key, ballots, votes):
-        """The votes, beside bars and with per cents, unless they are ranks or some are withheld."""
-        head, *rows = page_text.rows(table)
-        shown, is_ranked = 0, key in self.tally.ranked
+        """The votes, beside bars and with per cents, unless some are withheld."""
+        (head, *rows), shown = page_text.rows(table), 0
         hidden = [place for place, row in enumerate(rows[:len(votes)]) if row[1].text() == HIDDEN]
         most = max([it for place, it in enumerate(votes) if place not in hidden], default=0)
         self.masks[key][2].update(hidden)
@@ -113,19 +114,23 @@ class Held:
             name = (key, place)
             if self.see('%s votes' % (name,), row[1], number, True):
                 shown += number
-                self.see_bar(name, row[1], number, most, is_ranked)
+                self.see_bar(name, row[1], number, most)
             elif list(row[1].all('span')):
                 self.wrong.append('%s: a bar of votes that are withheld' % (name,))
             if len(head) > 2:
                 self.see_share(name, row[2], number, sum(votes), hidden)
-        if (len(head) > 2) == (is_ranked or bool(hidden)):
+        if (len(head) > 2) == bool(hidden):
             self.wrong.append('%s: columns %s' % (key, [it.text() for it in head]))
         if not hidden:
             self.see('%s counted' % key, rows[len(votes)][1], sum(votes))
         self.spare(key, hidden, votes, ballots * (self.tally.allowed[key] or 1) - shown)
 
     def see_ranks(self, tables, key, votes):
-        """The votes of each selection by rank come to its votes."""
+        """The votes of each selection by rank come to its votes, and no sum of them is shown; none at all for
+        the public."""
+        if self.is_public:
+            self.wrong += ['%s: a table of ranks for the public' % key] * bool(tables)
+            return
         sums = [0] * len(votes)
         for table in tables:
             head, *rows = page_text.rows(table)
@@ -145,7 +150,7 @@ class Held:
             wanted, is_well = [], 'does not say' in text
         elif allowed > 1:
             wanted, is_well = [counted, ballots * allowed], counted <= ballots * allowed
-            is_well = is_well == text.endswith(': not too many.')
+            is_well = is_well == (not text.endswith(': too many.'))
         else:
             others = held['Overvotes'] + held['Undervotes'] + held['Pending']
             wanted = [counted + others, ballots]
@@ -153,10 +158,10 @@ class Held:
         if found != wanted or not is_well:
             self.wrong.append('%s: %s' % (key, text))
 
-    def see_bar(self, name, cell, number, most, is_ranked):
+    def see_bar(self, name, cell, number, most):
         bars = [it.attributes for it in cell.all('span') if it.attributes['class'] == 'bar']
         width = 'width: %.1f%%' % (100 * number / most) if most else 'width: 0'
-        if [it['style'] for it in bars] != [width] * (not is_ranked):
+        if [it['style'] for it in bars] != [width]:
             self.wrong.append('%s: a bar with %s' % (name, bars))
 
     def see_share(self, name, cell, number, counted, hidden):
@@ -206,7 +211,8 @@ class Held:
             wanted = [] if place else \
                 [it for it in range(END, len(numbers)) if it in columns and it - END not in hidden]
         else:
-            wanted = [it for it in range(len(numbers) if self.tally.rows[key] else 0)
+            end = END if key in self.tally.ranked else len(numbers)
+            wanted = [it for it in range(end if self.tally.rows[key] else 0)
                       if it not in MAY_LACK or it in columns or numbers[it]]
         if columns != wanted:
             self.wrong.append('%s: columns %s, not %s' % (key, columns, wanted))
@@ -301,7 +307,8 @@ class Held:
                 self.wrong.append('counts: %d rows below %s' % (len(rows), [it.text() for it in head]))
             for row, key in zip(rows, self.tally.contests):
                 numbers = self.tally.total(key)
-                for cell, number in zip(row[1:], [numbers[0], sum(numbers[END:])] * 2):
+                votes = '–' if key in self.tally.ranked else sum(numbers[END:])
+                for cell, number in zip(row[1:], [numbers[0], votes] * 2):
                     self.see('count of %s' % key, cell, number)
 
     def left(self):

@@ -166,6 +166,14 @@ def uneven(chance, units=7):
     return report(contests, places), {'records.json': report(contests, places, records)}
 
 
+def too_many():
+    """Three ballots with seven votes in a contest that allows two of each: one has three."""
+    contests = [('board', 'School board', 2, [('ann', 'Ann'), ('bob', 'Bob'), ('cyd', 'Cyd')])]
+    records = [record(number, 'u', 'batch', {'board': held})
+               for number, held in enumerate([['ann', 'bob', 'cyd'], ['ann', 'bob'], ['bob', 'cyd']])]
+    return report(contests, [('u', 'Unit')]), {'records.json': report(contests, [('u', 'Unit')], records)}
+
+
 def ranked(count=30):
     """A contest of ranks and one of scores, and one whose votes are neither, of `count` ballots."""
     contests = [('mayor', 'Mayor', 1, [('ada', 'Ada'), ('bob', 'Bob'), ('cyd', 'Cyd')]),

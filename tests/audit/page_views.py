@@ -85,8 +85,9 @@ def see_large(trial, path, what):
         top = browser.value(FIRST)
         trial.see(what + ': the first votes', ['%s pixels down' % top] * (not 0 < top < SCREEN))
         if not lacks('pdftotext', shutil.which('pdftotext')):
-            count = len(sheets_of(browser, path, 'A4')) - 1
-            trial.see(what + ': sheets', ['%d sheets' % count] * (not 2 < count < SHEETS))
+            first, *sheets = sheets_of(browser, path, 'A4')
+            trial.see(what + ': sheets', ['%d sheets' % len(sheets)] * (not 2 < len(sheets) < SHEETS))
+            trial.see(what + ': the first sheet', ['it has no votes'] * ('SelectionVotes' not in first))
     except OSError as fault:
         lacks(ANSWERS, False, '%s: %s' % (what, fault))
 

@@ -1,9 +1,10 @@
-"""rows.py: the rows of rows.json, those of hostile.json, where someone or something does harm, and those of
-why.json, on refused files. Each is run in a folder of its own with the files of examples/county and its
+"""rows.py: the rows of rows.json, those of hostile.json, where someone or something does harm, those of
+why.json, on refused files, and those of testing.json, on reports of a test. Each is run in a folder of its own with the files of examples/county and its
 own files; its output, log and status are compared.
 
 A log of argparse isn't compared, as it differs between versions of Python. A line that ends with
-`@KIND` is one of `warnings`, with its advice for that kind. In a line of CSV `{of CONTEST}` stands
+`@KIND` is one of `warnings`, with its advice for that kind, for which `{advice KIND}` stands within a
+line. In a line of CSV `{of CONTEST}` stands
 for the heads of the columns of the tally, `{undervotes 1, pending 2}` for their numbers, which are 0
 where they aren't named, and `{absent}` for empty cells. A column that no row names may have any number
 here, and any line of `compare`: sets.py holds it against the tally. A row that `needs` a path of the
@@ -30,7 +31,7 @@ COLUMNS = printed.Texts.columns[1:]     # of a contest in a line of CSV
 ANY = '\0'          # stands for any number
 SECONDS = 300
 TEXTS = []
-for rows_name in 'rows.json', 'hostile.json', 'why.json':
+for rows_name in 'rows.json', 'hostile.json', 'why.json', 'testing.json':
     with open(os.path.join(HERE, rows_name), encoding='utf-8') as rows_file:
         TEXTS.append(rows_file.read())
 UNNAMED = [it for it in COLUMNS if not re.search('[{ ]%s [0-9]' % it, ''.join(TEXTS))]
@@ -78,8 +79,8 @@ def record_of(short):
     """A CVR of its short form in rows.json."""
     snapshots = list(map(snapshot_of, short['snapshots']))
     members = {name: part for name, part in short.items() if name != 'snapshots'}
-    return dict(members, **{'@type': 'CVR.CVR', 'ElectionId': 'election-2024',
-                            'CurrentSnapshotId': snapshots[0]['@id'], 'CVRSnapshot': snapshots})
+    return {'CurrentSnapshotId': snapshots[0]['@id'], **members, '@type': 'CVR.CVR', 'ElectionId': 'election-2024',
+            'CVRSnapshot': snapshots}
 
 
 def replaced(text, part):
@@ -156,7 +157,8 @@ def spelled(lines, advice):
     for line in lines:
         head, mark, kind = line.rpartition(': @')
         text += ('%s: %s' % (head, advice[kind]) if mark else line) + '\n'
-    return re.sub(r'\{(.*?)\}', cells_of, text)
+    text = re.sub(r'\{advice (.*?)\}', lambda found: advice[found.group(1)], text)
+    return re.sub(r'\{(?!")(.*?)\}', cells_of, text)
 
 
 def differences(copy, cvr, row, advice):

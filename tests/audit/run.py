@@ -33,7 +33,7 @@ FEW = 12            # the sets with which a slip is tried
 SHOWN = ['cvr check: 3 files', 'cvr check: 3 files', 'cvr merge: 3 files', 'read 0 of 2 files',
          'read 1 of 2 files', 'cvr tally: 3 files']
 SCREEN = ['damaged.json: E3 /CVR/0/UniqueId 2',
-          'cvr-audit: see cvr-audit warnings: counted 1, decides 1', '']
+          'cvr-audit: see cvr-audit warnings: counted 1, decides 1, undone 1', '']
 BROKEN = 'NameError', 'SyntaxError', 'ImportError'
 
 

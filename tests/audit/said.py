@@ -1,4 +1,4 @@
-"""said.py: a second reading of the lines `repeated` to `ranked` of docs/AUDITING.md, for sets.py: those of a
+"""said.py: a second reading of the lines of docs/AUDITING.md that other commands count, too, for sets.py: those of a
 definition and of accepted reports by path, as (kind, ..) with the texts and numbers in them."""
 from collections import Counter
 
@@ -50,11 +50,40 @@ def of_files(texts, held, accepted):
         moments = stamps(current)
         if {path for path in places if name in places[path]} != having:
             found.update(('decides', path) for path in having)
+            if not moments and not has_name(current):
+                found.update(('unsigned', path) for path in having)
         if moments and not has_name(current):
             found.update(('nobody', path) for path in having)
         if moments and latest(moments) > latest(accepted[path]['GeneratedDate'] for path in having):
             found.update(('later', path) for path in having)
     yield from ((*key, count) for key, count in found.items())
+    for path, report in accepted.items():
+        for cvr in report.get('CVR', []):
+            counts, named = texts.current(held.records[name_of(cvr)])['@id'], cvr['CurrentSnapshotId']
+            if counts != named and any(it['@id'] == counts for it in cvr['CVRSnapshot']):
+                yield 'undone', path, *name_of(cvr), named, counts
+
+
+def of_votes(texts, held, definition, ranked):
+    """The lines on single records with more votes than a contest allows, or several for one selection."""
+    contests = {it['@id']: it for it in definition['Election'][0]['Contest'] if it['@id'] not in ranked}
+    found = Counter()
+    for name, record in held.records.items():
+        for contest, selection, position in chosen_in(texts.current(record)):
+            if position.get('IsAllocable', position['HasIndication']) == 'yes':
+                found[name, contest, selection.get('ContestSelectionId')] += position['NumberVotes']
+    sums = Counter()
+    for (name, contest, selection), votes in found.items():
+        sums[name, contest] += votes
+        its = contests.get(contest, {'VoteVariation': 'cumulative'})
+        one = {it['@id']: it for it in its.get('ContestSelection', [])}.get(selection, {'IsWriteIn': True})
+        if votes >= 2 and its.get('VoteVariation') != 'cumulative' and not one.get('IsWriteIn', False):
+            yield 'doubled', contest, selection, *name, votes
+    for (name, contest), votes in sums.items():
+        its = contests.get(contest, {'@type': None})
+        most = its.get('VotesAllowed', 1 if its['@type'] in ('CVR.BallotMeasureContest', 'CVR.RetentionContest') else 0)
+        if 0 < most < votes:
+            yield 'exceeds', contest, *name, votes, most
 
 
 def of_marks(texts, held, definition):
@@ -78,4 +107,6 @@ def of_marks(texts, held, definition):
 def lines(definition, accepted):
     texts = printed.Texts()
     held = texts.hold(definition, list(accepted.values()))
-    return [*of_files(texts, held, accepted), *of_marks(texts, held, definition)]
+    marks = list(of_marks(texts, held, definition))
+    ranked = {it[1] for it in marks if it[0] == 'ranked'}
+    return [*of_files(texts, held, accepted), *marks, *of_votes(texts, held, definition, ranked)]

@@ -21,11 +21,16 @@ LOST = ('this record has no %s. The standard leaves it optional; here it is part
 UNKNOWN = ('no form of export is recognised here (%s); if it is one of these, name it with --as, and see docs/GATHER.md'
            % ', '.join(make.KINDS))
 HALF = '%s is half of a sign, so a text here is cut off; have it exported anew'
+GO_ON = '; look for what is missing, or go on with --incomplete'
 NO_CONTEST = ': there is no contest, so no record has a vote'
 WITHIN = 'it is a ZIP in a folder or in another ZIP, and may have records; unpack it, or name it by itself'
 ONE_HEAD = 'two heads are one only without the spaces at their ends'
 NO_TEXT = 'this is not text in UTF-8; export it in that encoding'
 CUT = 'it is cut off, or has a comma that is not in quotes'
+NO_CHOICE = 'the choice %s of %s may say that there is no vote, or too many, or something else that is not known; have it exported without that choice'
+SEVERAL = "; where these are several contests of one name, name the columns of each, as in --contests 'County Council=%s'"
+PARTIES = ("clearballot.csv: line 1: column %d: which part of `%s` is the choice, and which the party, can't be told, since %s; "
+           'say what stands in all heads: --heads choice:party, party:choice or choice')
 
 
 def read(path):
@@ -121,9 +126,9 @@ def dominion():
     yield ('a choice of no contest', replaced(path, b'Measure 1: parks (Vote For=1),Measure 1: parks (Vote For=1)', b'Measure 1: parks (Vote For=1),'),
            'dominion.csv: line 4: column 13 has a contest without a choice, or a choice without a contest')
     yield ('a contest under two heads', replaced(path, b'County Council (Vote For=1),Measure', b'County Council  (Vote For=1),Measure'),
-           'dominion.csv: line 4: the contest County Council stands in two places, or under two heads')
+           'dominion.csv: line 4: the contest County Council stands in two places, or under two heads' + SEVERAL % '9-10,11')
     yield ('two numbers of votes', replaced(path, b'County Council (Vote For=1),Measure', b'County Council (Vote For=2),Measure'),
-           'dominion.csv: line 4: the contest County Council stands in two places, or under two heads')
+           'dominion.csv: line 4: the contest County Council stands in two places, or under two heads' + SEVERAL % '9-10,11')
     yield ('two heads that are one', replaced(path, b'County Council (Vote For=1),Measure', b'County Council (Vote For=1) ,Measure'),
            'dominion.csv: line 2: ' + ONE_HEAD)
     yield ('batches that are one', (lambda: (replaced(path, b'2,1,1,2,', b'2,1,1-1,2,')(), replaced(path, b'3,1,1,3,', b'3,1-1,1,3,')())),
@@ -131,11 +136,12 @@ def dominion():
     yield ('no number of votes', everywhere(path, b'parks (Vote For=1)', b'parks'),
            'dominion.csv: line 4: column 12: no (Vote For=N) behind Measure 1: parks')
     yield ('a choice twice', lambda: (replaced(path, b'Omar Field', b'Iris Vale')(), replaced(path, b',LAR,', b',,')()),
-           'dominion.csv: line 4: the choice Iris Vale stands twice in County Council')
+           'dominion.csv: line 4: the choice Iris Vale stands twice in County Council' + SEVERAL % '9,10-11')
     yield ('a choice twice with its party', lambda: (replaced(path, b'Omar Field', b'Iris Vale')(), replaced(path, b',LAR,', b',HER,')()),
-           'dominion.csv: line 4: the choice Iris Vale stands twice in County Council')
+           'dominion.csv: line 4: the choice Iris Vale stands twice in County Council' + SEVERAL % '9,10-11')
     yield ('no vote allowed', everywhere(path, b'parks (Vote For=1)', b'parks (Vote For=0)'),
            'dominion.csv: line 4: column 12: no (Vote For=N) behind Measure 1: parks (Vote For=0)')
+    yield 'a choice that is none', replaced(path, b'Omar Field', b'Overvotes'), 'dominion.csv: line 4: ' + NO_CHOICE % ('Overvotes', 'County Council')
     yield ('a rank', replaced(path, b'Omar Field', b'Iris Vale(2)'),
            'dominion.csv: line 4: column 10: Iris Vale(2) has a number behind it, as choices with ranks have; ranked contests are not read in this form')
     yield ('a number of many digits', replaced(path, b'County Council (Vote For=1),County', b'County Council (Vote For=1%s),County' % (b'0' * 5000)),
@@ -151,7 +157,7 @@ def dominion():
            'dominion.csv: line 6: the record "1" "1-1-1" stands here and in dominion.csv: line 5')
     yield 'no id', replaced(path, b'2,1,1,2,', b'2,1,1,,'), 'dominion.csv: line 6: TabulatorNum, BatchId or RecordId is empty'
     yield 'another mark', replaced(path, b'Style 0,1,0,0', b'Style 0,2,0,0'), 'dominion.csv: line 5: a mark is neither 1, 0 nor empty, but 2'
-    yield 'a cell is empty', replaced(path, b'Style 0,1,0,0', b'Style 0,1,,0'), 'dominion.csv: line 5: some cells of a contest are empty and others are not'
+    yield 'a cell is empty', replaced(path, b'Style 0,1,0,0', b'Style 0,1,,0'), 'dominion.csv: line 5: some cells of the contest County Council are empty and others are not' + SEVERAL % '9,10-11'
     yield 'no contest', first_columns(path, 8), path + NO_CONTEST
     yield 'heads alone', lambda: write(path, b'\r\n'.join(read(path).split(b'\r\n')[:4]) + b'\r\n'), 'dominion.csv: there is no record of the kind dominion'
     yield 'no heads', lambda: write(path, b'TabulatorNum,RecordId\r\n'), 'dominion.csv: line 1: the file ends here, before its four lines of heads'
@@ -163,16 +169,24 @@ def clearballot():
     yield 'a column is missing', replaced(path, b'ScanComputerName', b'Computer'), 'clearballot.csv: line 1: there is no column ScanComputerName'
     yield 'a column more', replaced(path, b'RowNumber', b'Mystery'), 'clearballot.csv: line 1: the column Mystery is not of this form as it is known'
     yield ('a choice of no contest', replaced(path, b'Choice_4_1:Measure 1: parks:Vote For 1:Yes:', b'Choice_4_1:Yes:'),
-           'clearballot.csv: line 1: column 14 has no contest, `Vote For N` and choice: Choice_4_1:Yes:Non-Partisan')
+           'clearballot.csv: line 1: column 14 has no contest, `Vote For N` once, and choice: Choice_4_1:Yes:Non-Partisan')
+    yield 'no party', replaced(path, b':Yes:Non-Partisan', b':Yes'), PARTIES % (14, 'Yes', 'it has no colon')
+    yield 'a party with a space', replaced(path, b':Yes:Non-Partisan', b':Yes :Non-Partisan'), PARTIES % (14, 'Yes :Non-Partisan', 'a space stands beside the colon')
+    yield 'a write-in for a party', replaced(path, b':Yes:Non-Partisan', b':Yes:Write-in'), PARTIES % (14, 'Yes:Write-in', 'a party is never `Write-in`')
+    yield 'a choice that is none', replaced(path, b':Yes:Non-Partisan', b':No selection:Non-Partisan'), 'clearballot.csv: line 1: ' + NO_CHOICE % ('No selection', 'Measure 1: parks')
+    yield 'no choice', replaced(path, b':Yes:Non-Partisan', b'::Non-Partisan'), PARTIES % (14, ':Non-Partisan', 'a choice is never ``')
+    yield ('two numbers of votes in a head', replaced(path, b'Choice_4_1:Measure 1: parks:', b'Choice_4_1:Measure 1:Vote For 2:'),
+           'clearballot.csv: line 1: column 14 has no contest, `Vote For N` once, and choice: Choice_4_1:Measure 1:Vote For 2:Vote For 1:Yes:Non-Partisan')
     yield 'no contest', first_columns(path, 10), path + NO_CONTEST
     yield ('a choice twice with its party', replaced(path, b'Omar Field:LAR', b'Iris Vale:HER'),
-           'clearballot.csv: line 1: the choice Iris Vale stands twice in County Council, or the contest has two numbers of votes')
+           'clearballot.csv: line 1: the choice Iris Vale stands twice in County Council' + SEVERAL % '11,12-13')
     yield ('a contest in two places', replaced(path, b'Choice_5_1:Measure 1: parks', b'Choice_5_1:County Council'),
-           'clearballot.csv: line 1: the contest County Council stands in two places')
+           'clearballot.csv: line 1: the contest County Council stands in two places, or under two heads' + SEVERAL % '11-13,15')
     yield ('two numbers of votes', replaced(path, b'Vote For 1:No:', b'Vote For 2:No:'),
-           'clearballot.csv: line 1: the choice No stands twice in Measure 1: parks, or the contest has two numbers of votes')
+           'clearballot.csv: line 1: the contest Measure 1: parks stands in two places, or under two heads'
+           + (SEVERAL % '14,15').replace('County Council', 'Measure 1: parks'))
     yield ('a number of many digits', replaced(path, b'Vote For 1:No:', b'Vote For 1%s:No:' % (b'0' * 5000)),
-           'clearballot.csv: line 1: column 15 has no contest, `Vote For N` and choice: Choice_5_1:Measure 1: parks:Vote For 1000..')
+           'clearballot.csv: line 1: column 15 has no contest, `Vote For N` once, and choice: Choice_5_1:Measure 1: parks:Vote For 1000..')
     yield 'the heads again', line_again(path, 0), 'clearballot.csv: line 6: the head stands here again: two files in one'
     yield 'another encoding', replaced(path, b'Old Mill', b'Old M\xefll'), 'clearballot.csv: line 2: ' + NO_TEXT
     yield 'semicolons', everywhere(path, b',', b';'), 'clearballot.csv: line 1: the cells are parted by semicolons; this form has commas'
@@ -190,9 +204,7 @@ def ess():
     yield 'cut in a choice', cut(path, 5), 'ess.csv: line 5: it has 4 cells, and the head 5: ' + CUT
     yield 'a column is missing', replaced(path, b'Precinct', b'Place'), 'ess.csv: line 1: there is no column Precinct'
     yield 'two heads that are one', replaced(path, b'Measure 1: parks', b'County Council '), 'ess.csv: line 1: ' + ONE_HEAD
-    yield 'a column of another list', replaced(path, b'County Council', b'Tabulator CVR'), 'ess.csv: line 1: the column Tabulator CVR is not of this form as it is known'
-    yield ('a choice of no contest', replaced(path, b'Measure 1: parks', b''),
-           'ess.csv: line 1: column 5 has no contest, or one that stands elsewhere, too')
+    yield 'a choice of no contest', replaced(path, b'Measure 1: parks', b''), "ess.csv: line 1: column 5 has no head; go on with --left-out ''"
     yield 'the heads again', line_again(path, 0), 'ess.csv: line 6: the head stands here again: two files in one'
     yield 'another encoding', replaced(path, b'Old Mill', b'Old M\xefll'), 'ess.csv: line 2: ' + NO_TEXT
     yield 'UTF-16', lambda: write(path, read(path).decode('utf-8').encode('utf-16')), 'ess.csv: line 1: ' + NO_TEXT
@@ -203,13 +215,13 @@ def ess():
     yield 'no contest', first_columns(path, 3), path + NO_CONTEST
     yield 'no id', replaced(path, b'104002', b''), 'ess.csv: line 3: the Cast Vote Record or the Precinct is empty'
     yield 'a line of sums', lambda: write(path, read(path) + b'Total,,,4,4\r\n'), 'ess.csv: line 6: the Cast Vote Record or the Precinct is empty'
-    for name, cell in ('a number', b'1'), ('two words', b'under vote'), ('a sign that is not seen', b'Undervote\xe2\x80\x8b'):
-        yield ('no choice: ' + name, replaced(path, b'Style 0,Iris Vale', b'Style 0,' + cell),
-               'ess.csv: line 2: %s is no choice, but a number, or nearly a word of this form' % ascii(cell.decode())[1:-1])
+    yield ('no choice: a sign that is not seen', replaced(path, b'Style 0,Iris Vale', b'Style 0,Undervote\xe2\x80\x8b'),
+           'ess.csv: line 2: Undervote\\u200b in the column County Council is no choice, but nearly a word of this form, or one whose meaning is not known; ask whoever exported it')
     yield ('overvote beside a choice', lambda: write(path, read(path).replace(b'Measure 1: parks', b'County Council').replace(b'Style 0,Iris Vale,Yes', b'Style 0,Iris Vale,overvote')),
            'ess.csv: line 2: overvote stands beside a choice in County Council')
     yield ('a choice twice', lambda: write(path, read(path).replace(b'Measure 1: parks', b'County Council').replace(b'Style 0,Iris Vale,Yes', b'Style 0,Iris Vale,Iris Vale')),
-           'ess.csv: line 2: a choice stands twice in County Council')
+           'ess.csv: line 2: a choice stands twice in County Council; where these are several contests of one name, name the columns of each, '
+           "as in --contests 'County Council=4,5'")
     yield 'a row too long', replaced(path, b'Style 0,Iris Vale', b'Style 0,Vale, Iris'), 'ess.csv: line 2: it has 6 cells, and the head 5: ' + CUT
 
 
@@ -230,7 +242,10 @@ def hart():
     yield 'another encoding', replaced(HART, b'encoding="utf-8"', b'encoding="martian"'), HART + ': it is no XML, or cut off: ..'
     yield ('an id twice', lambda: shutil.copy(HART, 'hart/zz.xml'),
            'hart/zz.xml: the record "hart" "4057b1ff-4e4d-53fa-9cfb-9d6724c76d81" stands here and in ' + HART + ': ')
+    yield 'a choice that is none', everywhere(HART, b'Omar Field', b'Under Vote'), HART + ': ' + NO_CHOICE % ('Under Vote', 'County Council')
     yield 'another value', lambda: write(HART, read(HART).replace(b'<Value>1<', b'<Value>2<', 1)), HART + ': the Value of an Option is neither 1 nor 0, but 2'
+    yield ('a written name elsewhere', replaced(LAST, b'<Id>c0-1</Id>', b'<Id>c0-1</Id><WriteInData/>'),
+           LAST + ': the Option c0-1 of c0 has WriteInData, and none in a file before')
     yield 'another name', replaced(LAST, b'County Council', b'City Council'), LAST + ': the Contest c0 is named City Council, and County Council elsewhere'
     yield 'no number', replaced(HART, b'<BatchSequence>1', b'<BatchSequence>one1'), HART + ': BatchSequence is no number, but one1'
     yield 'a number of many digits', replaced(HART, b'<BatchSequence>1', b'<BatchSequence>' + b'1' * 5000), HART + ': BatchSequence is no number, but 111..'
@@ -278,6 +293,16 @@ def vxsuite():
     yield ('a contest that is not there', everywhere(VX, b'"council"', b'"nosuch"'),
            VX + ': /CVR/0: cvr refuses it: E4 /CVRSnapshot/0/CVRContest/0/ContestId A text of it has to be the id of something in the '
            'file, and is not: /CVRSnapshot/0/CVRContest/0/ContestId.')
+    for name, old, new, said in (
+            ('a batch without an id', b'"id": "batch-2"', b'"ID": "batch-2"', '/batchManifest/1: it is no batch with an id of its own and a sheetCount'),
+            ('a batch twice', b'"id": "batch-2"', b'"id": "batch-1"', '/batchManifest/1: it is no batch with an id of its own and a sheetCount'),
+            ('a batch without a number', b'"sheetCount": 3', b'"sheetCount": "3"', '/batchManifest/0: it is no batch with an id of its own and a sheetCount'),
+            ('polls that are neither open nor closed', b'"arePollsClosed": true', b'"arePollsClosed": "yes"', 'arePollsClosed is neither true nor false'),
+            ('polls that are open', b'"arePollsClosed": true', b'"arePollsClosed": false', 'arePollsClosed is false, so ballots may follow' + GO_ON),
+            ('another number of ballots', b'"sheetCount": 3', b'"sheetCount": 7', '/batchManifest: the batch "batch-1" has 7 ballots there, and 3 came' + GO_ON),
+            ('a batch that is not listed', b'"id": "batch-1"', b'"id": "batch-7"', '/batchManifest: the batch "batch-7" has 3 ballots there, and 0 came' + GO_ON),
+            ('no batches', b'"batchManifest"', b'"batches"', 'it has no batchManifest, so nothing says how many sheets there are' + GO_ON)):
+        yield name, replaced('vxsuite/metadata.json', old, new), 'vxsuite/metadata.json: ' + said
     yield 'a ZIP in the folder', lambda: write(FIRST + 'more.zip', b'PK'), FIRST + 'more.zip: ' + WITHIN
     yield 'a link', lambda: os.symlink('/etc/passwd', FIRST + 'link.json'), FIRST + 'link.json: it is no regular file: a link may lead out of the folder, and a pipe can be read only once'
     yield 'a folder that is a link', lambda: os.symlink('/etc', 'vxsuite/link'), 'vxsuite/link: it is a link, which may lead out of the folder'
@@ -303,9 +328,12 @@ def cdf():
 
 def dominion_json():
     path, more = 'dominion-json/CvrExport.json', 'dominion-json/'
+    yield ('a member beside the sessions', replaced(path, b'"Version": "5.10.50.85"', b'"Mystery": 1'),
+           path + ': the member "Mystery" beside Sessions is not of this form as it is known')
     yield 'no list of contests', lambda: os.remove(more + 'ContestManifest.json'), 'ContestManifest.json: it has to be there once, beside CvrExport.json'
     yield ('a choice of no contest', lambda: write(more + 'CandidateManifest.json', read(more + 'CandidateManifest.json').replace(b'"ContestId": 0', b'"ContestId": 9', 1)),
            'CandidateManifest.json: the candidate 0 is of no contest')
+    yield ('a choice that is none', replaced(more + 'CandidateManifest.json', b'Iris Vale', b'BLANK VOTE'), 'CandidateManifest.json: ' + NO_CHOICE % ('BLANK VOTE', 'County Council'))
     yield ('a choice of another contest', lambda: write(path, read(path).replace(b'"CandidateId": 0,', b'"CandidateId": 100,', 1)),
            path + ': /Sessions/0/Original/Cards/0/Contests/0/Marks/0: the CandidateId 100 is none of the contest 0')
     yield 'a contest twice', replaced(more + 'ContestManifest.json', b'"Id": 1,', b'"Id": 0,'), more + 'ContestManifest.json: /List/1: it has no Id of its own'
@@ -324,6 +352,13 @@ def dominion_json():
         path + ': /Sessions/0/Original: it has no card, or Contests beside Cards'
     yield ('a unit that is no number', lambda: write(path, read(path).replace(b'"PrecinctPortionId": 0', b'"PrecinctPortionId": {"a": 1}', 1)),
            path + ': /Sessions/0/Original: its PrecinctPortionId is absent, or not a whole number')
+    yield ('an overvote at no rank', lambda: [write(it, read(it).replace(old, new, 1)) for it, old, new in (
+        (more + 'ContestManifest.json', b'"NumOfRanks": 0', b'"NumOfRanks": 5'), (path, b'"Overvotes": 0', b'"Overvotes": 1'))],
+           path + ": /Sessions/0/Original/Cards/0/Contests/0: it states Overvotes 1, but no rank is marked twice: which of its 1 marks are overvoted isn't known")
+    yield ('a contest on two cards', lambda: write(path, re.sub(rb'(?s)("Cards": \[)(.*?\n     \})(\n    \])', rb'\1\2,\2\3', read(path), 1)),
+           path + ': /Sessions/0/Original/Cards/1/Contests/0: the contest 0 stands on the cards 1 and 2 of this session')
+    yield ('no vote allowed', lambda: write(more + 'ContestManifest.json', read(more + 'ContestManifest.json').replace(b'"VoteFor": 1', b'"VoteFor": 0', 1)),
+           'ContestManifest.json: the contest 0 has no VoteFor of 1 or more')
     yield ('a mark twice', lambda: write(path, re.sub(rb'(?s)("Marks": \[)(.*?\n         \})', rb'\1\2,\2', read(path), 1)),
            path + ': /Sessions/0/Original/Cards/0/Contests/0: the CandidateId 0 is marked twice')
     yield ('a member twice', lambda: write(path, read(path).replace(b'"IsVote": true', b'"IsVote": false, "IsVote": true', 1)),
@@ -344,6 +379,22 @@ def dominion_json():
     yield 'no sessions', everywhere(path, b'"Sessions"', b'"Session"'), 'dominion-json: ' + UNKNOWN
 
 
+def options():
+    """Options that don't fit the export, or say nothing."""
+    bad = '--contests: %s has to be the name of a contest and the columns of each contest of that name, from 1, such as Council=4-5,6-7'
+    for text in 'County Council', '=9-11', 'County Council=', 'County Council=11-9', 'County Council=9-10,10-11', 'County Council=0-3', 'County Council=nine':
+        yield 'no columns: ' + text, bad % text, 2, ['--contests', text]
+    yield 'a contest twice', bad % 'County Council=9-11', 2, ['--contests', 'County Council=9-10,11', '--contests', 'County Council=9-11']
+    other = 'dominion.csv: line 4: --contests names other columns of %s than it has here: %s'
+    for name, text, there in (('too few', 'County Council=9-10', '9-11'), ('too many', 'County Council=9-12', '9-11'), ('with a gap', 'County Council=9,11', '9-11'),
+                              ('of no contest', 'City Council=9-11', 'none')):
+        yield 'columns that are ' + name, other % (text.split('=')[0], there), 1, ['--contests', text]
+    for text in 'Council', 'Council=0', '=2', 'Council=two':
+        yield 'no votes: ' + text, '--votes: %s has to be the name or the Id of a contest and its number of votes, such as Council=2' % text, 2, ['--votes', text], 'hart'
+    yield 'votes of no contest', '--votes names the contest Council, and none has that name or Id', 2, ['--votes', 'Council=2'], 'hart'
+    yield ('an option of another kind', '--heads is of the kinds clearballot alone, and this export is of the kind dominion', 2, ['--heads', 'choice'])
+
+
 GROUPS = [('dominion.csv', dominion), ('clearballot.csv', clearballot), ('ess.csv', ess), ('hart', hart), ('vxsuite', vxsuite),
           ('cdf', cdf), ('dominion-json', dominion_json), ('export.zip', zips)]
 
@@ -353,3 +404,5 @@ def all_faults():
     for export, group in GROUPS:
         for name, change, log in group():
             yield Fault('%s: %s' % (export, name), export, change, log)
+    for name, log, status, words, *export in options():
+        yield Fault('options: ' + name, *(export or ['dominion.csv']), lambda: None, log, status, words)

@@ -15,11 +15,13 @@ import shutil
 import sys
 import tempfile
 import uuid
+from collections import Counter
 
 TOP = os.path.dirname(os.path.dirname(os.path.dirname(os.path.abspath(__file__))))
 EXAMPLES = os.path.join(TOP, 'examples', 'exports')
 COUNTY = os.path.join(TOP, 'examples', 'county')
 SPACE = 'http://tempuri.org/CVRDesign.xsd'
+WRITTEN = 'Write-in', 'Unresolved Write-In', '*Write-in*', 'WRITEIN 2', 'Write In', 'W/I'
 
 
 class Contest:
@@ -60,7 +62,7 @@ def random_election(chance, count):
     for k in range(chance.randint(2, 30)):
         choices = [('Choice %d-%d%s' % (k, i, chance.choice(['', ', Jr.', ' "Al"', ' é'])), chance.choice(['', 'HER', 'LAR']))
                    for i in range(chance.randint(2, 6))]
-        choices += [('Write-in', '')] * chance.randint(0, 1)
+        choices += [(chance.choice(WRITTEN), '')] * chance.randint(0, 1)
         contests.append(Contest('Contest %d%s' % (k, chance.choice(['', ': a, b', ' "x"', ' é', ' (part)'])),
                                 min(chance.choice([1, 1, 1, 2, 3]), len(choices)), choices, chance.random() < 0.1))
     units = ['Unit %d' % k for k in range(chance.randint(1, 12))]
@@ -77,7 +79,8 @@ def random_election(chance, count):
 
 
 def random_marks(chance, contest):
-    number = min(len(contest.choices), max(0, contest.allowed + chance.choice([0, 0, 0, 0, 0, -1, -1, 1, -contest.allowed])))
+    more = chance.choice([0] * 30 + [-1] * 8 + [1] + [-contest.allowed] * 4)      # about one in forty is overvoted
+    number = min(len(contest.choices), max(0, contest.allowed + more))
     return sorted(chance.sample(range(len(contest.choices)), number))
 
 
@@ -140,7 +143,7 @@ def ess_cells(election, k, ballot):
         return ['overvote'] * contest.allowed
     word = 'Undervote' if ballot.number % 7 == 0 else 'undervote'
     cells = [contest.choices[i][0] for i in marks]
-    written = ['Write-in'] * ('Write-in' in cells and ballot.number % 2 and len(cells) < contest.allowed)     # a second written name
+    written = [it for it in cells if it in WRITTEN and ballot.number % 2 and len(cells) < contest.allowed]     # a second written name
     return cells + written + [word] * (contest.allowed - len(cells + written))
 
 
@@ -160,15 +163,17 @@ def escaped(text):
 def hart_option(choice, name, ballot):
     """A marked choice; a written name mostly has no name and id of its own."""
     held = '<Name>%s</Name><Id>%s</Id>' % (escaped(choice), name)
-    if choice == 'Write-in' and ballot.number % 3:
-        held = '<WriteInData><ImageId>%d</ImageId></WriteInData>' % ballot.number
+    if choice in WRITTEN and ballot.number % 3:
+        named = '<Name>Somebody</Name><Id>%s-x</Id>' % name if ballot.number % 3 == 1 else ''
+        held = named + '<WriteInData><ImageId>%d</ImageId></WriteInData>' % ballot.number
     return '<Option>%s<Value>1</Value></Option>' % held
 
 
 def hart_contest(election, k, ballot):
     contest, marks = election.contests[k], ballot.marks[k]
     is_over = len(marks) > contest.allowed
-    options = ''.join(hart_option(contest.choices[i][0], 'c%d-%d' % (k, i), ballot) for i in ([] if is_over else marks))
+    # an overvoted contest has no marked option, or all of them
+    options = ''.join(hart_option(contest.choices[i][0], 'c%d-%d' % (k, i), ballot) for i in ([] if is_over and ballot.number % 3 else marks))
     lost = contest.allowed - len(marks)
     numbers = '<Undervotes>%d</Undervotes><Overvotes>%d</Overvotes>' % (max(lost, 0), contest.allowed if is_over else 0)
     return '<Contest><Name>%s</Name><Id>c%d</Id><Options>%s</Options>%s</Contest>' % (escaped(contest.name), k, options, numbers)
@@ -189,8 +194,10 @@ def hart(election, folder):
 
 def listed(election):
     """The lists of Dominion's JSON, by the names of their files."""
-    candidates = [{'Description': choice, 'Id': 100 * k + i, 'ExternalId': '', 'ContestId': k, 'Type': 'WriteIn' if choice == 'Write-in' else 'Regular'}
-                  for k, _, i, (choice, _) in columns(election)]
+    candidates = [{'Description': choice, 'Id': 100 * k + i, 'ExternalId': '', 'ContestId': k, 'Type': 'Regular'} for k, _, i, (choice, _) in columns(election)]
+    for it in candidates:
+        if it['Description'] in WRITTEN:        # its name says so, its Type, or both
+            it.update([{'Type': 'WriteIn'}, {'Type': 'QualifiedWriteIn', 'Description': 'Somebody'}, {}][it['ContestId'] % 3])
     contests = [{'Description': it.name, 'Id': k, 'ExternalId': '', 'DistrictId': 1, 'VoteFor': it.allowed, 'NumOfRanks': 5 * it.is_ranked}
                 for k, it in enumerate(election.contests)]
     units = [{'Description': it, 'Id': k, 'ExternalId': '', 'PrecinctId': k} for k, it in enumerate(election.units)]
@@ -203,8 +210,10 @@ def dominion_version(election, ballot, marks, is_current, cards):
     for k in marks:
         contest, lost = election.contests[k], election.contests[k].allowed - len(marks[k])
         is_over = lost < 0 and not contest.is_ranked
-        found = [(i, not is_over, False) for i in marks[k]] + [(i, False, True) for place, i in ballot.unsure if place == k and i not in marks[k]]
-        held.append({'Id': k, 'ManifestationId': k, 'Undervotes': max(lost, 0), 'Overvotes': contest.allowed if is_over else 0,
+        # an overvoted contest has marks that are votes, or none; those for more votes than are allowed state no overvote either
+        is_vote, is_stated = not is_over or ballot.number % 3 == 0, ballot.number % 6
+        found = [(i, is_vote, False) for i in marks[k]] + [(i, False, (i + ballot.number) % 3 > 0) for place, i in ballot.unsure if place == k and i not in marks[k]]
+        held.append({'Id': k, 'ManifestationId': k, 'Undervotes': max(lost, 0), 'Overvotes': contest.allowed if is_over and is_stated else 0,
                      'OutstackConditionIds': [],
                      'Marks': [{'CandidateId': 100 * k + i, 'ManifestationId': i, 'PartyId': 0, 'Rank': rank if contest.is_ranked else 1,
                                 'MarkDensity': 50 if unsure else 99, 'IsAmbiguous': unsure, 'IsVote': is_vote, 'OutstackConditionIds': []}
@@ -285,12 +294,23 @@ def county_cdf(folder):
         shutil.copy(os.path.join(COUNTY, name), os.path.join(folder, 'cdf', name))
 
 
+def folder_of(record):
+    return str(uuid.uuid5(uuid.NAMESPACE_URL, record['CreatingDeviceId'] + record['UniqueId']))
+
+
+def batches(records):
+    """The batches of records, each with its number of sheets, as VxSuite lists them."""
+    counts = Counter((it['CreatingDeviceId'], it['BatchId']) for it in records)
+    return [{'id': batch, 'label': 'Batch %d' % number, 'batchNumber': number, 'startTime': '2024-11-05T12:00:00.000Z',
+             'endTime': '2024-11-06T01:00:00.000Z', 'sheetCount': count, 'scannerId': device} for number, ((device, batch), count) in enumerate(counts.items(), 1)]
+
+
 def vx(folder, head, records):
     """A folder as VxSuite writes it, of a report's head and records; the first has an image, and one ballot was rejected."""
-    meta = {'arePollsClosed': True, 'castVoteRecordReportMetadata': head, 'castVoteRecordRootHash': '0' * 64, 'batchManifest': []}
+    meta = {'arePollsClosed': True, 'castVoteRecordReportMetadata': head, 'castVoteRecordRootHash': '0' * 64, 'batchManifest': batches(records)}
     put(folder, 'vxsuite/metadata.json', json.dumps(meta))
     for one in records:
-        name = str(uuid.uuid5(uuid.NAMESPACE_URL, one['CreatingDeviceId'] + one['UniqueId']))
+        name = folder_of(one)
         put(folder, 'vxsuite/%s/cast-vote-record-report.json' % name, json.dumps({'CVR': [one]}))
         put(folder, 'vxsuite/%s/%s-front.layout.json' % (name, name), '{}')
     put(folder, 'vxsuite/rejected-%s/front.layout.json' % uuid.uuid5(uuid.NAMESPACE_URL, 'rejected'), '{}')

@@ -3,9 +3,11 @@
 
 Tests `cvr-audit gather` with the given program. The exports of examples/exports are those that make.py makes, and each
 has the tally of examples/county. Random exports of make.py have the votes that recount.py counts, whose few lines share no
-code with the companion. The exports of faults.py are refused, and leave nothing. Then the slips of wrong_ways.py: each is
-made in a copy of the companion, and the recount of random exports has to find it. With --tenth a tenth of the random exports
-and of the slips are tried. The last line is `gather: N right, M wrong`; the status is 0 only where M is 0 and N is not."""
+code with the companion. The exports of faults.py are refused, and leave nothing. Those of planted.py, misread.py and
+misread_ess.py, which would come out wrong without a rule, are refused or read as worked out by hand; where a copy of the
+companion lacks the rule, the recount finds it. Then the slips of wrong_ways.py: each is made in a copy of the companion, and
+the recount of random exports has to find it. With --tenth a tenth of the random exports and of the slips are tried. The last
+line is `gather: N right, M wrong`; the status is 0 only where M is 0 and N is not."""
 import csv
 import hashlib
 import multiprocessing
@@ -25,12 +27,16 @@ from operator import itemgetter
 sys.dont_write_bytecode = True
 HERE = os.path.dirname(os.path.abspath(__file__))
 TOP = os.path.dirname(os.path.dirname(HERE))
-sys.path[:0] = [HERE, os.path.dirname(HERE), os.path.join(TOP, 'examples', 'recipes')]
+sys.path[:0] = [HERE, os.path.dirname(HERE), os.path.join(TOP, 'examples', 'recipes'), os.path.join(TOP, 'companion')]
 import companion   # noqa: E402
 import faults      # noqa: E402
 import make        # noqa: E402
+import misread     # noqa: E402
+import misread_ess # noqa: E402
+import planted     # noqa: E402
 import recount     # noqa: E402
 import tenth       # noqa: E402
+from cvr_audit import gather_ess_words  # noqa: E402
 import wrong_ways  # noqa: E402 (they stand here, in tests/ and in examples/recipes)
 
 SIDE_BY_SIDE = 4
@@ -101,11 +107,13 @@ def see_modes(out):
     see(modes == {0o600} and stat.S_IMODE(os.stat(out).st_mode) == 0o700, 'others may read what is written')
 
 
-def gathered(kind, export, cvr, out, copy=None):
+def gathered(kind, export, cvr, out, copy=None, words=()):
     """Gathers an export, and compares it with the recount; answers how many votes were compared."""
-    text, log, status = run(['gather', export, '-o', out], cvr, copy)
+    text, log, status = run(['gather', export, '-o', out, *words], cvr, copy)
     see((status, log) == (0, ''), 'status %d, %r' % (status, log))
-    found, compared = recount.differences(kind, export, cvr, out)
+    cuts, left, votes, heads = ([words[place + 1] for place, it in enumerate(words) if it == name]
+                                for name in ('--contests', '--left-out', '--votes', '--heads'))
+    found, compared = recount.differences(kind, export, cvr, out, cuts, *heads, left=left, allowed=votes)
     see(not found, '\n    '.join(found[:5]))
     return text, compared
 
@@ -158,7 +166,91 @@ def see_examples():
         see(make.is_same(folder, make.EXAMPLES), 'examples/exports is not what make.py makes')
 
 
+# ---- what could be read wrongly
+
+def see_misread(case, cvr):
+    """An export that could be misread is refused, and leaves nothing; with its options it has the votes worked out by hand."""
+    with tempfile.TemporaryDirectory() as folder:
+        path, out = misread.written(case, folder), os.path.join(folder, 'out')
+        if case.log:
+            os.chdir(folder)
+            got = run(['gather', os.path.basename(path), '-o', out], cvr)
+            see(got == ('', 'cvr-audit: %s\n' % case.log, 1) and os.listdir(folder) == [os.path.basename(path)], '%r, and not %r' % (got, case.log))
+        if case.words is None:
+            return
+        text, _ = gathered(case.kind, path, cvr, out, words=case.words)
+        notes = [it for it in text.splitlines() if it.startswith('note')]
+        see(case.note is None or len(notes) == bool(case.note) and all(it.endswith(case.note) for it in notes), repr(notes))
+        found = {}
+        for (contest, _, _, column), number in recount.tallied(cvr, out, case.kind not in ('cdf', 'vxsuite')).items():
+            found[contest, column] = found.get((contest, column), 0) + number
+        wanted = {(contest, column): number for contest, held in case.votes.items() for column, number in held.items()}
+        see(all(found.get(it) == number for it, number in wanted.items()), '%r, and not %r' % (found, wanted))
+
+
+def see_misread_way(case, way, cvr):
+    """Without the rule such an export is read without a word, and the recount finds it."""
+    with tempfile.TemporaryDirectory() as folder:
+        copy, path = companion.made(folder, wrong_ways.Way(case.kind, *way)), misread.written(case, folder)
+        try:
+            gathered(case.kind, path, cvr, os.path.join(folder, 'out'), copy)
+        except Wrong as wrong:
+            see('status' not in str(wrong), 'the copy refuses it or doesn\'t run: %s' % wrong)
+            return
+    raise Wrong('not found by the recount')
+
+
+def see_lists(_):
+    """The words of ES&S that GATHER lists are those of the companion, and the recount knows each."""
+    text = faults.read(os.path.join(TOP, 'docs', 'GATHER.md')).decode('utf-8')
+    for start, end, held, known in (('| Blank,', ', by their', 'NOTHING', recount.NO_VOTE), ('digits None,', ' | refused', 'UNSURE', recount.UNSURE),
+                                    ('| Write-in Type,', ', or with', 'DOUBTS', recount.OF_DOUBT)):
+        place = text.index(start)
+        listed = {recount.bare(it) for it in text[place + start.index(' '):text.index(end, place)].split(',')}
+        see(listed == getattr(gather_ess_words, held), '%r' % (listed ^ getattr(gather_ess_words, held)))
+        see(all(known.fullmatch(it) for it in listed), 'the recount knows others than ' + held)
+    see(all(recount.OF_ORIGIN.fullmatch(it) for it in gather_ess_words.ORIGINS), 'the recount knows other heads')
+
+
+def devices(names):
+    return [it for name in names for it in ('--device', name)]
+
+
+def see_twice(case, cvr, way=None):
+    """Two exports whose ballots have the same numbers are refused, and gathered with a name of each. Or the recount finds a slip."""
+    with tempfile.TemporaryDirectory() as folder:
+        copy = companion.made(folder, wrong_ways.Way(case.kind, *way)) if way else None
+        os.chdir(folder)
+        case.write(folder)
+        exports, names = [path_of(case.kind, it) for it in ('evening', 'noon')], ['late', 'early']
+        words, held = ['gather', *exports, '-o', 'out'], sorted(os.listdir())
+        if case.log and not way:
+            got = run(words + devices(case.given), cvr)
+            see(got == ('', 'cvr-audit: %s\n' % case.log, 1) and sorted(os.listdir()) == held, '%r, and not %r' % (got, case.log))
+        if case.votes or way:
+            text, log, status = run(words + devices(names), cvr, copy)
+            see((log, status) == ('', 0) and text.splitlines()[1:3] == ['device "%s" "%s"' % it for it in zip(names, exports)], repr(text + log))
+            found, _ = recount.differences(case.kind, exports, cvr, 'out', devices=names)
+            see(found if way else not found, 'not found by the recount' if way else '\n    '.join(found[:5]))
+        sums = make.Counter()
+        for (_, _, _, column), number in recount.tallied(cvr, 'out', True).items() if case.votes and not way else ():
+            sums[column] += number
+        see(way or all(sums[it] == number for it, number in case.votes.items()), '%r, and not %r' % (sums, case.votes))
+
+
 # ---- what is refused
+
+def see_words(words, wanted, status, cvr):
+    """Words that don't fit an export are refused, and leave nothing."""
+    with tempfile.TemporaryDirectory() as folder:
+        os.chdir(shutil.copytree(make.EXAMPLES, os.path.join(folder, 'exports')))       # of this process alone
+        shutil.copy('ess.csv', 'again.csv')
+        for base in ('few.csv', 'less.csv'):
+            misread_ess.rows(['Council'], [(1, ['Ann']), (1, ['Bob'])], base=base)('.')
+        shutil.copytree('dominion-json', 'again')
+        got = run(['gather', *words, '-o', '../out'], cvr)
+        see(got == ('', 'cvr-audit: %s\n' % wanted, status) and os.listdir(folder) == ['exports'], '%r, and not %r' % (got, wanted))
+
 
 def see_fault(fault, cvr):
     with tempfile.TemporaryDirectory() as folder:
@@ -304,7 +396,8 @@ def see_variants(cvr):
                 path, out = os.path.join(folder, kind + '.csv'), os.path.join(folder, 'out')
                 data = faults.read(path_of(kind, make.EXAMPLES))
                 faults.write(path, change(data))
-                text, _ = gathered(kind, path, cvr, out)
+                columns = {'dominion': '9-11', 'clearballot': '11-13'}.get(kind) if name == 'written' else None
+                text, _ = gathered(kind, path, cvr, out, words=['--contests', 'County Council=' + columns] if columns else [])
                 for what, said in NOTES.items():
                     note = 'note: %s: 4 records have a %s; each is a record as the others\n' % (path, said)
                     see((note in text) == (name == what and kind == 'clearballot'), 'the note on %s of %s' % (what, kind))
@@ -319,7 +412,9 @@ def see_names(kind, cvr):
                     [('A', ['B / C', 'B/C', 'C']), ('A / B', ['C', 'B / C']), ('A/B', ['C', 'A']), ('A~1B', ['C', 'all units'])]]
         ballots = [make.Ballot(1, 1, k + 1, 0, {0: [k % 3], 1: [k % 2], 2: [0], 3: [1]}) for k in range(7)]
         make.KINDS[kind](make.Election('A / B', contests, ['A / B'], ballots), folder)
-        _, compared = gathered(kind, path_of(kind, folder), cvr, os.path.join(folder, 'out'))
+        # nothing else says of these columns that they are contests
+        words = [it for k, one in enumerate(contests, 4) for it in ('--contests', '%s=%d' % (one.name, k)) if kind == 'ess']
+        _, compared = gathered(kind, path_of(kind, folder), cvr, os.path.join(folder, 'out'), words=words)
         see(compared == 28, '%d votes were compared' % compared)
 
 
@@ -359,7 +454,7 @@ def see_long_heads(cvr):
         faults.write(path, make.json.dumps({'CVR': records, **{name: it for name, it in report.items() if name not in ('@type', 'CVR')}, '@type': report['@type']}).encode())
         see(faults.read(path).index(b'CVR.CastVoteRecordReport') > 1 << 20, 'the class of the report stands too early')
         text, _, status = run(['gather', os.path.join(folder, 'cdf'), '-o', os.path.join(folder, 'again')], cvr)
-        see(status == 0 and text.endswith('/records-1.json 2002\n'), repr(text))
+        see(status == 0 and text.splitlines()[1].endswith('/records-1.json 2002'), repr(text))
 
 
 def see_mac(cvr):
@@ -382,7 +477,7 @@ def see_written(cvr):
         path, one = os.path.join(folder, faults.HART), b'<Option><Value>1</Value><WriteInData/></Option>'
         faults.write(path, faults.read(path).replace(b'<Options>', b'<Options>' + one * 2, 1).replace(
             b'<Cvr ', b'<Cvr xmlns:xsi="http://www.w3.org/2001/XMLSchema-instance" xsi:schemaLocation="a b" ', 1))
-        gathered('hart', os.path.join(folder, 'hart'), cvr, os.path.join(folder, 'out'))
+        gathered('hart', os.path.join(folder, 'hart'), cvr, os.path.join(folder, 'out'), words=['--votes', 'County Council=3'])
 
 
 def see_stopped(cvr, number):
@@ -399,6 +494,58 @@ def see_stopped(cvr, number):
         process.send_signal(number)
         process.communicate(timeout=SECONDS)
         see(process.returncode == -number and sorted(os.listdir(folder)) == ['false', 'false.seen'], 'status %d, %r' % (process.returncode, os.listdir(folder)))
+
+
+def lay(case, folder):
+    """Lays the export of a planted case below a folder, which becomes that of this process."""
+    os.chdir(folder)
+    case.lay()
+
+
+def path_in(case):
+    """The path of a planted export that the recount takes."""
+    return path_of(case.kind, 'export') if case.kind in NOT_THOSE else 'export'
+
+
+def manifest_of(case):
+    return case.given[1] if case.given else None
+
+
+def see_planted(case, cvr, copy=None):
+    """A planted case is refused, and with the options that the line names it is gathered rightly, and said to be what it is."""
+    with tempfile.TemporaryDirectory() as folder:
+        lay(case, folder)
+        held = sorted(os.listdir())
+        got = run(['gather', 'export', '-o', 'out', *case.given], cvr) if case.log else None
+        see(not case.log or got == ('', 'cvr-audit: %s\n' % case.log, 1) and sorted(os.listdir()) == held, repr(got))
+        text, log, status = run(['gather', 'export', '-o', 'out', *case.given, *case.words], cvr, copy)
+        lines = [it for it in text.splitlines() if not it.startswith(('out/', 'left out'))]
+        see((lines, log, status) == (case.text, '', 0), '%r, %r, %d' % (lines, log, status))
+        found, _ = recount.differences(case.kind, path_in(case), cvr, 'out', is_meant='--test' in case.words, manifest=manifest_of(case))
+        see(not found, '\n    '.join(found[:5]))
+
+
+def see_way_said(case, cvr, copy):
+    """What is printed of a case that isn't refused finds a slip."""
+    try:
+        see_planted(case, cvr, copy)
+    except Wrong as wrong:
+        see('Error' not in str(wrong), 'the copy doesn\'t run: %s' % wrong)
+        return
+    raise Wrong('not found by what is printed')
+
+
+def see_planted_way(way, cvr):
+    """Without its rule a planted case is gathered, and the recount finds it."""
+    case = next(it for it in planted.CASES if it.name == way.kind)
+    with tempfile.TemporaryDirectory() as folder:
+        copy = companion.made(folder, way)
+        if not case.log:
+            return see_way_said(case, cvr, copy)
+        lay(case, folder)
+        got = run(['gather', 'export', '-o', 'out', *case.given], cvr, copy)
+        see(got[1:] == ('', 0), repr(got))
+        see(recount.differences(case.kind, path_in(case), cvr, 'out', manifest=manifest_of(case))[0], 'not found by the recount')
 
 
 def see_way(way, cvr):
@@ -421,12 +568,19 @@ def trials(words):
     cvr = words.cvr
     few = [('%s, seed %d' % (kind, seed), partial(see_random, kind, cvr, seed)) for kind in make.KINDS for seed in SEEDS]
     few += [('wrong way %s of %s' % (it.name, it.kind), partial(see_way, it, cvr)) for it in wrong_ways.WAYS]
+    few += [('wrong way %s of %s' % (it.name, it.kind), partial(see_planted_way, it, cvr)) for it in wrong_ways.PLANTED]
     of_kinds = [('the county in', see_county, make.KINDS), ('a ZIP of', see_zip, make.KINDS), ('no contest in a first file of', see_contests_missing, NOT_THOSE),
                 ('names that meet in', see_names, BATCHES), ('two parts of', see_halves, ('vxsuite', 'dominion', 'ess', 'clearballot'))]
     every = [('%s %s' % (name, kind), partial(see_it, kind, cvr)) for name, see_it, held in of_kinds for kind in held]
     every += [(see_it.__name__, partial(see_it, cvr)) for see_it in (see_there, see_two_kinds, see_long, see_changed, see_bytes, see_variants,
-                                                                   see_formulas, see_long_heads, see_mac, see_written)]
+                                                                   see_formulas, see_long_heads, see_mac, see_written, see_lists)]
     every += [(it.name, partial(see_fault, it, cvr)) for it in faults.all_faults()]
+    every += [('words ' + ' '.join(it[0]), partial(see_words, *it, cvr)) for it in misread_ess.REFUSED]
+    every += [(it.name, partial(see_planted, it, cvr)) for it in planted.CASES]
+    cases = [*misread.all_misread(), *misread_ess.all_misread()]
+    every += [('%s of %s' % (it.name, it.kind), partial(see_misread, it, cvr)) for it in cases]
+    every += [('%s of %s: %s' % (it.name, it.kind, way[0]), partial(see_misread_way, it, way, cvr)) for it in cases for way in it.ways]
+    every += [('%s of %s: %s' % (it.name, it.kind, way and way[0]), partial(see_twice, it, cvr, way)) for it in misread_ess.all_twice() for way in (None, *it.ways)]
     every += [('signal %d' % number, partial(see_stopped, cvr, number)) for number in (signal.SIGINT, signal.SIGTERM)]
     return [('examples', see_examples), *every, *tenth.chosen(words.tenth, few, itemgetter(0))]
 

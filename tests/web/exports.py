@@ -14,7 +14,8 @@ from trial import CLICK, COUNTY, FILES, SECONDS, SETTLED, TEXTS, TOP, given, sav
 
 sys.path.append(os.path.join(TOP, 'tests/gather'))
 import faults   # noqa: E402
-import make     # noqa: E402 (both stand there)
+import make     # noqa: E402
+import planted  # noqa: E402 (these stand there)
 
 BALLOTS = 40
 DAMAGED = 'the ZIP is damaged here, or packed in a way that is not known'
@@ -71,7 +72,9 @@ def see_export(browser, trial, room, has_folders):
     make.make('vxsuite', room, BALLOTS, 5)
     meta = os.path.join(room, 'vxsuite/metadata.json')
     faults.write(os.path.join(room, 'vxsuite/notes.txt'), b'unknown')
-    faults.write(meta, faults.read(meta).replace(b'{"arePollsClosed"', b'{"mystery": 1, "arePollsClosed"'))
+    faults.write(meta, faults.read(meta).replace(b'{"arePollsClosed"', b'{"mystery": 1, "arePollsClosed"').replace(b'"Version": "1.0.0"', b'"Version": "1.0.0", "OtherReportType": "x"', 1))
+    shutil.copytree(os.path.dirname(os.path.join(room, 'vxsuite', next(it for it in make.files_below(os.path.join(room, 'vxsuite')) if it.endswith('report.json')))),
+                    os.path.join(room, 'vxsuite/rejected-1'))
     for path in [packed(room, 'vxsuite', room)] + [os.path.join(room, 'vxsuite')] * has_folders:
         out = 'out-' + os.path.basename(path)
         told = native(trial, ['gather', os.path.basename(path), '-o', out], room).splitlines()
@@ -98,6 +101,34 @@ def see_fault(browser, trial, fault, room):
     wanted = its.group() if its else log.rstrip('.') if log.endswith('..') else log
     trial.see('a fault: ' + fault.name, found[:len(wanted)] if its or log.endswith('..') else found, wanted)
     trial.see('nothing of it is shown: ' + fault.name, browser.value(TEXTS % 'answer'), '')
+
+
+def see_planted(browser, trial, case, room):
+    """An export that isn't what it seems is refused in the words of cvr-audit gather, and nothing of it is shown."""
+    with inside(room):
+        case.lay()
+    given(browser, [packed(room, 'export', room)])
+    trial.see('planted: ' + case.name, SAID.sub('', tally(browser)), case.log.replace('export/', 'export.zip/export/'))
+    trial.see('nothing of it is shown: ' + case.name, browser.value(TEXTS % 'answer'), '')
+
+
+def see_test(browser, trial, room):
+    """An export of a test: each number stands below a line that says so, and so does the CSV; beside a report of an election the files
+    of what was gathered are refused."""
+    with inside(room):
+        make.vxsuite(planted.election([4, 3]), '.')
+        planted.changed(planted.VX, lambda it: planted.of_a_test(it['castVoteRecordReportMetadata']))
+    given(browser, [packed(room, 'vxsuite', room)])
+    trial.see('a test is tallied', tally(browser), 'Done.')
+    line = 'TEST: 2 of 2 reports are of a test'
+    trial.see('a test: the page', browser.value("[...document.querySelectorAll('#answer > p')].map(it => it.textContent).slice(0, 2)"), [line, 'TEST'])
+    trial.see('a test: the CSV', saved(browser, 'Save the totals as CSV', 'tally.csv').split(b'\r\n')[0], line.encode())
+    native(trial, ['gather', 'export.zip', '-o', 'out'], room)
+    see_files(browser, trial, os.path.join(room, 'out'))
+    path = os.path.join(room, 'out/records-1.json')
+    faults.write(os.path.join(room, 'out/live.json'), faults.read(path).replace(b'"OtherReportType":"test"', b'"OtherReportType":"export"'))
+    given(browser, [os.path.join(room, 'out', it) for it in ('definition.json', 'records-1.json', 'live.json')])
+    trial.see('a test beside an election', SAID.sub('', tally(browser)), planted.MIXED % ('definition.json', 'live.json', 2, 1))
 
 
 def see_damaged(browser, trial, room):
@@ -153,6 +184,10 @@ def see_exports(browser, trial, folder, is_whole):
     if is_whole:
         see_zip(browser, trial, room, False)
         see_zip(browser, trial, room, True)
+        see_test(browser, trial, tempfile.mkdtemp(dir=folder))
+        for case in planted.CASES:
+            if case.kind == 'vxsuite' and case.log:
+                see_planted(browser, trial, case, tempfile.mkdtemp(dir=folder))
         for fault in faults.all_faults():
             if fault.export in ('vxsuite', 'export.zip') and fault.name not in NOT_HERE:
                 see_fault(browser, trial, fault, tempfile.mkdtemp(dir=folder))

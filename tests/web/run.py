@@ -38,6 +38,7 @@ import dist_files   # noqa: E402
 import exports      # noqa: E402
 import firefox      # noqa: E402
 import page_picture     # noqa: E402
+import page_sets    # noqa: E402
 import rows         # noqa: E402
 import slips        # noqa: E402
 import tenth        # noqa: E402
@@ -83,6 +84,13 @@ def texts(numbers):
     return ['{:,}'.format(it) for it in numbers]
 
 
+def stated(contest, numbers):
+    """The numbers of a contest, with a text in the place of those that none of the county's files states."""
+    its = [it for path in FILES[1:-1] for record in read(path)['CVR'] for one in record['CVRSnapshot'] for it in one['CVRContest'] if it['ContestId'] == contest]
+    lacking = {place for place in (1, 2) if not any(COLUMNS[place] in it for it in its)}
+    return ['not stated' if place in lacking else it for place, it in enumerate(texts(numbers))]
+
+
 def tables_of(text):
     """The tables of the contests, and those by unit and by batch, that a tally asks for."""
     rows = [parts(line) for line in text.splitlines()]
@@ -94,15 +102,15 @@ def tables_of(text):
                          ['All selections', *texts([sum(votes)])]])
         for place, what in (1, 'unit'), (2, 'batch'):
             divided.append(['By ' + what, [what, *COLUMNS, *(SHORT[key] for key in selections)],
-                            *([NAMES.get(key, key), *texts(it)] for key, it in summed(held, place).items()), ['Sum', *texts(numbers)]])
+                            *([NAMES.get(key, key), *stated(contest, it)] for key, it in summed(held, place).items()), ['Sum', *stated(contest, numbers)]])
     return contests + divided
 
 
 def lists_of(text):
     """The lists of the contests: the ballots, and the other numbers."""
-    for numbers in summed([parts(line) for line in text.splitlines()], 0).values():
+    for contest, numbers in summed([parts(line) for line in text.splitlines()], 0).items():
         yield ['Ballots', *texts(numbers[:1])]
-        yield [it for name, number in zip(COLUMNS[1:], texts(numbers[1:])) for it in (name, number)]
+        yield [it for name, number in zip(COLUMNS[1:], stated(contest, numbers)[1:]) for it in (name, number)]
 
 
 def inputs_of(trial):
@@ -226,7 +234,7 @@ def see_county(browser, trial, page):
     trial.see('its sum', browser.value(TEXTS % 'sum'), hashlib.sha256(text).hexdigest())
     beside, names = dict(beside_of(trial)), [it[:2] for it in list(conflicts_of(trial))[2:]]
     besides = [beside[key] for key in sorted(beside, key=lambda key: names.index([key[0], ' '.join(key[1:])]))]
-    trial.see('the tables', browser.value(TABLES), [list(inputs_of(trial)), list(conflicts_of(trial)), *besides, *tables_of(text.decode())])
+    trial.see('the tables', browser.value(TABLES), [list(conflicts_of(trial)), *besides, *tables_of(text.decode()), list(inputs_of(trial))])
     head, *lists = browser.value(LISTS)
     trial.see('the lists', lists, list(lists_of(text.decode())))
     version = trial.printed('--version').decode().splitlines()[0]
@@ -246,7 +254,7 @@ BESIDE = """[...document.querySelectorAll('.conflict')].map(it => [it.querySelec
   ...[...it.querySelector('tbody tr').cells].slice(1).map(one => one.textContent)])"""
 TITLES = {'device': 'Device', 'header': 'Header', 'snapshot': 'Snapshot'}
 WARNINGS = """[...document.querySelectorAll('.warnings > li')].map(it => [it.firstChild.textContent, it.childNodes[1].textContent,
-  ...[...it.querySelectorAll('code')].map(one => one.textContent)])"""
+  ...[...it.querySelectorAll('.places > li')].map(one => one.textContent)])"""
 
 
 def warnings_of(lines):
@@ -266,8 +274,9 @@ def conflicts_in(lines):
 
 
 def see_warnings(browser, trial):
-    """The rows of cvr-audit on warnings; not those of a manifest, of no file, or of another program."""
-    held = [it for it in rows.held() if it['words'][0] == 'warnings' and len(it['words']) > 2 and '--manifest' not in it['words'] and 'program' not in it]
+    """The rows of cvr-audit on warnings; not those of a manifest, of no file, or of another program, nor those with a line that is none."""
+    held = [dict(it, words=[one for one in it['words'] if one != '--all']) for it in rows.held() if it['words'][0] == 'warnings']
+    held = [it for it in held if len(it['words']) > 2 and '--manifest' not in it['words'] and 'program' not in it and all(': @' in line for line in it['out']) and (it['out'] or not it['status'])]
     for row in held:
         with tempfile.TemporaryDirectory() as folder:
             rows.lay(folder, row.get('files', {}))
@@ -278,6 +287,44 @@ def see_warnings(browser, trial):
             trial.see(row['name'], tallied(browser, folder, names), 'Done.')
             trial.see('the warnings of ' + row['name'], browser.value(WARNINGS), warnings_of(row['out']))
             trial.see('the conflicts of ' + row['name'], sorted(browser.value(BESIDE)), sorted(conflicts_in(row['out'])))
+
+
+FOLDED = "[...document.querySelectorAll('.warnings summary')].map(it => it.textContent)"
+
+
+def see_folded(browser, trial):
+    """The row of cvr-audit whose lines are folded: their number in each file."""
+    row = next(it for it in rows.held() if it['name'].startswith('twelve lines of one kind, folded'))
+    with tempfile.TemporaryDirectory() as folder:
+        rows.lay(folder, row['files'])
+        trial.see(row['name'], tallied(browser, folder, row['words'][1:]), 'Done.')
+        trial.see('what is folded', browser.value(FOLDED), ['12 places: one.json 7, two.json 5'])
+    row = next(it for it in rows.held() if it['name'].startswith('twelve lines of one kind, of eleven files'))
+    with tempfile.TemporaryDirectory() as folder:
+        rows.lay(folder, {**row['files'], **{it: row['files']['f01.json'] for it in ('g01.json', 'g02.json')}})
+        names = [*row['words'][1:], 'g01.json', 'g02.json']
+        trial.see(row['name'], tallied(browser, folder, names), 'Done.')
+        trial.see('what is folded, of many files', browser.value(FOLDED), ['12 places: 13 files'])
+        trial.see('a long command is folded', browser.value("document.querySelector('#answer header summary').textContent"), 'cvr tally of 13 files, as Inputs has them')
+
+
+RANKS = [['Selections by rank', ['Selection', 'Rank 1', 'Rank 2', 'Rank 3'], ['Ada ada', '10', '10', '0'], ['Bob bob', '10', '0', '10'], ['Cyd cyd', '10', '10', '0']],
+         ['Selections by rank', ['Selection', 'No rank'], ['Low low', '0'], ['High high', '30']],
+         ['Selections', ['Selection', 'Votes'], ['Yes yes', '\u00a030'], ['No no', '\u00a00'], ['All selections', '30']]]
+
+
+def see_ranks(browser, trial):
+    """Contests of ranks and of scores, which page_sets.py makes: no bars, and no sum of all ranks."""
+    with tempfile.TemporaryDirectory() as folder:
+        for name, data in page_sets.texts_of(page_sets.ranked()).items():
+            with open(os.path.join(folder, name), 'wb') as file:
+                file.write(data)
+        trial.see('ranks', tallied(browser, folder, ['def.json', 'ranked.json']), 'Done.')
+        tables = browser.value(TABLES)
+        trial.see('ranks: the tables', [it for it in tables if it[0].startswith('Selections')], RANKS)
+        trial.see('ranks: by unit', [it[1][1:] for it in tables if it[0] == 'By unit'], [COLUMNS, COLUMNS, [*COLUMNS, 'Yes', 'No']])
+        trial.see('ranks: no sum', [[len(row) for row in it[1:]] for it in tables if it[0] == 'By unit'], [[7, 7, 7], [7, 7, 7], [9, 9, 9]])
+        trial.see('ranks: a sentence', browser.value("[...document.querySelectorAll('.contest')].map(it => it.textContent.includes('no rounds are computed'))"), [True, True, False])
 
 
 def see_no_device(browser, trial, folder):
@@ -316,7 +363,7 @@ def csv_of(text):
     lines = ['"contest","unit","batch","number of","selection","number"']
     for row in map(parts, text.splitlines()):
         where = ','.join('"%s"' % it if it is not None else '' for it in row[:3])
-        lines += ['%s,"%s",,"%d"' % (where, name.lower(), number) for name, number in zip(COLUMNS, row[3:9])]
+        lines += ['%s,"%s",,"%s"' % (where, name.lower(), number) for name, number in zip(COLUMNS, stated(row[0], row[3:9]))]
         lines += ['%s,"votes","%s","%d"' % (where, key, number) for key, number in zip(row[9::2], row[10::2])]
     return ''.join(it + '\r\n' for it in lines)
 
@@ -574,6 +621,7 @@ def see_ways(browser, trial, folder, word):
     """Each slip of the page is found, once the page has started."""
     page, seen = os.path.join(folder, 'slip.html'), {
         'county': lambda own: see_county(browser, own, page), 'warnings': lambda own: see_warnings(browser, own),
+        'ranks': lambda own: see_ranks(browser, own), 'folded': lambda own: see_folded(browser, own),
         'odd': lambda own: see_odd(browser, own, tempfile.mkdtemp(dir=folder)), 'cancel': lambda own: see_cancel(browser, own, folder, 240),
         'no device': lambda own: see_no_device(browser, own, tempfile.mkdtemp(dir=folder)),
         'gather': lambda own: exports.see_exports(browser, own, folder, True),
@@ -601,6 +649,8 @@ def see_browser(kind, trial, page, words):
             see_saved(browser, trial)
             see_volume(browser, trial)
             see_warnings(browser, trial)
+            see_folded(browser, trial)
+            see_ranks(browser, trial)
             see_no_device(browser, trial, folder)
             see_odd(browser, trial, tempfile.mkdtemp(dir=folder))
             exports.see_exports(browser, trial, folder, kind is chromium)
